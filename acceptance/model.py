@@ -1,9 +1,11 @@
 """A plain model of the script language as far as it is built: what `petal run` may print for a script.
 
 It knows nothing of servers' letters and of agreement: a disk is a map of blocks, and each block takes a slot on two
-neighbouring servers of the disk's tuple, its pair, and one more for each snapshot behind which it is written. Where one of a pair stops, the other one holds the pair's blocks alone, and
+neighbouring servers of the disk's tuple, its pair, and one more for each snapshot behind which it is written; on the move it takes them under
+each of its disk's two maps. Where one of a pair stops, the other one holds the pair's blocks alone, and
 serves them while it runs; once both run it copies to the other what that one has missed, and then both hold them again. A server that
-is blanked has nothing left: what it held alone is lost, and of all else the other one has the blocks alone. The model
+is blanked has nothing left: what it held alone is lost, and of all else the other one has the blocks alone. Where a disk moves, a
+block is on its old pair or its new one, until a settle says that the move is over or another move of the disk begins. The model
 doesn't know when the others are told that a server has stopped, when a server that was started is taken in again and when it is
 up to date, but where a settle was answered: it goes by what was answered. Within a phase the clients and the operator run at once, so the model goes through a
 phase as a whole and tells for each line which answers are right in some order of them; it allows a little more than that where
@@ -73,6 +75,13 @@ class Snapping:
     def __init__(self, number, client, words):
         self.number, self.client, self.name, self.snap = number, client, words[2], words[3]
 
+class Moving:
+    """A line that moves a disk."""
+
+    def __init__(self, number, client, words):
+        self.number, self.client, self.name = number, client, words[2]
+        self.tuple = [int(word) for word in words[4:]]
+
 class Order:
     """A line that stops, starts or blanks a server, or waits until all is settled."""
 
@@ -127,27 +136,67 @@ class Pair:
         if not self.alone and not self.lost:
             raise ValueError(f"{why}, and then nobody can hold its block")
 
+def pairs_of(tuple_):
+    """The pairs of a map over these servers."""
+    return [Pair((first, second)) for first, second in zip(tuple_, tuple_[1:] + tuple_[:1])]
+
 class World:
-    """The disks by name with their pairs, what each block may hold, their snapshots by name with what each block may hold there, which
+    """The disks by name, each with the pairs of the map that it has or moves away from, and of each later one that it may have in the phase;
+    and how many maps it had before these; what each block may hold, their snapshots by name with what each block may hold there, which
     servers have stopped, which of those that run were started and may not be taken in yet, and on each server the blocks that have a slot,
-    or may have one, each with the number of snapshots that its disk had when it was written."""
+    or may have one, each with the number of snapshots that its disk had when it was written, and of its map."""
 
     def __init__(self, servers, slots):
         self.slots = slots
-        self.disks = {}
+        self.disks, self.past = {}, {}
         self.contents = {}
         self.snaps = {}
         self.stopped, self.returning = set(), set()
         self.taken = {server: {} for server in range(servers)}
 
     def make(self, name, tuple_):
-        self.disks[name] = [Pair((first, second)) for first, second in zip(tuple_, tuple_[1:] + tuple_[:1])]
+        self.disks[name] = [pairs_of(tuple_)]
+        self.past[name] = 0
         self.snaps[name] = {}
 
-    def pair_of(self, spot):
-        """The two servers of a block."""
-        pairs = self.disks[spot[0]]
-        return pairs[spot[1] % len(pairs)]
+    def move(self, name, tuple_):
+        """The disk moves to a map more. Each entry that has a slot on its old servers may get one on its new ones, and is swept some
+        time."""
+        self.disks[name].append(pairs_of(tuple_))
+        for entry in {entry for taken in self.taken.values() for entry in taken if entry[0][0] == name}:
+            self.give_slot(entry)
+            for server in self.homes(entry[0])[-1].servers:
+                self.take_slot(server, (*entry[:2], self.last_map(name)), False)
+
+    def end_moves(self, name, count):
+        """The first so many of the disk's maps are those of moves that are over."""
+        del self.disks[name][:count]
+        self.past[name] += count
+
+    def come(self, name):
+        """The disk has the last of its maps."""
+        self.end_moves(name, len(self.disks[name]) - 1)
+
+    def last_map(self, name):
+        return self.past[name] + len(self.disks[name]) - 1
+
+    def give_slot(self, entry):
+        for taken in self.taken.values():
+            if entry in taken:
+                taken[entry] = False
+
+    def entries(self, spot, epoch):
+        """What a write may take a slot for, by map, each with the pair that has it."""
+        return [(pair, (spot, epoch, self.past[spot[0]] + at)) for at, pair in enumerate(self.homes(spot))]
+
+    def is_of(self, pair, entry):
+        """Whether the entry is of the pair's map."""
+        at = entry[2] - self.past[entry[0][0]]
+        return at >= 0 and self.homes(entry[0])[at] is pair
+
+    def homes(self, spot):
+        """The pairs on which a block may be, by map."""
+        return [pairs[spot[1] % len(pairs)] for pairs in self.disks[spot[0]]]
 
     def take_slot(self, server, entry, is_sure):
         self.taken[server][entry] = is_sure or self.taken[server].get(entry, False)
@@ -161,7 +210,7 @@ class World:
 
     def copy_slots(self, pair, is_sure):
         """Each entry of the pair that has a slot on one of the two has one on both, or may have one."""
-        for entry in [entry for server in pair.servers for entry in self.taken[server] if self.pair_of(entry[0]) is pair]:
+        for entry in [entry for server in pair.servers for entry in self.taken[server] if self.is_of(pair, entry)]:
             known = is_sure and any(self.taken[server].get(entry, False) for server in pair.servers)
             for server in pair.servers:
                 self.take_slot(server, entry, known)
@@ -188,18 +237,22 @@ class Phase:
         self.stopping, self.starting, self.back, self.resting = set(), set(), set(), set(world.stopped)
         self.blanked = {}
         # The pairs of which a server had stopped before.
-        self.left = {pair for pairs in world.disks.values() for pair in pairs if pair.gone}
+        self.left = {pair for pair in self.pairs() if pair.gone}
         # By line: the servers that may serve it together, in each way in which it may be served; whether it may be told that nobody
         # does; and whether a write took effect for sure, or perhaps.
         self.ways, self.may_fail, self.effects = {}, {}, {}
         # The snapshots that were there, those that the phase takes, by disk and name, and how many of them a line comes after for sure.
         self.old_snaps = {(name, snap) for name, snaps in world.snaps.items() for snap in snaps}
         self.taken_snaps, self.epochs = {}, {}
+        # Which map a disk moves away from, of those that have moves that began in the phase.
+        self.begun = {}
 
     def answers(self):
         """Which answers are right, by number of line."""
         self.obey()
         self.make_disks()
+        self.move_disks()
+        self.settle_lines()
         self.take_snapshots()
         self.count_epochs()
         served = [use for use in self.lines if isinstance(use, Use) and self.is_served(use)]
@@ -222,7 +275,9 @@ class Phase:
         """Where the last line of the operator waited until all was settled, each server that runs is taken in again, and of a pair
         of which both run both hold the blocks."""
         orders = [line for line in self.lines if isinstance(line, Order)]
-        if not orders or orders[-1].kind != "settle" or self.answer_to(orders[-1]) != "ok":
+        is_settled = bool(orders) and orders[-1].kind == "settle" and self.answer_to(orders[-1]) == "ok"
+        self.end_moves(is_settled and not any(isinstance(line, Moving) for line in self.lines))
+        if not is_settled:
             return
         self.world.returning = set()
         for pair in self.pairs():
@@ -231,15 +286,19 @@ class Phase:
                 self.world.copy_slots(pair, True)
 
     def pairs(self):
-        return [pair for pairs in self.world.disks.values() for pair in pairs]
+        return [pair for maps in self.world.disks.values() for pairs in maps for pair in pairs]
 
     def may_be_both(self, pair):
         return all(self.may_run(server) for server in pair.servers)
 
-    def settled(self):
-        """What a settle may be answered: a copy finds no slot only where slots may run out."""
+    def settle_lines(self):
+        """What a settle may be answered: a copy, or an entry that moves, finds no slot only where slots may run out."""
         copied = {server for pair in self.pairs() if self.may_be_both(pair) for server in pair.servers}
-        return {"ok"} | ({"nospace"} if any(self.world.least_free(server) <= len(CLIENTS) for server in copied) else set())
+        moved = {server for maps in self.world.disks.values() for pairs in maps[1:] for pair in pairs for server in pair.servers if self.may_run(server)}
+        full = any(self.world.least_free(server) <= len(CLIENTS) for server in copied | moved)
+        for line in self.lines:
+            if isinstance(line, Order) and line.kind == "settle":
+                self.allowed[line.number] = {"ok", "nospace"} if full else {"ok"}
 
     def obey(self):
         """The operator is always told that the server has stopped, or runs."""
@@ -267,9 +326,6 @@ class Phase:
                 pair.may_lose(server)
         for server in self.blanked:
             self.world.give_slots(server)
-        for line in self.lines:
-            if isinstance(line, Order) and line.kind == "settle":
-                self.allowed[line.number] = self.settled()
 
     def blank(self, server):
         """It stops, and starts with nothing."""
@@ -314,12 +370,38 @@ class Phase:
     def make(self, name, tuple_):
         """Of a new disk those servers hold blocks that are not out when it is made."""
         self.world.make(name, tuple_)
-        for pair in self.world.disks[name]:
+        self.leave_new(name)
+
+    def leave_new(self, name):
+        for pair in self.world.disks[name][-1]:
             for server in pair.servers:
                 if server in self.resting:
                     pair.leave(server)
                 elif not self.is_firm(server):
                     pair.may_leave(server)
+
+    def move_disks(self):
+        """One client moves a disk. Where a move may be on, it may be told so; where it is told otherwise, that one is over."""
+        for line in self.lines:
+            if isinstance(line, Moving):
+                self.allowed[line.number] = set()
+                if not self.finds_disk(line):
+                    continue
+                self.allowed[line.number] |= {"ok"} | ({"moving"} if len(self.world.disks[line.name]) > 1 else set())
+                if self.answer_to(line) == "ok":
+                    self.begun[line.name] = len(self.world.disks[line.name]) - 1
+                    self.world.move(line.name, line.tuple)
+                    self.leave_new(line.name)
+
+    def end_moves(self, is_settled):
+        """Before the last move of a disk began the one before it was over; and where all is settled the last one is, unless a link has no
+        lead."""
+        for name, first in self.begun.items():
+            self.world.end_moves(name, first)
+        for name, maps in self.world.disks.items():
+            servers = {server for pairs in maps for pair in pairs for server in pair.servers}
+            if is_settled and not servers & self.resting and not any(pair.lost for pairs in maps for pair in pairs):
+                self.world.come(name)
 
     def take_snapshots(self):
         """Of the lines that would take a snapshot of one name one does. It is the first of its client that finds the disk."""
@@ -352,9 +434,9 @@ class Phase:
                 own = [taken for (name, _), taken in self.taken_snaps.items() if name == line.name and taken.client == line.client]
                 self.epochs[line.number] = known + sum(1 for taken in own if taken.number < line.number)
 
-    def entry_of(self, use):
-        """What a write takes a slot for."""
-        return use.spot, self.epochs[use.number]
+    def entries_of(self, use):
+        """What a write may take a slot for, by map, each with the pair that has it."""
+        return self.world.entries(use.spot, self.epochs[use.number])
 
     def winner_of(self, firsts):
         """The line that made the disk, or took the snapshot: the only one that could, or the first that says so."""
@@ -401,18 +483,23 @@ class Phase:
         none of the pair returns."""
         known = defaultdict(set)
         for use in served:
-            pair = self.world.pair_of(use.spot)
-            here = [] if pair in known[use.client] else [server for server in pair.servers if self.may_run(server)]
-            self.ways[use.number] = ([here] if pair.both and here else []) + [[server] for server in here if server in pair.alone]
-            self.may_fail[use.number] = pair.lost or any(not self.is_firm(server) for server in pair.alone)
+            pairs = self.world.homes(use.spot)
+            self.ways[use.number] = [way for pair in pairs if pair not in known[use.client] for way in self.ways_at(pair)]
+            self.may_fail[use.number] = any(pair.lost or any(not self.is_firm(server) for server in pair.alone) for pair in pairs)
             if self.may_fail[use.number]:
                 self.allowed[use.number] |= {"unavailable"}
-            if self.was_unavailable(use) and not pair.alone & (self.starting | self.world.returning):
-                known[use.client].add(pair)
+            if self.was_unavailable(use) and len(pairs) == 1 and not pairs[0].alone & (self.starting | self.world.returning):
+                known[use.client].add(pairs[0])
+
+    def ways_at(self, pair):
+        """The servers that serve the pair's blocks together, in each way."""
+        here = [server for server in pair.servers if self.may_run(server)]
+        return ([here] if pair.both and here else []) + [[server] for server in here if server in pair.alone]
 
     def running(self, use):
         """The servers that may serve the line."""
-        return [server for server in self.world.pair_of(use.spot).servers if any(server in way for way in self.ways[use.number])]
+        servers = dict.fromkeys(server for pair in self.world.homes(use.spot) for server in pair.servers)
+        return [server for server in servers if any(server in way for way in self.ways[use.number])]
 
     def was_unavailable(self, use):
         """Whether its client was told that nobody serves the block."""
@@ -424,8 +511,8 @@ class Phase:
 
     def learn(self, use):
         """What an answer tells of who holds the block alone."""
-        pair, answer = self.world.pair_of(use.spot), self.answer_to(use)
-        if answer in (None, "nodisk", "nosnap"):
+        pair, answer = self.world.homes(use.spot)[0], self.answer_to(use)
+        if answer in (None, "nodisk", "nosnap") or len(self.world.disks[use.name]) > 1:
             return
         why = f"line {use.number} is answered {answer!r}"
         if answer != "unavailable" and not set(self.blanked) & set(pair.servers):
@@ -460,15 +547,19 @@ class Phase:
         running = self.running(use)
         if len(running) < 2 or running[0] not in self.stopping:
             return False
-        return not self.world.taken[running[1]].get(self.entry_of(use), False) and self.world.least_free(running[1]) <= 1
+        has = all(self.world.taken[running[1]].get(entry, False) for _, entry in self.entries_of(use))
+        return not has and self.world.least_free(running[1]) <= 1
 
     def note_effect(self, use):
         """A write that is told `unavailable` may have taken effect before. Only those surely take a slot that serve it in every way."""
         answer = self.answer_to(use)
         if answer in ("ok", "unavailable") or answer == "nospace" and self.may_be_full_again(use):
             self.effects[use.number] = answer == "ok"
-            for server in self.running(use):
-                self.world.take_slot(server, self.entry_of(use), answer == "ok" and all(server in way for way in self.ways[use.number]))
+            running, entries = self.running(use), self.entries_of(use)
+            for pair, entry in entries:
+                for server in set(running) & set(pair.servers):
+                    is_sure = answer == "ok" and len(entries) == 1 and all(server in way for way in self.ways[use.number])
+                    self.world.take_slot(server, entry, is_sure)
 
     def give_up_where_slots_may_run_out(self, writes):
         """Each client has one write open at a time, which takes a slot more than what stays."""
@@ -478,8 +569,9 @@ class Phase:
                 writers[server].add(use.client)
                 if self.may_be_later(use):
                     fresh[server].add(use.number)
-                elif self.entry_of(use) not in self.world.taken[server]:
-                    fresh[server].add(self.entry_of(use))
+                else:
+                    own = {entry for pair, entry in self.entries_of(use) if server in pair.servers}
+                    fresh[server] |= own - self.world.taken[server].keys()
         for server, clients in writers.items():
             if self.world.least_free(server) < len(fresh[server]) + len(clients):
                 raise Racing(f"slots of server {server} may run out while several clients write")
@@ -542,7 +634,7 @@ def phases_of(text):
         elif words[0] == "wait":
             phases.append([])
         elif words[0] in CLIENTS:
-            kind = {"disk": Making, "snap": Snapping}.get(words[1], Use)
+            kind = {"disk": Making, "snap": Snapping, "move": Moving}.get(words[1], Use)
             phases[-1].append(kind(number, words[0], words))
         elif words[:2] in (["op", "stop"], ["op", "start"], ["op", "blank"], ["op", "settle"]):
             phases[-1].append(Order(number, words))

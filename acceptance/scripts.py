@@ -146,8 +146,12 @@ def mixed_phase(draw, clients, names, servers, makes, snaps):
         lines.append(line)
     return lines
 
-def mixed_phases(draw, servers, most, nets, stops_of=None, snaps=()):
-    """Phases of a mixed script of at most so many disks, and of snapshots of these names. Where servers stop, most disks are made first, and
+def moved_disk(draw, name, servers):
+    """A line that moves a disk to some of so many servers, often to few or to all."""
+    return f"a move {name} on " + " ".join(map(str, draw.sample(range(servers), draw.choice((2, draw.randint(2, servers), servers)))))
+
+def mixed_phases(draw, servers, most, nets, stops_of=None, snaps=(), moves=0):
+    """Phases of a mixed script of at most so many disks, of snapshots of these names, and of at most so many moves. Where servers stop, most disks are made first, and
     `stops_of` gives the phases that come before the next one, and the lines that stand in it."""
     alone = draw.randrange(2 if stops_of else 4) == 0
     names = [f"d{number}" for number in range(draw.randint(1, most))]
@@ -161,6 +165,9 @@ def mixed_phases(draw, servers, most, nets, stops_of=None, snaps=()):
         before, beside = stops_of() if stops_of else ([], [])
         phase = mixed_phase(draw, here, names, servers, makes, snaps)
         makes -= sum(line[1:6] == " disk" for line in phase)
+        for _ in range(min(moves, draw.choice((0, 1, 1, 2)))):
+            moves -= 1
+            phase.insert(draw.randint(0, len(phase)), moved_disk(draw, draw.choice(names), servers))
         lines += [*before, *phase, *beside, "wait"]
     spots = sorted({tuple(line.split()[2:4]) for line in lines if line.split()[1:2] == ["write"]})
     taken = sorted({tuple(line.split()[2:4]) for line in lines if line.split()[1:2] == ["snap"]})
@@ -209,6 +216,15 @@ def snaps(seed, *nets):
         return joined(mixed_phases(draw, draw.randint(2, 8), 6, nets, snaps=names))
     return starts(seed, *nets, settles=True, blanks=True, snaps=names)
 
+def moves(seed, *nets):
+    """A mixed script in which disks move, often while they are written and read; in two of three, snapshots are taken too, and servers stop,
+    start, settle and come back with nothing."""
+    draw = random.Random(int(seed))
+    names = [f"s{number}" for number in range(draw.randint(0, 3))]
+    if int(seed) % 3 == 0:
+        return joined(mixed_phases(draw, draw.randint(2, 8), 4, nets, snaps=names, moves=8))
+    return starts(seed, *nets, settles=True, blanks=int(seed) % 3 == 2, snaps=names, moves=8)
+
 def settles(seed, *nets):
     """The same, where the operator often waits until all is settled."""
     return starts(seed, *nets, settles=True)
@@ -217,7 +233,7 @@ def blanks(seed, *nets):
     """The same, where servers also come back with nothing."""
     return starts(seed, *nets, settles=True, blanks=True)
 
-def starts(seed, *nets, settles=False, blanks=False, snaps=()):
+def starts(seed, *nets, settles=False, blanks=False, snaps=(), moves=0):
     """A mixed script of few disks in which servers stop and start again, so that a majority runs: mostly in phases of their own, and
     beside writes and reads. Some are stopped that have stopped, and started that run."""
     draw = random.Random(int(seed))
@@ -244,7 +260,7 @@ def starts(seed, *nets, settles=False, blanks=False, snaps=()):
         before = [order() for _ in range(draw.choice((0, 1, 1, 2, 4)))]
         return [*before, "wait"] if before else [], [order() for _ in range(draw.choice((0, 0, 0, 1, 3)))]
 
-    return joined(mixed_phases(draw, servers, 4, nets, orders_of, snaps))
+    return joined(mixed_phases(draw, servers, 4, nets, orders_of, snaps, moves))
 
 def frozen(servers, count, *nets):
     """So many snapshots, a block written before each, and two of each read at the end."""
@@ -271,6 +287,33 @@ def thousand():
     lines += [f"{CLIENTS[block % 8]} write vol {block} fill {block % 256}" for block in range(1000)]
     lines += ["wait", "a snap vol all", "wait", "a write vol 0 fill 7", "wait"]
     return joined(lines + [f"{CLIENTS[block % 8]} read vol@all {block}" for block in range(0, 1000, 50)] + ["b read vol 0"])
+
+def moved_thousand():
+    """A disk of 1,000 written blocks moves from five servers to four of them; some are read afterwards."""
+    lines = ["servers 5 slots 1024", "a disk vol on 0 1 2 3 4", "wait"]
+    lines += [f"{CLIENTS[block % 8]} write vol {block} fill {block % 256}" for block in range(1000)]
+    lines += ["wait", "a move vol on 0 2 3 4", "wait", "op settle", "wait"]
+    return joined(lines + [f"{CLIENTS[block % 8]} read vol {block}" for block in range(0, 1000, 50)])
+
+def on_the_move(servers, turns, *nets, stops=False):
+    """A disk moves again and again, over all servers and over few, while its blocks are written and read and snapshots are taken; where
+    `stops` is given, one server after the other stops meanwhile, or comes back with nothing."""
+    servers, turns = int(servers), int(turns)
+    lines = head(servers, 12 * turns + 40, *(net.replace("_", " ") for net in nets))
+    for turn in range(turns):
+        first = turn % servers
+        tuple_ = [(first + step) % servers for step in range(2 + turn % (servers - 1))]
+        lines += [f"a write vol {8 * block + turn % 5} fill {turn + block}" for block in range(6)] + ["wait"]
+        lines += ["a move vol on " + " ".join(map(str, tuple_)), f"b write vol {turn} fill {turn + 100}", f"c read vol {8 + turn % 5}"]
+        lines += [f"d snap vol s{turn}", f"b read vol {turn}"]
+        if stops:
+            lines += [f"op {'blank' if turn % 2 else 'stop'} {first}", "wait", f"c write vol {turn + 8} fill {turn}", f"op start {first}"]
+        lines += ["wait", "op settle", "wait"]
+    lines += [f"e read vol@s{turn} {block}" for turn in range(turns) for block in range(turns)]
+    return joined(lines + [f"f read vol {block}" for block in range(8 * 6)])
+
+def moved_and_stopped(servers, turns, *nets):
+    return on_the_move(servers, turns, *nets, stops=True)
 
 def upgrade(servers, turns, *nets):
     """One server after the other stops, blocks of its are written, and it starts again and is brought up to date, before the next one
@@ -331,7 +374,7 @@ def amid(slots, stopped, delay, *nets):
     lines += [f"b write vol {block} fill {block}" for block in range(2, 22, 5)] + ["wait"]
     return joined(lines + [f"c read vol {block}" for block in range(2, 22, 5)])
 
-MAKERS = {"many_disks": many_disks, "mixed": mixed, "stops": stops, "starts": starts, "settles": settles, "blanks": blanks, "snaps": snaps, "frozen": frozen, "race": race, "thousand": thousand, "renewal": renewal, "renewal_snaps": renewal_snaps, "rolling_snaps": rolling_snaps, "rolling": rolling, "upgrade": upgrade, "neighbours": neighbours, "amid": amid, "text": text, "bytes": bytes_of, "nothing": nothing, "work": work, "busy": busy,
+MAKERS = {"many_disks": many_disks, "mixed": mixed, "stops": stops, "starts": starts, "settles": settles, "blanks": blanks, "snaps": snaps, "moves": moves, "frozen": frozen, "race": race, "thousand": thousand, "moved_thousand": moved_thousand, "on_the_move": on_the_move, "moved_and_stopped": moved_and_stopped, "renewal": renewal, "renewal_snaps": renewal_snaps, "rolling_snaps": rolling_snaps, "rolling": rolling, "upgrade": upgrade, "neighbours": neighbours, "amid": amid, "text": text, "bytes": bytes_of, "nothing": nothing, "work": work, "busy": busy,
           "all_servers": all_servers, "patterns": patterns, "sized": sized, "requests": requests, "phases": phases, "large": large}
 
 def made(words):

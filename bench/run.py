@@ -1,12 +1,17 @@
 #!/usr/bin/env python3
-"""Times petal and the plain C program on one script, in one run: wall time, requests a second, peak memory, ratio.
+"""Times petal and the plain C program on one script, in one run: wall time, requests a second, peak memory, ratio. Then times how long
+petal moves a disk of 1,000 blocks from five servers to three, against the time of writing them; ends with 1 where it takes more than
+10 times as long.
 
 usage: bench/run.py [REQUESTS [BLOCKS [SEED [CLIENTS [DISKS]]]]]   (petal must be built: ./petal prove)
+PETAL=COMMAND times another program.
 """
-import os, resource, subprocess, sys, tempfile, time
+import os, resource, shlex, subprocess, sys, tempfile, time
 
 TOP = os.path.dirname(os.path.dirname(os.path.abspath(__file__)))
+PETAL = shlex.split(os.environ.get("PETAL", f"{TOP}/petal")) + ["run"]
 TURNS = 5
+BLOCKS, MOST_TIMES = 1000, 10
 
 def measure(command, text):
     """The least wall time of some turns in seconds, peak memory in MiB, and what was written."""
@@ -27,6 +32,20 @@ def measure(command, text):
             out = sink.read()
     return best, peak, out
 
+def time_move():
+    """Moves a disk of 1,000 blocks from five servers to three."""
+    empty = "servers 5 slots 1024\na disk vol on 0 1 2 3 4\nwait\n"
+    writes = empty + "".join(f"{'abcdefgh'[block % 8]} write vol {block} fill {block % 256}\n" for block in range(BLOCKS))
+    moves = writes + "wait\na move vol on 0 2 4\nwait\nop settle\n"
+    (start_up, _, _), (written, _, _), (moved, peak, out) = (measure(PETAL, text.encode()) for text in (empty, writes, moves))
+    if not out.endswith(f"{BLOCKS + 5}: ok\n{BLOCKS + 7}: ok\n".encode()):
+        sys.exit("the disk was not moved")
+    times = (moved - written) / max(written - start_up, 1e-9)
+    print(f"{BLOCKS} blocks: written in {(written - start_up) * 1000:.1f} ms, moved from five servers to three in "
+          f"{(moved - written) * 1000:.1f} ms, {times:.1f} times as long; peak {peak:.0f} MiB")
+    if times > MOST_TIMES:
+        sys.exit(f"that is more than {MOST_TIMES} times")
+
 def main():
     script = subprocess.run([sys.executable, f"{TOP}/bench/script.py", *sys.argv[1:]], capture_output=True, check=True).stdout
     empty = b"servers 5 slots 1024\na disk vol on 0 1 2 3 4\n"
@@ -34,7 +53,7 @@ def main():
     with tempfile.TemporaryDirectory() as folder:
         plain = f"{folder}/plain"
         subprocess.run(["cc", "-O2", "-o", plain, f"{TOP}/bench/plain.c"], check=True)
-        rows = {"petal": [f"{TOP}/petal", "run"], "plain C": [plain]}
+        rows = {"petal": PETAL, "plain C": [plain]}
         results = {}
         for name, command in rows.items():
             start_up, _, _ = measure(command, empty)
@@ -45,5 +64,6 @@ def main():
     if results["petal"][1] != results["plain C"][1]:
         sys.exit("the two programs answered differently")
     print(f"ratio beyond start-up: {results['petal'][0] / results['plain C'][0]:.1f}")
+    time_move()
 
 main()

@@ -14,6 +14,10 @@ enum Shows {
     Stopped,
     /// It runs, and its last copy found no slot.
     NoSlot,
+    /// It runs, and is an entry ahead of the operator.
+    Ahead,
+    /// It is an entry ahead, and its last copy found no slot.
+    AheadWithoutSlot,
 }
 
 /// The glances of a settle, each of a server in a round; and which of them answers the settle, counted from 0, and how.
@@ -35,16 +39,18 @@ enum Ending {
 const LINE: u32 = 5;
 
 fn letter(server: ServerId, round: u32, shows: Shows) -> Letter {
-    let (running, full) = match shows {
-        Shows::Runs => (true, false),
-        Shows::Stopped => (false, false),
-        Shows::NoSlot => (true, true),
+    let (running, full, rev) = match shows {
+        Shows::Runs => (true, false, 0),
+        Shows::Stopped => (false, false, 0),
+        Shows::NoSlot => (true, true, 0),
+        Shows::Ahead => (true, false, 1),
+        Shows::AheadWithoutSlot => (true, true, 1),
     };
     Letter {
         from: Actor::Server(server),
         inc: u32::from(running),
         to: Actor::Client(OPERATOR),
-        rev: 0,
+        rev,
         stamp: 9,
         nth: 0,
         body: Body::Seen {
@@ -161,6 +167,32 @@ fn a_settle_goes_round_by_round(rt: HostRuntime) -> Result<(), Fail> {
                 (0, 1, Shows::NoSlot),
             ],
             answered: Some((3, Ending::NoSpace)),
+        },
+    ];
+    for row in &rows {
+        assert!(rt; is_so(rt.alloc(), row)?, "{}", row.shows);
+    }
+    Ok(())
+}
+
+#[test]
+fn glances_at_servers_that_are_ahead(rt: HostRuntime) -> Result<(), Fail> {
+    let rows: [Row; 2] = [
+        Row {
+            shows: "a glance at a server that is ahead of the operator does not count, nor does it end the round",
+            glances: &[
+                (0, 1, Shows::Runs),
+                (1, 1, Shows::Ahead),
+                (2, 1, Shows::Runs),
+                (0, 1, Shows::Ahead),
+                (1, 1, Shows::Runs),
+            ],
+            answered: Some((4, Ending::Ok)),
+        },
+        Row {
+            shows: "that a copy found no slot is told by a server that is ahead, too",
+            glances: &[(0, 1, Shows::Ahead), (1, 1, Shows::AheadWithoutSlot)],
+            answered: Some((1, Ending::NoSpace)),
         },
     ];
     for row in &rows {

@@ -70,6 +70,13 @@ impl Marks {
         keep_others(&mut self.marks, &Mark { kind, cell });
     }
 
+    /// The marks in the order in which they were set.
+    pub fn as_slice(&self) -> &[Mark]
+        ensures { result.now ≡ self.now }
+    {
+        &self.marks
+    }
+
     /// Whether a mark is set.
     pub fn has(&self, kind: MarkKind, cell: Cell) -> bool
         ensures { result ≡ has_mark (record { kind = kind; cell = cell }) self.now }

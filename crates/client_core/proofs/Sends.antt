@@ -1,30 +1,29 @@
 -- What a call, and the entries of a letter, send and leave: the rule's outcome from the parts that the code computes.
-use Rattle.std.proofs.Common.{◌≡◌, ℕ, ◌+◌, List, [], length, Option, Some, None, refl, sym, ◌∙◌, ap, subst}
+use Rattle.std.proofs.Common.{◌≡◌, ℕ, ◌+◌, false, List, [], length, Option, Some, None, refl, sym, ◌∙◌, ap, subst}
 use Rattle.petal_command.specs.declared.command.Command.{Command}
 use Rattle.petal_msg.specs.declared.letter.Actor.TheVariants as actor
 use Rattle.petal_msg.specs.declared.letter.Letter.{Letter}
 use Rattle.script_lines.specs.declared.request.Request.{Request}
-use Rattle.petal_rules.specs.State.{State}
+use Rattle.petal_rules.specs.State.{State, servers_of}
 use Rattle.petal_rules.specs.Server.{letters_of}
-use Rattle.petal_rules.specs.Clients.{Client, Asked, called, first_round, goes_out, goes_out_where, then_goes_out}
+use Rattle.petal_rules.specs.Clients.{Client, Asked, asks_to_propose, called, first_round, goes_out, goes_out_where, sends, sends_or_proposes, then_goes_out, to_propose}
 use Rattle.client_core.specs.Core.{Core, at_core, state_of}
-use Rattle.client_core.specs.Open.{with_send, with_witnesses}
-use Rattle.client_core.specs.Sending.{posts_of, asked_after, sent_by, sent_where}
+use Rattle.client_core.specs.Open.{goes_old_where, on_way, sent_last, turned, way_of, with_send, with_witnesses}
+use Rattle.client_core.specs.Sending.{posts_of, sent_by, sent_where}
 use Rattle.client_core.specs.Learning.{learnt}
 use Rattle.client_core.specs.declared.learning.Learning.{Learning as Here}
 use Rattle.client_core.specs.declared.judging.Fate.TheVariants.{Waits}
 use Rattle.client_core.specs.declared.reaction.Reaction.{Reaction}
+use Rattle.client_core.specs.declared.open.Way.{Way}
 use Rattle.client_core.specs.declared.sending.Sent.{Sent}
 
 -- the request goes out as it stands
-pub as_it_stands : (state : State) (me asks : ℕ) (asked : Asked) (witnesses : ℕ) (sent : Sent) → witnesses ≡ asked.witnesses
-    → ((client : Client) → goes_out state me (record client { asks = asks }) (record asked { witnesses = witnesses })
-    ≡ sent_by client (record asked { witnesses = witnesses }) sent)
+pub as_it_stands : (state : State) (me asks : ℕ) (asked : Asked) (witnesses : ℕ) (way : Way) (sent : Sent) → witnesses ≡ asked.witnesses → way ≡ way_of asked
+    → ((client : Client) → goes_out state me (record client { asks = asks }) (on_way asked witnesses way) ≡ sent_by client (on_way asked witnesses way) sent)
     → (client : Client) → goes_out state me (record client { asks = asks }) asked ≡ sent_by client asked sent
-as_it_stands state me asks asked witnesses sent same is client =
-    let P : ℕ → Type 0 = λ n.
-    goes_out state me (record client { asks = asks }) (record asked { witnesses = n }) ≡ sent_by client (record asked { witnesses = n }) sent in
-    subst P same (is client)
+as_it_stands state me asks asked witnesses way sent same way_is is client =
+    let goes : Asked → Type 0 = λ (a : Asked). goes_out state me (record client { asks = asks }) a ≡ sent_by client a sent in
+    subst goes (λ i. on_way asked (same i) (way_is i)) (is client)
 
 -- the open request goes out at the client's state
 pub open_sent : (core : Core) (state : State) (asked : Asked) (sent : Sent) → state ≡ state_of core → core.client.asked ≡ Some asked
@@ -33,14 +32,27 @@ pub open_sent : (core : Core) (state : State) (asked : Asked) (sent : Sent) → 
 open_sent core state asked sent at_state is_open is = rw (← at_state) (rw is_open (is core.client))
 
 -- the open request goes out in another state, with more entries applied
-pub open_sent_in : (core : Core) (state : State) (log : List Command) (witnesses : ℕ) (asked : Asked) (sent : Sent) → core.client.asked ≡ Some asked
-    → ((client : Client) → goes_out state core.me (record client { asks = core.client.asks }) (record asked { witnesses = witnesses })
-    ≡ sent_by client (record asked { witnesses = witnesses }) sent)
+pub open_sent_in : (core : Core) (state : State) (log : List Command) (witnesses : ℕ) (asked : Asked) (way : Way) (sent : Sent) → core.client.asked ≡ Some asked
+    → way ≡ way_of asked
+    → ((client : Client) → goes_out state core.me (record client { asks = core.client.asks }) (on_way asked witnesses way)
+    ≡ sent_by client (on_way asked witnesses way) sent)
     → goes_out_where state core.me (record core.client { applied = log; asked = with_witnesses witnesses core.client.asked })
     (with_witnesses witnesses core.client.asked)
     ≡ sent_where (record core.client { applied = log; asked = with_witnesses witnesses core.client.asked }) sent
-open_sent_in core state log witnesses asked sent is_open is =
-    rw is_open (is (record core.client { applied = log; asked = Some (record asked { witnesses = witnesses }) }))
+open_sent_in core state log witnesses asked way sent is_open way_is is =
+    let client : Client = record core.client { applied = log; asked = Some (record asked { witnesses = witnesses }) } in
+    let goes : Asked → Type 0 = λ (a : Asked). goes_out state core.me (record client { asks = core.client.asks }) a ≡ sent_by client a sent in
+    rw is_open (subst goes (λ i. on_way asked witnesses (way_is i)) (is client))
+
+-- it goes the old way
+pub old_way_sent : (core : Core) (state : State) (asked : Asked) (witnesses : ℕ) (way : Way) (sent : Sent) → state ≡ state_of core → core.client.asked ≡ Some asked
+    → witnesses ≡ asked.witnesses → way ≡ turned
+    → ((client : Client) → goes_out state core.me (record client { asks = core.client.asks }) (on_way asked witnesses way)
+    ≡ sent_by client (on_way asked witnesses way) sent)
+    → goes_old_where (state_of core) core.me core.client core.client.asked ≡ sent_where core.client sent
+old_way_sent core state asked witnesses way sent at_state is_open same way_is is =
+    let goes : Asked → Type 0 = λ (a : Asked). goes_out state core.me (record core.client { asks = core.client.asks }) a ≡ sent_by core.client a sent in
+    rw (← at_state) (rw is_open (subst goes (λ i. on_way asked (same i) (way_is i)) (is core.client)))
 
 called_goes_out : (core : Core) (line : ℕ) (request : Request) (fresh : Asked)
     → fresh ≡ record {
@@ -50,6 +62,8 @@ called_goes_out : (core : Core) (line : ℕ) (request : Request) (fresh : Asked)
       turn = 0;
       rev = (state_of core).rev;
       witnesses = 0;
+      told = false;
+      old_way = false;
       round = first_round request;
       seen = [];
     }
@@ -65,12 +79,14 @@ pub called_is : (core new : Core) (line : ℕ) (request : Request) (fresh : Aske
       turn = 0;
       rev = (state_of core).rev;
       witnesses = 0;
+      told = false;
+      old_way = false;
       round = first_round request;
       seen = [];
     }
     → ((client : Client) → goes_out (state_of core) core.me (record client { asks = core.client.asks }) fresh ≡ sent_by client fresh sent)
     → letters ≡ letters_of (record { from = actor.Client core.me; inc = 0; rev = length core.client.applied }) 0 (posts_of sent.post)
-    → new ≡ record core { client = record core.client { seq = fresh.seq; asks = sent.asks; asked = Some (asked_after fresh sent) } }
+    → new ≡ record core { client = record core.client { seq = fresh.seq; asks = sent.asks; asked = Some (sent_last sent.last fresh) } }
     → ◌≡◌ {A = Core × Reaction} (new, record { letters = letters; answer = None }) (at_core core (called (state_of core) core.me core.client line request))
 called_is core new line request fresh sent letters fresh_is sent_is letters_are new_is =
     rw (new_is, letters_are) (ap (at_core core) (sym (called_goes_out core line request fresh fresh_is ∙ sent_is (record core.client { seq = fresh.seq }))))
@@ -92,10 +108,30 @@ pub waited_is : (core new : Core) (now : Here) (witnesses : ℕ) (sent : Sent) (
       client = record core.client {
         applied = now.applied.items;
         asks = sent.asks;
-        asked = with_send sent.turn sent.rev (with_witnesses witnesses core.client.asked);
+        asked = with_send sent.last (with_witnesses witnesses core.client.asked);
       };
     }
     → ◌≡◌ {A = Core × Reaction} (new, record { letters = letters; answer = None })
     (at_core core (then_goes_out core.me (learnt core.client core.client.asked now)))
 waited_is core new now witnesses sent letters waits sent_is letters_are new_is =
     rw (new_is, letters_are, learnt_waits core.client core.client.asked now witnesses waits, sent_is) refl
+
+-- ### The parts of a send
+
+-- what is to be proposed is proposed
+pub goes_by_command : (state : State) (me asks servers witnesses : ℕ) (asked : Asked) (way : Way) (command : Command) → servers ≡ servers_of state
+    → to_propose state me (on_way asked witnesses way) ≡ Some command → (sent : Sent)
+    → ((client : Client) (witnesses : ℕ) → servers ≡ servers_of state
+    → asks_to_propose state (record client { asks = asks }) (on_way asked witnesses way) command ≡ sent_by client (on_way asked witnesses way) sent)
+    → (client : Client) → goes_out state me (record client { asks = asks }) (on_way asked witnesses way) ≡ sent_by client (on_way asked witnesses way) sent
+goes_by_command state me asks servers witnesses asked way command count wanted sent is client =
+    ap (λ (to : Option Command). sends_or_proposes state me (record client { asks = asks }) (on_way asked witnesses way) to) wanted ∙ is client witnesses count
+
+-- where nothing is, it goes to its servers
+pub goes_by_sending : (state : State) (me asks witnesses : ℕ) (asked : Asked) (way : Way) → to_propose state me (on_way asked witnesses way) ≡ None
+    → (sent : Sent)
+    → ((client : Client) (witnesses : ℕ) → sends state me (record client { asks = asks }) (on_way asked witnesses way)
+    ≡ sent_by client (on_way asked witnesses way) sent)
+    → (client : Client) → goes_out state me (record client { asks = asks }) (on_way asked witnesses way) ≡ sent_by client (on_way asked witnesses way) sent
+goes_by_sending state me asks witnesses asked way nothing sent is client =
+    ap (λ (to : Option Command). sends_or_proposes state me (record client { asks = asks }) (on_way asked witnesses way) to) nothing ∙ is client witnesses

@@ -2,7 +2,7 @@
 use Rattle.std.specs.Prelude.{List, [], ◌∷◌, Option, Some, None}
 use Rattle.petal_rules.specs.Server.{Post}
 use Rattle.petal_rules.specs.Clients.{Client, Asked, Reaction}
-use Rattle.client_core.specs.Open.{with_send}
+use Rattle.client_core.specs.Open.{sent_last, with_send}
 use Rattle.client_core.specs.declared.sending.Sent.{Sent}
 
 -- one post at most
@@ -10,14 +10,10 @@ abbrev pub posts_of : Option Post → List Post
 posts_of None = []
 posts_of (Some post) = post ∷ []
 
--- the request as it is after the send
-abbrev pub asked_after : Asked → Sent → Asked
-asked_after asked sent = record asked { turn = sent.turn; rev = sent.rev }
-
 -- what a client leaves and sends whose request goes out
 abbrev pub sent_by : Client → Asked → Sent → Reaction
 sent_by client asked sent = record {
-  client = record client { asks = sent.asks; asked = Some (asked_after asked sent) };
+  client = record client { asks = sent.asks; asked = Some (sent_last sent.last asked) };
   posts = posts_of sent.post;
   answer = None;
 }
@@ -25,7 +21,7 @@ sent_by client asked sent = record {
 -- the same of the open request, where there is one
 abbrev pub sent_where : Client → Sent → Reaction
 sent_where client sent = record {
-  client = record client { asks = sent.asks; asked = with_send sent.turn sent.rev client.asked };
+  client = record client { asks = sent.asks; asked = with_send sent.last client.asked };
   posts = posts_of sent.post;
   answer = None;
 }

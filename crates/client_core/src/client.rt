@@ -1,6 +1,6 @@
 //! A client.
 
-ghost use Rattle.std.specs.Prelude.{◌≡◌, ◌↔◌, ◌+◌, ◌<◌, length, None, Some, [], IfOk, OnErr, IsTrue};
+ghost use Rattle.std.specs.Prelude.{◌≡◌, ◌↔◌, ◌+◌, ◌<◌, length, None, Some, [], false, IfOk, OnErr, IsTrue};
 ghost use Rattle.std.specs.Option.{option_map_or};
 ghost use Rattle.petal_state.specs.Command.{state_after};
 ghost use Rattle.petal_rules.specs.State.{servers_of};
@@ -8,13 +8,13 @@ ghost use Rattle.petal_rules.specs.Clients.{Client, first_client, called, first_
 ghost use Rattle.petal_rules.specs.Clients.{then_goes_out, ticked, asking, goes_out_where};
 ghost use Rattle.petal_rules.specs.World.{round_of, turn_of};
 ghost use Rattle.client_core.specs.Core.{at_core, is_spent, state_of};
-ghost use Rattle.client_core.specs.Open.{answers_where, blank_of, in_round, outcome, settle_of, start_of, stop_of, with_send, with_witnesses};
+ghost use Rattle.client_core.specs.Open.{answers_where, blank_of, goes_old_where, in_round, outcome, settle_of, start_of, stop_of, with_send, with_witnesses};
 ghost use Rattle.client_core.specs.Learning.{learnt};
 
 use crate::hearing::Heard;
 use crate::judging::Fate;
 use crate::learning::Learning;
-use crate::open::{Open, was_sent, was_witnessed};
+use crate::open::{Last, Open, was_sent, was_witnessed};
 use crate::posting::{one_letter, two_letters};
 use crate::reaction::Reaction;
 use crate::round::{Round, Sight, went_round};
@@ -83,14 +83,9 @@ impl ClientCore {
         ensures err { OnErr result (self.new ≡ self.old) }
     {
         let mut asked = self.opened(alloc, line, request)?;
-        let Sent {
-            post,
-            asks,
-            turn,
-            rev,
-        } = self.sends_first(alloc, &asked)?;
+        let Sent { post, asks, last } = self.sends_first(alloc, &asked)?;
         let letters = one_letter(alloc, self.me(), self.rev(), post)?;
-        asked.was_sent(turn, rev);
+        asked.was_sent(last);
         self.has_open(asked, asks);
         Ok(Reaction {
             letters,
@@ -118,6 +113,7 @@ impl ClientCore {
                     alloc,
                     &Sight {
                         server,
+                        rev: letter.rev,
                         line: *line,
                         round: *round,
                         running: *running,
@@ -251,11 +247,25 @@ impl ClientCore {
         let Sent {
             post,
             asks: _,
-            turn,
-            rev,
+            last,
         } = self.sends(alloc)?;
         let letters = two_letters(alloc, self.me(), self.rev(), self.ask(), post)?;
-        self.has_sent(next, turn, rev);
+        self.has_sent(next, last);
+        Ok(Reaction {
+            letters,
+            answer: None,
+        })
+    }
+
+    /// The open request goes to the old map.
+    fn go_the_old_way(&mut self, alloc: Global) -> Result<Reaction, NoMemory>
+        ensures ok { IfOk result (λ reaction. (self.new, reaction)
+            ≡ at_core self.old (goes_old_where (state_of self.old) self.old.me self.old.client self.old.client.asked)) }
+        ensures err { OnErr result (self.new ≡ self.old) }
+    {
+        let Sent { post, asks, last } = self.sends_old_way(alloc)?;
+        let letters = one_letter(alloc, self.me(), self.rev(), post)?;
+        self.has_sent(asks, last);
         Ok(Reaction {
             letters,
             answer: None,
@@ -292,6 +302,7 @@ impl ClientCore {
             Heard::Nothing => Ok(nothing(alloc)),
             Heard::Answered(answer) => Ok(self.answer(alloc, answer)),
             Heard::Again => self.ask_and_send(alloc),
+            Heard::OldWay => self.go_the_old_way(alloc),
             Heard::Round(round) => {
                 self.has_round(round);
                 Ok(nothing(alloc))
@@ -376,16 +387,11 @@ impl ClientCore {
                 Ok(self.answer(alloc, answer))
             }
             Fate::Waits(witnesses) => {
-                let Sent {
-                    post,
-                    asks,
-                    turn,
-                    rev,
-                } = self.sends_in(alloc, &state, witnesses)?;
+                let Sent { post, asks, last } = self.sends_in(alloc, &state, witnesses)?;
                 let letters = one_letter(alloc, self.me(), state.rev(), post)?;
                 self.has_applied(state, applied);
                 self.has_witnesses(witnesses);
-                self.has_sent(asks, turn, rev);
+                self.has_sent(asks, last);
                 Ok(Reaction {
                     letters,
                     answer: None,
@@ -410,6 +416,8 @@ impl ClientCore {
           turn = 0;
           rev = (state_of self.now).rev;
           witnesses = 0;
+          told = false;
+          old_way = false;
           round = first_round request;
           seen = [];
         }) }
@@ -427,13 +435,13 @@ impl ClientCore {
         self.asked = Some(asked);
     }
 
-    /// This is the server that is asked next, and the open request was sent so often, the last time at a revision.
-    fn has_sent(&mut self, asks: ServerId, turn: u32, rev: Rev)
+    /// This is the server that is asked next, and this was the latest send of the open request.
+    fn has_sent(&mut self, asks: ServerId, last: Last)
         ensures { self.new
-            ≡ record self.old { client = record self.old.client { asks = asks; asked = with_send turn rev self.old.client.asked } } }
+            ≡ record self.old { client = record self.old.client { asks = asks; asked = with_send last self.old.client.asked } } }
     {
         self.asks = asks;
-        was_sent(&mut self.asked, turn, rev);
+        was_sent(&mut self.asked, last);
     }
 
     /// Of the open request so many Witnesses were applied.

@@ -20,6 +20,8 @@ pub enum Heard {
     Answered(Answer),
     /// It asks what follows, and the request is sent again.
     Again,
+    /// The new map has nothing, and the request is sent to the old one.
+    OldWay,
     /// It shows a server to a settle, which goes on in this round.
     Round(Round),
 }
@@ -38,6 +40,16 @@ fn again_if(counts: bool) -> Heard
     ensures { result ≡ (if counts then Heard.Again else Heard.Nothing) }
 {
     if counts { Heard::Again } else { Heard::Nothing }
+}
+
+fn old_way_if(counts: bool) -> Heard
+    ensures { result ≡ (if counts then Heard.OldWay else Heard.Nothing) }
+{
+    if counts {
+        Heard::OldWay
+    } else {
+        Heard::Nothing
+    }
 }
 
 impl Open {
@@ -61,6 +73,9 @@ impl Open {
                 Answer::NoSpace,
             )),
             Body::BlockBusy { seq } | Body::Held { seq } => Ok(again_if(self.counts(rev, *seq))),
+            Body::NotHere { seq } => Ok(old_way_if(
+                self.counts(rev, *seq) && self.request.is_read(),
+            )),
             Body::WrongRev { seq } => Ok(again_if(*seq == self.seq)),
             Body::Down { .. }
             | Body::Seen { .. }
@@ -68,7 +83,6 @@ impl Open {
             | Body::Pax(_)
             | Body::Ask { .. }
             | Body::News { .. }
-            | Body::NotHere { .. }
             | Body::Read { .. }
             | Body::Write { .. }
             | Body::Reserve { .. }

@@ -1,14 +1,32 @@
 //! The request that is open.
 
-ghost use Rattle.std.specs.Prelude.{◌≡◌, IfOk, []};
+ghost use Rattle.std.specs.Prelude.{◌≡◌, IfOk, [], false};
 ghost use Rattle.petal_rules.specs.Clients.{counts, first_round};
-ghost use Rattle.client_core.specs.Open.{blank_in, bytes_sent, settle_in, start_in, stop_in, with_send, with_witnesses};
+ghost use Rattle.client_core.specs.Open.{blank_in, bytes_sent, sent_last, settle_in, start_in, stop_in, way_of, with_send, with_witnesses};
 
 use crate::round::{Round, Shown};
 use petal_base::{NoMemory, Rev, Seq, ServerId, SharedBlock};
 use script_lines::Request;
 use std::alloc::Global;
 use std::marker::Model;
+
+/// Which way a read goes, while its block's region is on its way from map to map.
+#[derive(Clone, Copy)]
+pub struct Way {
+    /// It was once told that the new map has nothing.
+    pub told: bool,
+    /// It asks the old map, at the revision of its latest send.
+    pub old_way: bool,
+}
+
+/// How a request stands after its latest send.
+#[derive(Clone, Copy)]
+pub struct Last {
+    /// How often it was sent.
+    pub turn: u32,
+    pub rev: Rev,
+    pub way: Way,
+}
 
 /// An open request. The block of a write is made once, and each send shares it.
 #[derive(Drop)]
@@ -20,6 +38,7 @@ pub struct Open {
     pub rev: Rev,
     /// How many of its Witnesses were applied.
     pub witnesses: u32,
+    pub way: Way,
     /// Of a settle, the round that it is in.
     pub round: Round,
     pub bytes: Option<SharedBlock>,
@@ -39,6 +58,8 @@ impl Model for Open {
       turn = o.turn;
       rev = o.rev;
       witnesses = o.witnesses;
+      told = o.way.told;
+      old_way = o.way.old_way;
       round = o.round.number;
       seen = o.round.shown;
     } };
@@ -86,6 +107,8 @@ impl Open {
           turn = 0;
           rev = rev;
           witnesses = 0;
+          told = false;
+          old_way = false;
           round = first_round request;
           seen = [];
         }) }
@@ -102,6 +125,10 @@ impl Open {
             turn: 0,
             rev,
             witnesses: 0,
+            way: Way {
+                told: false,
+                old_way: false,
+            },
             round,
             bytes,
         })
@@ -172,21 +199,29 @@ impl Open {
         }
     }
 
-    /// It was sent `turn` times, the last time at a revision.
-    pub fn was_sent(&mut self, turn: u32, rev: Rev)
-        ensures { self.new ≡ record self.old { turn = turn; rev = rev } }
+    /// The way that it goes.
+    pub fn way(&self) -> Way
+        ensures { result ≡ way_of self.now }
     {
-        self.turn = turn;
-        self.rev = rev;
+        self.way
+    }
+
+    /// This was its latest send.
+    pub fn was_sent(&mut self, last: Last)
+        ensures { self.new ≡ sent_last last self.old }
+    {
+        self.turn = last.turn;
+        self.rev = last.rev;
+        self.way = last.way;
     }
 }
 
-/// The request, where there is one, was sent `turn` times, the last time at a revision.
-pub fn was_sent(asked: &mut Option<Open>, turn: u32, rev: Rev)
-    ensures { asked.new ≡ with_send turn rev asked.old }
+/// This was the latest send of the request, where there is one.
+pub fn was_sent(asked: &mut Option<Open>, last: Last)
+    ensures { asked.new ≡ with_send last asked.old }
 {
     if let Some(asked) = asked {
-        asked.was_sent(turn, rev);
+        asked.was_sent(last);
     }
 }
 

@@ -4,7 +4,7 @@ ghost use Rattle.std.specs.Prelude.{◌≡◌, ◌++◌, IfOk, length};
 ghost use Rattle.petal_msg.specs.declared.letter.Actor.TheVariants as actor;
 ghost use Rattle.petal_rules.specs.State.{servers_of, find};
 ghost use Rattle.petal_rules.specs.Server.{letters_of, post_to};
-ghost use Rattle.petal_rules.specs.Clients.{cell_on, epoch_for, in_turn, posts_for, read_posts, read_posts_at, readers, write_posts};
+ghost use Rattle.petal_rules.specs.Clients.{epoch_for, in_turn, posts_for, read_posts, read_posts_at, readers, write_posts};
 ghost use Rattle.client_core.specs.Sending.{posts_of};
 
 use crate::open::Open;
@@ -78,16 +78,6 @@ fn in_turn(servers: &[ServerId], turn: u32) -> Option<ServerId>
     servers.get(turn as usize % servers.len()).copied()
 }
 
-/// The cell of a block under a disk's map.
-pub fn cell_on(disk: &DiskView, block: BlockNo) -> Cell
-    ensures { result ≡ cell_on disk.now block }
-{
-    Cell {
-        map: disk.map,
-        block,
-    }
-}
-
 /// The epoch that a read asks for: the snapshot's, or the disk's own.
 pub fn epoch_for(state: &GlobalState, disk: &DiskView, snap: &Option<Name>) -> Option<Epoch>
     ensures { result ≡ epoch_for state.now disk.now snap.now }
@@ -112,7 +102,7 @@ fn write_post(
     match state.find(name) {
         None => Ok(None),
         Some(disk) => {
-            let cell = cell_on(&disk, block);
+            let cell = state.asked_cell(&disk, block, false);
             let body = Body::Write {
                 client,
                 seq,
@@ -154,16 +144,18 @@ fn read_post_at(
     }
 }
 
-/// What a send of a request sends, of the kinds that go to servers by what they are for the block.
+/// What a send of a request sends, of the kinds that go to servers by what they are for the block. A read goes to the old map where
+/// it is to go the old way, while its block's region is on its way.
 pub fn post_for(
     alloc: Global,
     servers: u8,
     state: &GlobalState,
     client: ClientId,
     asked: &Open,
+    old_way: bool,
 ) -> Result<Option<Post>, NoMemory>
     requires { servers ≡ servers_of state.now }
-    ensures { IfOk result (λ post. posts_for state.now client asked.now.seq asked.now.turn asked.now.request ≡ posts_of post) }
+    ensures { IfOk result (λ post. posts_for state.now client asked.now.seq asked.now.turn old_way asked.now.request ≡ posts_of post) }
 {
     match (&asked.request, &asked.bytes) {
         (Request::Write { name, block, .. }, Some(bytes)) => {
@@ -172,7 +164,7 @@ pub fn post_for(
         (Request::Read { name, snap, block }, _) => match state.find(name) {
             None => Ok(None),
             Some(disk) => {
-                let cell = cell_on(&disk, *block);
+                let cell = state.asked_cell(&disk, *block, old_way);
                 let epoch = epoch_for(state, &disk, snap);
                 read_post_at(
                     alloc, servers, state, client, cell, epoch, asked.seq, asked.turn,

@@ -10,16 +10,17 @@ ghost use Rattle.client_core.specs.Open.{in_round, outcome};
 use crate::hearing::Heard;
 use crate::open::Open;
 use global_state::GlobalState;
-use petal_base::{Inc, NoMemory, ServerId};
+use petal_base::{Inc, NoMemory, Rev, ServerId};
 use script_lines::{Answer, Request};
 use std::alloc::{AllocError, Global};
 use std::collections::BTreeMap;
 use std::marker::Model;
 
-/// What a glance showed of a server, and for which line and round.
+/// What a glance showed of a server, at which of the server's revisions, and for which line and round.
 #[derive(Drop)]
 pub struct Sight {
     pub server: ServerId,
+    pub rev: Rev,
     pub line: u32,
     pub round: u32,
     pub running: bool,
@@ -35,6 +36,7 @@ impl Model for Sight {
 
     ghost view = { λ s. record {
       server = s.server;
+      rev = s.rev;
       line = s.line;
       round = s.round;
       running = s.running;
@@ -138,7 +140,8 @@ impl Open {
         }
     }
 
-    /// What a glance means for a settle: it has no space where the server's last copy found no slot.
+    /// What a glance means for a settle: it has no space where the server's last copy found no slot. A glance at a server that is
+    /// ahead of the operator is not counted.
     fn settle(
         &self,
         alloc: Global,
@@ -153,7 +156,7 @@ impl Open {
         if sight.full {
             return Ok(Heard::Answered(Answer::NoSpace));
         }
-        if sight.round != self.round.number {
+        if sight.round != self.round.number || sight.rev > state.rev() {
             return Ok(Heard::Nothing);
         }
         let shown = self.round.shown.with(sight.server, sight.inc_running())?;

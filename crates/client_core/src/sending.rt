@@ -1,32 +1,42 @@
 //! What a send of the open request does.
 
-ghost use Rattle.std.specs.Prelude.{◌≡◌, ◌+◌, ◌%◌, List, IfOk};
-ghost use Rattle.petal_command.specs.declared.command.Command.{Command};
+ghost use Rattle.std.specs.Prelude.{◌≡◌, ◌+◌, ◌%◌, ℕ, List, IfOk};
+ghost use Rattle.petal_command.specs.declared.command.Command.{Command as Entry};
 ghost use Rattle.petal_msg.specs.declared.body.Body.TheVariants as body;
 ghost use Rattle.petal_msg.specs.declared.letter.Actor.TheVariants as actor;
-ghost use Rattle.petal_rules.specs.State.{servers_of};
-ghost use Rattle.petal_rules.specs.Clients.{Client, goes_out, goes_out_where};
+ghost use Rattle.petal_rules.specs.State.{State, servers_of};
+ghost use Rattle.petal_rules.specs.Clients.{Client, asks_to_propose, goes_out, goes_out_where, sends};
 ghost use Rattle.client_core.specs.Core.{state_of};
-ghost use Rattle.client_core.specs.Open.{with_witnesses};
+ghost use Rattle.client_core.specs.Open.{goes_old_where, on_way, with_witnesses};
 ghost use Rattle.client_core.specs.Sending.{sent_by, sent_where};
 
 use crate::ClientCore;
-use crate::open::Open;
+use crate::open::{Last, Open, Way};
 use crate::posting::{Post, post_for};
 use crate::proposing::to_propose;
 use global_state::GlobalState;
-use petal_base::{NoMemory, Rev, ServerId};
+use petal_base::{NoMemory, ServerId};
+use petal_command::Command;
 use petal_msg::{Actor, Body};
 use std::alloc::Global;
 
-/// A send: what it posts, which server is asked next, how often the request was then sent, and when last.
+/// A send: what it posts, which server is asked next, and how the request stands after it.
 #[derive(Drop)]
 pub struct Sent {
     pub post: Option<Post>,
     pub asks: ServerId,
-    pub turn: u32,
-    pub rev: Rev,
+    pub last: Last,
 }
+
+/// Of no request there is no send.
+const NEVER: Last = Last {
+    turn: 0,
+    rev: 0,
+    way: Way {
+        told: false,
+        old_way: false,
+    },
+};
 
 /// The server after this one.
 pub fn next_server(asks: ServerId, servers: u8) -> Result<ServerId, NoMemory>
@@ -37,36 +47,73 @@ pub fn next_server(asks: ServerId, servers: u8) -> Result<ServerId, NoMemory>
 }
 
 impl ClientCore {
-    /// A request, of which so many Witnesses were applied, goes out in a state: to its servers, or as a proposal.
+    /// A request that goes this way, and of which so many Witnesses were applied, goes out in a state: to its servers, or as a
+    /// proposal.
     fn goes_out(
         &self,
         alloc: Global,
         state: &GlobalState,
         asked: &Open,
         witnesses: u32,
+        way: Way,
     ) -> Result<Sent, NoMemory>
         requires { self.now.servers ≡ servers_of state.now }
         ensures { IfOk result (λ sent. (client : Client)
-            → goes_out state.now self.now.me (record client { asks = self.now.client.asks }) (record asked.now { witnesses = witnesses })
-            ≡ sent_by client (record asked.now { witnesses = witnesses }) sent) }
+            → goes_out state.now self.now.me (record client { asks = self.now.client.asks }) (on_way asked.now witnesses way)
+            ≡ sent_by client (on_way asked.now witnesses way) sent) }
     {
-        match to_propose(self.servers, state, self.id, asked, witnesses) {
-            Some(command) => Ok(Sent {
-                post: Some(Post {
-                    to: Actor::Server(self.asks),
-                    body: Body::Propose { command },
-                }),
-                asks: next_server(self.asks, self.servers)?,
+        match to_propose(self.servers, state, self.id, asked, witnesses, way) {
+            Some(command) => self.proposes(asked, way, command),
+            None => self.sends_to(alloc, state, asked, way),
+        }
+    }
+
+    /// The command is proposed; the request stands as after its latest send.
+    fn proposes(&self, asked: &Open, way: Way, command: Command) -> Result<Sent, NoMemory>
+        ensures { (state : State) → IfOk result (λ sent. (client : Client) (witnesses : ℕ) → self.now.servers ≡ servers_of state
+            → asks_to_propose state (record client { asks = self.now.client.asks }) (on_way asked.now witnesses way) command
+            ≡ sent_by client (on_way asked.now witnesses way) sent) }
+    {
+        Ok(Sent {
+            post: Some(Post {
+                to: Actor::Server(self.asks),
+                body: Body::Propose { command },
+            }),
+            asks: next_server(self.asks, self.servers)?,
+            last: Last {
                 turn: asked.turn,
                 rev: asked.rev,
-            }),
-            None => Ok(Sent {
-                post: post_for(alloc, self.servers, state, self.id.get(), asked)?,
-                asks: self.asks,
+                way,
+            },
+        })
+    }
+
+    /// The request goes to its servers. It asks the old map only at the revision at which it was told.
+    fn sends_to(
+        &self,
+        alloc: Global,
+        state: &GlobalState,
+        asked: &Open,
+        way: Way,
+    ) -> Result<Sent, NoMemory>
+        requires { self.now.servers ≡ servers_of state.now }
+        ensures { IfOk result (λ sent. (client : Client) (witnesses : ℕ)
+            → sends state.now self.now.me (record client { asks = self.now.client.asks }) (on_way asked.now witnesses way)
+            ≡ sent_by client (on_way asked.now witnesses way) sent) }
+    {
+        let old_way = way.old_way && asked.rev == state.rev();
+        Ok(Sent {
+            post: post_for(alloc, self.servers, state, self.id.get(), asked, old_way)?,
+            asks: self.asks,
+            last: Last {
                 turn: asked.turn.checked_add(1).ok_or(NoMemory)?,
                 rev: state.rev(),
-            }),
-        }
+                way: Way {
+                    told: way.told,
+                    old_way,
+                },
+            },
+        })
     }
 
     /// A request that was just called goes out.
@@ -76,7 +123,7 @@ impl ClientCore {
             → goes_out (state_of self.now) self.now.me (record client { asks = self.now.client.asks }) asked.now
             ≡ sent_by client asked.now sent) }
     {
-        let sent = self.goes_out(alloc, &self.state, asked, asked.witnesses)?;
+        let sent = self.goes_out(alloc, &self.state, asked, asked.witnesses, asked.way())?;
         Ok(sent)
     }
 
@@ -88,7 +135,7 @@ impl ClientCore {
         witnesses: u32,
     ) -> Result<Sent, NoMemory>
         requires { self.now.servers ≡ servers_of state.now }
-        ensures { IfOk result (λ sent. (log : List Command)
+        ensures { IfOk result (λ sent. (log : List Entry)
             → let client : Client = record self.now.client { applied = log; asked = with_witnesses witnesses self.now.client.asked } in
             goes_out_where state.now self.now.me client client.asked ≡ sent_where client sent) }
     {
@@ -96,11 +143,10 @@ impl ClientCore {
             None => Ok(Sent {
                 post: None,
                 asks: self.asks,
-                turn: 0,
-                rev: 0,
+                last: NEVER,
             }),
             Some(asked) => {
-                let sent = self.goes_out(alloc, state, asked, witnesses)?;
+                let sent = self.goes_out(alloc, state, asked, witnesses, asked.way())?;
                 Ok(sent)
             }
         }
@@ -116,11 +162,33 @@ impl ClientCore {
             None => Ok(Sent {
                 post: None,
                 asks: self.asks,
-                turn: 0,
-                rev: 0,
+                last: NEVER,
             }),
             Some(asked) => {
-                let sent = self.goes_out(alloc, &self.state, asked, asked.witnesses)?;
+                let sent = self.goes_out(alloc, &self.state, asked, asked.witnesses, asked.way())?;
+                Ok(sent)
+            }
+        }
+    }
+
+    /// The open request, where there is one, goes the old way.
+    #[tactic(auto, using(petal_rules::proofs::Applied::servers_after))]
+    pub(crate) fn sends_old_way(&self, alloc: Global) -> Result<Sent, NoMemory>
+        ensures { IfOk result (λ sent. goes_old_where (state_of self.now) self.now.me self.now.client self.now.client.asked
+            ≡ sent_where self.now.client sent) }
+    {
+        match &self.asked {
+            None => Ok(Sent {
+                post: None,
+                asks: self.asks,
+                last: NEVER,
+            }),
+            Some(asked) => {
+                let way = Way {
+                    told: true,
+                    old_way: true,
+                };
+                let sent = self.goes_out(alloc, &self.state, asked, asked.witnesses, way)?;
                 Ok(sent)
             }
         }

@@ -2,5 +2,4 @@ pub mod Least
 pub mod Links
 pub mod Stages
 pub mod Trims
-pub mod Looks
 pub mod Pages

@@ -13,38 +13,15 @@ use Rattle.global_tables.specs.Map.{tuple_of}
 use Rattle.global_tables.specs.Region.{link_of}
 use Rattle.petal_base.specs.declared.cell.Cell.{Cell}
 use Rattle.petal_table.specs.Table.{Table}
-use Rattle.petal_rules.specs.Copies.{cell_at, idle_mark, least}
+use Rattle.petal_rules.specs.Copies.{cell_at, idle_mark, is_kept_on, least}
 use Rattle.petal_rules.specs.Server.{Own}
 use Rattle.petal_rules.specs.State.{State, is_on, is_whole}
 use Rattle.petal_rules.specs.Store.{Chain}
 use Rattle.petal_rules.specs.Writes.{is_under_way}
 use Rattle.kept_chains.specs.Walking.{marked_in, stored_in}
+use Rattle.pair_side.proofs.Linked.{on_map}
 use Rattle.copy_recovery.specs.Walks.{idle_on, left_on, marked_on, on_link, stored_on}
 use Rattle.copy_recovery.proofs.Least.{filter_both, from_start, least_both}
-
-found_is : (test : LinkRow → Bool) (rows : List LinkRow) (row : LinkRow) → find test rows ≡ Some row → test row ≡ true
-found_is test [] row is = absurd (cc)
-found_is test (r ∷ rs) row is = elim (cases_Bool (test r)) [
-  | inl has ↦ let same : r ≡ row = (let e : Some r ≡ Some row = rw has at is in cc) in ap test (sym same) ∙ has
-  | inr has ↦ found_is test rs row (rw has at is)
-]
-
-row_of_map : (rows : List LinkRow) (of link : ℕ) (row found : LinkRow) → link_at rows of link ≡ Some found → is_link row.map row.link found ≡ true → of ≡ row.map
-row_of_map rows of link row found is same =
-    let own = found_is (is_link of link) rows found is in
-    grind (arith, nat_tests, own, same)
-
-linked : (state : State) (row : LinkRow) (cell : Cell) (link : ℕ) (o : Option LinkRow) → link_at state.links cell.map link ≡ o
-    → option_map_or (is_link row.map row.link) o false ≡ true → cell.map ≡ row.map
-linked state row cell link None found has = absurd (cc)
-linked state row cell link (Some other) found has = row_of_map state.links cell.map link row other found has
-
--- a cell of the link is one of its map
-on_map : (state : State) (row : LinkRow) (cell : Cell) → is_on state row cell ≡ true → cell.map ≡ row.map
-on_map state row cell is = elim (tuple_of state.maps cell.map) as (λ o. option_map_or (is_link row.map row.link) (option_and_then (λ tuple. link_at state.links cell.map (link_of (length tuple) cell.block)) o) false ≡ true → cell.map ≡ row.map) [
-  | None ↦ λ no. absurd (cc)
-  | Some tuple ↦ λ has. linked state row cell (link_of (length tuple) cell.block) (link_at state.links cell.map (link_of (length tuple) cell.block)) refl has
-] is
 
 same_cell : (cell : Cell) (row : LinkRow) → (cell.map == row.map) ≡ true → cell_at row cell.block ≡ cell
 same_cell cell row is = λ i. record { map = sym map_is i; block = cell.block }
@@ -52,11 +29,14 @@ same_cell cell row is = λ i. record { map = sym map_is i; block = cell.block }
     map_is : cell.map ≡ row.map
     map_is = grind (arith, nat_tests, is)
 
-off_link : (state : State) (row : LinkRow) (cell : Cell) → (cell.map == row.map) ≡ false → is_on state row cell ≡ false
-off_link state row cell other = elim (cases_Bool (is_on state row cell)) [
+off_map : (state : State) (row : LinkRow) (cell : Cell) → (cell.map == row.map) ≡ false → is_on state row cell ≡ false
+off_map state row cell other = elim (cases_Bool (is_on state row cell)) [
   | inl has ↦ absurd (let same = on_map state row cell has in (let e : (cell.map == row.map) ≡ true = grind (arith, nat_tests, same) in let no : true ≡ false = sym e ∙ other in cc))
   | inr has ↦ has
 ]
+
+off_link : (state : State) (row : LinkRow) (cell : Cell) → (cell.map == row.map) ≡ false → is_kept_on state row cell ≡ false
+off_link state row cell other = rw (off_map state row cell other) refl
 
 pub marked_is : (state : State) (row : LinkRow) (marks : List Mark) → marked_on state row marks ≡ filter (on_link state row) (marked_in row.map marks)
 marked_is state row [] = refl
@@ -64,8 +44,8 @@ marked_is state row (m ∷ ms) =
     let rest = marked_is state row ms in
     elim (cases_Bool (m.cell.map == row.map)) [
       | inl own ↦
-          let here : on_link state row m.cell.block ≡ is_on state row m.cell = ap (is_on state row) (same_cell m.cell row own) in
-          elim (cases_Bool (is_on state row m.cell)) [
+          let here : on_link state row m.cell.block ≡ is_kept_on state row m.cell = ap (is_kept_on state row) (same_cell m.cell row own) in
+          elim (cases_Bool (is_kept_on state row m.cell)) [
             | inl has ↦ rw (own, has) (rw (here ∙ has) (ap (λ (l : List ℕ). m.cell.block ∷ l) rest))
             | inr has ↦ rw (own, has) (rw (here ∙ has) rest)
           ]
@@ -78,8 +58,8 @@ stored_is state row (r ∷ rs) =
     let rest = stored_is state row rs in
     elim (cases_Bool (r.0.map == row.map)) [
       | inl own ↦
-          let here : on_link state row r.0.block ≡ is_on state row r.0 = ap (is_on state row) (same_cell r.0 row own) in
-          elim (cases_Bool (is_on state row r.0)) [
+          let here : on_link state row r.0.block ≡ is_kept_on state row r.0 = ap (is_kept_on state row) (same_cell r.0 row own) in
+          elim (cases_Bool (is_kept_on state row r.0)) [
             | inl has ↦ rw (own, has) (rw (here ∙ has) (ap (λ (l : List ℕ). r.0.block ∷ l) rest))
             | inr has ↦ rw (own, has) (rw (here ∙ has) rest)
           ]

@@ -1,30 +1,10 @@
--- What a tick sends again, and what it keeps of the store.
-use Rattle.std.specs.Prelude.{◌≡◌, ℕ, List, [], Option, None, Some, option_and_then, Result}
+-- What a tick sends again.
+use Rattle.std.specs.Prelude.{ℕ, Option, option_and_then}
 use Rattle.petal_base.specs.declared.cell.Cell.{Cell}
-use Rattle.petal_disk.specs.Keeping.{KeepsDevice}
-use Rattle.petal_disk.specs.declared.disk.Disk.{Ghosts}
-use Rattle.petal_msg.specs.declared.body.Body.{Body}
-use Rattle.petal_rules.specs.Server.{Here, Post, post_to}
+use Rattle.petal_rules.specs.Server.{Here}
 use Rattle.petal_rules.specs.State.{other_in}
 use Rattle.petal_state.specs.CellState.{cell_link}
-use Rattle.server_store.specs.Holdings.{Holdings}
-use Rattle.kept_chains.specs.Reading.{IsReadFault}
-use Rattle.kept_chains.specs.declared.error.ReadError.{ReadError}
-use Rattle.pair_side.specs.Done.{HoldsAt}
-
--- one letter to a server, if any
-abbrev pub posts_of : Option (ℕ × Body) → List Post
-posts_of None = []
-posts_of (Some one) = post_to (Some one.0) one.1
 
 -- the other server of a cell's link, for the holder
 abbrev pub other_of_cell : Here → Cell → Option ℕ
 other_of_cell here cell = option_and_then (other_in here.state here.me) (cell_link here.state cell)
-
--- entries were read: nothing of the store changed, and the device keeps it as before
-pub record IsLook {D T : Type 0} (device : Ghosts D) (before after : Holdings D) (result : Result T ReadError) : Type 0 where
-  pub same : after ≡ record before { disk = after.disk }
-  pub kept : KeepsDevice device.size device.seen device.may_leave device.moment device.left_since before.disk after.disk
-  pub holds : device.told → HoldsAt device before → HoldsAt device after
-  pub cause : IsReadFault (device.faults before.disk) (device.faults after.disk) result
-  pub run : device.came_to before.disk after.disk

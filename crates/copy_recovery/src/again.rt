@@ -10,7 +10,8 @@ ghost use Rattle.kept_chains.specs.Kept.{store_of};
 ghost use Rattle.kept_chains.specs.Reading.{IsReadFault};
 ghost use Rattle.pair_side.specs.Side.{Side as Sides, own_of};
 ghost use Rattle.pair_side.specs.Done.{HoldsAt};
-ghost use Rattle.copy_recovery.specs.Again.{IsLook, other_of_cell, posts_of};
+ghost use Rattle.pair_side.specs.Letters.{IsLook, posts_of};
+ghost use Rattle.copy_recovery.specs.Again.{other_of_cell};
 
 use crate::copy::{copy_stage, sync_body, trim_body};
 use crate::next::next_copy;
@@ -18,29 +19,11 @@ use crate::page::page_wanted;
 use crate::roles::{other_in, other_on};
 use global_state::LinkRow;
 use kept_chains::{ReadError, read_nth};
-use pair_side::{Here, Side};
+use pair_side::{Here, Side, with_letter};
 use petal_base::{Cell, NoMemory, Sequence, ServerId};
 use petal_disk::Disk;
-use petal_msg::{Actor, Body, CopyAction, Copying, Letter, NextCopy};
+use petal_msg::{Body, CopyAction, Copying, Letter, NextCopy};
 use server_store::Store;
-
-/// The letters of the step so far with one letter more, if any, and the number of the next letter.
-fn with_letter(
-    here: &Here,
-    mut letters: Sequence<Letter>,
-    nth: u32,
-    found: Option<(ServerId, Body)>,
-) -> Result<(Sequence<Letter>, u32), NoMemory>
-    ensures { IfOk result (λ more. (more.0 ≡ letters ++ letters_of (sender here.now) nth (posts_of found)) × (more.1 ≡ nth + length (posts_of found))) }
-{
-    match found {
-        None => Ok((letters, nth)),
-        Some((to, body)) => {
-            letters.push(here.letter(Actor::Server(to), nth, body))?;
-            Ok((letters, nth.checked_add(1).ok_or(NoMemory)?))
-        }
-    }
-}
 
 /// The letter of an entry that is not yet answered.
 fn entry_awaited<D: Disk>(

@@ -26,15 +26,16 @@ pub fn cell_at(row: &LinkRow, block: BlockNo) -> Cell
     }
 }
 
-/// Whether the block lies on the link.
-fn is_on(here: &Here, row: &LinkRow, block: BlockNo) -> bool
+/// Whether the block lies on the link, and its cell is live.
+fn is_kept(here: &Here, row: &LinkRow, block: BlockNo) -> bool
     ensures value { result ≡ on_link here.now.state row.now block }
     ensures fits { block < 2 ^ 64 }
 {
-    here.state().is_on(row, cell_at(row, block))
+    let cell = cell_at(row, block);
+    here.state().is_on(row, cell) && here.state().live(cell)
 }
 
-/// The least block of the link above `after` that is marked here, of either kind.
+/// The least live block of the link above `after` that is marked here, of either kind.
 pub fn marked_above<D: Disk>(
     here: &Here,
     store: &Store<D>,
@@ -45,7 +46,7 @@ pub fn marked_above<D: Disk>(
 {
     let mut after = after;
     while let Some(block) = next_marked(store, row.map, after) {
-        if is_on(here, row, block) {
+        if is_kept(here, row, block) {
             return Some(block);
         }
         after = Some(block);
@@ -53,7 +54,7 @@ pub fn marked_above<D: Disk>(
     None
 }
 
-/// The least block of the link above `after` that has an entry here.
+/// The least live block of the link above `after` that has an entry here.
 pub fn stored_above<D: Disk>(
     here: &Here,
     store: &Store<D>,
@@ -64,7 +65,7 @@ pub fn stored_above<D: Disk>(
 {
     let mut after = after;
     while let Some(block) = next_stored(store, row.map, after) {
-        if is_on(here, row, block) {
+        if is_kept(here, row, block) {
             return Some(block);
         }
         after = Some(block);
@@ -72,16 +73,15 @@ pub fn stored_above<D: Disk>(
     None
 }
 
-/// Whether the cell lies on the link, and nothing is under way on it.
+/// Whether the block lies on the link, its cell is live, and nothing is under way on it.
 fn is_idle(here: &Here, side: &Side, row: &LinkRow, block: BlockNo) -> bool
     ensures value { (store : Stored) → result ≡ idle_on here.now.state row.now (side_own side.now store) block }
     ensures fits { block < 2 ^ 64 }
 {
-    let cell = cell_at(row, block);
-    here.state().is_on(row, cell) && !side.is_under_way(cell)
+    is_kept(here, row, block) && !side.is_under_way(cell_at(row, block))
 }
 
-/// The least block of the link that is marked here and on which nothing is under way: a mark that an earlier life left.
+/// The least live block of the link that is marked here and on which nothing is under way: a mark that an earlier life left.
 pub fn idle_mark<D: Disk>(
     here: &Here,
     side: &Side,

@@ -6,6 +6,7 @@
 
 mod alone;
 mod ask;
+mod moving;
 mod place;
 mod role;
 mod settled;

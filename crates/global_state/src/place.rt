@@ -127,12 +127,19 @@ impl GlobalState {
         }
     }
 
+    /// The server that leads a link, whatever its regions.
+    pub fn row_lead(&self, row: &LinkRow) -> Option<ServerId>
+        ensures { result ≡ row_lead self.now row.now }
+    {
+        self.state_lead(row.primary, row.state)
+    }
+
     /// The server that leads the cell's link, whatever its region.
     pub fn cell_lead(&self, cell: Cell) -> Option<ServerId>
         ensures { result ≡ option_and_then (row_lead self.now) (cell_link self.now cell) }
     {
         match self.row_of(cell) {
-            Some(row) => self.state_lead(row.primary, row.state),
+            Some(row) => self.row_lead(row),
             None => None,
         }
     }
@@ -142,7 +149,7 @@ impl GlobalState {
         ensures { result ≡ link_lead self.now map link }
     {
         match self.tables.links.get(map, link) {
-            Some(row) => self.state_lead(row.primary, row.state),
+            Some(row) => self.row_lead(row),
             None => None,
         }
     }

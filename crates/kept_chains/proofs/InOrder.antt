@@ -92,7 +92,7 @@ less_is Less h = refl
 less_is Equal h = absurd h
 less_is Greater h = absurd h
 
-both_first : (a b : Bool) → T (a && b) → T a
+pub both_first : (a b : Bool) → T (a && b) → T a
 both_first true b h = tt
 both_first false b h = h
 
@@ -100,7 +100,7 @@ both_second : (a b : Bool) → T (a && b) → T b
 both_second true b h = h
 both_second false b h = absurd h
 
-none_below : (c e : Cell) (t : Table Cell Chain) → cell_cmp c e ≡ Less → T (rows.below_all cell_cmp e t) → looked c t ≡ []
+pub none_below : (c e : Cell) (t : Table Cell Chain) → cell_cmp c e ≡ Less → T (rows.below_all cell_cmp e t) → looked c t ≡ []
 none_below c e [] less h = refl
 none_below c e (d ∷ ds) less h =
     let lower = cell_cmp_total.trans c e d.0 less (less_is _ (both_first _ _ h)) in

@@ -5,3 +5,4 @@ pub mod Kept
 pub mod Commits
 pub mod Drops
 pub mod Walks
+pub mod Fronts

@@ -1,12 +1,13 @@
 -- What a walk over the entries or the marks finds.
-use Rattle.std.proofs.Common.{◌≡◌, inl, inr, ℕ, zero, suc, ◌<◌, ◌==◌, ◌&&◌, Bool, true, false, cond, T, nat_le, List, [], ◌∷◌, map, Option, Some, None, is_some, option_map, refl, sym, subst, ap, ◌∙◌, arith}
+use Rattle.std.proofs.Common.{◌≡◌, inl, inr, ℕ, zero, suc, ◌<◌, ◌==◌, ◌&&◌, ◌||◌, Bool, true, false, cond, T, nat_le, nat_lt, List, [], ◌∷◌, map, Option, Some, None, is_some, option_map, refl, sym, subst, ap, ◌∙◌, arith}
 use Rattle.std.proofs.lemmas.Bool.{cases_Bool}
 use Rattle.std.proofs.lemmas.Bool.Decides.{nat_tests}
 use Rattle.std.proofs.lemmas.Option.{slice_get-map}
 use Rattle.std.specs.Prelude.{filter, slice_get, nat_eq}
 use Rattle.std.specs.List.{list_any}
 use Rattle.std.specs.declared.cmp.Ordering.TheVariants.{Less, Equal, Greater}
-use Rattle.std.specs.Ordering.{nat_cmp, is_lt, match_ordering}
+use Rattle.std.specs.Ordering.{nat_cmp, is_eq, is_lt, match_ordering}
+use Rattle.std.specs.Cmp.{unsigned_tied}
 use Rattle.std.specs.BTreeMap.{insert_entry}
 use Rattle.std.specs.FinMap.Entries as rows
 use Rattle.busy_marks.specs.declared.marks.Mark.{Mark}
@@ -14,21 +15,21 @@ use Rattle.busy_marks.specs.Marks.{above, lesser, next_marked}
 use Rattle.petal_base.specs.declared.cell.Cell.{Cell}
 use Rattle.petal_base.specs.declared.cell.Key.{Key}
 use Rattle.petal_base.specs.Cells.{cell_of}
-use Rattle.petal_table.specs.Table.{Table, put}
+use Rattle.petal_table.specs.Table.{Table, at, put}
 use Rattle.petal_rules.specs.Copies.{least}
 use Rattle.petal_rules.specs.Store.{Chain, Stored, bytes_of, cell_cmp, chain_in, entry_at, epochs_of, or_else}
 use Rattle.petal_rules.proofs.CellTables.{cell_cmp_same}
 use Rattle.physical_map.specs.declared.entry.Entry.{Entry}
 use Rattle.physical_map.specs.Entries as entries
 use Rattle.physical_map.specs.Entries.{chain_of, in_cell, next_block_of, slot_of}
-use Rattle.physical_map.specs.Keys.{same_key, IsInOrder}
+use Rattle.physical_map.specs.Keys.{later, newest, same_key, sees, IsInOrder}
 use Rattle.server_store.specs.Holdings.{Held, key_held, listed}
 use Rattle.kept_chains.specs.Kept.{chains_of, stored_of}
 use Rattle.kept_chains.specs.Walking.{marked_in, place_of, stored_in}
 use Rattle.kept_chains.proofs.Puts.{IsSorted}
 use Rattle.kept_chains.proofs.Chains.{well_by}
 use Rattle.kept_chains.proofs.Drops.{chain_held}
-use Rattle.kept_chains.proofs.InOrder.{chain_is}
+use Rattle.kept_chains.proofs.InOrder.{chain_is, entry_is}
 
 -- the least marked block above a number
 pub marked_is : (of : ℕ) (after : Option ℕ) (ms : List Mark) → next_marked of after ms ≡ least (filter (above after) (marked_in of ms))
@@ -186,6 +187,58 @@ pub slot_is : (es : List Held) (k : Key) → IsInOrder key_held es
 slot_is es k order there =
     slot_by es k ∙ ap (λ (chain : Chain). list_any (nat_eq k.epoch) (epochs_of chain)) (sym (chain_is key_held stored_of es (cell_of k) order)) ∙ there
 
+some_if : (b c : Bool) (x : Stored) (o : Option Stored) → c ≡ is_some o → (b || c) ≡ is_some (cond b (Some x) o)
+some_if true c x o is = refl
+some_if false c x o is = is
+
+-- whether a chain has an epoch
+at_epochs : (chain : Chain) (epoch : ℕ) → list_any (nat_eq epoch) (epochs_of chain) ≡ is_some (at nat_cmp chain epoch)
+unfolding at
+at_epochs [] epoch = refl
+at_epochs (row ∷ rows) epoch =
+    let tie : is_eq (nat_cmp epoch row.0) ≡ nat_eq epoch row.0 = unsigned_tied epoch row.0 in
+    ap (λ b. b || list_any (nat_eq epoch) (epochs_of rows)) (sym tie)
+    ∙ some_if (is_eq (nat_cmp epoch row.0)) (list_any (nat_eq epoch) (epochs_of rows)) row.1 (at nat_cmp rows epoch) (at_epochs rows epoch)
+
+any_epoch : (es : List Entry) (epoch : ℕ) → list_any (λ (e : Entry). nat_eq epoch e.key.epoch) es ≡ list_any (nat_eq epoch) (map (λ (e : Entry). e.key.epoch) es)
+any_epoch [] epoch = refl
+any_epoch (e ∷ es) epoch = ap (λ b. nat_eq epoch e.key.epoch || b) (any_epoch es epoch)
+
+-- an entry has a key where the chain of its cell has its epoch
+pub has_is : (es : List Held) (k : Key) → IsInOrder key_held es
+    → list_any (λ (e : Entry). nat_eq k.epoch e.key.epoch) (chain_of (cell_of k) (listed es)) ≡ is_some (at nat_cmp (chain_in (chains_of es) (cell_of k)) k.epoch)
+has_is es k order =
+    any_epoch (chain_of (cell_of k) (listed es)) k.epoch
+    ∙ ap (list_any (nat_eq k.epoch)) (epochs_is es (cell_of k) order)
+    ∙ at_epochs (chain_in (chains_of es) (cell_of k)) k.epoch
+
+abbrev entry_in : Option Held → Option Entry
+entry_in o = option_map (λ (h : Held). h.entry) o
+
+later_listed : (x : Held) (o : Option Held) → later entries.key_of (Some x.entry) (entry_in o) ≡ entry_in (later key_held (Some x) o)
+later_listed x None = refl
+later_listed x (Some y) = elim (cases_Bool (nat_lt x.entry.key.epoch y.entry.key.epoch)) [
+  | inl is ↦ rw is refl
+  | inr is ↦ rw is refl
+]
+
+newest_listed : (es : List Held) (k : Key) → newest entries.key_of k (listed es) ≡ entry_in (newest key_held k es)
+newest_listed [] k = refl
+newest_listed (e ∷ es) k = elim (cases_Bool (sees k e.entry.key)) [
+  | inl seen ↦ rw seen (ap (later entries.key_of (Some e.entry)) (newest_listed es k) ∙ later_listed e (newest key_held k es))
+  | inr seen ↦ rw seen (newest_listed es k)
+]
+
+some_held : (o : Option Entry) (held : Option Held) → o ≡ entry_in held → is_some o ≡ is_some (option_map stored_of held)
+some_held o None is = rw is refl
+some_held o (Some h) is = rw is refl
+
+-- a read finds an entry where its chain has one
+pub below_is : (es : List Held) (k : Key) (found : Option Entry) → IsInOrder key_held es → found ≡ newest entries.key_of k (listed es)
+    → is_some found ≡ is_some (entry_at (chain_in (chains_of es) (cell_of k)) k.epoch)
+below_is es k found order is =
+    some_held found (newest key_held k es) (is ∙ newest_listed es k) ∙ sym (ap is_some (entry_is key_held stored_of es k order))
+
 first_of : (a b : Bool) → T (a && b) → T a
 first_of true b h = tt
 first_of false b h = h
@@ -226,6 +279,53 @@ entry_nth (r ∷ rs) (suc place) row sorted is =
     let less = later_nth rs r.0 place row (first_of _ _ sorted) is in
     let not_over : nat_le r.0 row.0 ≡ true = grind (arith, nat_tests, less) in
     rw not_over (ap (λ (o : Option Stored). Some (or_else o r.1)) (entry_nth rs place row (second_of _ _ sorted) is))
+
+later_at : (chain : Chain) (epoch e : ℕ) (x : Stored) → T (rows.below_all nat_cmp epoch chain) → at nat_cmp chain e ≡ Some x → epoch < e
+unfolding at
+later_at [] epoch e x above is = absurd (cc)
+later_at (r ∷ rs) epoch e x above is =
+    let rest = later_at rs epoch e x (second_of _ _ above) in
+    elim (cases_Bool (nat_eq e r.0)) [
+      | inl tie ↦ let less = less_of epoch r.0 (first_of _ _ above) in let same : e ≡ r.0 = grind (arith, nat_tests, tie) in omega (arith, less, same)
+      | inr apart ↦ rest (rw (unsigned_tied e r.0 ∙ apart) at is)
+    ]
+
+-- an entry of a chain is what a read at its epoch finds
+entry_there : (chain : Chain) (e : ℕ) (x : Stored) → IsSorted nat_cmp chain → at nat_cmp chain e ≡ Some x → entry_at chain e ≡ Some x
+unfolding at
+entry_there [] e x sorted is = absurd (cc)
+entry_there (r ∷ rs) e x sorted is =
+    let rest = entry_there rs e x (second_of _ _ sorted) in
+    let later = later_at rs r.0 e x (first_of _ _ sorted) in
+    elim (cases_Bool (nat_eq e r.0)) [
+      | inl tie ↦
+          let same : e ≡ r.0 = grind (arith, nat_tests, tie) in
+          let own : r.1 ≡ x = (let o : Some r.1 ≡ Some x = rw (unsigned_tied e r.0 ∙ tie) at is in cc) in
+          let not_over : nat_le r.0 e ≡ true = grind (arith, nat_tests, same) in
+          rw not_over (ap (λ (o : Option Stored). Some (or_else o r.1)) (ap (entry_at rs) same ∙ none_at rs r.0 (first_of _ _ sorted)) ∙ ap (λ (y : Stored). Some y) own)
+      | inr apart ↦
+          let there : at nat_cmp rs e ≡ Some x = rw (unsigned_tied e r.0 ∙ apart) at is in
+          let less = later there in
+          let not_over : nat_le r.0 e ≡ true = grind (arith, nat_tests, less) in
+          rw not_over (ap (λ (o : Option Stored). Some (or_else o r.1)) (rest there))
+    ]
+
+bytes_by : (chain : Chain) (e : ℕ) (bytes : List ℕ) (o : Option Stored) → IsSorted nat_cmp chain → at nat_cmp chain e ≡ o → is_some o ≡ true
+    → bytes ≡ bytes_of (entry_at chain e) → Some bytes ≡ option_map (λ (x : Stored). x.bytes) o
+bytes_by chain e bytes None sorted is some read = absurd (cc)
+bytes_by chain e bytes (Some x) sorted is some read =
+    ap (λ (b : List ℕ). Some b) (read ∙ ap bytes_of (entry_there chain e x sorted is))
+
+-- what is read at a key that an entry has
+pub key_read : (es : List Held) (k : Key) (bytes : List ℕ) → is_some (at nat_cmp (chain_in (chains_of es) (cell_of k)) k.epoch) ≡ true
+    → bytes ≡ bytes_of (entry_at (chain_in (chains_of es) (cell_of k)) k.epoch)
+    → Some bytes ≡ option_map (λ (x : Stored). x.bytes) (at nat_cmp (chain_in (chains_of es) (cell_of k)) k.epoch)
+key_read es k bytes some read =
+    bytes_by (chain_in (chains_of es) (cell_of k)) k.epoch bytes _ ((well_by key_held stored_of es).each (cell_of k)) refl some read
+
+pub key_none : (o : Option Stored) → is_some o ≡ false → None ≡ option_map (λ (x : Stored). x.bytes) o
+key_none None is = refl
+key_none (Some x) is = absurd (cc)
 
 -- the row of a place, by its epoch, its version and what a read at its epoch finds
 read_row : (chain : Chain) (o : Option (ℕ × Stored)) (epoch version : ℕ) (bytes : List ℕ)

@@ -12,4 +12,7 @@ mod walk;
 pub use error::ReadError;
 pub use laws::{a_put_is_an_entry_more, a_read_finds_the_chains_entry, versions_and_counts_agree};
 pub use store::{drop_entry, mark, next_version, read_at, set_apart, settle, unmark};
-pub use walk::{Found, epochs, mark_left, next_marked, next_stored, nth, read_nth};
+pub use walk::{
+    Found, epochs, has_below, has_entry, mark_left, next_marked, next_stored, nth, read_key,
+    read_nth,
+};

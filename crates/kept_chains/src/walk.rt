@@ -1,6 +1,10 @@
 //! The blocks of a map in order, and the entries of a block.
 
-ghost use Rattle.std.specs.Prelude.{◌≡◌, filter, map, slice_get, option_map, IfOk};
+ghost use Rattle.std.specs.Prelude.{◌≡◌, filter, map, nat_eq, slice_get, option_map, IfOk, is_some};
+ghost use Rattle.std.specs.List.{list_any};
+ghost use Rattle.std.specs.Ordering.{nat_cmp};
+ghost use Rattle.petal_base.specs.Cells.{cell_of};
+ghost use Rattle.petal_table.specs.Table.{at};
 ghost use Rattle.busy_marks.specs.Marks.{above};
 ghost use Rattle.petal_disk.specs.Keeping.{KeepsDevice};
 ghost use Rattle.petal_rules.specs.Copies.{least};
@@ -13,7 +17,7 @@ ghost use Rattle.kept_chains.specs.Walking.{marked_in, place_of, row_of, stored_
 
 use crate::{ReadError, read_at};
 use busy_marks::MarkKind;
-use petal_base::{BlockNo, Cell, Epoch, MapId, NoMemory, Sequence, SharedBlock, Version};
+use petal_base::{BlockNo, Cell, Epoch, Key, MapId, NoMemory, Sequence, SharedBlock, Version};
 use petal_disk::Disk;
 use server_store::{Entry, Store};
 use std::alloc::{AllocError, Global};
@@ -38,6 +42,54 @@ pub fn next_marked<D: Disk>(store: &Store<D>, map: MapId, after: Option<BlockNo>
     ensures { result ≡ least (filter (above after) (marked_in map store.now.marks)) }
 {
     store.next_mark(map, after)
+}
+
+fn has_epoch(chain: &[Entry], epoch: Epoch) -> bool
+    ensures { result ≡ list_any (λ entry. nat_eq epoch entry.key.epoch) chain.now }
+{
+    chain.iter().any(|entry| epoch == entry.key.epoch)
+}
+
+/// Whether an entry has the key.
+pub fn has_entry<D: Disk>(store: &Store<D>, key: Key) -> bool
+    ensures { result ≡ is_some (at nat_cmp (chain_in (chains_of store.now.entries) (cell_of key)) key.epoch) }
+{
+    // What `free` promises tells the proof that the entries are in order.
+    let _ = store.free();
+    has_epoch(store.chain_at(key.cell()), key.epoch)
+}
+
+/// The bytes of the entry that has the key.
+///
+/// # Errors
+/// `Failed`, where the device failed, and out of memory. Nothing that the store has changed, and the device keeps it as before.
+pub fn read_key<D: Disk>(
+    alloc: Global,
+    store: &mut Store<D>,
+    key: Key,
+) -> Result<Option<SharedBlock>, ReadError>
+    ensures entry { IfOk result (λ found. D.told → found
+        ≡ option_map (λ entry. entry.bytes) (at nat_cmp (chain_in (chains_of store.old.entries) (cell_of key)) key.epoch)) }
+    ensures same { store.new ≡ record store.old { disk = store.new.disk } }
+    ensures device { KeepsDevice D.size D.seen D.may_leave D.moment D.left_since store.old.disk store.new.disk }
+    ensures holds { D.told → Holds store.old (D.seen store.old.disk) (D.may_leave store.old.disk)
+        → Holds store.new (D.seen store.new.disk) (D.may_leave store.new.disk) }
+    ensures cause { IsReadFault (D.faults store.old.disk) (D.faults store.new.disk) result }
+    ensures run { D.came_to store.old.disk store.new.disk }
+{
+    if !has_entry(store, key) {
+        return Ok(None);
+    }
+    Ok(Some(read_at(alloc, store, key.cell(), key.epoch)?))
+}
+
+/// Whether the cell has an entry of an epoch not above.
+pub fn has_below<D: Disk>(store: &Store<D>, cell: Cell, epoch: Epoch) -> bool
+    ensures { result ≡ is_some (rules.entry_at (chain_in (chains_of store.now.entries) cell) epoch) }
+{
+    // What `free` promises tells the proof that the entries are in order.
+    let _ = store.free();
+    store.lookup(cell.map, cell.block, epoch).is_some()
 }
 
 /// The mark of a cell that is to be taken away first.

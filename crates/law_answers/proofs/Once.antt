@@ -19,7 +19,7 @@ use Rattle.petal_history.specs.Legal.{Follows, IsLegal, IsLegalFrom, stepped, wo
 use Rattle.petal_history.specs.Text.{with_given}
 use Rattle.petal_history.specs.declared.record.Record.{Record}
 use Rattle.law_steps.specs.Happens.{Heard}
-use Rattle.law_steps.specs.Turned.{Turned, StaysOpen, Goes_on, Begins, Reads, Judges}
+use Rattle.law_steps.specs.Turned.{Turned, StaysOpen, Goes_on, Is_told, Begins, Reads, Judges}
 use Rattle.law_steps.specs.Turned as happens
 use Rattle.law_steps.proofs.Turning.{client_turns, is_call}
 use Rattle.law_steps.proofs.Histories.{front_legal}
@@ -127,16 +127,24 @@ module _ (lines : List Line) (rise : AreRising lines) (given : List (ℕ × Answ
     the_row : {row other : ℕ × Answer} (called : ℕ) → Some row ≡ Some other → IsOpenAt lines given c called row.0 → IsOpenAt lines given c called other.0
     the_row called e o = subst (λ (r : ℕ × Answer). IsOpenAt lines given c called r.0) (same_some e) o
 
-    -- what stays open is at the line that it was
-    stays_at : (rev : ℕ) (o : Option Asked) → client.asked ≡ o → (now : Asked) → StaysOpen rev o (Some now) → IsOpenAt lines given c client.seq now.line
-    stays_at rev None is now stays = absurd stays
-    stays_at rev (Some old) is now stays = subst (IsOpenAt lines given c client.seq) (sym stays.line) (a.asked old is)
+    -- what is open is at a line that has no answer
+    abbrev AreOpen : Option Asked → Type 0
+    AreOpen o = (old : Asked) → o ≡ Some old → IsOpenAt lines given c client.seq old.line
 
-    goes_ahead : (rev : ℕ) (to : Client) → to.seq ≡ client.seq → StaysOpen rev client.asked to.asked → IsAhead lines given c to
-    goes_ahead rev to seq stays = record {
+    -- what stays open is at the line that it was
+    stays_at : (rev : ℕ) (o : Option Asked) → AreOpen o → (now : Asked) → StaysOpen rev o (Some now) → IsOpenAt lines given c client.seq now.line
+    stays_at rev None was now stays = absurd stays
+    stays_at rev (Some old) was now stays = subst (IsOpenAt lines given c client.seq) (sym stays.line) (was old refl)
+
+    goes_ahead : (rev : ℕ) (o : Option Asked) → AreOpen o → (to : Client) → to.seq ≡ client.seq → StaysOpen rev o to.asked → IsAhead lines given c to
+    goes_ahead rev o was to seq stays = record {
       due = λ i line is le. a.due i line is (omega arith);
-      asked = λ now e. subst (λ k. IsOpenAt lines given c k now.line) (sym seq) (stays_at rev client.asked refl now (subst (StaysOpen rev client.asked) e stays));
+      asked = λ now e. subst (λ k. IsOpenAt lines given c k now.line) (sym seq) (stays_at rev o was now (subst (StaysOpen rev o) e stays));
     }
+
+    -- a read that was told that the new map has nothing is open at its line
+    told_open : (asked : Asked) → client.asked ≡ Some asked → AreOpen (Some (record asked { told = true; old_way = true }))
+    told_open asked is old e = subst (λ (x : Asked). IsOpenAt lines given c client.seq x.line) (same_some e) (a.asked asked is)
 
     begins_ahead : (line : Line) → next_line lines c client ≡ Some line → (to : Client) (asked : Asked) → to.seq ≡ client.seq + 1
         → to.asked ≡ Some asked → asked.line ≡ line.number → IsAhead lines given c to
@@ -157,7 +165,10 @@ module _ (lines : List Line) (rise : AreRising lines) (given : List (ℕ × Answ
     judged to asked seq is = subst (λ k. IsOpenAt lines given c k asked.line) (sym seq) (a.asked asked is)
 
     turned : (in_call : Bool) (reacted : Reaction) → Turned heard servers lines c client in_call reacted → IsTurned c reacted
-    turned _ _ (Goes_on reacted seq stays only) = silent reacted only.unanswered (goes_ahead _ reacted.client seq stays)
+    turned _ _ (Goes_on reacted seq stays only) = silent reacted only.unanswered (goes_ahead _ client.asked a.asked reacted.client seq stays)
+    turned _ _ (Is_told reacted asked h is reads seq stays only) =
+        silent reacted only.unanswered
+        (goes_ahead _ (Some (record asked { told = true; old_way = true })) (told_open asked is) reacted.client seq stays)
     turned _ _ (Begins reacted line asked is free seq there called only) =
         silent reacted only.unanswered (begins_ahead line is reacted.client asked seq there called.line_is)
     turned _ _ (Reads asked bytes h is reads) = record {

@@ -8,8 +8,13 @@ use Rattle.global_tables.specs.declared.disk.Verdict.TheVariants as verdict
 use Rattle.petal_command.specs.declared.command.Command.{Command}
 use Rattle.petal_command.specs.declared.command.Command.TheVariants.{Witness}
 use Rattle.petal_msg.specs.declared.body.Body.{Body}
+use Rattle.petal_msg.specs.declared.body.Body.TheVariants as body
+use Rattle.petal_msg.specs.declared.letter.Actor.{Actor}
+use Rattle.petal_msg.specs.declared.letter.Actor.TheVariants as actor
+use Rattle.petal_msg.specs.declared.letter.Letter.{Letter}
 use Rattle.petal_msg.specs.declared.operation.Ending.{Ending}
 use Rattle.petal_msg.specs.declared.operation.Ending.TheVariants as ending
+use Rattle.script_lines.specs.Requests.{is_snap}
 use Rattle.script_lines.specs.declared.answer.Answer.{Answer}
 use Rattle.script_lines.specs.declared.answer.Answer.TheVariants as answer
 use Rattle.script_lines.specs.declared.request.Line.{Line}
@@ -17,7 +22,7 @@ use Rattle.script_lines.specs.declared.request.Request.{Request}
 use Rattle.script_lines.specs.declared.request.Request.TheVariants as request
 use Rattle.petal_state.specs.State.{start as first_state, latest}
 use Rattle.petal_state.specs.Command.{state_after}
-use Rattle.petal_history.specs.Causes.{HasWitness, HasVerdict, CauseOf, AreCaused}
+use Rattle.petal_history.specs.Causes.{HasWitness, HasVerdict, CauseOf, AreCaused, WasTold}
 use Rattle.petal_history.specs.Claims.{IsPrefix}
 use Rattle.petal_history.specs.Legal.{IsLegal, IsLegalFrom, stepped, world_after}
 use Rattle.petal_history.specs.Order.{AreRising}
@@ -26,23 +31,26 @@ use Rattle.script_lines.specs.declared.script.Script.{Script}
 use Rattle.petal_rules.specs.Lists.{In}
 use Rattle.petal_rules.specs.State.{State, is_in}
 use Rattle.petal_rules.specs.Clients.{Client, Asked, Reaction, Sight, is_read, is_write, command_of, refusal, verdict_for, verdict_answer, is_witness}
-use Rattle.petal_rules.specs.World.{Setting, World, lines_of, chosen_log, chosen_state, state_at, with_answer, setting_of, start}
-use Rattle.petal_rules.proofs.Tests.{by_test, same_some, none_some, same_numbers, both_true, all_put}
+use Rattle.petal_rules.specs.World.{Setting, World, lines_of, chosen_log, chosen_state, state_at, with_answer, setting_of, start, step}
+use Rattle.petal_rules.specs.declared.step.Step.{Step}
+use Rattle.petal_rules.proofs.Tests.{by_test, same_some, none_some, same_numbers, both_true, all_put, true_false}
 use Rattle.law_state.specs.Plain.{IsPlainLog}
 use Rattle.law_state.proofs.Places.{in_get}
 use Rattle.law_state.proofs.Ages.{between}
 use Rattle.law_state.proofs.Disks.{first_at_start}
 use Rattle.law_state.proofs.Entries.{log_plain}
 use Rattle.law_state.proofs.Steady.{log_below, log_steady}
-use Rattle.law_steps.specs.Turned.{Turned, IsSame, StaysOpen, IsReason, By_verdict, By_witness, IsJudged, Goes_on, Begins, Reads, Ends, Shown, IsSeenAs, Stops_it, Starts_it, Blanks_it, Has_no_space, Is_settled, Judges, answer_of}
-use Rattle.law_steps.specs.Happens.{Happens, Blanks, Serves, Turns}
-use Rattle.petal_rules.proofs.ListLemmas.{put_same}
+use Rattle.law_steps.specs.Turned.{Turned, IsSame, StaysOpen, IsReason, By_verdict, By_witness, IsJudged, Goes_on, Is_told, Begins, Reads, Ends, Shown, IsSeenAs, Stops_it, Starts_it, Blanks_it, Has_no_space, Is_settled, Judges, answer_of}
+use Rattle.law_steps.specs.Happens.{Happens, Heard, Blanks, Serves, Turns}
+use Rattle.petal_rules.proofs.ListLemmas.{in_later, put_same}
 use Rattle.law_steps.specs.Ready.{AreFirm, Rests}
 use Rattle.law_steps.proofs.Fronts.{front_itself, front_on, below_itself}
 use Rattle.law_steps.proofs.Histories.{rests_next, happens, firm_now, firm_after, start_rests}
 use Rattle.law_causes.specs.Asked.{AreAsked, asker}
 use Rattle.law_answers.proofs.Places.{one_client, one_place}
-use Rattle.law_causes.proofs.Verdicts.{has_at, judged_at_once, judged_first, judged_low, placed_before, placed_first, plain_front}
+use Rattle.law_causes.proofs.Numbers.{judged_low}
+use Rattle.law_causes.proofs.Verdicts.{has_at, judged_at_once, judged_first, judged_made, placed_before, placed_first}
+use Rattle.law_causes.proofs.Wanted.{plain_front}
 use Rattle.law_causes.proofs.Served.{never_unavailable}
 
 -- ### Fronts of a list
@@ -64,11 +72,13 @@ witness_is me seq _ h = absurd (cc)
 no_command_read : (c seq : ℕ) (asked : Request) → is_read asked ≡ true → command_of c seq asked ≡ None
 no_command_read c seq (request.Disk name tuple) h = absurd (cc)
 no_command_read c seq (request.Snap name snap) h = absurd (cc)
+no_command_read c seq (request.Move name tuple) h = absurd (cc)
 no_command_read c seq _ h = refl
 
 no_command_write : (c seq : ℕ) (asked : Request) → is_write asked ≡ true → command_of c seq asked ≡ None
 no_command_write c seq (request.Disk name tuple) h = absurd (cc)
 no_command_write c seq (request.Snap name snap) h = absurd (cc)
+no_command_write c seq (request.Move name tuple) h = absurd (cc)
 no_command_write c seq _ h = refl
 
 -- the open request is that of a line
@@ -124,6 +134,8 @@ module _ (setting : Setting) (last : World) (plain : IsPlainLog setting.servers 
       let was = (has_at setting.servers log plain c seq few asked own (first.0 + 1) upto).told given first.2 in
       let placed = was.0 in
       let before = placed_before setting.servers log plain c seq few asked own (first.0 + 1) given first.2 placed in
+      let at_once : is_snap asked ≡ false → first.0 ≡ placed.place =
+      judged_at_once setting.servers log plain c seq few asked own first.0 upto given first.2 first.3 placed (omega arith) in
       record {
         place = placed.place;
         judged = first.0;
@@ -135,12 +147,14 @@ module _ (setting : Setting) (last : World) (plain : IsPlainLog setting.servers 
         within = omega arith;
         so = first.2;
         until = first.3;
-        at_once = judged_at_once setting.servers log plain c seq few asked own first.0 upto given first.2 first.3 placed (omega arith);
+        at_once = at_once;
         taken = placed.taken;
         unknown = placed.unknown;
+        moving = placed.moving;
+        still = placed.still;
         free = placed.free;
         known = placed.known;
-        made = was.1;
+        made = λ ok. judged_made setting.servers log plain c seq few asked own first.0 upto given first.2 placed at_once (was.1 ok) ok;
       }
 
   -- a command of the open request's number is its own
@@ -153,9 +167,9 @@ module _ (setting : Setting) (last : World) (plain : IsPlainLog setting.servers 
       ap (command_of c asked.seq) (o.request_is ∙ ap (λ (l : Line). l.request) line) ∙ a.own
 
   judged_cause : (c : ℕ) (before after : List Command) (asked : Asked) (given : Answer) → IsOpenFor setting.lines c asked
-      → IsPrefix after (chosen_log setting last)
+      → (asked.told ≡ true → WasTold last c asked.seq) → IsPrefix after (chosen_log setting last)
       → IsJudged setting.servers c before after asked given → HasCause asked.line given
-  judged_cause c before after asked given o part judged = caused_by c asked given o (by judged.reason)
+  judged_cause c before after asked given o was_told part judged = caused_by c asked given o (by judged.reason)
     where
       upto : List Command
       upto = judged.front ++ judged.entry ∷ []
@@ -187,8 +201,10 @@ module _ (setting : Setting) (last : World) (plain : IsPlainLog setting.servers 
           (witness_causes c asked.seq asked.request given (record {
             place = length judged.front;
             turn = w.0;
+            told = asked.told;
+            why = was_told;
             is = there ∙ ap Some w.1;
-            so = ap (λ (s : State). refusal s asked.request) state ∙ so;
+            so = ap (λ (s : State). refusal s asked.told asked.request) state ∙ so;
           }))
 
   -- ### A step
@@ -196,10 +212,12 @@ module _ (setting : Setting) (last : World) (plain : IsPlainLog setting.servers 
   pub record Kept (w : World) : Type 0 where
     pub answers : (number : ℕ) (given : Answer) → In (number, given) w.answers → HasCause number given
     pub open_for : (c : ℕ) (asked : Asked) → (w.clients c).asked ≡ Some asked → IsOpenFor setting.lines c asked
+    pub told : (c : ℕ) (asked : Asked) → (w.clients c).asked ≡ Some asked → asked.told ≡ true → WasTold last c asked.seq
 
   -- what a client's step leaves and answers
   record Reacted (c : ℕ) (reacted : Reaction) : Type 0 where
     open_for : (asked : Asked) → reacted.client.asked ≡ Some asked → IsOpenFor setting.lines c asked
+    told : (asked : Asked) → reacted.client.asked ≡ Some asked → asked.told ≡ true → WasTold last c asked.seq
     answered : (number : ℕ) (given : Answer) → reacted.answer ≡ Some (number, given) → HasCause number given
 
   open_same : (rev c : ℕ) (old new : Asked) → IsSame rev old new → IsOpenFor setting.lines c old → IsOpenFor setting.lines c new
@@ -219,6 +237,17 @@ module _ (setting : Setting) (last : World) (plain : IsPlainLog setting.servers 
   stays_open rev c (Some old) None stays before asked e = none_some refl e
   stays_open rev c (Some old) (Some new) stays before asked e =
       subst (IsOpenFor setting.lines c) (same_some e) (open_same rev c old new stays (before old refl))
+
+  -- what was told of it stays so
+  stays_told : (rev c : ℕ) (old new : Option Asked) → StaysOpen rev old new
+      → ((asked : Asked) → old ≡ Some asked → asked.told ≡ true → WasTold last c asked.seq) → (asked : Asked) → new ≡ Some asked → asked.told ≡ true
+      → WasTold last c asked.seq
+  stays_told rev c None None stays before asked e told = none_some refl e
+  stays_told rev c None (Some new) stays before asked e told = absurd stays
+  stays_told rev c (Some old) None stays before asked e told = none_some refl e
+  stays_told rev c (Some old) (Some new) stays before asked e told =
+      let was : old.told ≡ true = sym stays.told ∙ ap (λ (a : Asked). a.told) (same_some e) ∙ told in
+      subst (λ (s : ℕ). WasTold last c s) (sym stays.seq ∙ ap (λ (a : Asked). a.seq) (same_some e)) (before old refl was)
 
   answer_given : (number line : ℕ) (given told : Answer) → (let pair : Option (ℕ × Answer) = Some (line, told) in pair) ≡ Some (number, given)
       → HasCause line told → HasCause number given
@@ -262,48 +291,66 @@ module _ (setting : Setting) (last : World) (plain : IsPlainLog setting.servers 
       none (Has_no_space is full e) = tt
       none (Is_settled is round seen all e) = tt
 
-  reacted_kept : (heard : ℕ → Body → Type 0) (c : ℕ) (client : Client) (in_call : Bool) (reacted : Reaction)
-      → ((asked : Asked) → client.asked ≡ Some asked → IsOpenFor setting.lines c asked)
-      → IsPrefix reacted.client.applied (chosen_log setting last) → Turned heard setting.servers setting.lines c client in_call reacted → Reacted c reacted
-  reacted_kept heard c client _ _ before part (Goes_on reacted seq stays says) = record {
-    open_for = stays_open _ c client.asked reacted.client.asked stays before;
-    answered = λ number given e. none_some says.unanswered e;
-  }
-  reacted_kept heard c client _ _ before part (Begins reacted line asked next free seq now called says) = record {
-    open_for = λ other e. subst (IsOpenFor setting.lines c) (same_some (sym now ∙ e))
-        (let o : IsOpenFor setting.lines c asked = record {
-          before = client.seq;
-          line = line;
-          is = next;
-          line_is = called.line_is;
-          seq_is = called.seq_is;
-          request_is = called.request_is;
-        } in o);
-    answered = λ number given e. none_some says.unanswered e;
-  }
-  reacted_kept heard c client _ _ before part (Reads asked bytes told is read) = record {
-    open_for = λ other e. none_some refl e;
-    answered = λ number given e.
-        answer_given number asked.line given (answer.Data bytes) e
-        (caused_by c asked (answer.Data bytes) (before asked is) (read_cause c asked.seq asked.request bytes read));
-  }
-  reacted_kept heard c client _ _ before part (Ends asked how told is write) = record {
-    open_for = λ other e. none_some refl e;
-    answered = λ number given e.
-        answer_given number asked.line given (answer_of how) e
-        (caused_by c asked (answer_of how) (before asked is) (write_cause c asked.seq asked.request how write));
-  }
-  reacted_kept heard c client _ _ before part (Shown asked rev sight shown told is seen) = record {
-    open_for = λ other e. none_some refl e;
-    answered = λ number given e.
-        answer_given number asked.line given shown e
-        (caused_by c asked shown (before asked is) (seen_cause _ c asked sight shown seen));
-  }
-  reacted_kept heard c client _ _ before part (Judges after asked told is gone seq judged) = record {
-    open_for = λ other e. none_some gone e;
-    answered = λ number given e. answer_given number asked.line given told e
-        (judged_cause c client.applied after.applied asked told (before asked is) part judged);
-  }
+  module _ (heard : ℕ → Body → Type 0) (c : ℕ) (hears : (rev seq : ℕ) → heard rev (body.NotHere seq) → WasTold last c seq) where
+    -- the same request, told that the new map has nothing
+    told_open : (asked : Asked) → IsOpenFor setting.lines c asked → IsOpenFor setting.lines c (record asked { told = true; old_way = true })
+    told_open asked o = record { before = o.before; line = o.line; is = o.is; line_is = o.line_is; seq_is = o.seq_is; request_is = o.request_is }
+
+    reacted_kept : (client : Client) (in_call : Bool) (reacted : Reaction)
+        → ((asked : Asked) → client.asked ≡ Some asked → IsOpenFor setting.lines c asked)
+        → ((asked : Asked) → client.asked ≡ Some asked → asked.told ≡ true → WasTold last c asked.seq)
+        → IsPrefix reacted.client.applied (chosen_log setting last) → Turned heard setting.servers setting.lines c client in_call reacted → Reacted c reacted
+    reacted_kept client _ _ before was part (Goes_on reacted seq stays says) = record {
+      open_for = stays_open _ c client.asked reacted.client.asked stays before;
+      told = stays_told _ c client.asked reacted.client.asked stays was;
+      answered = λ number given e. none_some says.unanswered e;
+    }
+    reacted_kept client _ _ before was part (Is_told reacted asked told is reads seq stays says) = record {
+      open_for = stays_open _ c _ reacted.client.asked stays (λ old e. subst (IsOpenFor setting.lines c) (same_some e) (told_open asked (before asked is)));
+      told = stays_told _ c _ reacted.client.asked stays
+          (λ old e t. subst (λ (a : Asked). WasTold last c a.seq) (same_some e) (hears asked.rev asked.seq told));
+      answered = λ number given e. none_some says.unanswered e;
+    }
+    reacted_kept client _ _ before was part (Begins reacted line asked next free seq now called says) = record {
+      open_for = λ other e. subst (IsOpenFor setting.lines c) (same_some (sym now ∙ e))
+          (let o : IsOpenFor setting.lines c asked = record {
+            before = client.seq;
+            line = line;
+            is = next;
+            line_is = called.line_is;
+            seq_is = called.seq_is;
+            request_is = called.request_is;
+          } in o);
+      told = λ other e t. true_false t (ap (λ (a : Asked). a.told) (same_some (sym e ∙ now)) ∙ called.untold);
+      answered = λ number given e. none_some says.unanswered e;
+    }
+    reacted_kept client _ _ before was part (Reads asked bytes told is read) = record {
+      open_for = λ other e. none_some refl e;
+      told = λ other e. none_some refl e;
+      answered = λ number given e.
+          answer_given number asked.line given (answer.Data bytes) e
+          (caused_by c asked (answer.Data bytes) (before asked is) (read_cause c asked.seq asked.request bytes read));
+    }
+    reacted_kept client _ _ before was part (Ends asked how told is write) = record {
+      open_for = λ other e. none_some refl e;
+      told = λ other e. none_some refl e;
+      answered = λ number given e.
+          answer_given number asked.line given (answer_of how) e
+          (caused_by c asked (answer_of how) (before asked is) (write_cause c asked.seq asked.request how write));
+    }
+    reacted_kept client _ _ before was part (Shown asked rev sight shown told is seen) = record {
+      open_for = λ other e. none_some refl e;
+      told = λ other e. none_some refl e;
+      answered = λ number given e.
+          answer_given number asked.line given shown e
+          (caused_by c asked shown (before asked is) (seen_cause _ c asked sight shown seen));
+    }
+    reacted_kept client _ _ before was part (Judges after asked told is gone seq judged) = record {
+      open_for = λ other e. none_some gone e;
+      told = λ other e. none_some gone e;
+      answered = λ number given e. answer_given number asked.line given told e
+          (judged_cause c client.applied after.applied asked told (before asked is) (was asked is) part judged);
+    }
 
   more_answers : (given : Option (ℕ × Answer)) (so_far : List (ℕ × Answer)) → ((number : ℕ) (told : Answer) → In (number, told) so_far → HasCause number told)
       → ((number : ℕ) (told : Answer) → given ≡ Some (number, told) → HasCause number told) → (number : ℕ) (told : Answer)
@@ -313,18 +360,24 @@ module _ (setting : Setting) (last : World) (plain : IsPlainLog setting.servers 
   more_answers (Some given) so_far before now number told (inl is) = now number told (ap Some (sym is))
   more_answers (Some given) so_far before now number told (inr h) = before number told h
 
-  pub step_keeps : (state : State) (w v : World) → Kept w → ((c : ℕ) → IsPrefix (v.clients c).applied (chosen_log setting last)) → Happens setting state w v
+  pub step_keeps : (state : State) (w v : World) → Kept w → ((letter : Letter) → In letter w.sent → In letter last.sent) → ((c : ℕ) → IsPrefix (v.clients c).applied (chosen_log setting last)) → Happens setting state w v
       → Kept v
-  step_keeps state w _ kept parts (Serves n stamp what acted lt within unblanked serving) = record { answers = kept.answers; open_for = kept.open_for }
-  step_keeps state w _ kept parts (Blanks n stamp lt within rests) = record { answers = kept.answers; open_for = kept.open_for }
-  step_keeps state w _ kept parts (Turns c stamp in_call reacted lt small turned onward) =
+  step_keeps state w _ kept sents parts (Serves n stamp what acted lt within unblanked serving) =
+      record { answers = kept.answers; open_for = kept.open_for; told = kept.told }
+  step_keeps state w _ kept sents parts (Blanks n stamp lt within rests) =
+      record { answers = kept.answers; open_for = kept.open_for; told = kept.told }
+  step_keeps state w _ kept sents parts (Turns c stamp in_call reacted lt small turned onward) =
       let part : IsPrefix reacted.client.applied (chosen_log setting last) =
       subst (λ (client : Client). IsPrefix client.applied (chosen_log setting last)) (put_same w.clients c reacted.client) (parts c) in
-      let r = reacted_kept _ c (w.clients c) in_call reacted (kept.open_for c) part turned in
+      let hears : (rev seq : ℕ) → Heard w (actor.Client c) rev (body.NotHere seq) → WasTold last c seq =
+      λ rev seq h. record { letter = h.letter; sent = sents h.letter h.sent; to = h.own; is = h.is } in
+      let r = reacted_kept (Heard w (actor.Client c)) c hears (w.clients c) in_call reacted (kept.open_for c) (kept.told c) part turned in
       record {
         answers = more_answers reacted.answer w.answers kept.answers r.answered;
         open_for = all_put w.clients c reacted.client
             (λ k (client : Client). (asked : Asked) → client.asked ≡ Some asked → IsOpenFor setting.lines k asked) kept.open_for r.open_for;
+        told = all_put w.clients c reacted.client
+            (λ k (client : Client). (asked : Asked) → client.asked ≡ Some asked → asked.told ≡ true → WasTold last k asked.seq) kept.told r.told;
       }
 
 -- ### Histories
@@ -342,18 +395,31 @@ clients_on setting w records firm c =
     front_on (w.clients c).applied (chosen_log setting w) (chosen_log setting (world_after setting w records)) ((firm_now setting w records firm).clients c)
     (log_on setting w records firm)
 
+-- a letter stays sent
+sent_next : (setting : Setting) (who : Actor) (what : Step) (w : World) (stamp : ℕ) (letter : Letter) → In letter w.sent
+    → In letter (step who what setting w stamp).world.sent
+unfolding step
+sent_next setting (actor.Server n) what w stamp letter h = in_later letter _ w.sent h
+sent_next setting (actor.Client c) what w stamp letter h = in_later letter _ w.sent h
+
+sent_on : (setting : Setting) (w : World) (records : List Record) (letter : Letter) → In letter w.sent → In letter (world_after setting w records).sent
+sent_on setting w [] letter h = h
+sent_on setting w (own ∷ later) letter h =
+    sent_on setting (stepped setting w own).world later letter (sent_next setting own.actor own.step w own.stamp letter h)
+
 kept_after : (setting : Setting) (last : World) (plain : IsPlainLog setting.servers (chosen_log setting last))
     (commands : AreAsked setting.lines (chosen_log setting last))
     (w : World) (records : List Record) → AreFirm setting w records → Rests setting w → IsLegalFrom setting w records
-    → IsPrefix (chosen_log setting (world_after setting w records)) (chosen_log setting last) → Kept setting last plain commands w
+    → IsPrefix (chosen_log setting (world_after setting w records)) (chosen_log setting last)
+    → ((letter : Letter) → In letter (world_after setting w records).sent → In letter last.sent) → Kept setting last plain commands w
     → Kept setting last plain commands (world_after setting w records)
-kept_after setting last plain commands w [] firm rests legal upto kept = kept
-kept_after setting last plain commands w (own ∷ later) firm rests legal upto kept =
+kept_after setting last plain commands w [] firm rests legal upto sents kept = kept
+kept_after setting last plain commands w (own ∷ later) firm rests legal upto sents kept =
     let v = (stepped setting w own).world in
     let next = firm_now setting v later firm.2 in
     let state = chosen_state setting v in
-    kept_after setting last plain commands v later firm.2 (rests_next setting w own rests firm.0 legal.0 next) legal.1 upto
-    (step_keeps setting last plain commands state w v kept
+    kept_after setting last plain commands v later firm.2 (rests_next setting w own rests firm.0 legal.0 next) legal.1 upto sents
+    (step_keeps setting last plain commands state w v kept (λ letter h. sents letter (sent_on setting w (own ∷ later) letter h))
     (λ c. front_on (v.clients c).applied (chosen_log setting (world_after setting v later)) (chosen_log setting last)
     (clients_on setting v later firm.2 c) upto)
     (happens setting w own rests firm.0 legal.0 next state (below_itself state)))
@@ -380,7 +446,8 @@ module _ (script : Script) (records : List Record) (firm : AreFirm (setting_of s
   unfolding In
   kept_end =
       kept_after setting last plain_end commands (start setting) records firm (start_rests script) legal (front_itself (chosen_log setting last))
-      (record { answers = λ number told h. absurd h; open_for = λ c asked e. none_some refl e })
+      (λ letter h. h)
+      (record { answers = λ number told h. absurd h; open_for = λ c asked e. none_some refl e; told = λ c asked e. none_some refl e })
 
   -- an open request is that of a line
   pub open_after : (c : ℕ) (asked : Asked) → (last.clients c).asked ≡ Some asked → IsOpenFor script.lines c asked
@@ -427,14 +494,15 @@ module _ (script : Script) (records : List Record) (firm : AreFirm (setting_of s
           let whole = chosen_log setting last in
           let front = take (h.place + 1) whole in
           let proper : IsPlainLog script.servers front = plain_front script.servers whole (h.place + 1) plain_end in
-          let many = (log_plain script.servers front proper).many in
+          let table = log_plain script.servers front proper in
+          let many = table.many in
           let upto = log_below script.servers [] front proper (record { later = front; is = refl }) in
           let below = log_below script.servers front whole plain_end (take_front whole (h.place + 1)) in
-          never_unavailable (state_at setting last (h.place + 1)) (log_steady script.servers front proper)
+          never_unavailable script.servers (state_at setting last (h.place + 1)) table (log_steady script.servers front proper)
           (λ n low.
           let one = subst (λ k. n < k) many low in
           between (first_state script.servers) (state_at setting last (h.place + 1)) (chosen_state setting last) n 1 (upto.ages n) (below.ages n)
-          (first_at_start script.servers n one) (ins n one)) asked h.so
+          (first_at_start script.servers n one) (ins n one)) h.told asked h.so
 
       by : HasCause setting last plain_end commands number answer.Unavailable → ⊥
       by h = cause_never h.client (h.before + 1) h.line.request (command_of h.client (h.before + 1) h.line.request) h.cause

@@ -6,7 +6,7 @@ use Rattle.script_lines.specs.declared.request.Request.{Request}
 use Rattle.script_lines.specs.declared.request.Request.TheVariants as request
 use Rattle.script_lines.specs.declared.script.Script.{Script}
 use Rattle.petal_command.specs.declared.command.Command.{Command}
-use Rattle.petal_command.specs.declared.command.Command.TheVariants.{Caught, Drained, Join, Leave}
+use Rattle.petal_command.specs.declared.command.Command.TheVariants.{Caught, Drained, Join, Leave, Moved}
 use Rattle.petal_history.specs.Legal.{IsLegal, world_after}
 use Rattle.petal_history.specs.Sound.{IsSound}
 use Rattle.petal_history.specs.declared.record.Record.{Record}
@@ -21,6 +21,7 @@ use Rattle.law_causes.specs.Asked.{IsAsked, AreAsked, asker}
 pub asker_of : (client seq : ℕ) (asked : Request) (command : Command) → command_of client seq asked ≡ Some command → asker command ≡ Some (client, seq)
 asker_of client seq (request.Disk name tuple) command own = ap asker (sym (same_some own))
 asker_of client seq (request.Snap name snap) command own = ap asker (sym (same_some own))
+asker_of client seq (request.Move name tuple) command own = ap asker (sym (same_some own))
 asker_of client seq _ command own = none_some refl own
 
 -- so a line whose command names this client and number is the one that asks for it
@@ -39,6 +40,7 @@ not_of_lives w _ c seq h named = absurd h
 not_wanted : {B : Type 0} (setting : Setting) (w : World) (command : Command) (c seq : ℕ) → WasWanted setting w command → asker command ≡ Some (c, seq) → B
 not_wanted setting w (Caught of link holder inc other other_inc) c seq h named = none_some refl named
 not_wanted setting w (Drained server inc fence) c seq h named = none_some refl named
+not_wanted setting w (Moved of region link) c seq h named = none_some refl named
 not_wanted setting w _ c seq h named = absurd h.is
 
 pub commands_are_asked : (script : Script) (records : List Record) → IsSound script → IsLegal script records

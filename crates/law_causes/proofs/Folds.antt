@@ -6,7 +6,7 @@ use Rattle.std.proofs.lemmas.Bool.{cases_lt}
 use Rattle.std.proofs.lemmas.Bool.Decides.{nat_tests}
 use Rattle.std.proofs.lemmas.List.{length-set}
 use Rattle.std.proofs.lemmas.Option.{slice_get_past}
-use Rattle.global_tables.specs.Disk.{frozen, named}
+use Rattle.global_tables.specs.Disk.{completes, frozen, named}
 use Rattle.global_tables.specs.View.{passed}
 use Rattle.global_tables.specs.declared.disk.Latest.{Latest}
 use Rattle.global_tables.specs.declared.disk.Verdict.{Verdict}
@@ -17,14 +17,15 @@ use Rattle.global_tables.specs.declared.fence.FenceKind.TheVariants.{Region, Who
 use Rattle.script_lines.specs.declared.answer.Answer.{Answer}
 use Rattle.script_lines.specs.declared.answer.Answer.TheVariants as answer
 use Rattle.petal_command.specs.declared.command.Command.{Command}
-use Rattle.petal_command.specs.declared.command.Command.TheVariants.{Caught, Drained, Join, Leave, MakeDisk, Snap, Witness}
-use Rattle.petal_state.specs.State.{State, is_up_as, latest, told}
-use Rattle.petal_state.specs.Command.{act, after, is_new, may_join, with_disk, with_fence}
+use Rattle.petal_command.specs.declared.command.Command.TheVariants.{Caught, Drained, Join, Leave, MakeDisk, Moved, Snap, StartMove, Witness}
+use Rattle.petal_state.specs.State.{State, is_up_as, latest, links_of, told}
+use Rattle.petal_state.specs.Command.{act, after, is_new, may_join, move_of, moved_by, mover_in, note, with_disk, with_fence, with_move}
 use Rattle.petal_state.specs.Fence.{confirmed, effect, settled}
 use Rattle.petal_rules.specs.Clients.{verdict_answer, verdict_for}
 use Rattle.petal_rules.proofs.Tests.{by_test, none_some, not_true, number_itself, same_numbers, same_or_apart, same_some, true_false}
 use Rattle.law_state.specs.Plain.{IsPlain}
 use Rattle.law_state.proofs.Caughts.{act_caught}
+use Rattle.law_state.proofs.Moves.{act_start}
 use Rattle.law_state.proofs.Passing.{one_passed, settled_keeps}
 use Rattle.law_state.proofs.Places.{get_set_beside, get_set_here}
 use Rattle.law_state.proofs.Snaps.{act_drained, act_snap, none_of}
@@ -190,6 +191,18 @@ passed_stays s fence disk name d c q seq given kind ok h =
     t : State
     t = record s { view = passed s.view; disks = frozen s.disks disk name }
 
+-- a Moved tells no client anything
+pub moved_verdicts : (s : State) (of region link : ℕ) → (act (Moved of region link) s).verdicts ≡ s.verdicts
+moved_verdicts s of region link = by (mover_in s of region)
+  where
+    noted_same : (disk : ℕ) → (note s of disk region link).verdicts ≡ s.verdicts
+    noted_same disk = by_test (λ (t : State). t.verdicts ≡ s.verdicts) (completes link (links_of s of) (move_of s disk)) _ _
+        (λ all. by_test (λ (t : State). t.verdicts ≡ s.verdicts) (region == 15) _ _ (λ last. refl) (λ more. refl)) (λ some. refl)
+
+    by : (o : Option ℕ) → (moved_by s of region link o).verdicts ≡ s.verdicts
+    by None = refl
+    by (Some disk) = by_test (λ (t : State). t.verdicts ≡ s.verdicts) (nat_lt link (links_of s of)) _ s (λ low. noted_same disk) (λ high. refl)
+
 -- ### One entry
 
 -- what no telling changes of what clients were told, where it tells of no earlier command than the last
@@ -211,8 +224,13 @@ module _ (P : List (Option Latest) → Type 0)
   kept_act servers (Caught of link holder holder_inc other other_inc) s plain h =
       act_caught (λ (t : State). P t.verdicts) s of link holder holder_inc other other_inc (λ acts. h) h
   kept_act servers (Drained server inc fence) s plain h = act_drained (λ (t : State). P t.verdicts) s server inc fence h (λ is up. h)
+  kept_act servers (StartMove client seq disk tuple) s plain h =
+      act_start (λ (t : State). P t.verdicts) s client seq disk tuple (λ old. h)
+      (λ new none. tells s client seq verdict.NoDisk (onward_new seq (latest s client) new) h)
+      (λ new row found busy. tells s client seq verdict.Moving (onward_new seq (latest s client) new) h)
+      (λ new row found free. tells (with_move s tuple row.id) client seq verdict.Ok (onward_new seq (latest s client) new) h)
+  kept_act servers (Moved of region link) s plain h = subst P (sym (moved_verdicts s of region link)) h
   kept_act servers (Witness client seq turn) s plain h = h
-  kept_act servers _ s plain h = absurd plain
 
   kept_passed : (s : State) (kind : FenceKind) → P s.verdicts → P (effect kind (record s { view = passed s.view })).verdicts
   kept_passed s (Whole disk name client seq) h =
@@ -266,6 +284,13 @@ old_act (Snap client q disk name) s c seq own low =
     (λ new none. old_now s client c q seq verdict.NoDisk one.0 one.1 low)
     (λ new row found taken. old_now s client c q seq verdict.Exists one.0 one.1 low)
     (λ new row found free. old_now (with_fence s (Whole row.id name client q)) client c q seq verdict.Waiting one.0 one.1 low)
+old_act (StartMove client q disk tuple) s c seq own low =
+    let one = asked_by client q c seq own in
+    act_start (λ (t : State). is_new seq (latest t c) ≡ false) s client q disk tuple
+    (λ old. (λ i. is_new (sym one.1 i) (latest s (sym one.0 i))) ∙ old)
+    (λ new none. old_now s client c q seq verdict.NoDisk one.0 one.1 low)
+    (λ new row found busy. old_now s client c q seq verdict.Moving one.0 one.1 low)
+    (λ new row found free. old_now (with_move s tuple row.id) client c q seq verdict.Ok one.0 one.1 low)
 old_act _ s c seq own low = none_some refl own
 
 pub settled_old : (s : State) (c seq : ℕ) → is_new seq (latest s c) ≡ false → is_new seq (latest (settled s) c) ≡ false

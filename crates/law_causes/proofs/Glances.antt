@@ -1,7 +1,7 @@
 -- What the lines that name a server are answered by: each by its own glance, which tells what it saw. And why a start or a blank
 -- fails: its glance comes right after the boot that its line gave, and finds the server stopped.
 use Rattle.std.proofs.Common.{◌≡◌, ◌≢◌, ◌⊎◌, inl, inr, ◌<◌, ◌+◌, ◌++◌, ◌==◌, ℕ, Bool, true, false, List, [], ◌∷◌, Option, Some, None, is_some, refl, sym, ap, ◌∙◌, subst, arith, append_assoc}
-use Rattle.std.specs.Prelude.{if◌then◌else◌, length, slice_get}
+use Rattle.std.specs.Prelude.{◌||◌, if◌then◌else◌, slice_get}
 use Rattle.std.proofs.lemmas.List.{append-nil}
 use Rattle.global_tables.specs.declared.disk.Latest.{Latest}
 use Rattle.global_tables.specs.declared.disk.Verdict.{Verdict}
@@ -14,6 +14,7 @@ use Rattle.petal_msg.specs.declared.letter.Actor.TheVariants as actor
 use Rattle.petal_msg.specs.declared.letter.Letter.{Letter}
 use Rattle.petal_msg.specs.declared.operation.Ending.{Ending}
 use Rattle.petal_msg.specs.declared.operation.Ending.TheVariants as ending
+use Rattle.petal_state.specs.CellState.{cell_asked}
 use Rattle.petal_state.specs.declared.answer.DiskView.{DiskView}
 use Rattle.petal_state.specs.State.{latest}
 use Rattle.script_lines.specs.Requests.{names}
@@ -25,7 +26,7 @@ use Rattle.script_lines.specs.declared.request.Request.TheVariants as request
 use Rattle.script_lines.specs.declared.script.Script.{Script}
 use Rattle.petal_rules.specs.Boots.{awake, boots, raised, stays, wakes}
 use Rattle.petal_rules.specs.Clients.{Sight as Shown_by}
-use Rattle.petal_rules.specs.Clients.{Client, Asked, Reaction, epoch_for, cell_on, is_read, is_write, command_of, read_refusal, read_refusal_at, readers, refusal, verdict_answer, verdict_for, write_refusal}
+use Rattle.petal_rules.specs.Clients.{Client, Asked, Reaction, epoch_for, is_read, is_unread, is_write, command_of, read_refusal, read_refusal_at, refusal, verdict_answer, verdict_for, write_refusal}
 use Rattle.petal_rules.specs.Jobs.{Acted, here_of, is_overfull, operator, shown}
 use Rattle.petal_rules.specs.Lists.{In}
 use Rattle.petal_rules.specs.Server.{Here, Server}
@@ -43,7 +44,7 @@ use Rattle.petal_history.specs.Sound.{IsSound}
 use Rattle.petal_history.specs.declared.record.Record.{Record}
 use Rattle.law_answers.proofs.Places.{line_at, one_place}
 use Rattle.law_steps.specs.Happens.{Heard}
-use Rattle.law_steps.specs.Turned.{Turned, IsReason, By_verdict, By_witness, IsSame, StaysOpen, Goes_on, Begins, Reads, Ends, Shown, IsSeenAs, Stops_it, Starts_it, Blanks_it, Has_no_space, Is_settled, Judges, answer_of}
+use Rattle.law_steps.specs.Turned.{Turned, IsReason, By_verdict, By_witness, IsSame, StaysOpen, Goes_on, Is_told, Begins, Reads, Ends, Shown, IsSeenAs, Stops_it, Starts_it, Blanks_it, Has_no_space, Is_settled, Judges, answer_of}
 use Rattle.law_steps.proofs.Histories.{front_legal, world_more}
 use Rattle.law_steps.proofs.Turning.{client_turns}
 use Rattle.law_causes.specs.Fails.{IsReasonToFail, Device_failed, Journal_full, HasReasonToFail}
@@ -88,22 +89,24 @@ verdict_for_not seq (Some row) = by_test (λ o. o ≢ Some answer.Failed) (row.s
 write_not : (state : State) (o : Option DiskView) (block : ℕ) → write_refusal state o block ≢ Some answer.Failed
 write_not state None block = λ e. absurd (cc)
 write_not state (Some disk) block =
-    by_test (λ o. o ≢ Some answer.Failed) (is_some (lead state (cell_on disk block))) _ _ (λ t e. absurd (cc)) (λ t e. absurd (cc))
+    by_test (λ o. o ≢ Some answer.Failed) (is_some (lead state (cell_asked state disk block false))) _ _ (λ t e. absurd (cc)) (λ t e. absurd (cc))
 
-read_at_not : (state : State) (cell : Cell) (o : Option ℕ) → read_refusal_at state cell o ≢ Some answer.Failed
-read_at_not state cell None = λ e. absurd (cc)
-read_at_not state cell (Some epoch) =
-    by_test (λ o. o ≢ Some answer.Failed) (length (readers state cell) == 0) _ _ (λ t e. absurd (cc)) (λ t e. absurd (cc))
+read_at_not : (state : State) (cell old : Cell) (o : Option ℕ) → read_refusal_at state cell old o ≢ Some answer.Failed
+read_at_not state cell old None = λ e. absurd (cc)
+read_at_not state cell old (Some epoch) =
+    by_test (λ o. o ≢ Some answer.Failed) (is_unread state cell || is_unread state old) _ _ (λ t e. absurd (cc)) (λ t e. absurd (cc))
 
-read_not : (state : State) (o : Option DiskView) (snap : Option (List ℕ)) (block : ℕ) → read_refusal state o snap block ≢ Some answer.Failed
-read_not state None snap block = λ e. absurd (cc)
-read_not state (Some disk) snap block = read_at_not state (cell_on disk block) (epoch_for state disk snap)
+read_not : (state : State) (o : Option DiskView) (snap : Option (List ℕ)) (block : ℕ) (told : Bool)
+    → read_refusal state o snap block told ≢ Some answer.Failed
+read_not state None snap block told = λ e. absurd (cc)
+read_not state (Some disk) snap block told =
+    read_at_not state (cell_asked state disk block false) (cell_asked state disk block told) (epoch_for state disk snap)
 
-refusal_not : (state : State) (asked : Request) → refusal state asked ≢ Some answer.Failed
+refusal_not : (state : State) (told : Bool) (asked : Request) → refusal state told asked ≢ Some answer.Failed
 unfolding refusal
-refusal_not state (request.Write name block pattern) = write_not state (find state name) block
-refusal_not state (request.Read name snap block) = read_not state (find state name) snap block
-refusal_not state _ = λ e. absurd (cc)
+refusal_not state told (request.Write name block pattern) = write_not state (find state name) block
+refusal_not state told (request.Read name snap block) = read_not state (find state name) snap block told
+refusal_not state told _ = λ e. absurd (cc)
 
 ending_not : (how : Ending) → answer_of how ≢ answer.Failed
 ending_not ending.Written e = absurd (cc)
@@ -112,7 +115,7 @@ ending_not ending.Full e = absurd (cc)
 reason_not : (c : ℕ) (asked : Asked) (given : Answer) (state : State) (entry : Command) → given ≡ answer.Failed
     → IsReason c asked given state entry → ⊥
 reason_not c asked given state entry e (By_verdict command own so) = verdict_for_not asked.seq (latest state c) (so ∙ ap Some e)
-reason_not c asked given state entry e (By_witness none is so) = refusal_not state asked.request (so ∙ ap Some e)
+reason_not c asked given state entry e (By_witness none is so) = refusal_not state asked.told asked.request (so ∙ ap Some e)
 
 -- ### What answers a line that names a server
 
@@ -127,19 +130,21 @@ not_written _ n named write = true_false write refl
 no_command : (c seq : ℕ) (asked : Request) (n : ℕ) (command : Command) → (names asked).server ≡ Some n → command_of c seq asked ≡ Some command → ⊥
 no_command c seq (request.Disk name tuple) n command named own = none_some refl named
 no_command c seq (request.Snap name snap) n command named own = none_some refl named
+no_command c seq (request.Move name tuple) n command named own = none_some refl named
 no_command c seq _ n command named own = none_some refl own
 
-no_refusal : (state : State) (asked : Request) (n : ℕ) (given : Answer) → (names asked).server ≡ Some n → refusal state asked ≡ Some given → ⊥
+no_refusal : (state : State) (told : Bool) (asked : Request) (n : ℕ) (given : Answer) → (names asked).server ≡ Some n
+    → refusal state told asked ≡ Some given → ⊥
 unfolding refusal
-no_refusal state (request.Write name block pattern) n given named so = none_some refl named
-no_refusal state (request.Read name snap block) n given named so = none_some refl named
-no_refusal state _ n given named so = none_some refl so
+no_refusal state told (request.Write name block pattern) n given named so = none_some refl named
+no_refusal state told (request.Read name snap block) n given named so = none_some refl named
+no_refusal state told _ n given named so = none_some refl so
 
 -- no entry does
 not_judged : (c : ℕ) (asked : Asked) (n : ℕ) (given : Answer) (state : State) (entry : Command) → (names asked.request).server ≡ Some n
     → IsReason c asked given state entry → ⊥
 not_judged c asked n given state entry named (By_verdict command own so) = no_command c asked.seq asked.request n command named own
-not_judged c asked n given state entry named (By_witness none is so) = no_refusal state asked.request n given named so
+not_judged c asked n given state entry named (By_witness none is so) = no_refusal state asked.told asked.request n given named so
 
 -- a glance is at the server that its line names
 glanced_at : (asked : Request) (n m : ℕ) (running : Bool) (before : Option (ℕ × Deed)) → IsDone asked n running before
@@ -364,7 +369,7 @@ module _ (script : Script) (records : List Record) (sound : IsSound script) (ris
       | inl new ↦ elim (server_says setting w n what own.stamp may letter new) [
         | Mute mute ↦ absurd (mute_not letter line round running inc full e mute)
         | Rev seq other told ↦ absurd (let f : body.WrongRev seq ≡ body.Seen line round running inc full = sym other ∙ e in cc)
-        | Sight l r glance to mine so ↦
+        | Sight l r glance to mine so rev ↦
             let seen = shown_is l r (w.servers n) line round running inc full (sym so ∙ e) in
             subst (λ x. IsShown (served n x) letter line running) (sym glance)
             (new_shown n l r who (does ∙ glance) (subst (λ x. MayServer x w n) glance may) letter line running to seen.0 seen.1)
@@ -561,6 +566,13 @@ module _ (script : Script) (records : List Record) (sound : IsSound script) (ris
         newest = λ now e. let o = kept_open _ client.asked reacted.client.asked stays now e in o.2.seq ∙ kept.newest c o.0 o.1 ∙ sym seq;
         stays = λ asked n is named fresh. still_open _ client.asked reacted.client stays asked is;
       }
+      turned_goes _ _ (Is_told reacted asked told is read seq stays says) = record {
+        seq = inl seq;
+        newest = λ now e.
+            let o = kept_open _ (Some (record asked { told = true; old_way = true })) reacted.client.asked stays now e in
+            o.2.seq ∙ ap (λ (x : Asked). x.seq) (same_some (sym o.1)) ∙ kept.newest c asked is ∙ sym seq;
+        stays = λ other n there named fresh. absurd (not_read asked.request n (same_named asked other n is there named) read);
+      }
       turned_goes _ _ (Begins reacted line asked next free seq now called says) = record {
         seq = inr seq;
         newest = λ new e. sym (ap (λ (x : Asked). x.seq) (same_some (sym now ∙ e))) ∙ called.seq_is ∙ sym seq;
@@ -612,6 +624,7 @@ module _ (script : Script) (records : List Record) (sound : IsSound script) (ris
       turned_seen : (in_call : Bool) (reacted : Reaction) → Turned (Heard w (actor.Client c)) setting.servers lines c client in_call reacted
           → (number : ℕ) (told : Answer) → reacted.answer ≡ Some (number, told) → IsSeen number told
       turned_seen _ _ (Goes_on reacted seq stays says) number told e = none_some says.unanswered e
+      turned_seen _ _ (Is_told reacted asked heard is read seq stays says) number told e = none_some says.unanswered e
       turned_seen _ _ (Begins reacted line asked next free seq now called says) number told e = none_some says.unanswered e
       turned_seen _ _ (Reads asked bytes heard is read) number told e =
           let f = pair_is e in

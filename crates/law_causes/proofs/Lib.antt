@@ -1,5 +1,7 @@
 pub mod Asked
 pub mod Folds
+pub mod Wanted
+pub mod Numbers
 pub mod Verdicts
 pub mod Answered
 pub mod Served

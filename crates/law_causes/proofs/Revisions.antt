@@ -41,7 +41,7 @@ server_tells setting w n what stamp may letter seq h e = elim (server_says setti
       let f : body.WrongRev other ≡ body.WrongRev seq = sym is ∙ e in
       let same : other ≡ seq = cc in
       subst (TellsRev (here_of (server_state setting w n) n (w.servers n)) (w.servers n).queue what letter) same told
-  | Sight line round glance to mine is ↦ absurd (shown_not line round (w.servers n) seq (sym is ∙ e))
+  | Sight line round glance to mine is rev ↦ absurd (shown_not line round (w.servers n) seq (sym is ∙ e))
 ]
 
 client_tells : (setting : Setting) (w : World) (c : ℕ) (what : Step) (stamp : ℕ) → MayActor (actor.Client c) what setting w → (letter : Letter) (seq : ℕ)

@@ -16,7 +16,7 @@ use Rattle.petal_state.specs.State.{latest}
 use Rattle.petal_state.specs.Command.{after}
 use Rattle.petal_rules.specs.Lists.{In}
 use Rattle.petal_rules.specs.State.{State}
-use Rattle.petal_rules.specs.Clients.{Client, Asked, Reaction, Learning, Sight, rests, to_propose, sends_or_proposes, goes_out, goes_out_where, asks_and_sends, replies, is_read, is_write, settles, sees_for, sees, sees_from, answers, hears, hears_of, heard, hears_any, command_of, refusal, verdict_for, answered_where, witnessed, is_witness, judged, judged_by, takes_entry, takes_all, then_goes_out, takes_entries, next_entries, ticked}
+use Rattle.petal_rules.specs.Clients.{Client, Asked, Reaction, Learning, Sight, rests, to_propose, sends_or_proposes, goes_out, goes_out_where, goes_the_old_way, asks_and_sends, replies, is_read, is_write, settles, sees_for, sees, sees_from, answers, hears, hears_of, heard, hears_any, command_of, refusal, verdict_for, answered_where, witnessed, is_witness, judged, judged_by, takes_entry, takes_all, then_goes_out, takes_entries, next_entries, ticked}
 use Rattle.petal_rules.specs.World.{Setting, World, MayClient, client_state, client_step, calls, next_line}
 use Rattle.petal_rules.specs.declared.step.Step.{Step}
 use Rattle.petal_rules.specs.declared.step.Step.TheVariants.{Call, Deliver, Tick, Work, StopIn, Stop, Blank, Boot, Arm, Glance}
@@ -58,6 +58,7 @@ pub record HasSight (w : World) (c : ℕ) (sight : Sight) : Type 0 where
   pub sent : In letter w.sent
   pub own : letter.to ≡ actor.Client c
   pub «from» : letter.from ≡ actor.Server sight.server
+  pub rev : letter.rev ≡ sight.rev
   pub is : letter.body ≡ body.Seen sight.line sight.round sight.running sight.inc sight.full
 
 pub data Rounds (w : World) (state : State) (c : ℕ) (client : Client) (reacted : Reaction) : Type 0 where
@@ -104,6 +105,15 @@ module _ (w : World) (state : State) (c : ℕ) (client : Client) where
   sends_rounds asked is =
       Quiet (λ new e. Keeps asked is (goes_same state c client asked new e)) (λ other there settle. goes_unanswered state c client asked)
 
+  -- the old map is asked
+  old_rounds : (asked : Asked) → client.asked ≡ Some asked → R (goes_the_old_way state c client asked)
+  old_rounds asked is =
+      let told : Asked = record asked { told = true; old_way = true } in
+      Quiet
+      (λ new e. Keeps asked is (round_on asked told new (record { line = refl; request = refl; round = refl; seen = refl })
+      (goes_same state c client told new e)))
+      (λ other there settle. goes_unanswered state c client told)
+
   answers_rounds : (asked : Asked) (given : Answer) → client.asked ≡ Some asked → asked.request ≢ request.Settle
       → R (answers client asked given)
   answers_rounds asked given is other = Quiet (λ new e. none_some refl e)
@@ -130,6 +140,8 @@ module _ (w : World) (state : State) (c : ℕ) (client : Client) where
       (λ t. rests_rounds)
   replies_rounds asked is rev (body.WrongRev seq) =
       by_test R (replies asked rev (about (body.WrongRev seq))) _ _ (λ t. sends_rounds asked is) (λ t. rests_rounds)
+  replies_rounds asked is rev (body.NotHere seq) =
+      by_test R (replies asked rev (about (body.NotHere seq)) && is_read asked.request) _ _ (λ t. old_rounds asked is) (λ t. rests_rounds)
   replies_rounds asked is rev _ = rests_rounds
 
   reply_rounds : (letter : Letter) (o : Option Asked) → client.asked ≡ o → R (hears_of state c client o letter)
@@ -174,9 +186,9 @@ module _ (w : World) (state : State) (c : ℕ) (client : Client) where
   witnessed_learnt now asked l is (Some given) none =
       answered_learnt now _ asked l is refl (λ settle. none_some (none settle) refl)
 
-  never_refused : (s : State) (asked : Request) → asked ≡ request.Settle → refusal s asked ≡ None
+  never_refused : (s : State) (told : Bool) (asked : Request) → asked ≡ request.Settle → refusal s told asked ≡ None
   unfolding refusal
-  never_refused s asked e = ap (λ r. refusal s r) e
+  never_refused s told asked e = ap (λ r. refusal s told r) e
 
   judged_learnt : (entry : Command) (now : Learning) (asked : Asked) → Learnt now → now.client.asked ≡ Some asked → (o : Option Command)
       → command_of c asked.seq asked.request ≡ o → Learnt (judged_by c entry now asked o)
@@ -185,7 +197,7 @@ module _ (w : World) (state : State) (c : ℕ) (client : Client) where
       (verdict_for asked.seq (latest now.state c))
   judged_learnt entry now asked l is None own =
       by_test Learnt (is_witness c asked.seq entry) _ _
-      (λ t. witnessed_learnt now asked l is (refusal now.state asked.request) (never_refused now.state asked.request)) (λ t. l)
+      (λ t. witnessed_learnt now asked l is (refusal now.state asked.told asked.request) (never_refused now.state asked.told asked.request)) (λ t. l)
 
   one_learnt : (entry : Command) (now : Learning) → Learnt now → (o : Option Asked) → now.client.asked ≡ o → Learnt (judged c entry now o)
   one_learnt entry now l None none = l
@@ -235,19 +247,21 @@ module _ (w : World) (state : State) (c : ℕ) (client : Client) where
       by_test R (sight.line == asked.line) _ _
       (λ t. for_rounds asked sight is has (same_numbers sight.line asked.line t) asked.request refl) (λ t. rests_rounds)
 
-  from_rounds : (letter : Letter) → In letter w.sent → letter.to ≡ actor.Client c → (sight : Sight)
+  from_rounds : (letter : Letter) → In letter w.sent → letter.to ≡ actor.Client c → (sight : Sight) → letter.rev ≡ sight.rev
       → letter.body ≡ body.Seen sight.line sight.round sight.running sight.inc sight.full → (who : Actor) → letter.from ≡ who
       → R (sees_from state client who sight)
-  from_rounds letter sent own sight is (actor.Server n) e =
-      seen_rounds (record sight { server = n }) (record { letter = letter; sent = sent; own = own; «from» = e; is = is }) client.asked refl
-  from_rounds letter sent own sight is (actor.Client d) e = rests_rounds
+  from_rounds letter sent own sight rev is (actor.Server n) e =
+      seen_rounds (record sight { server = n }) (record { letter = letter; sent = sent; own = own; «from» = e; rev = rev; is = is })
+      client.asked refl
+  from_rounds letter sent own sight rev is (actor.Client d) e = rests_rounds
 
   letter_rounds : (letter : Letter) → In letter w.sent → letter.to ≡ actor.Client c → (said : Body) → letter.body ≡ said
       → R (hears_any state c client letter said)
   letter_rounds letter sent own (body.News from commands) e = news_rounds (next_entries client from commands)
   letter_rounds letter sent own (body.Seen line round running inc full) e =
       from_rounds letter sent own
-      (record { server = 0; line = line; round = round; running = running; inc = inc; full = full }) e letter.from refl
+      (record { server = 0; rev = letter.rev; line = line; round = round; running = running; inc = inc; full = full }) refl e letter.from
+      refl
   letter_rounds letter sent own _ e = reply_rounds letter client.asked refl
 
 -- ### A step

@@ -2,7 +2,7 @@
 -- server runs at a glance alone.
 use Rattle.std.proofs.Common.{◌≡◌, ◌≢◌, inl, inr, ◌++◌, ◌==◌, ◌&&◌, ℕ, Bool, true, false, not, List, [], ◌∷◌, Option, Some, None, refl, sym, ap, ◌∙◌, subst, arith}
 use Rattle.std.proofs.lemmas.Bool.Decides.{nat_tests}
-use Rattle.std.specs.Prelude.{is_some, map, nat_lt}
+use Rattle.std.specs.Prelude.{if◌then◌else◌, is_some, map, nat_lt}
 use Rattle.petal_rules.specs.Store.{Stored, chain_in, epochs_of, free_of}
 use Rattle.busy_marks.specs.declared.marks.MarkKind.{MarkKind}
 use Rattle.global_tables.specs.declared.link.LinkRow.{LinkRow}
@@ -34,14 +34,19 @@ use Rattle.petal_msg.specs.declared.operation.Ending.TheVariants as ending
 use Rattle.petal_msg.specs.declared.operation.Far.{Far}
 use Rattle.petal_msg.specs.declared.operation.Far.TheVariants as far
 use Rattle.petal_msg.specs.declared.operation.LastOp.{LastOp}
+use Rattle.petal_msg.specs.declared.dead.Dead.{Dead}
+use Rattle.petal_msg.specs.declared.operation.OpKind.{OpKind}
+use Rattle.petal_msg.specs.declared.operation.OpKind.TheVariants as kind
 use Rattle.petal_msg.specs.declared.operation.Pending.{Pending}
+use Rattle.petal_rules.specs.Fills.{Moving, fill_of, fill_operation, fill_posts, fills_row, hears_fill, hears_fill_full, hears_filled, is_next, link_before, on_fill, on_fill_full, on_filled, opens_fill, sends_key, sends_moving}
+use Rattle.petal_rules.specs.Sweeping.{next_dead, sweeps, sweeps_with}
 use Rattle.petal_msg.specs.declared.operation.Reply.{Reply}
 use Rattle.petal_msg.specs.declared.operation.Reply.TheVariants as reply
 use Rattle.petal_rules.specs.Lists.{In}
-use Rattle.petal_rules.specs.State.{State, first, holder_of, is_in, is_lead, is_second, link_named, other_in, readable, second, servers_of}
+use Rattle.petal_rules.specs.State.{State, first, holder_of, is_in, is_lead, is_second, lead, link_named, other_in, readable, second, servers_of}
 use Rattle.petal_rules.specs.Server.{Server, Own, Here, Done, Post, Sender, post_to, sender, silent, letters_of}
 use Rattle.petal_rules.specs.Reads.{on_read, said, reply_to}
-use Rattle.petal_rules.specs.Writes.{Wanted, Standing, Older, Again, Newer, pending_on, next_stage, acts, goes_on, goes_on_with, ended, opens, opened, takes, takes_newer, is_pending_for, on_write, hears_reserved, hears_pair_full, hears_replicated, is_reserving, is_replicating, with_pending, with_reserved, with_paired, on_reserved, on_pair_full, on_replicated, tells, reserves, has_slot, hears_reserve, on_reserve, follows_once, hears_replicate, on_replicate}
+use Rattle.petal_rules.specs.Writes.{Wanted, Standing, Older, Again, Newer, pending_on, next_stage, acts, ends, gives_back, moved_as, old_lead, with_opened, without_pending, goes_on, goes_on_with, ended, opens, opened, takes, takes_newer, is_pending_for, on_write, hears_reserved, hears_pair_full, hears_replicated, is_reserving, is_replicating, with_pending, with_reserved, with_paired, on_reserved, on_pair_full, on_replicated, tells, reserves, has_slot, hears_reserve, on_reserve, follows_once, hears_replicate, on_replicate}
 use Rattle.petal_command.specs.declared.command.Command.{Command}
 use Rattle.petal_rules.specs.Ballots.{post_of, starts}
 use Rattle.petal_rules.specs.Boots.{awake, boots, raised, stays, wakes}
@@ -61,7 +66,8 @@ use Rattle.petal_rules.specs.declared.step.WorkEnd.TheVariants as work_end
 use Rattle.petal_rules.proofs.ListLemmas.{in-append}
 use Rattle.petal_rules.proofs.Tests.{by_test, true_false, not_true}
 use Rattle.script_lines.specs.declared.request.Line.{Line}
-use Rattle.law_steps.specs.Turned.{Turned, Says, Of_the_log, A_write, A_read, Goes_on, Begins, Reads, Ends, Shown, Judges}
+use Rattle.law_steps.specs.DidFiller.{filled_to}
+use Rattle.law_steps.specs.Turned.{Turned, Says, Of_the_log, A_write, A_read, Goes_on, Is_told, Begins, Reads, Ends, Shown, Judges}
 use Rattle.law_steps.proofs.Letters.{one_post, posted}
 use Rattle.law_steps.proofs.Letters.{said as said_in}
 use Rattle.law_steps.proofs.LogJobs.{LogFrame, letter_frame_of, start_frame_of, applied_entry, applied_none, ballot_logged, ask_logged}
@@ -114,14 +120,23 @@ ended_mute seq ending.Full = refl
 
 -- ### Jobs of the pairs
 
+moved_mute : (key : Key) (how : Ending) → IsMute (moved_as key how)
+moved_mute key ending.Written = refl
+moved_mute key ending.Full = refl
+
 module _ (here : Here) where
+  ends_mute : (own : Own) (op : Pending) (of : OpKind) (how : Ending) → M (ends here own op of how)
+  ends_mute own op kind.Write how = one_mute (actor.Client op.client) (ended op.seq how) (ended_mute op.seq how)
+  ends_mute own op kind.Fill how = to_mute (old_lead here.state op.cell) (moved_as op.key how) (moved_mute op.key how)
+  ends_mute own op kind.Copy how = none_mute
+
   acts_mute : (own : Own) (op : Pending) (what : Action) → M (acts here own op what)
   acts_mute own op action.Reserve = to_mute (second here.state op.cell) (body.Reserve op.op op.cell) refl
   acts_mute own op (action.Mark kind) = none_mute
   acts_mute own op action.Put = none_mute
   acts_mute own op action.Replicate = to_mute (second here.state op.cell) (body.Replicate op.op op.key op.version op.bytes) refl
   acts_mute own op (action.Unmark kind) = none_mute
-  acts_mute own op action.Answer = one_mute (actor.Client op.client) (body.Written op.seq) refl
+  acts_mute own op action.Answer = ends_mute (without_pending own op.cell) op op.kind ending.Written
   acts_mute own op action.Drop = none_mute
 
   goes_on_mute : (own : Own) (o : Option Pending) → M (goes_on_with here own o)
@@ -166,10 +181,10 @@ module _ (here : Here) where
   reserved_mute own number None = none_mute
   reserved_mute own number (Some op) = by_test M (is_reserving op number) _ _ (λ t. on_mute (with_pending own (with_reserved op)) op.cell) (λ t. none_mute)
 
-  full_mute : (own : Own) (number : ℕ) (o : Option Pending) → M (hears_pair_full own number o)
+  full_mute : (own : Own) (number : ℕ) (o : Option Pending) → M (hears_pair_full here own number o)
   full_mute own number None = none_mute
   full_mute own number (Some op) =
-      by_test M (is_reserving op number && not op.stage.put) _ _ (λ t. one_mute (actor.Client op.client) (body.Full op.seq) refl)
+      by_test M (is_reserving op number && not op.stage.put) _ _ (λ t. ends_mute (gives_back (without_pending own op.cell)) op op.kind ending.Full)
       (λ t. none_mute)
 
   replicated_mute : (own : Own) (number : ℕ) (o : Option Pending) → M (hears_replicated here own number o)
@@ -323,10 +338,54 @@ module _ (here : Here) where
       by_test M (is_some (pending_on own cell)) _ _ (λ t. on_mute own cell)
       (λ t. by_test M (is_some (copying_on own cell)) _ _ (λ t. copies_mute own cell) (λ t. trims_mute own cell))
 
+  -- ### Entries that move
+
+  opens_fill_mute : (own : Own) (moving : Moving) (room : Bool) → M (opens_fill here own moving room)
+  opens_fill_mute own moving false = to_mute (old_lead here.state (cell_of moving.key)) (body.FillFull moving.key) refl
+  opens_fill_mute own moving true = on_mute (with_opened own (fill_operation here own.pairs.next moving)) (cell_of moving.key)
+
+  fill_mute : (own : Own) (moving : Moving) (busy has back : Bool) → M (hears_fill here own moving busy has back)
+  fill_mute own moving true has back = none_mute
+  fill_mute own moving false true back = to_mute (old_lead here.state (cell_of moving.key)) (body.Filled moving.key) refl
+  fill_mute own moving false false true = none_mute
+  fill_mute own moving false false false = opens_fill_mute own moving _
+
+  on_fill_mute : (own : Own) (moving : Moving) → M (on_fill here own moving)
+  unfolding on_fill
+  on_fill_mute own moving = by_test M (is_lead here.state here.me (cell_of moving.key)) _ _ (λ t. fill_mute own moving _ _ _) (λ t. none_mute)
+
+  moving_mute : (key : Key) (entry : Option Stored) (cell : Option Cell) → AreMute (sends_moving here.state key entry cell)
+  moving_mute key (Some entry) (Some cell) = to_mute (lead here.state cell) (body.Fill (key_at cell key.epoch) entry.bytes) refl
+  moving_mute key (Some entry) None = none_mute
+  moving_mute key None cell = none_mute
+
+  key_mute : (own : Own) (o : Option Key) → AreMute (sends_key here.state own o)
+  key_mute own None = none_mute
+  key_mute own (Some key) = moving_mute key _ _
+
+  fills_mute : (own : Own) (row : LinkRow) → AreMute (fills_row here own row)
+  fills_mute own row = key_mute own (fill_of here.state here.me row own)
+
+  filled_mute : (own : Own) (key : Key) (o : Option LinkRow) → M (hears_filled here own key o)
+  filled_mute own key None = none_mute
+  filled_mute own key (Some row) = by_test M (is_next (fill_of here.state here.me row own) key) _ _ (λ t. fills_mute (filled_to own row key) row) (λ t. none_mute)
+
+  fill_full_mute : (own : Own) (key : Key) (o : Option LinkRow) → M (hears_fill_full here own key o)
+  fill_full_mute own key None = none_mute
+  fill_full_mute own key (Some row) = by_test M (is_next (fill_of here.state here.me row own) key) _ _ (λ t. none_mute) (λ t. none_mute)
+
+  sweeps_mute : (own : Own) (o : Option Dead) → M (sweeps_with own o)
+  sweeps_mute own None = none_mute
+  sweeps_mute own (Some what) = none_mute
+
+  sweep_mute : (own : Own) → M (sweeps here own)
+  unfolding sweeps
+  sweep_mute own = sweeps_mute own (next_dead here.state own.store)
+
   -- ### Letters
 
   handles_mute : (own : Own) (what : Body) → M (handles here own what)
-  unfolding handles on_reserve on_reserved on_pair_full on_replicate on_replicated on_hello_ask on_hello on_trim on_trimmed on_sync on_synced on_sync_full
+  unfolding handles on_reserve on_reserved on_pair_full on_replicate on_replicated on_hello_ask on_hello on_trim on_trimmed on_sync on_synced on_sync_full on_filled on_fill_full
   handles_mute own (body.Read client seq cell epoch) = read_mute own client seq cell epoch
   handles_mute own (body.Write client seq cell epoch bytes) = write_mute own (record { client = client; seq = seq; cell = cell; epoch = epoch; bytes = bytes })
   handles_mute own (body.Reserve number cell) = by_test M (is_second here.state here.me cell) _ _ (λ t. reserve_mute own cell number _) (λ t. none_mute)
@@ -344,6 +403,9 @@ module _ (here : Here) where
       (last_copy own (cell_of key))
   handles_mute own (body.Synced number cell index) = synced_mute own number cell index (copying_on own cell)
   handles_mute own (body.SyncFull number cell) = sync_full_mute own number cell (copying_on own cell)
+  handles_mute own (body.Fill key bytes) = on_fill_mute own (record { key = key; bytes = bytes })
+  handles_mute own (body.Filled key) = filled_mute own key (link_before here.state key)
+  handles_mute own (body.FillFull key) = fill_full_mute own key (link_before here.state key)
   handles_mute own _ = none_mute
 
   awaited_mute : (own : Own) (op : Pending) (what : Action) → AreMute (awaited here own op what)
@@ -372,11 +434,13 @@ module _ (here : Here) where
   page_for_mute own row (Some other) = page_asked_mute own row other _
 
   anew_mute : (own : Own) → AreMute (copies_anew here own)
-  anew_mute own = by_test AreMute (is_in here.state here.me here.inc) (copy_posts here own ++ page_posts here own) []
-      (λ t. both_mute (copy_posts here own) (page_posts here own)
+  anew_mute own = by_test AreMute (is_in here.state here.me here.inc) (copy_posts here own ++ page_posts here own ++ fill_posts here own) []
+      (λ t. both_mute (copy_posts here own ++ page_posts here own) (fill_posts here own)
+      (both_mute (copy_posts here own) (page_posts here own)
       (all_mute (λ (row : Cell × Copying). copy_awaited here own row.0 row.1 (copy_stage own.store row.0 row.1)) own.copies.pending
       (λ row. copy_awaited_mute own row.0 row.1 (copy_stage own.store row.0 row.1)))
       (all_mute (λ row. page_for here.state own row (other_in here.state here.me row)) here.state.links (λ row. page_for_mute own row (other_in here.state here.me row))))
+      (all_mute (λ row. fills_row here own row) here.state.links (λ row. fills_mute own row)))
       (λ t. none_mute)
 
   tick_mute : (server : Server) → AreMute (tick_posts here server)
@@ -453,6 +517,9 @@ module _ (here : Here) where
   job_tells own (job.Mend id) =
       by_test (W (job.Mend id)) (is_in here.state here.me here.inc) _ _ (λ t. mute_tells (job.Mend id) (mends here own id) (mends_mute own id))
       (λ t. mute_tells (job.Mend id) (silent own) none_mute)
+  job_tells own job.Sweep =
+      by_test (W job.Sweep) (is_in here.state here.me here.inc) _ _ (λ t. mute_tells job.Sweep (sweeps here own) (sweep_mute own))
+      (λ t. mute_tells job.Sweep (silent own) none_mute)
   job_tells own job.Apply = mute_tells job.Apply (silent own) none_mute
   job_tells own job.Start = mute_tells job.Start (silent own) none_mute
 
@@ -461,11 +528,13 @@ module _ (here : Here) where
 says_mute : (state : State) (c : ℕ) (open_now : Option Asked) (post : Post) → Says state c open_now post → IsMute post.body
 says_mute state c open_now _ (Of_the_log post is) = logged_mute post.body is
 says_mute state c open_now _ (A_write asked name block pattern disk to now is there rev) = refl
-says_mute state c open_now _ (A_read asked name snap block disk epoch to now is there at) = refl
+says_mute state c open_now _ (A_read asked name snap block disk epoch to now is there at rev) = refl
 
 pub client_mute : (heard : ℕ → Body → Type 0) (servers : ℕ) (lines : List Line) (c : ℕ) (client : Client) (in_call : Bool) (reacted : Reaction)
     → Turned heard servers lines c client in_call reacted → AreMute reacted.posts
 client_mute heard servers lines c client _ _ (Goes_on reacted seq stays says) post h = says_mute _ c reacted.client.asked post (says.says post h)
+client_mute heard servers lines c client _ _ (Is_told reacted asked told is reads seq stays says) post h =
+    says_mute _ c reacted.client.asked post (says.says post h)
 client_mute heard servers lines c client _ _ (Begins reacted line asked next free seq now called says) post h = says_mute _ c reacted.client.asked post
     (says.says post h)
 client_mute heard servers lines c client _ _ (Reads asked bytes told is read) post h = none_mute post h
@@ -490,7 +559,8 @@ pub data StepSays (here : Here) (server : Server) (what : Step) (letter : Letter
   Mute : IsMute letter.body → StepSays here server what letter
   Rev : (seq : ℕ) → letter.body ≡ body.WrongRev seq → TellsRev here server.queue what letter seq → StepSays here server what letter
   Sight : (line round : ℕ) → what ≡ Glance line round → letter.to ≡ actor.Client operator → letter.from ≡ actor.Server here.me
-      → letter.body ≡ shown line round server → StepSays here server what letter
+      → letter.body ≡ shown line round server → (server.life.running ≡ true → letter.rev ≡ here.state.rev)
+      → StepSays here server what letter
 
 no_letter : {A : Type 0} (stamp : ℕ) (letter : Letter) → In letter (stamped stamp []) → A
 unfolding In
@@ -540,6 +610,7 @@ glance_says here line round server stamp letter h =
     let mine : (glance_sender here server).from ≡ actor.Server here.me =
     by_test (λ (who : Sender). who.from ≡ actor.Server here.me) server.life.running _ _ (λ on. refl) (λ off. refl) in
     Sight line round refl (s.to ∙ one.0) (s.from ∙ mine) (s.body ∙ one.1)
+    (λ on. s.rev ∙ ap (λ b. (if b then sender here else record { from = actor.Server here.me; inc = 0; rev = 0 }).rev) on)
 
 module _ (here : Here) (server : Server) (stamp : ℕ) (letter : Letter) where
   abbrev Tells : List Job → Acted → Type 0
@@ -577,6 +648,7 @@ module _ (here : Here) (server : Server) (stamp : ℕ) (letter : Letter) where
       (λ t. pair_tells (job.Letter heard) rest)
   done_tells (job.Stage cell) rest = pair_tells (job.Stage cell) rest
   done_tells (job.Mend id) rest = pair_tells (job.Mend id) rest
+  done_tells job.Sweep rest = pair_tells job.Sweep rest
   done_tells job.Start rest =
       entered_tells (job.Start ∷ rest) job.Start rest (starts (voter_of here) server.log (wanted_by here server))
       (start_frame_of (voter_of here) server.log (wanted_by here server))

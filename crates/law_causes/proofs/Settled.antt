@@ -1,11 +1,12 @@
 -- What a settle is answered by. What the operator has seen in a round, glances of that round showed.
-use Rattle.std.proofs.Common.{◌≡◌, ◌≤◌, ◌<◌, ◌⊎◌, inl, inr, ◌+◌, ◌++◌, ◌==◌, ℕ, zero, suc, Bool, true, false, not, List, [], ◌∷◌, Option, Some, None, length, refl, sym, ap, ◌∙◌, subst, arith, append_assoc}
+use Rattle.std.proofs.Common.{◌≡◌, ◌≤◌, ◌<◌, ◌⊎◌, inl, inr, ◌+◌, ◌++◌, ◌==◌, ◌&&◌, ℕ, zero, suc, Bool, true, false, not, List, [], ◌∷◌, Option, Some, None, length, refl, sym, ap, ◌∙◌, subst, arith, append_assoc}
 use Rattle.std.proofs.lemmas.Bool.Decides.{nat_tests}
-use Rattle.std.proofs.lemmas.List.{append-nil, length-map}
+use Rattle.std.proofs.lemmas.List.{append-nil, length-append, length-map}
 use Rattle.std.specs.Cmp.{nat_cmp_total}
 use Rattle.std.specs.declared.cmp.Ordering.TheVariants.{Less}
 use Rattle.std.specs.Ordering.{nat_cmp}
-use Rattle.std.specs.Prelude.{if◌then◌else◌, map, slice_get}
+use Rattle.std.specs.Prelude.{if◌then◌else◌, map, nat_le, slice_get}
+use Rattle.petal_command.specs.declared.command.Command.{Command}
 use Rattle.petal_msg.specs.declared.body.Body.TheVariants as body
 use Rattle.petal_msg.specs.declared.letter.Actor.{Actor}
 use Rattle.petal_msg.specs.declared.letter.Actor.TheVariants as actor
@@ -17,6 +18,7 @@ use Rattle.script_lines.specs.declared.answer.Answer.TheVariants as answer
 use Rattle.script_lines.specs.declared.request.Line.{Line}
 use Rattle.script_lines.specs.declared.request.Request.TheVariants as request
 use Rattle.script_lines.specs.declared.script.Script.{Script}
+use Rattle.petal_state.specs.Command.{state_after}
 use Rattle.petal_state.specs.Settled.{is_settled}
 use Rattle.petal_rules.specs.Clients.{Client, Asked, Reaction, Sight as Shown_by, rounds, settles, with_sight}
 use Rattle.petal_rules.specs.Jobs.{operator, shown}
@@ -27,16 +29,17 @@ use Rattle.petal_rules.specs.World.{MayActor, MayServer, Setting, World, acts, c
 use Rattle.petal_rules.specs.declared.step.Step.{Step}
 use Rattle.petal_rules.specs.declared.step.Step.TheVariants.{Glance}
 use Rattle.petal_rules.proofs.ListLemmas.{in-append}
-use Rattle.petal_rules.proofs.Tests.{all_put, by_test, none_some, same_numbers, same_or_apart, same_some, true_false}
+use Rattle.petal_rules.proofs.Tests.{all_put, both_true, by_test, none_some, same_numbers, same_or_apart, same_some, true_false}
+use Rattle.petal_history.specs.Claims.{IsPrefix}
 use Rattle.petal_history.specs.Legal.{IsLegal, world_after}
 use Rattle.petal_history.specs.Sound.{IsSound}
 use Rattle.petal_history.specs.declared.record.Record.{Record}
 use Rattle.law_answers.proofs.Places.{line_at}
 use Rattle.law_state.proofs.Entries.{log_plain}
-use Rattle.law_state.proofs.Steady.{front_plain}
+use Rattle.law_state.proofs.Steady.{front_plain, log_rev}
 use Rattle.law_steps.specs.Happens.{Heard}
 use Rattle.law_steps.specs.Ready.{IsRising}
-use Rattle.law_steps.specs.Turned.{Turned, Goes_on, Begins, Reads, Ends, Shown, Judges}
+use Rattle.law_steps.specs.Turned.{Turned, Goes_on, Is_told, Begins, Reads, Ends, Shown, Judges}
 use Rattle.law_steps.proofs.Firms.{always_firm}
 use Rattle.law_steps.proofs.Histories.{firm_after, front_legal, world_more}
 use Rattle.law_steps.proofs.Tables.{at_row, put_rises}
@@ -140,6 +143,13 @@ tells_of server line round l r running inc full =
       found_full = λ is. true_false is (sym left);
     })
 
+-- a glance that counts is of this round, and of no later revision
+counted : (round now rev limit : ℕ) → ((round == now) && nat_le rev limit) ≡ true → (round ≡ now) × (rev ≤ limit)
+counted round now rev limit t =
+    let both = both_true (round == now) (nat_le rev limit) t in
+    let le = both.1 in
+    (same_numbers round now both.0, grind (arith, nat_tests, le))
+
 -- ### A history
 
 -- an answer is of the line that was open
@@ -147,6 +157,7 @@ answered_line : (heard : _) (servers : ℕ) (lines : List Line) (c : ℕ) (clien
     → Turned heard servers lines c client in_call reacted → (number : ℕ) (given : Answer) → reacted.answer ≡ Some (number, given)
     → (asked : Asked) × (client.asked ≡ Some asked) × (asked.line ≡ number)
 answered_line heard servers lines c client _ _ (Goes_on reacted seq stays says) number given e = none_some says.unanswered e
+answered_line heard servers lines c client _ _ (Is_told reacted asked told is read seq stays says) number given e = none_some says.unanswered e
 answered_line heard servers lines c client _ _ (Begins reacted line asked next free seq now called says) number given e =
     none_some says.unanswered e
 answered_line heard servers lines c client _ _ (Reads asked bytes told is read) number given e =
@@ -171,18 +182,33 @@ module _ (script : Script) (sound : IsSound script) where
   abbrev Glanced : List Record → (line round server : ℕ) → Type 0
   Glanced done line round server = HasGlanceAt setting (start setting) done line round server
 
-  abbrev Saw : List Record → (line round server : ℕ) → Option ℕ → Type 0
-  Saw done line round server told = HasShown setting (start setting) done line round server told
+  abbrev Saw : List Record → (line round server : ℕ) → Option ℕ → (rev : ℕ) → Type 0
+  Saw done line round server told rev = HasShown setting (start setting) done line round server told rev
 
   abbrev Ends_settle : List Record → ℕ → Answer → Type 0
   Ends_settle done number given = HasSettled setting (start setting) done number given
+
+  -- a later revision will do
+  seen_by : (done : List Record) {line round server : ℕ} {told : Option ℕ} {one other : ℕ} → one ≤ other → Saw done line round server told one
+      → Saw done line round server told other
+  seen_by done le s = record { at = s.at; so = s.so; known = λ on. let at_most = s.known on in omega arith }
+
+  -- a state of more entries is of no earlier revision
+  revs_grow : (front more : List Command) → IsPrefix front more
+      → (state_after setting.servers front).rev ≤ (state_after setting.servers more).rev
+  revs_grow front more prefix =
+      let one = log_rev setting.servers front in
+      let other = log_rev setting.servers more in
+      let longer : length more ≡ length (front ++ prefix.later) = ap (λ (l : List Command). length l) prefix.is in
+      let split : length (front ++ prefix.later) ≡ length front + length prefix.later = length-append front prefix.later in
+      omega arith
 
   -- a letter shows what a glance saw
   record IsSent (done : List Record) (letter : Letter) (line round : ℕ) (running : Bool) (inc : ℕ) (full : Bool) : Type 0 where
     server : ℕ
     to : letter.to ≡ actor.Client operator
     «from» : letter.from ≡ actor.Server server
-    saw : Saw done line round server (told_as running inc)
+    saw : Saw done line round server (told_as running inc) letter.rev
     found_full : full ≡ true → HasFoundFull setting (start setting) done line
 
   -- what is kept after these records
@@ -191,7 +217,7 @@ module _ (script : Script) (sound : IsSound script) where
         → letter.body ≡ body.Seen line round running inc full → IsSent done letter line round running inc full
     rising : (c : ℕ) (asked : Asked) → (w.clients c).asked ≡ Some asked → IsRising nat_cmp asked.seen
     seen : (c : ℕ) (asked : Asked) → (w.clients c).asked ≡ Some asked → (n : ℕ) (told : Option ℕ) → Shows asked.seen n told
-        → Saw done asked.line asked.round n told
+        → Saw done asked.line asked.round n told (client_state setting w c).rev
     answers : (number : ℕ) (given : Answer) → In (number, given) w.answers → (line : Line) → In line lines → line.number ≡ number
         → line.request ≡ request.Settle → Ends_settle done number given
 
@@ -216,8 +242,8 @@ module _ (script : Script) (sound : IsSound script) where
       what = g.what;
     }
 
-    saw_on : (line round server : ℕ) (told : Option ℕ) → Saw done line round server told → Saw next line round server told
-    saw_on line round server told s = record { at = glanced_on line round server s.at; so = s.so }
+    saw_on : (line round server : ℕ) (told : Option ℕ) (rev : ℕ) → Saw done line round server told rev → Saw next line round server told rev
+    saw_on line round server told rev s = record { at = glanced_on line round server s.at; so = s.so; known = s.known }
 
     full_on : (line : ℕ) → HasFoundFull setting (start setting) done line → HasFoundFull setting (start setting) next line
     full_on line f =
@@ -229,7 +255,7 @@ module _ (script : Script) (sound : IsSound script) where
       server = s.server;
       to = s.to;
       «from» = s.«from»;
-      saw = saw_on line round s.server _ s.saw;
+      saw = saw_on line round s.server _ letter.rev s.saw;
       found_full = λ is. full_on line (s.found_full is);
     }
 
@@ -262,8 +288,8 @@ module _ (script : Script) (sound : IsSound script) where
         (kept.shows letter line round running inc full i e)
 
     kept_seen : (c : ℕ) (asked : Asked) → (w.clients c).asked ≡ Some asked → (n : ℕ) (told : Option ℕ) → Shows asked.seen n told
-        → Saw whole asked.line asked.round n told
-    kept_seen c asked is n told e = saw_on done own asked.line asked.round n told (kept.seen c asked is n told e)
+        → Saw whole asked.line asked.round n told (client_state setting w c).rev
+    kept_seen c asked is n told e = saw_on done own asked.line asked.round n told _ (kept.seen c asked is n told e)
 
     kept_answers : (number : ℕ) (given : Answer) → In (number, given) w.answers → (line : Line) → In line lines → line.number ≡ number
         → line.request ≡ request.Settle → Ends_settle whole number given
@@ -288,7 +314,7 @@ module _ (script : Script) (sound : IsSound script) where
       | inl new ↦ elim (server_says setting w n what own.stamp may letter new) [
         | Mute mute ↦ absurd (mute_not letter line round running inc full e mute)
         | Rev seq other told ↦ absurd (let f : body.WrongRev seq ≡ body.Seen line round running inc full = sym other ∙ e in cc)
-        | Sight l r glance to mine so ↦
+        | Sight l r glance to mine so rev ↦
             let t = tells_of (w.servers n) line round l r running inc full (sym so ∙ e) in
             let at : Glanced whole line round n = record {
               front = done;
@@ -303,7 +329,7 @@ module _ (script : Script) (sound : IsSound script) where
               server = n;
               to = to;
               «from» = mine;
-              saw = record { at = at; so = t.runs };
+              saw = record { at = at; so = t.runs; known = λ on. let e : letter.rev ≡ (server_state setting w n).rev = rev on in omega arith };
               found_full = λ is.
                   let f = t.found_full is in record { round = round; server = n; at = at; runs = f.0; full = f.1 };
             }
@@ -325,7 +351,7 @@ module _ (script : Script) (sound : IsSound script) where
     record IsGood (client : Client) : Type 0 where
       rising : (asked : Asked) → client.asked ≡ Some asked → IsRising nat_cmp asked.seen
       seen : (asked : Asked) → client.asked ≡ Some asked → (n : ℕ) (told : Option ℕ) → Shows asked.seen n told
-          → Saw whole asked.line asked.round n told
+          → Saw whole asked.line asked.round n told (state_after setting.servers client.applied).rev
 
     was_good : (c : ℕ) → IsGood (w.clients c)
     was_good c = record { rising = kept.rising c; seen = kept_seen c }
@@ -352,10 +378,10 @@ module _ (script : Script) (sound : IsSound script) where
       rounded_rising new (Starts none) = fresh_rising new none
 
       rounded_seen : (new : Asked) → IsRounded client.asked new → (n : ℕ) (told : Option ℕ) → Shows new.seen n told
-          → Saw whole new.line new.round n told
+          → Saw whole new.line new.round n told state.rev
       rounded_seen new (Keeps old is same) n told e =
-          subst (λ r. Saw whole new.line r n told) (sym same.round)
-          (subst (λ l. Saw whole l old.round n told) (sym same.line)
+          subst (λ r. Saw whole new.line r n told state.rev) (sym same.round)
+          (subst (λ l. Saw whole l old.round n told state.rev) (sym same.line)
           (kept_seen c old is n told (ap (λ t. at nat_cmp t n) (sym same.seen) ∙ e)))
       rounded_seen new (Starts none) n told e = fresh_seen new none n told e
 
@@ -377,25 +403,27 @@ module _ (script : Script) (sound : IsSound script) where
         more_rising : IsRising nat_cmp more.seen
         more_rising = put_rises nat_cmp_total asked.seen sight.server _ (kept.rising c asked is)
 
-        module _ (round : sight.round ≡ asked.round) where
-          more_seen : (n : ℕ) (told : Option ℕ) → Shows more.seen n told → Saw done asked.line asked.round n told
+        module _ (round : sight.round ≡ asked.round) (known : sight.rev ≤ state.rev) where
+          more_seen : (n : ℕ) (told : Option ℕ) → Shows more.seen n told → Saw done asked.line asked.round n told state.rev
           more_seen n told e = elim (same_or_apart n sight.server) [
             | inl same ↦
                 let now : told_as sight.running sight.inc ≡ told =
                 same_some (sym (at_same asked.seen sight.server (told_as sight.running sight.inc)) ∙ ap (at nat_cmp more.seen) (sym same)
                 ∙ e) in
-                subst (λ k. Saw done asked.line asked.round k told) (server_is ∙ sym same)
-                (subst (Saw done asked.line asked.round sent.server) now
-                (subst (λ r. Saw done asked.line r sent.server (told_as sight.running sight.inc)) round
-                (subst (λ l. Saw done l sight.round sent.server (told_as sight.running sight.inc)) line sent.saw)))
+                let no_later : has.letter.rev ≤ state.rev = let e = has.rev in omega arith in
+                let seen = seen_by done no_later sent.saw in
+                subst (λ k. Saw done asked.line asked.round k told state.rev) (server_is ∙ sym same)
+                (subst (λ t. Saw done asked.line asked.round sent.server t state.rev) now
+                (subst (λ r. Saw done asked.line r sent.server (told_as sight.running sight.inc) state.rev) round
+                (subst (λ l. Saw done l sight.round sent.server (told_as sight.running sight.inc) state.rev) line seen)))
             | inr ne ↦ kept.seen c asked is n told (sym (at_apart asked.seen sight.server (told_as sight.running sight.inc) n ne) ∙ e)
           ]
 
           more_good : IsGood (record client { asked = Some more })
           more_good = record {
             rising = λ new e. subst (λ (a : Asked). IsRising nat_cmp a.seen) (same_some e) more_rising;
-            seen = λ new e n told there. subst (λ (a : Asked). Saw whole a.line a.round n told) (same_some e)
-                (saw_on done own asked.line asked.round n told
+            seen = λ new e n told there. subst (λ (a : Asked). Saw whole a.line a.round n told state.rev) (same_some e)
+                (saw_on done own asked.line asked.round n told state.rev
                 (more_seen n told (ap (λ (a : Asked). at nat_cmp a.seen n) (same_some e) ∙ there)));
           }
 
@@ -414,15 +442,17 @@ module _ (script : Script) (sound : IsSound script) where
         settles_good =
             by_test (λ (r : Reaction). IsGood r.client) sight.full _ _
             (λ t. gone_good _ refl)
-            (λ t. by_test (λ (r : Reaction). IsGood r.client) (sight.round == asked.round) _ _
-            (λ s. rounds_good (same_numbers sight.round asked.round s)) (λ s. was_good c))
+            (λ t. by_test (λ (r : Reaction). IsGood r.client) ((sight.round == asked.round) && nat_le sight.rev state.rev) _ _
+            (λ s. let c = counted sight.round asked.round sight.rev state.rev s in rounds_good c.0 c.1) (λ s. was_good c))
 
-      client_good : (reacted : Reaction) → Rounds w state c client reacted → IsGood reacted.client
-      client_good reacted (Quiet keeps unsettled) = record {
+      client_good : (reacted : Reaction) → IsPrefix client.applied reacted.client.applied → Rounds w state c client reacted
+          → IsGood reacted.client
+      client_good reacted grows (Quiet keeps unsettled) = record {
         rising = λ new e. rounded_rising new (keeps new e);
-        seen = λ new e. rounded_seen new (keeps new e);
+        seen = λ new e n told there. seen_by whole (revs_grow client.applied reacted.client.applied grows)
+            (rounded_seen new (keeps new e) n told there);
       }
-      client_good reacted (Sees asked sight is settle has line e) =
+      client_good reacted grows (Sees asked sight is settle has line e) =
           subst (λ (r : Reaction). IsGood r.client) (sym e) (settles_good asked is sight has line)
 
       -- ### What the client answers
@@ -448,13 +478,13 @@ module _ (script : Script) (sound : IsSound script) where
         told_so one ends e =
             let f = pair_is e in subst (λ k. Ends_settle whole k given) f.0 (subst (Ends_settle whole asked.line) f.1 ends)
 
-        round_ended : (round : sight.round ≡ asked.round) → length (more asked is sight has line).seen ≡ servers_of state
+        round_ended : (round : sight.round ≡ asked.round) → sight.rev ≤ state.rev → length (more asked is sight has line).seen ≡ servers_of state
             → is_settled state (map (λ row. row.1) (more asked is sight has line).seen) ≡ true
             → WasSettled setting (start setting) whole asked.line
-        round_ended round each settled =
+        round_ended round known each settled =
             let seen = (more asked is sight has line).seen in
             let rising = more_rising asked is sight has line in
-            let shows = more_seen asked is sight has line round in
+            let shows = more_seen asked is sight has line round known in
             let mine = to_operator asked is sight has line in
             let all = each ∙ servers_are in
             record {
@@ -472,18 +502,19 @@ module _ (script : Script) (sound : IsSound script) where
                   let within = s.at.within in
                   (omega arith, omega arith)) server told e in
                   let number_is : 0 + server ≡ server = omega arith in
-                  subst (λ n. Saw done asked.line asked.round n told) number_is
-                  (shows (0 + server) told (at_row nat_cmp_total seen (0 + server, told) rising there));
+                  subst (λ k. Saw done asked.line asked.round server told (client_state setting w k).rev) mine
+                  (subst (λ n. Saw done asked.line asked.round n told state.rev) number_is
+                  (shows (0 + server) told (at_row nat_cmp_total seen (0 + server, told) rising there)));
               settled = subst (λ k. is_settled (client_state setting w k) (map (λ row. row.1) seen) ≡ true) mine settled;
             }
 
-        rounds_told : (round : sight.round ≡ asked.round) → Told (rounds state client (more asked is sight has line))
-        rounds_told round =
+        rounds_told : (round : sight.round ≡ asked.round) → sight.rev ≤ state.rev → Told (rounds state client (more asked is sight has line))
+        rounds_told round known =
             let seen = (more asked is sight has line).seen in
             by_test Told (not (length seen == servers_of state)) _ _
             (λ t e. none_some refl e)
             (λ t. by_test Told (is_settled state (map (λ row. row.1) seen)) _ _
-            (λ s. told_so answer.Ok (round_ended round (same_numbers (length seen) (servers_of state) (not_false _ t)) s))
+            (λ s. told_so answer.Ok (round_ended round known (same_numbers (length seen) (servers_of state) (not_false _ t)) s))
             (λ s e. none_some refl e))
           where
             not_false : (b : Bool) → not b ≡ false → b ≡ true
@@ -495,8 +526,8 @@ module _ (script : Script) (sound : IsSound script) where
             by_test Told sight.full _ _
             (λ t. told_so answer.NoSpace (full_on done own asked.line
             (subst (HasFoundFull setting (start setting) done) line ((sent asked is sight has line).found_full t))))
-            (λ t. by_test Told (sight.round == asked.round) _ _ (λ s. rounds_told (same_numbers sight.round asked.round s))
-            (λ s e. none_some refl e))
+            (λ t. by_test Told ((sight.round == asked.round) && nat_le sight.rev state.rev) _ _
+            (λ s. let c = counted sight.round asked.round sight.rev state.rev s in rounds_told c.0 c.1) (λ s e. none_some refl e))
 
       -- the operator's request is that of its line
       asks_settle : (asked : Asked) → client.asked ≡ Some asked → (line : Line) → In line lines → line.number ≡ asked.line
@@ -530,8 +561,8 @@ module _ (script : Script) (sound : IsSound script) where
     client_keeps c what who may =
         let reacted = client_step what (client_state setting w c) c (w.clients c) (next_line lines c (w.clients c)) in
         let rounded = client_rounds setting w c what may.1 in
-        let turned = (client_turns setting w c what may.1).turned in
-        let good = all_put w.clients c reacted.client (λ k (x : Client). IsGood x) was_good (client_good c reacted rounded) in
+        let turns = client_turns setting w c what may.1 in
+        let good = all_put w.clients c reacted.client (λ k (x : Client). IsGood x) was_good (client_good c reacted turns.grows rounded) in
         record {
           shows = λ letter line round running inc full i e. elim (in-append letter _ w.sent i) [
             | inl new ↦ absurd (mute_not letter line round running inc full e (client_says setting w c what own.stamp may.1 letter new))
@@ -540,7 +571,7 @@ module _ (script : Script) (sound : IsSound script) where
           rising = λ k. (good k).rising;
           seen = λ k. (good k).seen;
           answers = λ number given i line there at settle. elim (more_told reacted.answer number given i) [
-            | inl now ↦ client_told c who _ reacted rounded turned number given now line there at settle
+            | inl now ↦ client_told c who _ reacted rounded turns.turned number given now line there at settle
             | inr old ↦ kept_answers number given old line there at settle
           ];
         }

@@ -43,6 +43,7 @@ job_runs here server (job.Letter letter) rest =
     by_test (λ (a : Acted). a.server.life.running ≡ server.life.running) (is_log_job (job.Letter letter)) _ _ (λ t. refl) (λ t. refl)
 job_runs here server (job.Stage cell) rest = refl
 job_runs here server (job.Mend id) rest = refl
+job_runs here server job.Sweep rest = refl
 job_runs here server job.Apply rest = refl
 job_runs here server job.Start rest = refl
 

@@ -1,147 +1,48 @@
 -- Where a plain log gives a client its verdict: by the client's own command, of which the state before its place says what the verdict says;
 -- and a snapshot that waits there is taken once its fence passes.
-use Rattle.std.proofs.Common.{◌≡◌, ◌≢◌, ◌⊎◌, inl, inr, ◌<◌, ◌≤◌, ◌+◌, ◌++◌, if◌then◌else◌, ℕ, zero, suc, Bool, true, false, List, [], ◌∷◌, length, take, Option, Some, None, is_some, refl, sym, ap, ◌∙◌, subst, arith}
+use Rattle.std.proofs.Common.{◌≡◌, ◌≢◌, ◌⊎◌, inl, inr, ◌<◌, ◌≤◌, ◌+◌, ℕ, zero, suc, true, false, List, length, take, Option, Some, None, is_some, refl, sym, ap, ◌∙◌, subst, arith}
 use Rattle.std.proofs.lemmas.Bool.{cases_lt}
-use Rattle.std.proofs.lemmas.Grind.{fold-append}
 use Rattle.std.specs.Option.{option_map_or}
 use Rattle.std.proofs.lemmas.Option.{slice_get_within}
-use Rattle.std.specs.Prelude.{find, is_none, replicate, slice_get, unwrap_or}
-use Rattle.global_tables.specs.Disk.{named, row_frozen, same_name, snapshot_named}
-use Rattle.global_tables.specs.View.{behind, servers_in}
+use Rattle.std.specs.Prelude.{is_none, slice_get, unwrap_or}
+use Rattle.global_tables.specs.Disk.{named, row_frozen, row_moving, same_name, snapshot_named}
+use Rattle.global_tables.specs.View.{behind, passed, servers_in}
+use Rattle.global_tables.specs.View.{queued as with_queued}
 use Rattle.global_tables.specs.declared.disk.DiskRow.{DiskRow}
-use Rattle.global_tables.specs.declared.disk.Latest.{Latest}
 use Rattle.global_tables.specs.declared.disk.Snapshot.{Snapshot}
 use Rattle.global_tables.specs.declared.disk.Verdict.{Verdict}
 use Rattle.global_tables.specs.declared.disk.Verdict.TheVariants as verdict
 use Rattle.global_tables.specs.declared.fence.Fence.{Fence}
-use Rattle.global_tables.specs.declared.fence.FenceKind.TheVariants.{Whole}
+use Rattle.global_tables.specs.declared.fence.FenceKind.TheVariants.{Region, Whole}
 use Rattle.script_lines.specs.Requests.{is_snap}
 use Rattle.script_lines.specs.declared.answer.Answer.{Answer}
 use Rattle.script_lines.specs.declared.answer.Answer.TheVariants as answer
 use Rattle.script_lines.specs.declared.request.Request.{Request}
 use Rattle.script_lines.specs.declared.request.Request.TheVariants as request
 use Rattle.petal_command.specs.declared.command.Command.{Command}
-use Rattle.petal_command.specs.declared.command.Command.TheVariants.{Caught, Drained, Join, Leave, MakeDisk, Snap, Witness}
-use Rattle.petal_history.specs.Causes.{has_made, is_name_taken, lacks_disk}
-use Rattle.petal_state.specs.State.{State, start, is_up_as, latest, told}
-use Rattle.petal_state.specs.Command.{act, after, is_new, is_taken, may_join, state_after, with_disk, with_fence}
-use Rattle.petal_state.specs.Fence.{settled}
+use Rattle.petal_command.specs.declared.command.Command.TheVariants.{Caught, Drained, Join, Leave, MakeDisk, Moved, Snap, StartMove, Witness}
+use Rattle.petal_history.specs.Causes.{has_made, is_moving, is_name_taken, lacks_disk}
+use Rattle.petal_state.specs.State.{State, is_up_as, latest, told}
+use Rattle.petal_state.specs.Command.{act, after, is_new, is_taken, may_join, note, state_after, with_disk, with_fence, with_move}
+use Rattle.petal_state.specs.Fence.{effect, settled}
 use Rattle.petal_state.proofs.Passing.{view-effect}
 use Rattle.petal_rules.specs.Clients.{command_of, verdict_answer, verdict_for}
-use Rattle.petal_rules.specs.Lists.{In}
-use Rattle.petal_rules.proofs.Tests.{by_test, nat_lists_same, none_some, same_some, some_or_none, true_false}
-use Rattle.law_state.specs.Plain.{IsPlain, IsPlainLog}
-use Rattle.law_state.specs.Tables.{IsGrown, IsLaterDisk, IsPlainState}
+use Rattle.petal_rules.proofs.Tests.{by_test, none_some, same_some, some_or_none, true_false}
+use Rattle.law_state.specs.Plain.{IsPlainLog}
+use Rattle.law_state.specs.Tables.{IsForRegion, IsForSnapshot, Of_disk, Of_region}
 use Rattle.law_state.proofs.Caughts.{act_caught}
-use Rattle.law_state.proofs.Entries.{acting, log_plain}
+use Rattle.law_state.proofs.Entries.{acting}
 use Rattle.law_state.proofs.Fences.{Acted, IsRequeued, IsUnsettled, get_behind, head_get, ready_by, requeued_awaiting, requeued_itself, requeued_reported, unsettled}
 use Rattle.law_state.proofs.Passing.{one_passed, passed_here, passing, settled_keeps}
-use Rattle.law_state.proofs.Places.{find_behind, find_front, find_here, found_at, get_last, get_within, in_get, text_itself}
+use Rattle.law_state.proofs.Places.{get_last, get_within, text_itself}
+use Rattle.law_state.proofs.Moves.{IsNoting, act_moved, act_note, act_start}
+use Rattle.law_state.proofs.Rowed.{here_now}
 use Rattle.law_state.proofs.Snaps.{act_drained, act_snap}
 use Rattle.law_causes.specs.Asked.{asker}
 use Rattle.law_causes.proofs.Asked.{asker_of}
-use Rattle.law_causes.proofs.Folds.{told_answers, act_make, judged_last, judged_old, many_after, none_past, old_after, old_behind, old_now, onward_new, passed_old, passed_or, passed_stays, settled_old, told_old, told_or, told_stays}
-
--- ### Fronts of a log
-
-in_take : {X : Type 0} (x : X) (xs : List X) (k : ℕ) → In x (take k xs) → In x xs
-unfolding In
-in_take x [] zero h = absurd h
-in_take x [] (suc k) h = absurd h
-in_take x (y ∷ xs) zero h = absurd h
-in_take x (y ∷ xs) (suc k) (inl is) = inl is
-in_take x (y ∷ xs) (suc k) (inr later) = inr (in_take x xs k later)
-
-pub plain_front : (servers : ℕ) (log : List Command) (k : ℕ) → IsPlainLog servers log → IsPlainLog servers (take k log)
-plain_front servers log k plain command h = plain command (in_take command log k h)
-
-take_next : {X : Type 0} (xs : List X) (k : ℕ) (x : X) → slice_get xs k ≡ Some x → take (suc k) xs ≡ take k xs ++ x ∷ []
-take_next [] k x e = none_some refl e
-take_next (y ∷ xs) zero x e = ap (λ z. z ∷ []) (same_some e)
-take_next (y ∷ xs) (suc k) x e = ap (λ zs. y ∷ zs) (take_next xs k x e)
-
--- at the start nobody was told anything
-nobody_told : (n c : ℕ) → unwrap_or (slice_get (replicate n (let none : Option Latest = None in none)) c) None ≡ None
-nobody_told zero c = refl
-nobody_told (suc n) zero = refl
-nobody_told (suc n) (suc c) = nobody_told n c
-
--- ### Disks
-
--- a disk that is found by its name is found so later, at the place of its number
-named_on : (servers : ℕ) (s t : State) → IsUnsettled servers s → IsUnsettled servers t → IsGrown s t → (name : List ℕ) (row : DiskRow)
-    → named s.disks.rows name ≡ Some row
-    → (now : DiskRow) × (named t.disks.rows name ≡ Some now) × IsLaterDisk row now × (slice_get t.disks.rows row.id ≡ Some now)
-named_on servers s t p q g name row e =
-    let at = found_at (λ (r : DiskRow). same_name r.name name) s.disks.rows row e in
-    let later = g.rows at.0 row at.1 in
-    let text : row.name ≡ name = nat_lists_same row.name name at.2 in
-    let now_text : later.now.name ≡ name = later.so.name ∙ text in (
-      later.now,
-      find_here (λ (r : DiskRow). same_name r.name name) t.disks.rows at.0 later.now later.is
-          (ap (λ n. same_name n name) now_text ∙ text_itself name)
-          (λ j other f same. q.names j at.0 other later.now f later.is (nat_lists_same other.name name same ∙ sym now_text)),
-      later.so,
-      ap (slice_get t.disks.rows) (p.rows at.0 row at.1).id ∙ later.is,
-    )
-
-last_found : {A : Type 0} (p : A → Bool) (xs : List A) (y : A) → p y ≡ true → is_some (find p (xs ++ y ∷ [])) ≡ true
-last_found p xs y is = elim (some_or_none (find p xs)) [
-  | inl found ↦ ap is_some (find_front p xs (y ∷ []) found.0 found.1)
-  | inr none ↦ ap is_some (find_behind p xs (y ∷ []) none) ∙ ap (λ (b : Bool). is_some (if b then Some y else None)) is
-]
-
-still_found : {A : Type 0} (p : A → Bool) (xs ys : List A) → is_some (find p xs) ≡ true → is_some (find p (xs ++ ys)) ≡ true
-still_found p xs ys h = elim (some_or_none (find p xs)) [
-  | inl found ↦ ap is_some (find_front p xs ys found.0 found.1)
-  | inr none ↦ true_false h (ap is_some none)
-]
-
--- what a request asked for is there still
-made_on : (servers : ℕ) (s t : State) → IsUnsettled servers s → IsUnsettled servers t → IsGrown s t → (asked : Request) → has_made s asked ≡ true
-    → has_made t asked ≡ true
-made_on servers s t p q g (request.Disk name tuple) h = elim (some_or_none (named s.disks.rows name)) [
-  | inl found ↦ ap is_some (named_on servers s t p q g name found.0 found.1).1
-  | inr none ↦ true_false h (ap is_some none)
-]
-made_on servers s t p q g (request.Snap name snap) h = elim (some_or_none (named s.disks.rows name)) [
-  | inl found ↦
-      let later = named_on servers s t p q g name found.0 found.1 in
-      let had : is_some (snapshot_named found.0.snaps snap) ≡ true =
-      sym (ap (λ o. option_map_or (λ (row : DiskRow). is_some (snapshot_named row.snaps snap)) o false) found.1) ∙ h in
-      ap (λ o. option_map_or (λ (row : DiskRow). is_some (snapshot_named row.snaps snap)) o false) later.1
-      ∙ ap (λ snaps. is_some (snapshot_named snaps snap)) later.2.snaps
-      ∙ still_found (λ (x : Snapshot). same_name x.name snap) found.0.snaps later.2.more had
-  | inr none ↦ true_false h (ap (λ o. option_map_or (λ (row : DiskRow). is_some (snapshot_named row.snaps snap)) o false) none)
-]
-made_on servers s t p q g _ h = true_false h refl
-
--- ### Requests that have commands
-
-asks_disk : (c seq d q : ℕ) (name tuple : List ℕ) (asked : Request) → command_of c seq asked ≡ Some (MakeDisk d q name tuple) → asked ≡ request.Disk name tuple
-asks_disk c seq d q name tuple (request.Disk n t) e =
-    let f : MakeDisk c seq n t ≡ MakeDisk d q name tuple = same_some e in
-    let one : n ≡ name = cc in
-    let two : t ≡ tuple = cc in
-    (λ i. request.Disk (one i) (two i))
-asks_disk c seq d q name tuple (request.Snap n snap) e =
-    let f : Snap c seq n snap ≡ MakeDisk d q name tuple = same_some e in absurd cc
-asks_disk c seq d q name tuple _ e = none_some refl e
-
-asks_snap : (c seq d q : ℕ) (name snap : List ℕ) (asked : Request) → command_of c seq asked ≡ Some (Snap d q name snap) → asked ≡ request.Snap name snap
-asks_snap c seq d q name snap (request.Snap n t) e =
-    let f : Snap c seq n t ≡ Snap d q name snap = same_some e in
-    let one : n ≡ name = cc in
-    let two : t ≡ snap = cc in
-    (λ i. request.Snap (one i) (two i))
-asks_snap c seq d q name snap (request.Disk n tuple) e =
-    let f : MakeDisk c seq n tuple ≡ Snap d q name snap = same_some e in absurd cc
-asks_snap c seq d q name snap _ e = none_some refl e
-
--- two fences that are for one snapshot of one client
-same_whole : (disk other d c q seq : ℕ) (name text : List ℕ) → Whole disk name d q ≡ Whole other text c seq
-    → (disk ≡ other) × (name ≡ text) × (d ≡ c) × (q ≡ seq)
-same_whole disk other d c q seq name text e = (cc, cc, cc, cc)
+use Rattle.law_causes.proofs.Folds.{told_answers, act_make, judged_last, judged_old, old_now, onward_new, passed_old, passed_or, passed_stays, settled_old, told_old, told_or, told_stays}
+use Rattle.law_causes.proofs.Wanted.{nobody_told, named_on, last_found, has_kept, made_on, asks_disk, asks_snap, asks_move, same_whole, no_whole, row_known_at, settled_moving, IsMoving}
+use Rattle.law_causes.proofs.Numbers.{at_next, entry_plain, many_at, old_on, own_old, plain_at}
 
 -- ### Along a log
 
@@ -149,47 +50,6 @@ module _ (servers : ℕ) (log : List Command) (plain : IsPlainLog servers log) w
   -- the state before a place
   abbrev at : ℕ → State
   at k = state_after servers (take k log)
-
-  at_next : (k : ℕ) (e : Command) → slice_get log k ≡ Some e → at (suc k) ≡ after (at k) e
-  at_next k e is = ap (state_after servers) (take_next log k e is) ∙ fold-append after (start servers) (take k log) (e ∷ [])
-
-  plain_at : (k : ℕ) → IsPlainState servers (at k)
-  plain_at k = log_plain servers (take k log) (plain_front servers log k plain)
-
-  entry_plain : (k : ℕ) (e : Command) → slice_get log k ≡ Some e → IsPlain servers e
-  entry_plain k e is = plain e (in_get log k e is)
-
-  -- each state tells as many clients
-  many_at : (k : ℕ) → k ≤ length log → length (at k).verdicts ≡ 9
-  many_at zero low = refl
-  many_at (suc k) low =
-      let e = get_within log k (omega arith) in
-      ap (λ (s : State). length s.verdicts) (at_next k e.0 e.1) ∙ many_after servers e.0 (at k) (entry_plain k e.0 e.1) ∙ many_at k (omega arith)
-
-  -- a number that is old stays so
-  old_on : (c seq i k : ℕ) → i ≤ k → k ≤ length log → is_new seq (latest (at i) c) ≡ false → is_new seq (latest (at k) c) ≡ false
-  old_on c seq i zero le low old = let same : i ≡ 0 = omega arith in subst (λ j. is_new seq (latest (at j) c) ≡ false) same old
-  old_on c seq i (suc k) le low old = elim (cases_lt i (suc k)) [
-    | inr past ↦ (let same : i ≡ suc k = omega arith in subst (λ j. is_new seq (latest (at j) c) ≡ false) same old)
-    | inl before ↦
-        let e = get_within log k (omega arith) in
-        ap (λ (s : State). is_new seq (latest s c)) (at_next k e.0 e.1)
-        ∙ old_after servers e.0 (at k) c seq (entry_plain k e.0 e.1) (old_on c seq i k (omega arith) (omega arith) old)
-  ]
-
-  -- behind a client's own command its number is old
-  own_old : (c seq i : ℕ) (e : Command) → slice_get log i ≡ Some e → i < length log → asker e ≡ Some (c, seq) → c < 9
-      → is_new seq (latest (at (suc i)) c) ≡ false
-  own_old c seq i e is low own few =
-      ap (λ (s : State). is_new seq (latest s c)) (at_next i e is)
-      ∙ old_behind e (at i) c seq own (let many = many_at i (omega arith) in omega arith)
-
-  -- who is answered is one of the clients
-  pub judged_low : (c seq k : ℕ) (given : Answer) → k ≤ length log → verdict_for seq (latest (at k) c) ≡ Some given → c < 9
-  judged_low c seq k given low h = elim (cases_lt c 9) [
-    | inl few ↦ few
-    | inr high ↦ none_some (ap (verdict_for seq) (none_past (at k) c (let many = many_at k low in omega arith))) h
-  ]
 
   -- ### One request
 
@@ -204,6 +64,8 @@ module _ (servers : ℕ) (log : List Command) (plain : IsPlainLog servers log) w
       pub new : is_new seq (latest (at place) c) ≡ true
       pub taken : given ≡ answer.Exists → is_name_taken (at place) asked ≡ true
       pub unknown : given ≡ answer.NoDisk → lacks_disk (at place) asked ≡ true
+      pub moving : given ≡ answer.Moving → is_moving (at place) asked ≡ true
+      pub still : given ≡ answer.Ok → is_moving (at place) asked ≡ false
       pub free : given ≡ answer.Ok → is_name_taken (at place) asked ≡ false
       pub known : given ≡ answer.Ok → lacks_disk (at place) asked ≡ false
 
@@ -228,7 +90,7 @@ module _ (servers : ℕ) (log : List Command) (plain : IsPlainLog servers log) w
 
     -- what is answered was placed, and what it asked for is there; and so waits each fence of this client and number
     pub record Has (t : State) : Type 0 where
-      pub told : (given : Answer) → says t ≡ Some given → Placed given × (given ≡ answer.Ok → has_made t asked ≡ true)
+      pub told : (given : Answer) → says t ≡ Some given → Placed given × (given ≡ answer.Ok → has_kept t asked ≡ true)
       pub waits : (i : ℕ) (fence : Fence) (disk : ℕ) (name : List ℕ) → slice_get t.view.queue i ≡ Some fence → fence.kind ≡ Whole disk name c seq
           → Waits t disk name
 
@@ -236,7 +98,7 @@ module _ (servers : ℕ) (log : List Command) (plain : IsPlainLog servers log) w
     abbrev OldOrTold : (s t : State) → Answer → Type 0
     OldOrTold s t given =
         (says s ≡ Some given)
-        ⊎ Placed given × (given ≡ answer.Ok → has_made t asked ≡ true) × ((is_new seq (latest s c) ≡ true) ⊎ (given ≡ answer.Ok))
+        ⊎ Placed given × (given ≡ answer.Ok → has_kept t asked ≡ true) × ((is_new seq (latest s c) ≡ true) ⊎ (given ≡ answer.Ok))
 
     record Tells (s t : State) : Type 0 where
       tells : (given : Answer) → says t ≡ Some given → OldOrTold s t given
@@ -299,23 +161,45 @@ module _ (servers : ℕ) (log : List Command) (plain : IsPlainLog servers log) w
     -- ### A fence that passes
 
     passing_made : (s : State) (p : IsUnsettled servers s) (fence : Fence) (first : slice_get s.view.queue 0 ≡ Some fence)
-        → Waits s (p.fences.each 0 fence first).disk (p.fences.each 0 fence first).name → has_made (one_passed s fence) asked ≡ true
-    passing_made s p fence first w =
-        let active = p.fences.each 0 fence first in
+        → (active : IsForSnapshot s fence) → Waits s active.disk active.name → has_kept (one_passed s fence) asked ≡ true
+    passing_made s p fence first active w =
         let t = one_passed s fence in
         let acted = passing servers s p fence first in
         let later = named_on servers s t p acted.plain acted.grown w.of w.row w.found in
         let now : later.0 ≡ row_frozen active.name active.row =
-        same_some (sym later.3 ∙ ap (slice_get t.disks.rows) w.id ∙ passed_here servers s p fence first) in
-        ap (has_made t) w.asks ∙ ap (λ o. option_map_or (λ (row : DiskRow). is_some (snapshot_named row.snaps active.name)) o false) later.1
+        same_some (sym later.3 ∙ ap (slice_get t.disks.rows) w.id ∙ passed_here servers s p fence first active) in
+        ap (has_kept t) w.asks ∙ ap (λ o. option_map_or (λ (row : DiskRow). is_some (snapshot_named row.snaps active.name)) o false) later.1
         ∙ ap (λ (row : DiskRow). is_some (snapshot_named row.snaps active.name)) now
         ∙ last_found (λ (x : Snapshot). same_name x.name active.name) active.row.snaps (record { name = active.name; epoch = active.row.epoch })
         (text_itself active.name)
 
-    passes_by : (s : State) → IsUnsettled servers s → Has s → (fence : Fence) → slice_get s.view.queue 0 ≡ Some fence
+    -- the fences behind it stood before
+    queue_behind : (s : State) (fence : Fence) (i : ℕ) (other : Fence) → slice_get (one_passed s fence).view.queue i ≡ Some other
+        → OldOrWaits s (one_passed s fence) other
+    queue_behind s fence i other e =
+        let there : slice_get (behind (servers_in s.view.members) s.view.queue) i ≡ Some other =
+        sym (ap (λ (v : Rattle.global_tables.specs.View.View). slice_get v.queue i) (view-effect fence.kind _)) ∙ e in
+        let before = get_behind (servers_in s.view.members) s.view.queue i other there in
+        inl (suc i, before.0, before.1, before.2)
+
+    -- one for a region tells nobody
+    region_passes : (s : State) → IsUnsettled servers s → Has s → (fence : Fence) → slice_get s.view.queue 0 ≡ Some fence → IsForRegion s fence
         → IsUnsettled servers (one_passed s fence) × Has (one_passed s fence) × Stays s (one_passed s fence)
-    passes_by s p h fence first =
-        let active = p.fences.each 0 fence first in
+    region_passes s p h fence first active =
+        let t = one_passed s fence in
+        let acted = passing servers s p fence first in
+        let same : latest t c ≡ latest s c = ap (λ kind. latest (effect kind (record s { view = passed s.view })) c) active.kind in
+        let next = has_next s t p h acted
+        (record {
+          tells = λ given e. inl (ap (verdict_for seq) (sym same) ∙ e);
+          old = λ old. ap (is_new seq) same ∙ old;
+          stays = λ given e. inl (ap (verdict_for seq) same ∙ e);
+        }) (queue_behind s fence) in
+        (acted.plain, next.0, next.1)
+
+    disk_passes : (s : State) → IsUnsettled servers s → Has s → (fence : Fence) → slice_get s.view.queue 0 ≡ Some fence → IsForSnapshot s fence
+        → IsUnsettled servers (one_passed s fence) × Has (one_passed s fence) × Stays s (one_passed s fence)
+    disk_passes s p h fence first active =
         let t = one_passed s fence in
         let acted = passing servers s p fence first in
         let waiting = λ (same : active.client ≡ c) (number : active.seq ≡ seq). h.waits 0 fence active.disk active.name first
@@ -326,18 +210,21 @@ module _ (servers : ℕ) (log : List Command) (plain : IsPlainLog servers log) w
             | inl old ↦ inl old
             | inr hit ↦
                 let w = waiting hit.0 hit.1 in
-                inr (subst Placed (same_some hit.2) w.placed, λ ok. passing_made s p fence first w, inr (sym (same_some hit.2)))
+                inr (subst Placed (same_some hit.2) w.placed, λ ok. passing_made s p fence first active w, inr (sym (same_some hit.2)))
           ];
           old = passed_old s fence c seq;
           stays = λ given e. inl (passed_stays s fence active.disk active.name active.client c active.seq seq given active.kind
               (λ same number. (waiting same number).quiet given e) e);
         })
-        (λ i other e.
-        let there : slice_get (behind (servers_in s.view.members) s.view.queue) i ≡ Some other =
-        sym (ap (λ (v : Rattle.global_tables.specs.View.View). slice_get v.queue i) (view-effect fence.kind _)) ∙ e in
-        let before = get_behind (servers_in s.view.members) s.view.queue i other there in
-        inl (suc i, before.0, before.1, before.2)) in
+        (queue_behind s fence) in
         (acted.plain, next.0, next.1)
+
+    passes_by : (s : State) → IsUnsettled servers s → Has s → (fence : Fence) → slice_get s.view.queue 0 ≡ Some fence
+        → IsUnsettled servers (one_passed s fence) × Has (one_passed s fence) × Stays s (one_passed s fence)
+    passes_by s p h fence first = elim (p.fences.each 0 fence first) [
+      | Of_disk active ↦ disk_passes s p h fence first active
+      | Of_region active ↦ region_passes s p h fence first active
+    ]
 
     stays_then : (s t u : State) → Stays s t → Stays t u → (is_new (suc seq) (latest t c) ≡ false → is_new (suc seq) (latest u c) ≡ false) → Stays s u
     stays_then s t u first second gone given e = elim (first given e) [ inl still ↦ second given still | inr later ↦ inr (gone later) ]
@@ -358,7 +245,7 @@ module _ (servers : ℕ) (log : List Command) (plain : IsPlainLog servers log) w
       s = at k
 
       p : IsUnsettled servers s
-      p = unsettled servers s (plain_at k)
+      p = unsettled servers s (plain_at servers log plain k)
 
       still : (t : State) → IsRequeued s.view.queue t.view.queue → latest t c ≡ latest s c → Acted servers s t → Has t × Stays s t
       still t queue same acted = has_still s t p h queue same acted
@@ -372,7 +259,7 @@ module _ (servers : ℕ) (log : List Command) (plain : IsPlainLog servers log) w
       -- what a new command tells
       telling : (u : State) (d q : ℕ) (v : Verdict) → u.verdicts ≡ s.verdicts → is_new q (latest s d) ≡ true
           → (d ≡ c → q ≡ seq → (given : Answer) → verdict_answer v ≡ Some given
-          → Placed given × (given ≡ answer.Ok → has_made (told u d q v) asked ≡ true)) → Tells s (told u d q v)
+          → Placed given × (given ≡ answer.Ok → has_kept (told u d q v) asked ≡ true)) → Tells s (told u d q v)
       telling u d q v same new placed =
           let at_u : (n : ℕ) → latest u n ≡ latest s n = λ n. ap (λ verdicts. unwrap_or (slice_get verdicts n) None) same in
           record {
@@ -406,6 +293,8 @@ module _ (servers : ℕ) (log : List Command) (plain : IsPlainLog servers log) w
                 new = new_at d q one two new;
                 taken = λ is. ap (is_name_taken s) a.1 ∙ taken;
                 unknown = λ is. (let f : answer.Exists ≡ answer.NoDisk = is_so ∙ is in absurd cc);
+                moving = λ is. (let f : answer.Exists ≡ answer.Moving = is_so ∙ is in absurd cc);
+                still = λ is. ap (is_moving s) a.1;
                 free = λ is. (let f : answer.Exists ≡ answer.Ok = is_so ∙ is in absurd cc);
                 known = λ is. (let f : answer.Exists ≡ answer.Ok = is_so ∙ is in absurd cc);
               },
@@ -430,10 +319,12 @@ module _ (servers : ℕ) (log : List Command) (plain : IsPlainLog servers log) w
                 new = new_at d q one two new;
                 taken = λ is. (let f : answer.Ok ≡ answer.Exists = is_so ∙ is in absurd cc);
                 unknown = λ is. (let f : answer.Ok ≡ answer.NoDisk = is_so ∙ is in absurd cc);
+                moving = λ is. (let f : answer.Ok ≡ answer.Moving = is_so ∙ is in absurd cc);
+                still = λ is. ap (is_moving s) a.1;
                 free = λ is. ap (is_name_taken s) a.1 ∙ ap is_some none;
                 known = λ is. ap (lacks_disk s) a.1;
               },
-              λ is. ap (has_made t) a.1 ∙ last_found (λ (row : DiskRow). same_name row.name name) s.disks.rows _ (text_itself name),
+              λ is. ap (has_kept t) a.1 ∙ last_found (λ (row : DiskRow). same_name row.name name) s.disks.rows _ (text_itself name),
             )))
             (old_queue s t (requeued_itself s.view.queue))
 
@@ -458,6 +349,8 @@ module _ (servers : ℕ) (log : List Command) (plain : IsPlainLog servers log) w
                 new = new_at d q one two new;
                 taken = λ is. (let f : answer.NoDisk ≡ answer.Exists = is_so ∙ is in absurd cc);
                 unknown = λ is. ap (lacks_disk s) a.1 ∙ ap is_none none;
+                moving = λ is. (let f : answer.NoDisk ≡ answer.Moving = is_so ∙ is in absurd cc);
+                still = λ is. ap (is_moving s) a.1;
                 free = λ is. (let f : answer.NoDisk ≡ answer.Ok = is_so ∙ is in absurd cc);
                 known = λ is. (let f : answer.NoDisk ≡ answer.Ok = is_so ∙ is in absurd cc);
               },
@@ -481,6 +374,8 @@ module _ (servers : ℕ) (log : List Command) (plain : IsPlainLog servers log) w
                 new = new_at d q one two new;
                 taken = λ is. ap (is_name_taken s) a.1 ∙ ap (λ o. option_map_or (is_taken s name) o false) found ∙ taken;
                 unknown = λ is. (let f : answer.Exists ≡ answer.NoDisk = is_so ∙ is in absurd cc);
+                moving = λ is. (let f : answer.Exists ≡ answer.Moving = is_so ∙ is in absurd cc);
+                still = λ is. ap (is_moving s) a.1;
                 free = λ is. (let f : answer.Exists ≡ answer.Ok = is_so ∙ is in absurd cc);
                 known = λ is. (let f : answer.Exists ≡ answer.Ok = is_so ∙ is in absurd cc);
               },
@@ -510,6 +405,8 @@ module _ (servers : ℕ) (log : List Command) (plain : IsPlainLog servers log) w
                   new = is_new_here;
                   taken = λ is. (let f : answer.Ok ≡ answer.Exists = is in absurd cc);
                   unknown = λ is. (let f : answer.Ok ≡ answer.NoDisk = is in absurd cc);
+                  moving = λ is. (let f : answer.Ok ≡ answer.Moving = is in absurd cc);
+                  still = λ is. ap (is_moving s) a.1;
                   free = λ is. ap (is_name_taken s) a.1 ∙ ap (λ o. option_map_or (is_taken s name) o false) found ∙ free;
                   known = λ is. ap (lacks_disk s) a.1 ∙ ap is_none found;
                 };
@@ -518,7 +415,7 @@ module _ (servers : ℕ) (log : List Command) (plain : IsPlainLog servers log) w
                 row = row;
                 found = found;
                 id = same.0;
-                old = old_now queued d c q seq verdict.Waiting same.2 same.3 (let many = many_at k low in omega arith);
+                old = old_now queued d c q seq verdict.Waiting same.2 same.3 (let many = many_at servers log plain k low in omega arith);
                 quiet = λ given e. elim (told_or queued d c q seq verdict.Waiting given e) [
                   | inl before ↦ true_false is_new_here (judged_old seq (latest s c) given before)
                   | inr hit ↦ none_some refl hit.2
@@ -533,6 +430,114 @@ module _ (servers : ℕ) (log : List Command) (plain : IsPlainLog servers log) w
                 | inl old ↦ inl (i, fence, old, refl)
                 | inr late ↦ inr (λ disk text kind. late_waits disk text (sym (ap (λ (f : Fence). f.kind) late.1) ∙ kind))
               ])
+
+      -- a fence for a region is behind those that stood
+      region_queued_then : (t : State) (disk region : ℕ) → (i : ℕ) (fence : Fence)
+          → slice_get (with_queued s.view (Region disk region)).queue i ≡ Some fence → OldOrWaits s t fence
+      region_queued_then t disk region i fence e = elim (get_last s.view.queue _ i fence e) [
+        | inl old ↦ inl (i, fence, old, refl)
+        | inr late ↦ inr (λ disk text kind. no_whole (sym (ap (λ (f : Fence). f.kind) late.1) ∙ kind))
+      ]
+
+      -- a move that is asked for
+      module _ (d q : ℕ) (of tuple : List ℕ) (there : slice_get log k ≡ Some (StartMove d q of tuple)) (new : is_new q (latest s d) ≡ true) where
+        moves_it : d ≡ c → q ≡ seq → (command_of c seq asked ≡ Some (StartMove d q of tuple)) × (asked ≡ request.Move of tuple)
+        moves_it one two = let mine = own k (StartMove d q of tuple) there (λ i. Some (one i, two i)) in (mine, asks_move c seq d q of tuple asked mine)
+
+        of_nobody : named s.disks.rows of ≡ None → Acted servers s (told s d q verdict.NoDisk)
+            → Has (told s d q verdict.NoDisk) × Stays s (told s d q verdict.NoDisk)
+        of_nobody none acted =
+            has_next s (told s d q verdict.NoDisk) p h acted
+            (telling s d q verdict.NoDisk refl new
+            (λ one two given e.
+            let a = moves_it one two in
+            let is_so : answer.NoDisk ≡ given = same_some e in (
+              record {
+                place = k;
+                command = StartMove d q of tuple;
+                of_it = a.0;
+                is = there;
+                new = new_at d q one two new;
+                taken = λ is. (let f : answer.NoDisk ≡ answer.Exists = is_so ∙ is in absurd cc);
+                unknown = λ is. ap (lacks_disk s) a.1 ∙ ap is_none none;
+                moving = λ is. (let f : answer.NoDisk ≡ answer.Moving = is_so ∙ is in absurd cc);
+                still = λ is. (let f : answer.NoDisk ≡ answer.Ok = is_so ∙ is in absurd cc);
+                free = λ is. (let f : answer.NoDisk ≡ answer.Ok = is_so ∙ is in absurd cc);
+                known = λ is. (let f : answer.NoDisk ≡ answer.Ok = is_so ∙ is in absurd cc);
+              },
+              λ is. (let f : answer.NoDisk ≡ answer.Ok = is_so ∙ is in absurd cc),
+            )))
+            (old_queue s (told s d q verdict.NoDisk) (requeued_itself s.view.queue))
+
+        of_busy : (row : DiskRow) → named s.disks.rows of ≡ Some row → is_some row.moving ≡ true → Acted servers s (told s d q verdict.Moving)
+            → Has (told s d q verdict.Moving) × Stays s (told s d q verdict.Moving)
+        of_busy row found busy acted =
+            has_next s (told s d q verdict.Moving) p h acted
+            (telling s d q verdict.Moving refl new
+            (λ one two given e.
+            let a = moves_it one two in
+            let is_so : answer.Moving ≡ given = same_some e in (
+              record {
+                place = k;
+                command = StartMove d q of tuple;
+                of_it = a.0;
+                is = there;
+                new = new_at d q one two new;
+                taken = λ is. (let f : answer.Moving ≡ answer.Exists = is_so ∙ is in absurd cc);
+                unknown = λ is. (let f : answer.Moving ≡ answer.NoDisk = is_so ∙ is in absurd cc);
+                moving = λ is. ap (is_moving s) a.1 ∙ ap (λ o. option_map_or (λ (r : DiskRow). is_some r.moving) o false) found ∙ busy;
+                still = λ is. (let f : answer.Moving ≡ answer.Ok = is_so ∙ is in absurd cc);
+                free = λ is. (let f : answer.Moving ≡ answer.Ok = is_so ∙ is in absurd cc);
+                known = λ is. (let f : answer.Moving ≡ answer.Ok = is_so ∙ is in absurd cc);
+              },
+              λ is. (let f : answer.Moving ≡ answer.Ok = is_so ∙ is in absurd cc),
+            )))
+            (old_queue s (told s d q verdict.Moving) (requeued_itself s.view.queue))
+
+        begins : (row : DiskRow) → named s.disks.rows of ≡ Some row → row.moving ≡ None → Acted servers s (told (with_move s tuple row.id) d q verdict.Ok)
+            → Has (told (with_move s tuple row.id) d q verdict.Ok) × Stays s (told (with_move s tuple row.id) d q verdict.Ok)
+        begins row found free acted =
+            let t = told (with_move s tuple row.id) d q verdict.Ok in
+            has_next s t p h acted
+            (telling (with_move s tuple row.id) d q verdict.Ok refl new
+            (λ one two given e.
+            let a = moves_it one two in
+            let is_so : answer.Ok ≡ given = same_some e in (
+              record {
+                place = k;
+                command = StartMove d q of tuple;
+                of_it = a.0;
+                is = there;
+                new = new_at d q one two new;
+                taken = λ is. (let f : answer.Ok ≡ answer.Exists = is_so ∙ is in absurd cc);
+                unknown = λ is. (let f : answer.Ok ≡ answer.NoDisk = is_so ∙ is in absurd cc);
+                moving = λ is. (let f : answer.Ok ≡ answer.Moving = is_so ∙ is in absurd cc);
+                still = λ is. ap (is_moving s) a.1 ∙ ap (λ o. option_map_or (λ (r : DiskRow). is_some r.moving) o false) found ∙ ap is_some free;
+                free = λ is. ap (is_name_taken s) a.1;
+                known = λ is. ap (lacks_disk s) a.1 ∙ ap is_none found;
+              },
+              λ is. ap (has_kept t) a.1,
+            )))
+            (region_queued_then t row.id 0)
+
+      -- a Moved tells nobody
+      noted_by : (of region link : ℕ) (n : IsNoting s of region link) → Acted servers s (note s of n.row.id region link)
+          → Has (note s of n.row.id region link) × Stays s (note s of n.row.id region link)
+      noted_by of region link n acted =
+          act_note servers s (plain_at servers log plain k) of region link n (λ (t : State). Acted servers s t → Has t × Stays s t)
+          (λ some acts. quiet _ refl (old_queue s _ (requeued_itself s.view.queue)) acts)
+          (λ all more acts. quiet _ refl (region_queued_then _ n.row.id (region + 1)) acts)
+          (λ all last acts. quiet _ refl (old_queue s _ (requeued_itself s.view.queue)) acts)
+          acted
+        where
+          quiet : (t : State) → latest t c ≡ latest s c → ((i : ℕ) (fence : Fence) → slice_get t.view.queue i ≡ Some fence → OldOrWaits s t fence)
+              → Acted servers s t → Has t × Stays s t
+          quiet t same queue acts = has_next s t p h acts
+              (record {
+                tells = λ given e. inl (ap (verdict_for seq) (sym same) ∙ e);
+                old = λ old. ap (is_new seq) same ∙ old;
+                stays = λ given e. inl (ap (verdict_for seq) same ∙ e);
+              }) queue
 
       acts : (e : Command) → slice_get log k ≡ Some e → Acted servers s (act e s) → Has (act e s) × Stays s (act e s)
       acts (MakeDisk d q name tuple) there acted =
@@ -554,8 +559,14 @@ module _ (servers : ℕ) (log : List Command) (plain : IsPlainLog servers log) w
       acts (Drained server inc fence) there acted =
           act_drained (λ (t : State). Acted servers s t → Has t × Stays s t) s server inc fence (λ acted. unmoved)
           (λ is up. still _ (requeued_reported server s.view.queue) refl) acted
+      acts (StartMove d q of tuple) there acted =
+          act_start (λ (t : State). Acted servers s t → Has t × Stays s t) s d q of tuple (λ old acted. unmoved)
+          (λ new none. of_nobody d q of tuple there new none) (λ new row found busy. of_busy d q of tuple there new row found busy)
+          (λ new row found free. begins d q of tuple there new row found free) acted
+      acts (Moved of region link) there acted =
+          act_moved (λ (t : State). Acted servers s t → Has t × Stays s t) servers s (plain_at servers log plain k) of region link (λ acted. unmoved)
+          (λ n. noted_by of region link n) acted
       acts (Witness client number turn) there acted = unmoved
-      acts e there acted = absurd (entry_plain k e there)
 
     has_renumbered : (t : State) (rev : ℕ) → Has t → Has (record t { rev = rev })
     has_renumbered t rev h = record {
@@ -564,9 +575,10 @@ module _ (servers : ℕ) (log : List Command) (plain : IsPlainLog servers log) w
           record { placed = w.placed; of = w.of; asks = w.asks; row = w.row; found = w.found; id = w.id; old = w.old; quiet = w.quiet };
     }
       where
-        renumbered_made : (what : Request) → has_made t what ≡ true → has_made (record t { rev = rev }) what ≡ true
+        renumbered_made : (what : Request) → has_kept t what ≡ true → has_kept (record t { rev = rev }) what ≡ true
         renumbered_made (request.Disk name tuple) h = h
         renumbered_made (request.Snap name snap) h = h
+        renumbered_made (request.Move name tuple) h = h
         renumbered_made _ h = h
 
     has_start : Has (at 0)
@@ -578,10 +590,10 @@ module _ (servers : ℕ) (log : List Command) (plain : IsPlainLog servers log) w
     next_by : (k : ℕ) → k + 1 ≤ length log → Has (at k) → Has (at (suc k)) × Stays (at k) (at (suc k))
     next_by k low h =
         let e = get_within log k (omega arith) in
-        let acted = acting servers (at k) e.0 (plain_at k) (entry_plain k e.0 e.1) in
+        let acted = acting servers (at k) e.0 (plain_at servers log plain k) (entry_plain servers log plain k e.0 e.1) in
         let acts_so = acts k (omega arith) h e.0 e.1 acted in
         let settled_so = settles (act e.0 (at k)) acted.plain acts_so.0 in
-        subst (λ (t : State). Has t × Stays (at k) t) (sym (at_next k e.0 e.1)) (
+        subst (λ (t : State). Has t × Stays (at k) t) (sym (at_next servers log plain k e.0 e.1)) (
           has_renumbered _ _ settled_so.0,
           stays_then (at k) (act e.0 (at k)) (after (at k) e.0) acts_so.1 settled_so.1 (settled_old (act e.0 (at k)) c (suc seq)),
         )
@@ -596,7 +608,7 @@ module _ (servers : ℕ) (log : List Command) (plain : IsPlainLog servers log) w
       | inr past ↦ (let same : i ≡ suc k = omega arith in inl (subst (λ j. says (at j) ≡ Some given) same h))
       | inl before ↦ elim (stays_on i k (omega arith) (omega arith) given h) [
         | inl still ↦ (next_by k (omega arith) (has_at k (omega arith))).1 given still
-        | inr later ↦ inr (old_on c (suc seq) k (suc k) (omega arith) low later)
+        | inr later ↦ inr (old_on servers log plain c (suc seq) k (suc k) (omega arith) low later)
       ]
     ]
 
@@ -622,7 +634,7 @@ module _ (servers : ℕ) (log : List Command) (plain : IsPlainLog servers log) w
           | inr silent ↦ silent
           | inl some ↦ elim (stays_on i m below (omega arith) some.0 some.1) [
             | inl still ↦ none_some none still
-            | inr later ↦ judged_last seq (latest (at (suc m)) c) given h (old_on c (suc seq) m (suc m) (omega arith) low later)
+            | inr later ↦ judged_last seq (latest (at (suc m)) c) given h (old_on servers log plain c (suc seq) m (suc m) (omega arith) low later)
           ]
         ],
       )
@@ -632,15 +644,15 @@ module _ (servers : ℕ) (log : List Command) (plain : IsPlainLog servers log) w
     pub placed_first : (given : Answer) (p : Placed given) (i : ℕ) → i < p.place → slice_get log i ≢ Some p.command
     placed_first given p i below there =
         let here = slice_get_within log p.place p.command p.is in
-        true_false p.new (old_on c seq (suc i) p.place (omega arith) (omega arith)
-        (own_old c seq i p.command there (omega arith) (asker_of c seq asked p.command p.of_it) few))
+        true_false p.new (old_on servers log plain c seq (suc i) p.place (omega arith) (omega arith)
+        (own_old servers log plain c seq i p.command there (omega arith) (asker_of c seq asked p.command p.of_it) few))
 
     pub placed_before : (k : ℕ) (given : Answer) → says (at k) ≡ Some given → (p : Placed given) → p.place < k
     placed_before k given h p = elim (cases_lt p.place k) [
       | inl lt ↦ lt
       | inr le ↦
           let here = slice_get_within log p.place p.command p.is in
-          true_false p.new (old_on c seq k p.place le (omega arith) (judged_old seq (latest (at k) c) given h))
+          true_false p.new (old_on servers log plain c seq k p.place le (omega arith) (judged_old seq (latest (at k) c) given h))
     ]
 
     -- ### A request that isn't for a snapshot
@@ -651,15 +663,75 @@ module _ (servers : ℕ) (log : List Command) (plain : IsPlainLog servers log) w
         → ((given : Answer) × (says (at (suc k)) ≡ Some given)) ⊎ (is_new (suc seq) (latest (at (suc k)) c) ≡ false)
     disk_answers k low name tuple there new =
         let e = MakeDisk c seq name tuple in
-        let acted = acting servers (at k) e (plain_at k) (entry_plain k e there) in
+        let acted = acting servers (at k) e (plain_at servers log plain k) (entry_plain servers log plain k e there) in
         let acts_so = acts k (omega arith) (has_at k (omega arith)) e there acted in
-        let few_at : c < length (at k).verdicts = (let many = many_at k (omega arith) in omega arith) in
+        let few_at : c < length (at k).verdicts = (let many = many_at servers log plain k (omega arith) in omega arith) in
         let now = act_make (λ (t : State). (given : Answer) × (says t ≡ Some given)) (at k) c seq name tuple (λ old. true_false new old)
         (λ _ taken. (answer.Exists, told_answers (at k) c seq verdict.Exists answer.Exists few_at refl))
         (λ _ free. (answer.Ok, told_answers (with_disk (at k) name tuple) c seq verdict.Ok answer.Ok few_at refl)) in
         let settled_so = settles (act e (at k)) acted.plain acts_so.0 in
-        subst (λ (t : State). ((given : Answer) × (says t ≡ Some given)) ⊎ (is_new (suc seq) (latest t c) ≡ false)) (sym (at_next k e there))
+        subst (λ (t : State). ((given : Answer) × (says t ≡ Some given)) ⊎ (is_new (suc seq) (latest t c) ≡ false)) (sym (at_next servers log plain k e there))
         (elim (settled_so.1 now.0 now.1) [ inl still ↦ inl (now.0, still) | inr later ↦ inr later ])
+
+    -- what the new command of a move comes to: its verdict, and where it is granted the disk is on the move then
+    record Begun (t : State) (name : List ℕ) : Type 0 where
+      given : Answer
+      so : says t ≡ Some given
+      moves : given ≡ answer.Ok → IsMoving t name
+
+    move_answers : (k : ℕ) → k + 1 ≤ length log → (name tuple : List ℕ) → slice_get log k ≡ Some (StartMove c seq name tuple)
+        → is_new seq (latest (at k) c) ≡ true → Begun (at (suc k)) name ⊎ (is_new (suc seq) (latest (at (suc k)) c) ≡ false)
+    move_answers k low name tuple there new =
+        let e = StartMove c seq name tuple in
+        let acted = acting servers (at k) e (plain_at servers log plain k) (entry_plain servers log plain k e there) in
+        let acts_so = acts k (omega arith) (has_at k (omega arith)) e there acted in
+        let now = begun_by acted in
+        let settled_so = settles (act e (at k)) acted.plain acts_so.0 in
+        let renumber : IsMoving (settled (act e (at k))) name → IsMoving (after (at k) e) name =
+        λ m. record { row = m.row; found = m.found; moves = m.moves } in
+        subst (λ (t : State). Begun t name ⊎ (is_new (suc seq) (latest t c) ≡ false)) (sym (at_next servers log plain k e there))
+        (elim (settled_so.1 now.given now.so) [
+          | inl still ↦ inl (record {
+            given = now.given;
+            so = still;
+            moves = λ ok. renumber (settled_moving servers (act e (at k)) acted.plain name (now.moves ok));
+          })
+          | inr later ↦ inr later
+        ])
+      where
+        few_at : c < length (at k).verdicts
+        few_at = let many = many_at servers log plain k (omega arith) in omega arith
+
+        begun_moving : (row : DiskRow) → named (at k).disks.rows name ≡ Some row → row.moving ≡ None
+            → Acted servers (at k) (told (with_move (at k) tuple row.id) c seq verdict.Ok)
+            → IsMoving (told (with_move (at k) tuple row.id) c seq verdict.Ok) name
+        begun_moving row found free acts =
+            let t = told (with_move (at k) tuple row.id) c seq verdict.Ok in
+            let p = unsettled servers (at k) (plain_at servers log plain k) in
+            let later = named_on servers (at k) t p acts.plain acts.grown name row found in
+            let known = row_known_at (at k) p name row found in
+            let now : row_moving (length (at k).maps) row ≡ later.0 =
+            same_some (sym (here_now servers (at k) p row.id row known (row_moving (length (at k).maps))) ∙ later.3) in
+            record { row = later.0; found = later.1; moves = ap (λ (r : DiskRow). is_some r.moving) (sym now) }
+
+        begun_by : Acted servers (at k) (act (StartMove c seq name tuple) (at k)) → Begun (act (StartMove c seq name tuple) (at k)) name
+        begun_by acted =
+            act_start (λ (t : State). Acted servers (at k) t → Begun t name) (at k) c seq name tuple (λ old. true_false new old)
+            (λ _ none acts. record {
+              given = answer.NoDisk;
+              so = told_answers (at k) c seq verdict.NoDisk answer.NoDisk few_at refl;
+              moves = λ is. (let f : answer.NoDisk ≡ answer.Ok = is in absurd cc);
+            })
+            (λ _ row found busy acts. record {
+              given = answer.Moving;
+              so = told_answers (at k) c seq verdict.Moving answer.Moving few_at refl;
+              moves = λ is. (let f : answer.Moving ≡ answer.Ok = is in absurd cc);
+            })
+            (λ _ row found free acts. record {
+              given = answer.Ok;
+              so = told_answers (with_move (at k) tuple row.id) c seq verdict.Ok answer.Ok few_at refl;
+              moves = λ is. begun_moving row found free acts;
+            }) acted
 
     -- so its verdict stands right after its place
     pub judged_at_once : (j : ℕ) → j + 1 ≤ length log → (given : Answer) → says (at (j + 1)) ≡ Some given → ((i : ℕ) → i ≤ j → says (at i) ≡ None)
@@ -667,16 +739,52 @@ module _ (servers : ℕ) (log : List Command) (plain : IsPlainLog servers log) w
     judged_at_once j low given so until p le other = elim (cases_lt p.place j) [
       | inr past ↦ omega arith
       | inl before ↦
-          let made = made_of asked other p.command p.of_it in
-          let answered = disk_answers p.place (omega arith) made.0 made.1 (p.is ∙ ap Some made.2) p.new in
-          elim answered [
-            | inl some ↦ none_some (until (suc p.place) (omega arith)) some.1
-            | inr later ↦ judged_last seq (latest (at (j + 1)) c) given so (old_on c (suc seq) (suc p.place) (j + 1) (omega arith) low later)
+          elim (made_of asked other p.command p.of_it) [
+            | inl made ↦ elim (disk_answers p.place (omega arith) made.0 made.1 (p.is ∙ ap Some made.2) p.new) [
+              | inl some ↦ none_some (until (suc p.place) (omega arith)) some.1
+              | inr later ↦ judged_last seq (latest (at (j + 1)) c) given so (old_on servers log plain c (suc seq) (suc p.place) (j + 1) (omega arith) low later)
+            ]
+            | inr moved ↦ elim (move_answers p.place (omega arith) moved.0 moved.1 (p.is ∙ ap Some moved.2) p.new) [
+              | inl some ↦ none_some (until (suc p.place) (omega arith)) some.so
+              | inr later ↦ judged_last seq (latest (at (j + 1)) c) given so (old_on servers log plain c (suc seq) (suc p.place) (j + 1) (omega arith) low later)
+            ]
           ]
     ]
       where
         made_of : (what : Request) → is_snap what ≡ false → (command : Command) → command_of c seq what ≡ Some command
-            → (name : List ℕ) × (tuple : List ℕ) × (command ≡ MakeDisk c seq name tuple)
-        made_of (request.Disk name tuple) h command e = (name, tuple, sym (same_some e))
+            → ((name : List ℕ) × (tuple : List ℕ) × (command ≡ MakeDisk c seq name tuple))
+            ⊎ ((name : List ℕ) × (tuple : List ℕ) × (command ≡ StartMove c seq name tuple))
+        made_of (request.Disk name tuple) h command e = inl (name, tuple, sym (same_some e))
+        made_of (request.Move name tuple) h command e = inr (name, tuple, sym (same_some e))
         made_of (request.Snap name snap) h command e = true_false refl h
         made_of _ h command e = none_some refl e
+
+    -- and what it asked for is there then: also a disk that is on the move
+    pub judged_made : (j : ℕ) → j + 1 ≤ length log → (given : Answer) → says (at (j + 1)) ≡ Some given → (p : Placed given)
+        → (is_snap asked ≡ false → j ≡ p.place) → has_kept (at (j + 1)) asked ≡ true → given ≡ answer.Ok → has_made (at (j + 1)) asked ≡ true
+    judged_made j low given so p at_once kept ok = by asked refl
+      where
+        moved : (name tuple : List ℕ) → asked ≡ request.Move name tuple → has_made (at (j + 1)) asked ≡ true
+        moved name tuple is =
+            let here : j ≡ p.place = at_once (ap is_snap is) in
+            let there : slice_get log j ≡ Some (StartMove c seq name tuple) =
+            ap (slice_get log) here ∙ p.is ∙ sym p.of_it ∙ ap (command_of c seq) is in
+            let new : is_new seq (latest (at j) c) ≡ true = ap (λ i. is_new seq (latest (at i) c)) here ∙ p.new in
+            elim (move_answers j low name tuple there new) [
+              | inl begun ↦
+                  let next : suc j ≡ j + 1 = omega arith in
+                  let same : begun.given ≡ answer.Ok = same_some (sym begun.so ∙ ap (λ i. says (at i)) next ∙ so) ∙ ok in
+                  let m = begun.moves same in
+                  ap (has_made (at (j + 1))) is
+                  ∙ ap (λ i. option_map_or (λ (r : DiskRow). is_some r.moving) (named (at i).disks.rows name) false) (sym next)
+                  ∙ ap (λ o. option_map_or (λ (r : DiskRow). is_some r.moving) o false) m.found ∙ m.moves
+              | inr later ↦
+                  let next : suc j ≡ j + 1 = omega arith in
+                  judged_last seq (latest (at (j + 1)) c) given so (subst (λ i. is_new (suc seq) (latest (at i) c) ≡ false) next later)
+            ]
+
+        by : (what : Request) → asked ≡ what → has_made (at (j + 1)) asked ≡ true
+        by (request.Move name tuple) is = moved name tuple is
+        by (request.Disk name tuple) is = ap (has_made (at (j + 1))) is ∙ sym (ap (has_kept (at (j + 1))) is) ∙ kept
+        by (request.Snap name snap) is = ap (has_made (at (j + 1))) is ∙ sym (ap (has_kept (at (j + 1))) is) ∙ kept
+        by what is = true_false kept (ap (has_kept (at (j + 1))) is)

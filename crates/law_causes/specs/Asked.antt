@@ -1,7 +1,7 @@
 -- That the commands of a log that carry requests out were asked for.
 use Rattle.std.specs.Prelude.{◌≡◌, ◌+◌, ℕ, List, slice_get, Option, Some, None}
 use Rattle.petal_command.specs.declared.command.Command.{Command}
-use Rattle.petal_command.specs.declared.command.Command.TheVariants.{MakeDisk, Snap}
+use Rattle.petal_command.specs.declared.command.Command.TheVariants.{MakeDisk, Snap, StartMove}
 use Rattle.script_lines.specs.declared.request.Line.{Line}
 use Rattle.petal_rules.specs.Clients.{command_of}
 use Rattle.petal_rules.specs.Lists.{In}
@@ -11,6 +11,7 @@ use Rattle.petal_rules.specs.World.{lines_of}
 abbrev pub asker : Command → Option (ℕ × ℕ)
 asker (MakeDisk client seq name tuple) = Some (client, seq)
 asker (Snap client seq disk name) = Some (client, seq)
+asker (StartMove client seq disk tuple) = Some (client, seq)
 asker _ = None
 
 -- the client's line of this number asks for the command. The lines of a client are its requests, counted from 1

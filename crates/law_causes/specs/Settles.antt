@@ -1,12 +1,12 @@
 -- What a settle is answered by: its glances, round by round.
-use Rattle.std.specs.Prelude.{◌≡◌, ◌<◌, ◌++◌, ℕ, true, List, ◌∷◌, Option, Some, None, length, slice_get, if◌then◌else◌}
+use Rattle.std.specs.Prelude.{◌≡◌, ◌≤◌, ◌<◌, ◌++◌, ℕ, true, List, ◌∷◌, Option, Some, None, length, slice_get, if◌then◌else◌}
 use Rattle.petal_msg.specs.declared.letter.Actor.TheVariants as actor
 use Rattle.script_lines.specs.declared.answer.Answer.{Answer}
 use Rattle.script_lines.specs.declared.answer.Answer.TheVariants as answer
 use Rattle.petal_state.specs.Settled.{is_settled}
 use Rattle.petal_rules.specs.Jobs.{operator}
 use Rattle.petal_rules.specs.Server.{Server}
-use Rattle.petal_rules.specs.World.{Setting, World, client_state}
+use Rattle.petal_rules.specs.World.{Setting, World, client_state, server_state}
 use Rattle.petal_rules.specs.declared.step.Step.TheVariants.{Glance}
 use Rattle.petal_history.specs.Legal.{world_after}
 use Rattle.petal_history.specs.declared.record.Record.{Record}
@@ -25,12 +25,14 @@ pub record HasGlanceAt (setting : Setting) (w : World) (records : List Record) (
   pub who : own.actor ≡ actor.Server server
   pub what : own.step ≡ Glance line round
 
--- and the server ran then as this, or not
-pub record HasShown (setting : Setting) (w : World) (records : List Record) (line round server : ℕ) (shown : Option ℕ) : Type 0 where
+-- and the server ran then as this, or not; where it ran, it was at no later revision than this one
+pub record HasShown (setting : Setting) (w : World) (records : List Record) (line round server : ℕ) (shown : Option ℕ) (rev : ℕ) : Type 0 where
   pub at : HasGlanceAt setting w records line round server
   pub so : shown ≡ runs_as ((world_after setting w at.front).servers server)
+  pub known : ((world_after setting w at.front).servers server).life.running ≡ true
+      → (server_state setting (world_after setting w at.front) server).rev ≤ rev
 
--- one of the line's glances found a server that ran, and whose last copy had found no slot
+-- one of the line's glances found a server that ran, and which remembered that a slot was wanting, for its last copy or the last entry that it was to move
 pub record HasFoundFull (setting : Setting) (w : World) (records : List Record) (line : ℕ) : Type 0 where
   pub round : ℕ
   pub server : ℕ
@@ -38,8 +40,8 @@ pub record HasFoundFull (setting : Setting) (w : World) (records : List Record) 
   pub runs : ((world_after setting w at.front).servers server).life.running ≡ true
   pub full : ((world_after setting w at.front).servers server).own.copies.full ≡ true
 
--- at one of the records the operator had seen each server in one round of the line's glances; and as these showed them, all was settled
--- by the operator's state
+-- at one of the records the operator had seen each server in one round of the line's glances, none of them at a later revision than its
+-- own was then; and as these showed them, all was settled by the operator's state
 pub record WasSettled (setting : Setting) (w : World) (records : List Record) (line : ℕ) : Type 0 where
   pub front : List Record
   pub own : Record
@@ -49,10 +51,11 @@ pub record WasSettled (setting : Setting) (w : World) (records : List Record) (l
   pub round : ℕ
   pub shown : List (Option ℕ)
   pub all : length shown ≡ setting.servers
-  pub each : (server : ℕ) (seen : Option ℕ) → slice_get shown server ≡ Some seen → HasShown setting w front line round server seen
+  pub each : (server : ℕ) (seen : Option ℕ) → slice_get shown server ≡ Some seen
+      → HasShown setting w front line round server seen (client_state setting (world_after setting w front) operator).rev
   pub settled : is_settled (client_state setting (world_after setting w front) operator) shown ≡ true
 
--- a settle is answered `ok` where all was settled, and `nospace` where a copy had found no slot, and nothing else
+-- a settle is answered `ok` where all was settled, and `nospace` where a slot was wanting, and nothing else
 abbrev pub HasSettled : Setting → World → List Record → (line : ℕ) → Answer → Type 0
 HasSettled setting w records line answer.Ok = WasSettled setting w records line
 HasSettled setting w records line answer.NoSpace = HasFoundFull setting w records line

@@ -53,7 +53,8 @@ pub fn a_line_at_a_server_is_answered_by_its_glance()
 {}
 
 /// A settle is answered `ok` only where all was settled by the operator's state, as one round of the line's glances had shown each server;
-/// and `nospace` only where one of its glances found a server whose last copy had found no slot. It is answered nothing else.
+/// and `nospace` only where one of its glances found a server which remembered that a slot was wanting, for its last copy or the last entry that
+/// it was to move. It is answered nothing else.
 pub fn a_settle_is_answered_by_its_glances()
     ensures { (script : Script) (records : List Record) → IsSound script → IsLegal script records → (line : Line) (given : Answer) → In line script.lines → line.request ≡ Settle → In (line.number, given) (world_after (setting_of script) (start (setting_of script)) records).answers → HasSettled (setting_of script) (start (setting_of script)) records line.number given }
 {}

@@ -1,45 +1,81 @@
 -- A job leaves a cell whose link the server is not of, or that has no link.
-use Rattle.std.proofs.Common.{◌≡◌, ◌⊎◌, ℕ, true, false, Option, Some, None, refl, sym, ap, ◌∙◌, subst, inl, inr}
+use Rattle.std.proofs.Common.{◌≡◌, ◌<◌, ◌⊎◌, ℕ, true, false, Option, Some, None, refl, sym, ap, ◌∙◌, subst, inl, inr, arith}
 use Rattle.std.specs.Prelude.{option_and_then}
 use Rattle.global_tables.specs.Link.{has_server, other_of}
 use Rattle.global_tables.specs.declared.link.LinkRow.{LinkRow}
 use Rattle.global_tables.specs.declared.link.LinkState.TheVariants.{Both, Lost}
 use Rattle.petal_base.specs.declared.cell.Cell.{Cell}
 use Rattle.petal_msg.specs.declared.body.Body.{Body}
-use Rattle.petal_state.specs.CellState.{cell_link}
+use Rattle.petal_state.specs.CellState.{cell_link, row_lead}
 use Rattle.petal_state.specs.Command.{is_alone}
 use Rattle.petal_rules.specs.Copies.{cell_holder}
 use Rattle.petal_rules.specs.Server.{Own, Here, Done}
-use Rattle.petal_rules.specs.State.{holder_of, is_lead, is_second, lead as led, second}
-use Rattle.petal_rules.proofs.Tests.{is_the_one, none_some, same_some, true_false}
+use Rattle.petal_rules.specs.State.{holder_of, is_second, leads_link, live, second}
+use Rattle.petal_rules.proofs.Tests.{by_bool, is_the_one, none_some, same_some, true_false}
+use Rattle.law_state.specs.Homes.{stage_at}
 use Rattle.law_state.specs.Rows.{ByBoth, ByNone, ByOne}
 use Rattle.law_state.specs.Steady.{IsLinked, IsSteady}
 use Rattle.law_state.proofs.Alone.{IsBothRow}
-use Rattle.law_state.proofs.Cells.{led_by, second_by}
+use Rattle.law_state.proofs.Cells.{IsInBoth, IsHeldBy as IsHeld, dead_second, link_led_by, second_by}
 use Rattle.law_state.proofs.Roles.{primary_is_one, secondary_is_one}
 use Rattle.law_steps.specs.DidLead.{DidLead}
 use Rattle.law_steps.specs.DidOther.{DidOther}
 use Rattle.law_steps.specs.DidSecond.{DidSecond}
 use Rattle.law_steps.specs.DidHolder.{DidHolder, Asks_page, Turns_page, Begins_copy, Goes_on_copying, Finds_it_full, Tidies}
-use Rattle.law_steps.specs.Did.{Did, Ignores, Refuses, By_read, By_lead, By_second, By_holder, By_other}
+use Rattle.law_steps.specs.Did.{Did, Ignores, Refuses, By_read, By_lead, By_second, By_holder, By_other, By_filler, By_sweep}
+use Rattle.law_steps.proofs.Leading.{live_stage}
 use Rattle.law_steps.proofs.Subjects.{of_read}
-use Rattle.law_copies.specs.Steps.{IsFit, IsNotOf, KeepsCell, KeepsRest}
+use Rattle.law_copies.specs.Steps.{IsBare, IsFit, IsNotOf, KeepsCell, KeepsRest}
 use Rattle.law_copies.proofs.Frames.{keeps_itself}
-use Rattle.law_copies.proofs.Standing.{IsHeldHere, alone_both, begun_held, copying_held, holder_works, not_both, only_alone, other_alone, other_row, page_held, taken_held}
-use Rattle.law_copies.proofs.Working.{Away, IsHeldBy, IsSo, holder_beside, holder_cell, lead_beside, lead_cell, lead_leads, other_beside, other_cell, other_held, page_cell, second_beside, second_follows}
+use Rattle.law_copies.proofs.Standing.{IsHeldHere, alone_both, begun_held, copying_held, holder_lives, holder_works, not_both, only_alone, other_alone, other_lives, other_row, page_held, taken_held}
+use Rattle.law_copies.proofs.Working.{Away, IsHeldBy, IsLedHere, IsSo, filler_beside, holder_beside, holder_cell, lead_beside, lead_cell, lead_leads, led_alive, other_beside, other_cell, other_held, page_cell, second_beside, second_cell, second_follows, sweep_beside}
 
 pub away : (P : Cell → Type 0) (q : Cell) → (P q → ⊥) → (o : Option Cell) → IsSo P o → Away q o
 away P q not_so None so = tt
 away P q not_so (Some cell) so = λ e. not_so (subst P (sym e) so)
 
+-- a cell with a second server is live
+pub second_live : (here : Here) (cell : Cell) → is_second here.state here.me cell ≡ true → live here.state cell ≡ true
+second_live here cell e = by_bool (live here.state cell) (λ on. on)
+    (λ off. none_some (dead_second here.state cell off) (is_the_one (second here.state cell) here.me e))
+
 -- what a server has nothing to do with a cell for
 pub record IsIdleAt (here : Here) (q : Cell) : Type 0 where
-  pub no_lead : is_lead here.state here.me q ≡ true → ⊥
+  pub no_lead : leads_link here.state here.me q ≡ true → ⊥
   pub no_second : is_second here.state here.me q ≡ true → ⊥
   pub no_holder : IsHeldHere here q → ⊥
   pub no_other : (holder : ℕ) → cell_holder here q ≡ Some holder → ⊥
 
-module _ (heard : Body → Type 0) (here : Here) (own : Own) (fit : IsFit heard here own) (q : Cell) (idle : IsIdleAt here q) where
+-- a cell that is not live yet keeps what a server has of it: what is worked on was live
+module _ (heard : Body → Type 0) (here : Here) (own : Own) (fit : IsFit heard here own) (q : Cell) (unborn : stage_at here.state q ≡ 0) where
+  not_live : live here.state q ≡ true → ⊥
+  not_live on = let up = (live_stage here.state q on).0 in absurd (omega arith)
+
+  pub unborn_keeps : (done : Done) → Did heard here own done → KeepsCell q own done.own
+  unborn_keeps _ Ignores = keeps_itself q own
+  unborn_keeps _ (Refuses to said is why because) = keeps_itself q own
+  unborn_keeps _ (By_read done d) = subst (KeepsCell q own) (sym (of_read heard here own done d).same) (keeps_itself q own)
+  unborn_keeps _ (By_lead done d) = lead_beside heard here own fit.ready done d q
+      (away (IsLedHere heard here own) q (λ led. let up = led.born in absurd (omega arith)) (lead_cell heard here own done d)
+      (lead_leads heard here own fit.ready done d))
+  unborn_keeps _ (By_second done d) = second_beside heard here own done d q
+      (λ e. not_live (ap (live here.state) e ∙ second_live here (second_cell heard here own done d) (second_follows heard here own done d)))
+  unborn_keeps _ (By_holder done d) = holder_beside heard here own done d q
+      (away (λ c. live here.state c ≡ true) q not_live (holder_cell heard here own done d) (holder_lives heard here own fit done d))
+  unborn_keeps _ (By_other done d) = other_beside heard here own done d q
+      (away (λ c. live here.state c ≡ true) q not_live (other_cell heard here own done d) (other_lives heard here own fit done d))
+  unborn_keeps _ (By_filler done d) = filler_beside heard here own done d q
+  unborn_keeps _ (By_sweep done d) = sweep_beside heard here own done d q (omega arith) (fit.bare q)
+
+  -- what it has then is what it had
+  pub unborn_bare : (done : Done) → Did heard here own done → IsBare done.own q
+  unborn_bare done d =
+      let k = unborn_keeps done d in
+      let bare = fit.bare q unborn in
+      record { chain = k.rest.chain ∙ bare.chain; marks = λ kind. k.marks kind ∙ bare.marks kind }
+
+module _ (heard : Body → Type 0) (here : Here) (own : Own) (fit : IsFit heard here own) (q : Cell) (idle : IsIdleAt here q)
+    (alive : stage_at here.state q < 4) where
   read_keeps : (done : Done) → done.own ≡ own → KeepsCell q own done.own
   read_keeps done same = subst (KeepsCell q own) (sym same) (keeps_itself q own)
 
@@ -50,7 +86,7 @@ module _ (heard : Body → Type 0) (here : Here) (own : Own) (fit : IsFit heard 
 
   lead_keeps : (done : Done) (d : DidLead heard here own done) → KeepsCell q own done.own
   lead_keeps done d = lead_beside heard here own fit.ready done d q
-      (away (λ cell. is_lead here.state here.me cell ≡ true) q idle.no_lead (lead_cell heard here own done d)
+      (away (IsLedHere heard here own) q (λ led. idle.no_lead (led_alive heard here own q alive led)) (lead_cell heard here own done d)
       (lead_leads heard here own fit.ready done d))
 
   second_keeps : (done : Done) (d : DidSecond heard here own done) → KeepsCell q own done.own
@@ -73,6 +109,8 @@ module _ (heard : Body → Type 0) (here : Here) (own : Own) (fit : IsFit heard 
     did_keeps _ (By_second done d) = second_keeps done d
     did_keeps _ (By_holder done d) = holder_keeps done d
     did_keeps _ (By_other done d) = other_keeps done d
+    did_keeps _ (By_filler done d) = filler_beside heard here own done d q
+    did_keeps _ (By_sweep done d) = sweep_beside heard here own done d q alive (fit.bare q)
 
   -- and where it is, an old mark may go
   held_away : (o : Option Cell) → IsSo (IsHeldHere here) o → Away q o
@@ -103,13 +141,19 @@ module _ (heard : Body → Type 0) (here : Here) (own : Own) (fit : IsFit heard 
   did_rest _ (By_second done d) = (second_keeps done d).rest
   did_rest _ (By_holder done d) = holder_rest done d
   did_rest _ (By_other done d) = (other_keeps done d).rest
+  did_rest _ (By_filler done d) = (filler_beside heard here own done d q).rest
+  did_rest _ (By_sweep done d) = (sweep_beside heard here own done d q alive (fit.bare q)).rest
 
 -- ### Who is idle at a cell
 
 module _ (here : Here) (steady : IsSteady here.state) (cell : Cell) where
+  -- who leads the link
+  led_of : leads_link here.state here.me cell ≡ true → ((b : IsInBoth here.state cell) × (b.row.primary ≡ here.me)) ⊎ IsHeld here.state cell here.me
+  led_of e = link_led_by here.state steady cell here.me (is_the_one (option_and_then (row_lead here.state) (cell_link here.state cell)) here.me e)
+
   unlinked_idle : cell_link here.state cell ≡ None → IsIdleAt here cell
   unlinked_idle none = record {
-    no_lead = λ e. elim (led_by here.state steady cell here.me (is_the_one (led here.state cell) here.me e)) [
+    no_lead = λ e. elim (led_of e) [
       | inl b ↦ none_some none b.0.is
       | inr held ↦ none_some none held.is
     ];
@@ -131,7 +175,7 @@ module _ (here : Here) (steady : IsSteady here.state) (cell : Cell) where
 
     pub lost_idle : IsIdleAt here cell
     lost_idle = record {
-      no_lead = λ e. elim (led_by here.state steady cell here.me (is_the_one (led here.state cell) here.me e)) [
+      no_lead = λ e. elim (led_of e) [
         | inl b ↦ (let f : Lost ≡ Both = sym (lost_state b.0.row b.0.is) ∙ b.0.so in absurd cc)
         | inr held ↦ lost_alone here.me held.row held.is (only_alone here.me held.row held.whole held.so)
       ];
@@ -163,7 +207,7 @@ module _ (here : Here) (steady : IsSteady here.state) (cell : Cell) where
 
     stranger_idle : IsIdleAt here cell
     stranger_idle = record {
-      no_lead = λ e. elim (led_by here.state steady cell here.me (is_the_one (led here.state cell) here.me e)) [
+      no_lead = λ e. elim (led_of e) [
         | inl b ↦ not_a_server b.0.row b.0.is (primary_is_one b.0.row here.me b.1)
         | inr held ↦ not_a_server held.row held.is (alone_server here.me held.row held.linked (only_alone here.me held.row held.whole held.so))
       ];
@@ -181,13 +225,14 @@ module _ (here : Here) (steady : IsSteady here.state) (cell : Cell) where
   not_of_idle (inl none) = unlinked_idle none
   not_of_idle (inr stranger) = stranger_idle stranger.0 stranger.1 stranger.2
 
-module _ (heard : Body → Type 0) (here : Here) (own : Own) (fit : IsFit heard here own) (cell : Cell) where
+module _ (heard : Body → Type 0) (here : Here) (own : Own) (fit : IsFit heard here own) (cell : Cell) (alive : stage_at here.state cell < 4) where
   pub stranger_keeps : IsNotOf here cell → (done : Done) → Did heard here own done → KeepsRest cell own done.own
-  stranger_keeps not_of = did_rest heard here own fit cell (not_of_idle here fit.steady cell not_of)
+  stranger_keeps not_of = did_rest heard here own fit cell (not_of_idle here fit.steady cell not_of) alive
 
   pub unlinked_keeps : cell_link here.state cell ≡ None → (done : Done) → Did heard here own done → KeepsCell cell own done.own
-  unlinked_keeps none = did_keeps heard here own fit cell (unlinked_idle here fit.steady cell none) (λ both. none_some none both.is)
+  unlinked_keeps none = did_keeps heard here own fit cell (unlinked_idle here fit.steady cell none) alive (λ both. none_some none both.is)
 
   pub lost_keeps : (row : LinkRow) → cell_link here.state cell ≡ Some row → row.state ≡ Lost → (done : Done) → Did heard here own done
       → KeepsCell cell own done.own
-  lost_keeps row is lost = did_keeps heard here own fit cell (lost_idle here fit.steady cell row is lost) (lost_not_row here fit.steady cell row is lost)
+  lost_keeps row is lost =
+      did_keeps heard here own fit cell (lost_idle here fit.steady cell row is lost) alive (lost_not_row here fit.steady cell row is lost)

@@ -17,7 +17,7 @@ use Rattle.petal_rules.specs.Copies.{cell_at}
 use Rattle.petal_rules.specs.Progress.{progress_on, with_progress}
 use Rattle.petal_rules.specs.Returns.{holds_link, proposed}
 use Rattle.petal_rules.specs.Server.{Own, Pairs, Here}
-use Rattle.petal_rules.specs.State.{State, id_of, link_cmp, link_named}
+use Rattle.petal_rules.specs.State.{State, id_of, link_cmp, link_named, live}
 use Rattle.petal_rules.specs.Store.{Store, cell_cmp, chain_in}
 use Rattle.petal_rules.proofs.Tests.{by_bool, none_some, true_false}
 use Rattle.law_log.proofs.Flags.{flag_put, progress_beside, same_id}
@@ -27,7 +27,7 @@ use Rattle.law_copies.specs.Steps.{BallotKeeps}
 use Rattle.law_copies.proofs.Frames.{IsAlikeOwn, keeps_alike}
 use Rattle.law_copies.proofs.HolderSteps as steps
 use Rattle.law_copies.proofs.Holding.{HolderStep, alike_by, alike_still, below, holder_copying, holder_told, trimmed_or}
-use Rattle.law_copies.proofs.Left.{IsDone, nothing_left}
+use Rattle.law_copies.proofs.Left.{HasAny, IsDone, nothing_left}
 use Rattle.law_copies.proofs.Onward.{onward_by}
 use Rattle.law_copies.proofs.Pacing.{IsPaced, paced_beside, progress_itself}
 use Rattle.law_copies.proofs.Standing.{named_id, one_named}
@@ -114,7 +114,7 @@ module _ (links : ℕ) (row : LinkRow) (cell : Cell) (vo : Option Own) (own : Ow
       }
 
 module _ (here : Here) (links : ℕ) (row : LinkRow) (cell : Cell) (vo : Option Own) (own : Own) (old : AreCopying links row cell (Some own) vo)
-    (is : cell_link here.state cell ≡ Some row) where
+    (is : cell_link here.state cell ≡ Some row) (lives : HasAny own cell → live here.state cell ≡ true) where
   same_keeps : BallotKeeps links row cell own vo own
   same_keeps = apart_keeps links row cell vo own old own
       (record { pending = refl; followed = refl; copying = refl; last = refl; chains = refl; marks = refl }) refl refl
@@ -129,7 +129,7 @@ module _ (here : Here) (links : ℕ) (row : LinkRow) (cell : Cell) (vo : Option 
       subst (λ (r : LinkRow). BallotKeeps links row cell own vo (flagged_on own r)) same
       (flagged_keeps links row cell vo own old here.state
       (subst (λ (r : LinkRow). IsDone here.state r own cell) (sym same)
-      (nothing_left here.state id b.row own b.held.is cell (is ∙ ap Some same) b.nothing))))
+      (nothing_left here.state id b.row own b.held.is cell (is ∙ ap Some same) lives b.nothing))))
       (λ no. apart_keeps links row cell vo own old (flagged_on own b.row)
       (record { pending = refl; followed = refl; copying = refl; last = refl; chains = refl; marks = refl }) refl refl
       (paced_beside own b.row (record (progress_on own b.row) { caught = true }) row no)

@@ -31,11 +31,11 @@ use Rattle.law_state.proofs.Steady.{front_plain, log_steady}
 use Rattle.law_state.proofs.Touching.{log_touched}
 use Rattle.law_steps.proofs.Fronts.{front_itself, front_more, front_on}
 use Rattle.law_copies.specs.Good.{Good}
-use Rattle.law_copies.specs.Visits.{IsLinked, place_by, store_by, with_stores}
+use Rattle.law_copies.specs.Visits.{AliveIn, IsLinked, place_by, store_by, with_stores}
 use Rattle.law_copies.proofs.Counts.{joins_earlier}
 use Rattle.law_copies.proofs.Later.{AllStarted, alone_not_lost, alone_or_flagged, alone_since, been_below, holder_is_one}
 use Rattle.law_copies.proofs.Framed.{other_is_one}
-use Rattle.law_copies.proofs.Places.{at_most_or_above, fronts_meet, linked_on, other_later, places_up, rows_later, state_next}
+use Rattle.law_copies.proofs.Places.{alive_on, at_most_or_above, fronts_meet, linked_between, other_later, places_up, rows_later, state_next}
 use Rattle.law_copies.proofs.Renewed.{blank_join, blanked_alone, counts_same}
 
 same_joins : {a b i j : ℕ} {one other : Bool} → Join a i one ≡ Join b j other → (a ≡ b) × (one ≡ other)
@@ -113,11 +113,12 @@ module _ (setting : Setting) (records : List Record) (w : World) (stores : ℕ �
 
   -- a holder that holds the link still has the same store, or was done with it, where the other server has been at no later place
   pub held_same : (front more : List Command) (cell : Cell) (row now : LinkRow) (holder : ℕ) (whole last : Bool) → IsPrefix front more → IsPrefix more chosen
-      → IsLinked setting front cell row → row.state ≡ Only holder whole → IsLinked setting more cell now → now.state ≡ Only holder last
+      → IsLinked setting front cell row → row.state ≡ Only holder whole → IsLinked setting more cell now → AliveIn (state_after setting.servers more) cell
+      → now.state ≡ Only holder last
       → ((place : ℕ) → place_by setting front row < place → good.visits (other_of holder row) place cell ≡ None)
       → (blank_joins_in setting front holder ≡ blank_joins_in setting more holder)
       ⊎ ((own : Own) × (good.visits holder (place_by setting front row) cell ≡ Some own) × (is_flagged own (id_of row) ≡ true))
-  held_same front more cell row now holder whole last one two is alone end still unseen =
+  held_same front more cell row now holder whole last one two is alone end alive still unseen =
       elim (at_most_or_above (blank_joins_in setting more holder) (blank_joins_in setting front holder)) [
         | inl le ↦ inl (let up = joins_grow setting.servers front more holder one in omega arith)
         | inr lt ↦ (
@@ -126,8 +127,10 @@ module _ (setting : Setting) (records : List Record) (w : World) (stores : ℕ �
             let plain = front_plain setting.servers more chosen firm.plain two in
             let until_more = front_on j.until (j.until ++ Join holder h.0 true ∷ []) more (front_more j.until (Join holder h.0 true)) j.stands in
             let until_chosen = front_on j.until more chosen until_more two in
-            let mid = linked_on setting chosen firm.plain front j.until cell row j.behind until_chosen is in
-            elim (alone_or_flagged setting records w stores firm good started front j.until cell row mid.0 holder whole j.behind until_chosen is alone mid.1 unseen) [
+            let mid = linked_between setting chosen firm.plain front j.until more cell row now j.behind until_more two is end in
+            let mid_alive = alive_on setting chosen firm.plain j.until more cell until_more two alive in
+            elim (alone_or_flagged setting records w stores firm good started front j.until cell row mid.0 holder whole j.behind until_chosen is alone mid.1
+            mid_alive unseen) [
               | inl held ↦ (
                   let steady = log_steady setting.servers j.until (front_plain setting.servers j.until chosen firm.plain until_chosen) in
                   let has = holder_is_one (state_after setting.servers j.until) steady holder cell mid.0 mid.1 held.1 in
@@ -156,11 +159,13 @@ module _ (setting : Setting) (records : List Record) (w : World) (stores : ℕ �
       pub empty : chain_in (store_by setting good.stores more (other_of k now)).chains cell ≡ []
 
     pub to_fill : {B : Type 0} → ((more : List Command) (now : LinkRow) → IsPrefix front more → IsPrefix more chosen → IsLinked setting more cell now
+        → AliveIn (state_after setting.servers more) cell
         → (place_by setting more now ≡ place_by setting front row) ⊎ ((whole : Bool) × (now.state ≡ Only k whole)) ⊎ B)
         → (more : List Command) (now : LinkRow) (whole : Bool) → IsPrefix front more → IsPrefix more chosen → IsLinked setting more cell now
+        → AliveIn (state_after setting.servers chosen) cell
         → now.state ≡ Only k whole → blank_joins_in setting front (other_of k row) < blank_joins_in setting more (other_of k row)
         → IsUnfilled more now ⊎ B
-    to_fill since more now whole one two end alone lt =
+    to_fill since more now whole one two end alive alone lt =
         let o = other_of k row in
         let h = joined_between setting o front more one lt in
         let j = h.1 in
@@ -169,7 +174,9 @@ module _ (setting : Setting) (records : List Record) (w : World) (stores : ℕ �
         let joined_chosen = front_on joined more chosen j.stands two in
         let until_chosen = front_on j.until joined chosen (front_more j.until (Join o h.0 true)) joined_chosen in
         let front_joined = front_on front j.until joined j.behind (front_more j.until (Join o h.0 true)) in
-        let mid = linked_on setting chosen firm.plain front j.until cell row j.behind until_chosen is in
+        let until_more = front_on j.until joined more (front_more j.until (Join o h.0 true)) j.stands in
+        let mid = linked_between setting chosen firm.plain front j.until more cell row now j.behind until_more two is end in
+        let alive_then = alive_on setting chosen firm.plain more chosen cell two (front_itself chosen) alive in
         let so_mid = rows_later setting chosen firm.plain front j.until cell row mid.0 j.behind until_chosen is mid.1 in
         let has_mid : has_server o mid.0 ≡ true = one_before row mid.0 o so_mid ∙ other_is_one row k in
         let b = blanked_at setting more plain front o h.0 cell mid.0 j mid.1 has_mid in
@@ -177,14 +184,16 @@ module _ (setting : Setting) (records : List Record) (w : World) (stores : ℕ �
         (record { until = j.until; behind = j.behind; stands = front_itself joined; may = j.may }) in
         let later = joins_earlier setting chosen firm.plain front joined cell row (row_blanked o mid.0) o (firm.servers k) joined_chosen is b.linked
         (other_is_one row k) has_mid more_o in
-        elim (since joined (row_blanked o mid.0) front_joined joined_chosen b.linked) [
+        elim (since joined (row_blanked o mid.0) front_joined joined_chosen b.linked
+        (alive_on setting chosen firm.plain joined more cell j.stands two alive_then)) [
           | inl same ↦ absurd (omega arith)
           | inr (inr other) ↦ inr other
           | inr (inl held) ↦ (
               let kept = blanked_alone mid.0 o k held.0 has_mid b.apart held.1 in
               let all_of : held.0 ≡ true = kept.1 in
-              elim (alone_since setting records w stores firm good started joined more cell (row_blanked o mid.0) now k held.0 j.stands two b.linked held.1 end) [
-                | inl still ↦ inl (unfilled more now still.0 (still.2 all_of) one two end still.1 lt)
+              elim (alone_since setting records w stores firm good started joined more cell
+              (row_blanked o mid.0) now k held.0 j.stands two b.linked held.1 end alive_then) [
+                | inl still ↦ inl (unfilled more now still.0 (still.2 all_of) one two end alive still.1 lt)
                 | inr (inl lost) ↦ alone_not_lost now k alone lost
                 | inr (inr u) ↦ (
                     let u_chosen = front_on u.until more chosen u.before two in
@@ -195,13 +204,14 @@ module _ (setting : Setting) (records : List Record) (w : World) (stores : ℕ �
         ]
       where
         unfilled : (more : List Command) (now : LinkRow) (whole : Bool) → whole ≡ true → IsPrefix front more → IsPrefix more chosen → IsLinked setting more cell now
-            → now.state ≡ Only k whole → blank_joins_in setting front (other_of k row) < blank_joins_in setting more (other_of k row) → IsUnfilled more now
-        unfilled more now whole all_of one two end alone lt =
+            → AliveIn (state_after setting.servers chosen) cell → now.state ≡ Only k whole → blank_joins_in setting front
+            (other_of k row) < blank_joins_in setting more (other_of k row) → IsUnfilled more now
+        unfilled more now whole all_of one two end alive alone lt =
             let so = rows_later setting chosen firm.plain front more cell row now one two is end in
             let is_all : is_whole now.state ≡ true = ap is_whole alone ∙ all_of in
             record {
               whole = is_all;
-              empty = elim ((good.alone more cell now k whole two end alone).unfilled is_all) [
+              empty = elim ((good.alone more cell now k whole two end alone).unfilled alive is_all) [
                 | inl empty ↦ empty
                 | inr fill ↦ (
                     let o = other_of k row in

@@ -6,7 +6,7 @@ use Rattle.global_tables.specs.declared.link.LinkRow.{LinkRow}
 use Rattle.global_tables.specs.declared.link.LinkState.TheVariants.{Both, Lost, Only}
 use Rattle.petal_base.specs.declared.cell.Cell.{Cell}
 use Rattle.petal_command.specs.declared.command.Command.{Command}
-use Rattle.petal_msg.specs.Kinds.{about}
+use Rattle.petal_msg.specs.Kinds.{about, subject_of}
 use Rattle.petal_msg.specs.declared.body.Body.{Body}
 use Rattle.petal_msg.specs.declared.body.Body.TheVariants as body
 use Rattle.petal_msg.specs.declared.letter.Letter.{Letter}
@@ -15,34 +15,37 @@ use Rattle.petal_history.specs.declared.record.Record.{Record}
 use Rattle.petal_state.specs.CellState.{cell_link}
 use Rattle.petal_state.specs.Command.{state_after}
 use Rattle.petal_rules.specs.Lists.{In}
+use Rattle.petal_rules.specs.Log.{state_in}
+use Rattle.petal_rules.specs.Progress.{last_copy}
 use Rattle.petal_rules.specs.Server.{Own, Post, Server, Done, letters_of, sender}
-use Rattle.petal_rules.specs.State.{id_of, is_whole}
+use Rattle.petal_rules.specs.State.{State, id_of, is_whole, live}
 use Rattle.petal_rules.specs.Store.{Store, chain_in}
 use Rattle.petal_rules.specs.World.{Setting, World, blank_joins_in, chosen_log, server_state, stamped}
 use Rattle.petal_rules.proofs.Applied.{rev_after}
 use Rattle.petal_rules.proofs.Tests.{by_bool, none_some, same_or_apart, same_some, some_or_none, true_false}
 use Rattle.law_state.specs.Rows.{IsLater, ByBoth, ByNone, ByOne}
+use Rattle.law_state.specs.Homes.{stage_at}
 use Rattle.law_state.specs.Started.{is_flagged}
 use Rattle.law_state.specs.Steady.{IsSteady}
 use Rattle.law_state.proofs.Grown.{alone_not_both, lost_not_both, one_before}
 use Rattle.law_state.proofs.BlankJoins.{joins_grow}
 use Rattle.law_state.proofs.Roles.{primary_is_one, secondary_is_one}
-use Rattle.law_steps.specs.Happens.{own_place}
+use Rattle.law_steps.specs.Happens.{is_between, own_place}
 use Rattle.law_steps.specs.Ready.{IsRising}
-use Rattle.law_steps.proofs.Fronts.{front_itself, front_long, front_on, one_front}
+use Rattle.law_steps.proofs.Fronts.{front_long, front_on, one_front}
 use Rattle.law_steps.proofs.Letters.{said}
 use Rattle.law_copies.specs.Copied.{AreCopying, IsCovered, IsOfLink, IsPage, IsTold, Is_marked_here, Is_to_be_copied, NotCopied, links_of}
 use Rattle.law_copies.specs.Good.{AloneOk, AreBeside, AreTwins, BothOk, Good, IsUnheard, SaidOk, StaysLeft, pair_at}
 use Rattle.law_copies.specs.Pair.{HaveMarks, Known, pair_of}
 use Rattle.law_copies.specs.Steps.{AreFilled}
-use Rattle.law_copies.specs.Visits.{HasBeen, HasFilled, IsLinked, half, place_by, store_by, with_stores}
+use Rattle.law_copies.specs.Visits.{AliveIn, HasBeen, HasFilled, IsLinked, half, place_by, store_by, with_stores}
 use Rattle.law_copies.proofs.Counts.{joins_at}
 use Rattle.law_copies.proofs.Framed.{LeavesAt, LeavesBoth, LeavesStore, alone_framed, both_framed, filled_framed, filled_on, marked_on, marks_back, other_is_one, said_framed, store_same, to_copy_on}
-use Rattle.law_copies.proofs.Growing.{beside_same, twins_same}
+use Rattle.law_copies.proofs.NewPlaces.{beside_same, twins_same}
 use Rattle.law_copies.proofs.Later.{AllStarted, IsCaughtUp, alone_not_lost, alone_or_flagged, alone_since, both_since, holder_is_one, holds_since, same_only}
 use Rattle.law_copies.proofs.Mute.{known_mute, told_mute}
 use Rattle.law_copies.proofs.Others.{other_apart}
-use Rattle.law_copies.proofs.Places.{fronts_meet, linked_on, links_same, one_row, other_later, places_up, rows_later}
+use Rattle.law_copies.proofs.Places.{at_most_or_above, fronts_meet, linked_alive, links_same, one_row, other_later, places_up, rows_later}
 use Rattle.law_copies.proofs.Seated as seated
 use Rattle.law_copies.proofs.Seated.{other_back}
 use Rattle.law_copies.proofs.Standing.{other_row}
@@ -103,7 +106,7 @@ module _ (setting : Setting) (records : List Record) (w : World) (stores : ℕ �
   leaves_apart : (f : List Command) (n place : ℕ) (cell : Cell) → n ≢ k → LeavesAt setting top good.stores next good.visits visits good.reached reached f n place cell
   leaves_apart f n place cell ne = record {
     visit = visit_apart n place cell ne;
-    store = store_same (olds f n) (news f n) cell (store_apart f n ne);
+    store = λ lives. store_same (olds f n) (news f n) cell (store_apart f n ne);
   }
 
   abbrev Leaves : List Command → ℕ → Cell → LinkRow → Type 0
@@ -119,12 +122,13 @@ module _ (setting : Setting) (records : List Record) (w : World) (stores : ℕ �
   -- ### Another place than the server's own
 
   abbrev IsElsewhere : (place : ℕ) → Cell → Type 0
-  IsElsewhere place cell = (row : LinkRow) → IsLinked setting front cell row → place ≢ place_by setting front row
+  IsElsewhere place cell = (row : LinkRow) → IsLinked setting front cell row → AliveIn (server_state setting w k) cell → place ≢ place_by setting front row
 
   visit_else : (place : ℕ) (cell : Cell) → IsElsewhere place cell → visits k place cell ≡ good.visits k place cell
   visit_else place cell away =
       visited_beside setting records top (with_stores w stores) v k server good job.step k place cell
-      (λ (a : IsAt setting k server place cell). away a.row (subst (λ f. IsLinked setting f cell a.row) job.applied a.linked) (a.at ∙ ap (λ f. place_by setting f a.row) job.applied))
+      (λ (a : IsAt setting k server place cell). away a.row (subst (λ f. IsLinked setting f cell a.row) job.applied a.linked)
+      (subst (λ f. AliveIn (state_after setting.servers f) cell) job.applied a.alive) (a.at ∙ ap (λ f. place_by setting f a.row) job.applied))
 
   visits_else : (n place : ℕ) (cell : Cell) → IsElsewhere place cell → visits n place cell ≡ good.visits n place cell
   visits_else n place cell away = elim (same_or_apart n k) [
@@ -141,13 +145,19 @@ module _ (setting : Setting) (records : List Record) (w : World) (stores : ℕ �
   left_so : (f : List Command) (cell : Cell) → IsNow f → LeavesStore (w.servers k).own.store done.own.store cell → LeavesStore (olds f k) (news f k) cell
   left_so = leaving.left_so setting records w stores v k server good done job started
 
+  alive_own : (cell : Cell) → AliveIn (state_after setting.servers top) cell → AliveIn (server_state setting w k) cell
+  alive_own cell lives = leaving.alive_at setting records w stores v k server good done job started front cell (job.firm.servers k) lives
+
   -- of a cell that has no link by its own entries the step leaves all, and by entries that tell of fewer Joins of the server, too
   left_else : (f : List Command) (cell : Cell) (row : LinkRow) → IsPrefix f top → IsLinked setting f cell row → has_server k row ≡ true
-      → IsElsewhere (place_by setting f row) cell → good.reached cell ≤ place_by setting f row → IsLeftAt f (place_by setting f row) cell row
-  left_else f cell row prefix end has away last = elim (same_or_apart (blank_joins_in setting f k) (blank_joins_in setting top k)) [
+      → AliveIn (state_after setting.servers top) cell → IsElsewhere (place_by setting f row) cell → good.reached cell ≤ place_by setting f row
+      → IsLeftAt f (place_by setting f row) cell row
+  left_else f cell row prefix end has lives away last = elim (same_or_apart (blank_joins_in setting f k) (blank_joins_in setting top k)) [
     | inl now ↦ elim (some_or_none (cell_link (server_state setting w k) cell)) [
-      | inl h ↦ leaving.linked_left setting records w stores v k server good done job started cell h.0 h.1 (has_mine h.0 h.1) f row prefix end (away h.0 h.1) last now
-      | inr none ↦ (let keeps = job.keeping.unlinked cell none in Same_store (left_so f cell now (record { chain = keeps.rest.chain; marks = keeps.marks })))
+      | inl h ↦ leaving.linked_left setting records w stores v k server good done job started cell lives h.0 h.1 (has_mine h.0 h.1) f row prefix end
+          (away h.0 h.1 (alive_own cell lives)) last now
+      | inr none ↦ (let keeps = job.keeping.unlinked cell none (alive_own cell lives) in Same_store
+          (left_so f cell now (record { chain = keeps.rest.chain; marks = keeps.marks })))
     ]
     | inr ne ↦ Same_store (store_same (olds f k) (news f k) cell
         (stored_frozen setting records top (with_stores w stores) v k server good job.step k (blank_joins_in setting f k) ne))
@@ -163,19 +173,24 @@ module _ (setting : Setting) (records : List Record) (w : World) (stores : ℕ �
 
   -- at the server's own place of the cell's link, or elsewhere
   at_or_else : {B : Type 0} (f : List Command) (cell : Cell) (row : LinkRow) → IsPrefix f top → IsLinked setting f cell row
-      → (IsLinked setting front cell row → place_by setting front row ≡ place_by setting f row → B) → (IsElsewhere (place_by setting f row) cell → B) → B
-  at_or_else f cell row prefix is so away = elim (some_or_none (cell_link (server_state setting w k) cell)) [
-    | inl h ↦ elim (same_or_apart (place_by setting f row) (place_by setting front h.0)) [
-      | inl e ↦ (
-          let one : h.0 ≡ row = one_row setting top job.firm.plain f front cell row h.0 prefix (job.firm.servers k) is h.1 e in
-          so (subst (IsLinked setting front cell) one h.1) (ap (place_by setting front) (sym one) ∙ sym e))
-      | inr ne ↦ away (λ row' is' e. ne (e ∙ ap (place_by setting front) (same_some (sym is' ∙ h.1))))
+      → (IsLinked setting front cell row → AliveIn (server_state setting w k) cell → place_by setting front row ≡ place_by setting f row → B)
+      → (IsElsewhere (place_by setting f row) cell → B) → B
+  at_or_else f cell row prefix is so away = elim (at_most_or_above 4 (stage_at (server_state setting w k) cell)) [
+    | inl dead ↦ away (λ row' is' alive e. absurd (omega arith))
+    | inr alive ↦ elim (some_or_none (cell_link (server_state setting w k) cell)) [
+      | inl h ↦ elim (same_or_apart (place_by setting f row) (place_by setting front h.0)) [
+        | inl e ↦ (
+            let one : h.0 ≡ row = one_row setting top job.firm.plain f front cell row h.0 prefix (job.firm.servers k) is h.1 e in
+            so (subst (IsLinked setting front cell) one h.1) alive (ap (place_by setting front) (sym one) ∙ sym e))
+        | inr ne ↦ away (λ row' is' alive' e. ne (e ∙ ap (place_by setting front) (same_some (sym is' ∙ h.1))))
+      ]
+      | inr none ↦ away (λ row' is' alive' e. none_some none is')
     ]
-    | inr none ↦ away (λ row' is' e. none_some none is')
   ]
 
   -- where the store is left so
-  else_leaves : (f : List Command) (place : ℕ) (cell : Cell) (row : LinkRow) → IsElsewhere place cell → LeavesStore (olds f k) (news f k) cell → Leaves f place cell row
+  else_leaves : (f : List Command) (place : ℕ) (cell : Cell) (row : LinkRow) → IsElsewhere place cell
+      → (AliveIn (state_after setting.servers top) cell → LeavesStore (olds f k) (news f k) cell) → Leaves f place cell row
   else_leaves f place cell row away same n has = elim (same_or_apart n k) [
     | inl e ↦ subst (λ m. LeavesAt setting top good.stores next good.visits visits good.reached reached f m place cell) (sym e)
         (record { visit = visit_else place cell away; store = same })
@@ -197,13 +212,14 @@ module _ (setting : Setting) (records : List Record) (w : World) (stores : ℕ �
   -- ### In Both
 
   twins_else : (f : List Command) (cell : Cell) (row : LinkRow) → row.state ≡ Both → BothOk setting top good.stores good.visits good.reached f cell row
-      → IsElsewhere (place_by setting f row) cell → IsLeftAt f (place_by setting f row) cell row → reached cell ≤ place_by setting f row
-      → AreTwins (news f) visits (place_by setting f row) cell row.primary row.secondary
-  twins_else f cell row both ok away (Same_store same) last =
-      (both_framed setting top good.stores next good.visits visits good.reached reached up nones f cell row (else_leaves f (place_by setting f row) cell row away same) ok).twins last
-  twins_else f cell row both ok away (Covers whole alone none covered) last = alone_not_both row k alone both
-  twins_else f cell row both ok away (Gone lost) last = lost_not_both row lost both
-  twins_else f cell row both ok away (Left_by h whole alone ne none left marks) last = alone_not_both row h alone both
+      → AliveIn (state_after setting.servers top) cell → IsElsewhere (place_by setting f row) cell → IsLeftAt f (place_by setting f row) cell row
+      → reached cell ≤ place_by setting f row → AreTwins (news f) visits (place_by setting f row) cell row.primary row.secondary
+  twins_else f cell row both ok lives away (Same_store same) last =
+      (both_framed setting top good.stores next good.visits visits good.reached reached up nones f cell row
+      (else_leaves f (place_by setting f row) cell row away (λ alive. same)) ok).twins lives last
+  twins_else f cell row both ok lives away (Covers whole alone none covered) last = alone_not_both row k alone both
+  twins_else f cell row both ok lives away (Gone lost) last = lost_not_both row lost both
+  twins_else f cell row both ok lives away (Left_by h whole alone ne none left marks) last = alone_not_both row h alone both
 
   -- at another front of the server's own place
   news_here : (f : List Command) (cell : Cell) (row : LinkRow) (n : ℕ) → IsPrefix f top → IsLinked setting f cell row → IsLinked setting front cell row
@@ -228,12 +244,13 @@ module _ (setting : Setting) (records : List Record) (w : World) (stores : ℕ �
       let ok = good.both f cell row prefix is both in
       by_bool (has_server k row)
       (λ has. at_or_else f cell row prefix is
-      (λ mine e. record {
-        twins = λ last. twins_moved f cell row prefix is mine e
-            (worked.both_now setting records w stores v k server good done job cell row mine both has).twins;
+      (λ mine alive e. record {
+        twins = λ lives last. twins_moved f cell row prefix is mine e
+            (worked.both_now setting records w stores v k server good done job cell row mine alive lives both has).twins;
       })
       (λ away. record {
-        twins = λ last. twins_else f cell row both ok away (left_else f cell row prefix is has away (last_old cell (place_by setting f row) last)) last;
+        twins = λ lives last. twins_else f cell row both ok lives away
+            (left_else f cell row prefix is has lives away (last_old cell (place_by setting f row) last)) last;
       }))
       (λ off. both_framed setting top good.stores next good.visits visits good.reached reached up nones f cell row (stranger_leaves f (place_by setting f row) cell row off) ok)
 
@@ -260,13 +277,14 @@ module _ (setting : Setting) (records : List Record) (w : World) (stores : ℕ �
     has_holder = holds f cell row holder whole prefix is alone
 
     -- elsewhere the copies are covered, and the other server is as it was
-    beside_else : has_server k row ≡ true → IsElsewhere there cell → IsLeftAt f there cell row → reached cell ≤ there
+    beside_else : has_server k row ≡ true → AliveIn (state_after setting.servers top) cell → IsElsewhere there cell → IsLeftAt f there cell row
+        → reached cell ≤ there
         → AreBeside (news f) visits there row cell holder other_one
-    beside_else has away (Same_store same) last =
+    beside_else has lives away (Same_store same) last =
         (alone_framed setting top good.stores next good.visits visits good.reached reached up nones f cell row holder has_holder
-        (else_leaves f there cell row away same) ok).beside last
-    beside_else has away (Gone lost) last = alone_not_lost row holder alone lost
-    beside_else has away (Covers kept mine none covered) last =
+        (else_leaves f there cell row away (λ alive. same)) ok).beside lives last
+    beside_else has lives away (Gone lost) last = alone_not_lost row holder alone lost
+    beside_else has lives away (Covers kept mine none covered) last =
         let e : holder ≡ k = same_only (sym alone ∙ mine) in
         let ne : other_one ≢ k = λ x. two (x ∙ sym e) in
         let unseen : visits holder there cell ≡ None = ap (λ n. visits n there cell) e ∙ visit_else there cell away ∙ none in
@@ -276,10 +294,10 @@ module _ (setting : Setting) (records : List Record) (w : World) (stores : ℕ �
                 (subst (λ n. IsCovered row cell (news f n) (news f (other_of n row)) None) (sym e) covered);
             caught = λ by x flagged. none_some unseen x;
           };
-          still = λ by x. (ok.beside (last_old cell there last)).still by (sym (visit_apart other_one there cell ne) ∙ x)
+          still = λ by x. (ok.beside lives (last_old cell there last)).still by (sym (visit_apart other_one there cell ne) ∙ x)
               ∙ ap (λ (s : Store). chain_in s.chains cell) (sym (store_apart f other_one ne));
         }
-    beside_else has away (Left_by h kept by_h ne none left marks) last =
+    beside_else has lives away (Left_by h kept by_h ne none left marks) last =
         let e : h ≡ holder = same_only (sym by_h ∙ alone) in
         let ne' : holder ≢ k = λ x. ne (e ∙ x) in
         let other_k : other_one ≡ k = other_back row holder k has_holder has ne' in
@@ -310,9 +328,9 @@ module _ (setting : Setting) (records : List Record) (w : World) (stores : ℕ �
     KeepsLeft o before now = (IsMarked o.store cell → IsMarked before cell → IsMarked now cell)
         × (IsToBeCopied row o.store cell → NotCopied (Some o) row cell.block → IsToBeCopied row before cell → IsToBeCopied row now cell)
 
-    stays_mine : holder ≡ k → IsElsewhere there cell → (o : Own) → good.visits k there cell ≡ Some o
+    stays_mine : AliveIn (state_after setting.servers top) cell → holder ≡ k → IsElsewhere there cell → (o : Own) → good.visits k there cell ≡ Some o
         → ((p : ℕ) → there < p → good.visits other_one p cell ≡ None) → KeepsLeft o (olds f k) (news f k)
-    stays_mine e away o visit beyond = elim (same_or_apart (blank_joins_in setting f k) (blank_joins_in setting top k)) [
+    stays_mine lives e away o visit beyond = elim (same_or_apart (blank_joins_in setting f k) (blank_joins_in setting top k)) [
       | inr ne ↦ (
           let same = stored_frozen setting records top (with_stores w stores) v k server good job.step k (blank_joins_in setting f k) ne in
           (λ was marked. subst (λ s. IsMarked s cell) (sym same) marked, λ was copied all. subst (λ s. IsToBeCopied row s cell) (sym same) all))
@@ -320,19 +338,31 @@ module _ (setting : Setting) (records : List Record) (w : World) (stores : ℕ �
     ]
       where
         b : HasBeen setting w k there cell
-        b = let h = good.been k there cell o visit in record { row = h.row; linked = h.linked; past = h.past }
+        b =
+            let h = good.been k there cell o visit in
+            record { front = h.front; within = h.within; row = h.row; linked = h.linked; alive = h.alive; at = h.at }
 
-        past : there < place_by setting front b.row
-        past = below b.past (away b.row b.linked)
+        alive : AliveIn (server_state setting w k) cell
+        alive = alive_own cell lives
+
+        mine : (now : LinkRow) × IsLinked setting front cell now
+        mine = linked_alive setting top job.firm.plain b.front front cell b.row b.within (job.firm.servers k) b.linked alive
+
+        past : there < place_by setting front mine.0
+        past =
+            let up = places_up setting top job.firm.plain b.front front cell b.row mine.0 b.within (job.firm.servers k) b.linked mine.1 in
+            let at = b.at in
+            below (omega arith) (away mine.0 mine.1 alive)
 
         by : IsNow f → KeepsLeft o (olds f k) (news f k)
         by now = elim (fronts_meet f front top prefix (job.firm.servers k)) [
-          | inr p ↦ (let le = places_up setting top job.firm.plain front f cell b.row row p prefix b.linked is in absurd (omega (arith, past)))
-          | inl p ↦ elim (alone_or_flagged setting records w stores job.firm good started f front cell row b.row k whole p (job.firm.servers k) is (alone ∙ ap (λ n. Only n whole) e) b.linked
+          | inr p ↦ (let le = places_up setting top job.firm.plain front f cell mine.0 row p prefix mine.1 is in absurd (omega (arith, past)))
+          | inl p ↦ elim (alone_or_flagged setting records w stores job.firm good started f front cell row mine.0 k whole p (job.firm.servers k) is
+              (alone ∙ ap (λ n. Only n whole) e) mine.1 alive
               (λ q lt. ap (λ n. good.visits (other_of n row) q cell) (sym e) ∙ beyond q lt)) [
                 | inl so ↦ held now p so.0 so.1
                 | inr (inl lost) ↦ (
-                    let keeps = job.keeping.lost cell b.row b.linked lost in
+                    let keeps = job.keeping.lost cell mine.0 mine.1 alive lost in
                     let same = left_so f cell now (record { chain = keeps.rest.chain; marks = keeps.marks }) in
                     (λ was marked. marked_on (olds f k) (news f k) cell same marked, λ was copied all. to_copy_on row (olds f k) (news f k) cell same.chain all))
                 | inr (inr c) ↦ (
@@ -346,15 +376,15 @@ module _ (setting : Setting) (records : List Record) (w : World) (stores : ℕ �
               ]
         ]
           where
-            held : IsNow f → IsPrefix f front → (kept : Bool) → b.row.state ≡ Only k kept → KeepsLeft o (olds f k) (news f k)
+            held : IsNow f → IsPrefix f front → (kept : Bool) → mine.0.state ≡ Only k kept → KeepsLeft o (olds f k) (news f k)
             held now p kept so =
-                let later = rows_later setting top job.firm.plain f front cell row b.row p (job.firm.servers k) is b.linked in
-                let keeps = worked.keeps_holder setting records w stores v k server good done job cell b.row b.linked kept so in (
+                let later = rows_later setting top job.firm.plain f front cell row mine.0 p (job.firm.servers k) is mine.1 in
+                let keeps = worked.keeps_holder setting records w stores v k server good done job cell mine.0 mine.1 alive kept so in (
                   λ was marked. elim (keeps.marks (subst (λ s. IsMarked s cell) (store_was f now) marked)) [
                     | inl still ↦ subst (λ s. IsMarked s cell) (sym (store_now f now)) still
                     | inr met ↦ true_false met
-                        (ap is_some (ap (λ n. good.visits n (place_by setting front b.row) cell)
-                        (other_later row b.row k later ∙ ap (λ n. other_of n row) (sym e)) ∙ beyond (place_by setting front b.row) past))
+                        (ap is_some (ap (λ n. good.visits n (place_by setting front mine.0) cell)
+                        (other_later row mine.0 k later ∙ ap (λ n. other_of n row) (sym e)) ∙ beyond (place_by setting front mine.0) past))
                   ],
                   λ was copied all. record {
                     whole = all.whole;
@@ -363,15 +393,16 @@ module _ (setting : Setting) (records : List Record) (w : World) (stores : ℕ �
                   },
                 )
 
-    stays_else : IsElsewhere there cell → (o : Own) → visits holder there cell ≡ Some o → ((p : ℕ) → there < p → visits other_one p cell ≡ None)
+    stays_else : AliveIn (state_after setting.servers top) cell → IsElsewhere there cell → (o : Own) → visits holder there cell ≡ Some o →
+        ((p : ℕ) → there < p → visits other_one p cell ≡ None)
         → StaysLeft row cell o (news f holder)
-    stays_else away o visit beyond =
+    stays_else lives away o visit beyond =
         let was = sym (visits_else holder there cell away) ∙ visit in
         let unseen : (p : ℕ) → there < p → good.visits other_one p cell ≡ None = λ p lt. nones other_one p cell (beyond p lt) in
-        let now = ok.stays o was unseen in
+        let now = ok.stays lives o was unseen in
         elim (same_or_apart holder k) [
           | inl e ↦ (
-              let mine = stays_mine e away o (ap (λ n. good.visits n there cell) (sym e) ∙ was) unseen in (
+              let mine = stays_mine lives e away o (ap (λ n. good.visits n there cell) (sym e) ∙ was) unseen in (
                 λ marked. subst (λ n. IsMarked (news f n) cell) (sym e) (mine.0 marked (subst (λ n. IsMarked (olds f n) cell) e (now.0 marked))),
                 λ all copied. subst (λ n. IsToBeCopied row (news f n) cell) (sym e) (mine.1 all copied (subst (λ n. IsToBeCopied row (olds f n) cell) e (now.1 all copied))),
               ))
@@ -401,8 +432,8 @@ module _ (setting : Setting) (records : List Record) (w : World) (stores : ℕ �
     -- ### The server is of the link
 
     module _ (has : has_server k row ≡ true) where
-      left_here : IsElsewhere there cell → good.reached cell ≤ there → IsLeftAt f there cell row
-      left_here away last = left_else f cell row prefix is has away last
+      left_here : AliveIn (state_after setting.servers top) cell → IsElsewhere there cell → good.reached cell ≤ there → IsLeftAt f there cell row
+      left_here lives away last = left_else f cell row prefix is has lives away last
 
       -- a server of the link other than the holder
       is_holder : (h : ℕ) (kept : Bool) (other : LinkRow) → other_of holder row ≡ k → other_of h other ≡ k → IsLater row other ⊎ IsLater other row
@@ -421,13 +452,17 @@ module _ (setting : Setting) (records : List Record) (w : World) (stores : ℕ �
           (record { more = more; within = within; row = other; linked = linked; joins = joins; own = own; visited = visit })
 
       -- where the job changes the other server's copy, the holder has been at a place
-      changed : other_one ≡ k → IsNow f → (chain_in done.own.store.chains cell ≡ chain_in (w.servers k).own.store.chains cell)
+      changed : AliveIn (state_after setting.servers top) cell → other_one ≡ k → IsNow f →
+          (chain_in done.own.store.chains cell ≡ chain_in (w.servers k).own.store.chains cell)
           ⊎ HasFilled setting top visits f cell holder other_one
-      changed e now = elim (some_or_none (cell_link (server_state setting w k) cell)) [
-        | inr none ↦ inl (job.keeping.unlinked cell none).rest.chain
+      changed lives e now = elim (some_or_none (cell_link (server_state setting w k) cell)) [
+        | inr none ↦ inl (job.keeping.unlinked cell none (alive_own cell lives)).rest.chain
         | inl h ↦ by_mine h.0 h.1
       ]
         where
+          alive_f : AliveIn (state_after setting.servers f) cell
+          alive_f = leaving.alive_at setting records w stores v k server good done job started f cell prefix lives
+
           now_at : (more : List Command) → blank_joins_in setting more k ≡ blank_joins_in setting top k
               → blank_joins_in setting more other_one ≡ blank_joins_in setting f other_one
           now_at more same = ap (blank_joins_in setting more) e ∙ same ∙ sym now ∙ ap (blank_joins_in setting f) (sym e)
@@ -444,7 +479,8 @@ module _ (setting : Setting) (records : List Record) (w : World) (stores : ℕ �
           by_since : (mine : LinkRow) → IsLinked setting front cell mine → IsPrefix f front → ((kept : Bool) → mine.state ≡ Only holder kept → ⊥) → (mine.state ≡ Lost → ⊥)
               → HasFilled setting top visits f cell holder other_one
           by_since mine linked p not_held not_lost =
-              elim (alone_since setting records w stores job.firm good started f front cell row mine holder whole p (job.firm.servers k) is alone linked) [
+              elim (alone_since setting records w stores job.firm good started f front cell row mine holder whole p
+              (job.firm.servers k) is alone linked (alive_own cell lives)) [
                 | inl held ↦ absurd (not_held held.0 held.1)
                 | inr (inl lost) ↦ absurd (not_lost lost)
                 | inr (inr u) ↦ by_caught f whole p u
@@ -453,34 +489,39 @@ module _ (setting : Setting) (records : List Record) (w : World) (stores : ℕ �
           by_mine : (mine : LinkRow) → IsLinked setting front cell mine → (chain_in done.own.store.chains cell ≡ chain_in (w.servers k).own.store.chains cell)
               ⊎ HasFilled setting top visits f cell holder other_one
           by_mine mine linked = elim ((steady_at front (job.firm.servers k)).linked cell mine linked).served [
-            | ByNone one o so pair out ↦ inl (job.keeping.lost cell mine linked so).rest.chain
+            | ByNone one o so pair out ↦ inl (job.keeping.lost cell mine linked (alive_own cell lives) so).rest.chain
             | ByBoth so one o ↦ elim (fronts_meet f front top prefix (job.firm.servers k)) [
               | inl p ↦ inr (by_since mine linked p (λ kept g. alone_not_both mine holder g so) (λ g. lost_not_both mine g so))
-              | inr p ↦ elim (both_since setting records w stores job.firm good k job.works.runs job.works.seat cell mine linked so (has_mine mine linked) f row p prefix is) [
-                | inl same ↦ (
-                    let one_is = one_row setting top job.firm.plain front f cell mine row (job.firm.servers k) prefix linked is (sym same) in
-                    alone_not_both row holder alone (ap (λ (x : LinkRow). x.state) one_is ∙ so))
-                | inr held ↦ absurd (two (e ∙ sym (same_only (sym alone ∙ held.1))))
-              ]
+              | inr p ↦ elim (both_since setting records w stores job.firm good k job.works.runs job.works.seat cell mine linked so
+                  (has_mine mine linked) f row p prefix is alive_f) [
+                    | inl same ↦ (
+                        let one_is = one_row setting top job.firm.plain front f cell mine row (job.firm.servers k) prefix linked is (sym same) in
+                        alone_not_both row holder alone (ap (λ (x : LinkRow). x.state) one_is ∙ so))
+                    | inr held ↦ absurd (two (e ∙ sym (same_only (sym alone ∙ held.1))))
+                  ]
             ]
             | ByOne h o kept so pair out ↦ elim (same_or_apart h k) [
               | inl mine_h ↦ (
                   let its : mine.state ≡ Only k kept = so ∙ ap (λ n. Only n kept) mine_h in
                   elim (fronts_meet f front top prefix (job.firm.servers k)) [
                     | inl p ↦ inr (by_since mine linked p (λ b g. two (e ∙ sym (same_only (sym g ∙ its)))) (λ g. alone_not_lost mine k its g))
-                    | inr p ↦ elim (holds_since setting records w stores job.firm good k job.works.runs job.works.seat cell mine linked started kept its f row p prefix is) [
+                    | inr p ↦ elim (holds_since setting records w stores job.firm good k job.works.runs job.works.seat cell mine linked started kept its f row p prefix is alive_f) [
                       | inl held ↦ absurd (two (e ∙ sym (same_only (sym alone ∙ held.1))))
-                      | inr flagged ↦ inl (leaving.flagged_leaves setting records w stores v k server good done job started cell mine linked (has_mine mine linked) kept its flagged).chain
+                      | inr flagged ↦ inl (leaving.flagged_leaves setting records w stores v k server good done job started cell lives mine linked
+                          (has_mine mine linked) kept its flagged).chain
                     ]
                   ])
-              | inr ne ↦ elim (leaving.keeps_other setting records w stores v k server good done job started cell mine linked (has_mine mine linked) h kept so ne).changes [
-                | inl chain ↦ inl chain
-                | inr m ↦ (
-                    let has_h = holder_is_one (server_state setting w k) (steady_at front (job.firm.servers k)) h cell mine linked so in
-                    let its = is_holder h kept mine e (leaving.other setting records w stores v k server good done job started cell mine linked (has_mine mine linked) h kept so ne) (later_or mine linked) has_h ne in
-                    inr (filled_at front mine m.by (job.firm.servers k) linked (now_at front job.works.counts)
-                    (ap (λ n. good.visits n (place_by setting front mine) cell) (sym its) ∙ m.met)))
-              ]
+              | inr ne ↦ elim (leaving.keeps_other setting records w stores v k server good done job started cell lives mine linked
+                  (has_mine mine linked) h kept so ne).changes [
+                    | inl chain ↦ inl chain
+                    | inr m ↦ (
+                        let has_h = holder_is_one (server_state setting w k) (steady_at front (job.firm.servers k)) h cell mine linked so in
+                        let its = is_holder h kept mine e
+                        (leaving.other setting records w stores v k server good done job started cell lives mine linked
+                        (has_mine mine linked) h kept so ne) (later_or mine linked) has_h ne in
+                        inr (filled_at front mine m.by (job.firm.servers k) linked (now_at front job.works.counts)
+                        (ap (λ n. good.visits n (place_by setting front mine) cell) (sym its) ∙ m.met)))
+                  ]
             ]
           ]
             where
@@ -496,18 +537,21 @@ module _ (setting : Setting) (records : List Record) (w : World) (stores : ℕ �
                 | inr so ↦ sym (one_before mine row k so) ∙ has
               ]
 
-      unfilled_kept : is_whole row.state ≡ true → (chain_in (news f other_one).chains cell ≡ []) ⊎ HasFilled setting top visits f cell holder other_one
-      unfilled_kept all = elim (same_or_apart other_one k) [
+      unfilled_kept : AliveIn (state_after setting.servers top) cell → is_whole row.state ≡ true →
+          (chain_in (news f other_one).chains cell ≡ []) ⊎ HasFilled setting top visits f cell holder other_one
+      unfilled_kept lives all = elim (same_or_apart other_one k) [
         | inr ne ↦ filled_framed setting top good.stores next good.visits visits good.reached reached up nones f cell holder other_one
-            (ap (λ (s : Store). chain_in s.chains cell) (store_apart f other_one ne)) (ok.unfilled all)
+            (ap (λ (s : Store). chain_in s.chains cell) (store_apart f other_one ne)) (ok.unfilled lives all)
         | inl e ↦ elim (same_or_apart (blank_joins_in setting f k) (blank_joins_in setting top k)) [
           | inr ne ↦ filled_framed setting top good.stores next good.visits visits good.reached reached up nones f cell holder other_one
               (ap (λ (s : Store). chain_in s.chains cell) (ap (news f) e
-              ∙ stored_frozen setting records top (with_stores w stores) v k server good job.step k (blank_joins_in setting f k) ne ∙ ap (olds f) (sym e))) (ok.unfilled all)
-          | inl now ↦ elim (changed e now) [
+              ∙ stored_frozen setting records top (with_stores w stores) v k server good job.step k (blank_joins_in setting f k) ne ∙ ap (olds f)
+              (sym e))) (ok.unfilled lives all)
+          | inl now ↦ elim (changed lives e now) [
             | inl chain ↦ filled_framed setting top good.stores next good.visits visits good.reached reached up nones f cell holder other_one
                 (ap (λ n. chain_in (news f n).chains cell) e ∙ ap (λ (s : Store). chain_in s.chains cell) (store_now f now) ∙ chain
-                ∙ ap (λ (s : Store). chain_in s.chains cell) (sym (store_was f now)) ∙ ap (λ n. chain_in (olds f n).chains cell) (sym e)) (ok.unfilled all)
+                ∙ ap (λ (s : Store). chain_in s.chains cell) (sym (store_was f now)) ∙ ap (λ n. chain_in (olds f n).chains cell) (sym e))
+                (ok.unfilled lives all)
             | inr fill ↦ inr fill
           ]
         ]
@@ -516,43 +560,46 @@ module _ (setting : Setting) (records : List Record) (w : World) (stores : ℕ �
       alone_else : IsElsewhere there cell → AloneOk setting top next visits reached f cell row holder
       alone_else away = record {
         copying = copying_else away;
-        beside = λ last. beside_else has away (left_here away (last_old cell there last)) last;
-        stays = stays_else away;
+        beside = λ lives last. beside_else has lives away (left_here lives away (last_old cell there last)) last;
+        stays = λ lives. stays_else lives away;
         unfilled = unfilled_kept;
       }
 
-      alone_at : IsLinked setting front cell row → place_by setting front row ≡ there → AloneOk setting top next visits reached f cell row holder
-      alone_at mine e =
-          let now = worked.alone_now setting records w stores v k server good done job cell row mine holder whole alone has in
+      alone_at : IsLinked setting front cell row → AliveIn (server_state setting w k) cell → place_by setting front row ≡ there
+          → AloneOk setting top next visits reached f cell row holder
+      alone_at mine alive e =
+          let now = worked.alone_now setting records w stores v k server good done job cell row mine alive holder whole alone has in
           let one = news_here f cell row holder prefix is mine e has_holder in
           let two_is = news_here f cell row other_one prefix is mine e (other_is_one row holder) in
           record {
             copying = subst (λ many. AreCopying many row cell (visits holder there cell) (visits other_one there cell))
                 (links_same setting top job.firm.plain front f cell row row (job.firm.servers k) prefix mine is)
                 (subst (λ place. AreCopying (links_of (server_state setting w k) cell.map) row cell (visits holder place cell) (visits other_one place cell)) e now.copying);
-            beside = λ last. subst (λ place. AreBeside (news f) visits place row cell holder other_one) e
+            beside = λ lives last. subst (λ place. AreBeside (news f) visits place row cell holder other_one) e
                 (beside_same (news front) (news f) visits (place_by setting front row) cell row holder other_one (sym one) (sym two_is)
-                (now.beside (subst (λ place. good.reached cell ≤ place) (sym e) (last_old cell there last))));
-            stays = λ o visit beyond. subst (StaysLeft row cell o) one
-                (now.stays o (ap (λ p. visits holder p cell) e ∙ visit) (λ p lt. beyond p (let same = e in omega arith)));
+                (now.beside lives (subst (λ place. good.reached cell ≤ place) (sym e) (last_old cell there last))));
+            stays = λ lives o visit beyond. subst (StaysLeft row cell o) one
+                (now.stays lives o (ap (λ p. visits holder p cell) e ∙ visit) (λ p lt. beyond p (let same = e in omega arith)));
             unfilled = unfilled_kept;
           }
 
-      said_alone_at : IsLinked setting front cell row → place_by setting front row ≡ there → (said : Body) → (about said).cell ≡ Some cell
+      said_alone_at : IsLinked setting front cell row → AliveIn (server_state setting w k) cell → place_by setting front row ≡ there → (said : Body) →
+          (about said).cell ≡ Some cell
           → IsTold row (good.visits holder there cell) (good.visits other_one there cell) said → IsTold row (visits holder there cell) (visits other_one there cell) said
-      said_alone_at mine e said of told =
-          let now = worked.alone_now setting records w stores v k server good done job cell row mine holder whole alone has in
+      said_alone_at mine alive e said of told =
+          let now = worked.alone_now setting records w stores v k server good done job cell row mine alive holder whole alone has in
           subst (λ place. IsTold row (visits holder place cell) (visits other_one place cell) said) e
           (now.told said of (subst (λ place. IsTold row (good.visits holder place cell) (good.visits other_one place cell) said) (sym e) told))
 
-      page_at : IsLinked setting front cell row → place_by setting front row ≡ there → (after block : Option ℕ)
+      page_at : AliveIn (state_after setting.servers top) cell → IsLinked setting front cell row → AliveIn (server_state setting w k) cell
+          → place_by setting front row ≡ there → (after block : Option ℕ)
           → IsPage cell (olds f other_one) (good.visits other_one there cell) after block → IsPage cell (news f other_one) (visits other_one there cell) after block
-      page_at mine e after block page =
-          let now = worked.alone_now setting records w stores v k server good done job cell row mine holder whole alone has in
+      page_at lives mine alive e after block page =
+          let now = worked.alone_now setting records w stores v k server good done job cell row mine alive holder whole alone has in
           let its = other_is_one row holder in
           subst (λ b. IsPage cell b (visits other_one there cell) after block) (news_here f cell row other_one prefix is mine e its)
           (subst (λ place. IsPage cell (news front other_one) (visits other_one place cell) after block) e
-          (now.page after block (subst (λ place. IsPage cell (olds front other_one) (good.visits other_one place cell) after block) (sym e)
+          (now.page lives after block (subst (λ place. IsPage cell (olds front other_one) (good.visits other_one place cell) after block) (sym e)
           (subst (λ b. IsPage cell b (good.visits other_one there cell) after block) (sym (olds_here f cell row other_one prefix is mine e its)) page))))
 
     alone_kept : AloneOk setting top next visits reached f cell row holder
@@ -569,33 +616,35 @@ module _ (setting : Setting) (records : List Record) (w : World) (stores : ℕ �
   said_else letter_said f cell row prefix is has away ok =
       let place = place_by setting f row in
       record {
-        both = λ both last of. by both last of (left_else f cell row prefix is has away (last_old cell place last));
+        both = λ lives both last of. by lives both last of (left_else f cell row prefix is has lives away (last_old cell place last));
         alone = λ holder whole alone of.
             subst (λ o. IsTold row o (visits (other_of holder row) place cell) letter_said) (sym (visits_else holder place cell away))
             (subst (λ o. IsTold row (good.visits holder place cell) o letter_said) (sym (visits_else (other_of holder row) place cell away)) (ok.alone holder whole alone of));
-        page = λ holder whole after block alone said last.
-            page_else f cell row holder whole prefix is alone away (λ e. left_else f cell row prefix is has away (last_old cell place last)) after block
-            (ok.page holder whole after block alone said (last_old cell place last));
+        page = λ lives holder whole after block alone said last.
+            page_else f cell row holder whole prefix is alone away (λ e. left_else f cell row prefix is has lives away (last_old cell place last)) after block
+            (ok.page lives holder whole after block alone said (last_old cell place last));
         met = λ holder whole after block alone said. ap is_some (visits_else (other_of holder row) place cell away) ∙ ok.met holder whole after block alone said;
       }
     where
-      by : row.state ≡ Both → reached cell ≤ place_by setting f row → (about letter_said).cell ≡ Some cell → IsLeftAt f (place_by setting f row) cell row
+      by : AliveIn (state_after setting.servers top) cell → row.state ≡ Both → reached cell ≤ place_by setting f row →
+          (about letter_said).cell ≡ Some cell → IsLeftAt f (place_by setting f row) cell row
           → Known (pair_at (news f) visits (place_by setting f row) cell row.primary row.secondary) letter_said
-      by both last of (Same_store same) =
+      by lives both last of (Same_store same) =
           (said_framed setting top good.stores next good.visits visits good.reached reached up nones f letter_said cell row (λ holder whole alone. holds f cell row holder whole prefix is alone)
-          (else_leaves f (place_by setting f row) cell row away same) ok).both both last of
-      by both last of (Gone lost) = lost_not_both row lost both
-      by both last of (Covers whole alone none covered) = alone_not_both row k alone both
-      by both last of (Left_by h whole alone ne none left marks) = alone_not_both row h alone both
+          (else_leaves f (place_by setting f row) cell row away (λ alive. same)) ok).both lives both last of
+      by lives both last of (Gone lost) = lost_not_both row lost both
+      by lives both last of (Covers whole alone none covered) = alone_not_both row k alone both
+      by lives both last of (Left_by h whole alone ne none left marks) = alone_not_both row h alone both
 
   said_at : (letter_said : Body) (f : List Command) (cell : Cell) (row : LinkRow) → IsPrefix f top → IsLinked setting f cell row → has_server k row ≡ true
-      → IsLinked setting front cell row → place_by setting front row ≡ place_by setting f row → SaidOk setting top good.stores good.visits good.reached f letter_said cell row
+      → IsLinked setting front cell row → AliveIn (server_state setting w k) cell → place_by setting front row ≡ place_by setting f row
+      → SaidOk setting top good.stores good.visits good.reached f letter_said cell row
       → SaidOk setting top next visits reached f letter_said cell row
-  said_at letter_said f cell row prefix is has mine e ok =
+  said_at letter_said f cell row prefix is has mine alive e ok =
       let place = place_by setting f row in
       record {
-        both = λ both last of.
-            let now = worked.both_now setting records w stores v k server good done job cell row mine both has in
+        both = λ lives both last of.
+            let now = worked.both_now setting records w stores v k server good done job cell row mine alive lives both has in
             let one = primary_is_one row row.primary refl in
             let other = secondary_is_one row row.secondary refl in
             subst (λ p. Known p letter_said)
@@ -604,47 +653,48 @@ module _ (setting : Setting) (records : List Record) (w : World) (stores : ℕ �
             (now.known letter_said (subst (λ p. Known p letter_said)
             (λ i. pair_of (half (good.visits row.primary (sym e i) cell) (sym (olds_here f cell row row.primary prefix is mine e one) i))
             (half (good.visits row.secondary (sym e i) cell) (sym (olds_here f cell row row.secondary prefix is mine e other) i)) cell)
-            (ok.both both (last_old cell place last) of)));
-        alone = λ holder whole alone of. said_alone_at f cell row holder whole prefix is alone has mine e letter_said of (ok.alone holder whole alone of);
-        page = λ holder whole after block alone said last.
-            page_at f cell row holder whole prefix is alone has mine e after block (ok.page holder whole after block alone said (last_old cell place last));
+            (ok.both lives both (last_old cell place last) of)));
+        alone = λ holder whole alone of. said_alone_at f cell row holder whole prefix is alone has mine alive e letter_said of (ok.alone holder whole alone of);
+        page = λ lives holder whole after block alone said last.
+            page_at f cell row holder whole prefix is alone has lives mine alive e after block
+            (ok.page lives holder whole after block alone said (last_old cell place last));
         met = λ holder whole after block alone said.
-            let now = worked.alone_now setting records w stores v k server good done job cell row mine holder whole alone has in
+            let now = worked.alone_now setting records w stores v k server good done job cell row mine alive holder whole alone has in
             subst (λ p. is_some (visits (other_of holder row) p cell) ≡ true) e
             (now.some (subst (λ p. is_some (good.visits (other_of holder row) p cell) ≡ true) (sym e) (ok.met holder whole after block alone said)));
       }
 
   said_kept : (letter : Letter) → In letter w.sent → (f : List Command) (cell : Cell) (row : LinkRow) → IsPrefix f top → length f ≡ letter.rev
-      → IsLinked setting f cell row → SaidOk setting top next visits reached f letter.body cell row
-  said_kept letter sent f cell row prefix long is =
-      let ok = good.letters letter sent f cell row prefix long is in
+      → IsLinked setting f cell row → AliveIn (state_after setting.servers f) cell → SaidOk setting top next visits reached f letter.body cell row
+  said_kept letter sent f cell row prefix long is alive_f =
+      let ok = good.letters letter sent f cell row prefix long is alive_f in
       by_bool (has_server k row)
       (λ has. at_or_else f cell row prefix is
-      (λ mine e. said_at letter.body f cell row prefix is has mine e ok)
+      (λ mine alive e. said_at letter.body f cell row prefix is has mine alive e ok)
       (λ away. said_else letter.body f cell row prefix is has away ok))
       (λ off. said_framed setting top good.stores next good.visits visits good.reached reached up nones f letter.body cell row (λ holder whole alone. holds f cell row holder whole prefix is alone)
       (stranger_leaves f (place_by setting f row) cell row off) ok)
 
   -- ### What it sends
 
-  post_said : (post : Post) → In post done.posts → (cell : Cell) (row : LinkRow) → IsLinked setting front cell row
+  post_said : (post : Post) → In post done.posts → (cell : Cell) (row : LinkRow) → IsLinked setting front cell row → AliveIn (server_state setting w k) cell
       → SaidOk setting top next visits reached front post.body cell row
-  post_said post i cell row is = by_bool (has_server k row)
+  post_said post i cell row is alive = by_bool (has_server k row)
       (λ has. record {
-        both = λ both last of. (worked.both_now setting records w stores v k server good done job cell row is both has).says post i of;
+        both = λ lives both last of. (worked.both_now setting records w stores v k server good done job cell row is alive lives both has).says post i of;
         alone = λ holder whole alone of.
-            (worked.alone_now setting records w stores v k server good done job cell row is holder whole alone has).says post i of;
-        page = λ holder whole after block alone said last.
-            (worked.alone_now setting records w stores v k server good done job cell row is holder whole alone has).pages post i after block said;
+            (worked.alone_now setting records w stores v k server good done job cell row is alive holder whole alone has).says post i of;
+        page = λ lives holder whole after block alone said last.
+            (worked.alone_now setting records w stores v k server good done job cell row is alive holder whole alone has).pages post i after block said;
         met = λ holder whole after block alone said.
-            ((worked.alone_now setting records w stores v k server good done job cell row is holder whole alone has).pages post i after block said).met;
+            (worked.alone_now setting records w stores v k server good done job cell row is alive holder whole alone has).met post i after block said;
       })
       (λ off. record {
-        both = λ both last of. known_mute (pair_at (news front) visits (place_by setting front row) cell row.primary row.secondary) post.body
+        both = λ lives both last of. known_mute (pair_at (news front) visits (place_by setting front row) cell row.primary row.secondary) post.body
             (job.keeping.silent cell (inr (row, is, off)) post i of);
         alone = λ holder whole alone of. told_mute row (visits holder (place_by setting front row) cell) (visits (other_of holder row) (place_by setting front row) cell) post.body
             (job.keeping.silent cell (inr (row, is, off)) post i of);
-        page = λ holder whole after block alone said last. stranger_page cell row is post i after block said off;
+        page = λ lives holder whole after block alone said last. stranger_page cell row is post i after block said off;
         met = λ holder whole after block alone said. stranger_page cell row is post i after block said off;
       })
     where
@@ -661,11 +711,17 @@ module _ (setting : Setting) (records : List Record) (w : World) (stores : ℕ �
       let rev : letter.rev ≡ length front = s.rev ∙ rev_after setting.servers front in
       record {
         rev = λ between. let le = front_long front top (job.firm.servers k) in omega (arith, rev);
-        said = λ f cell row prefix long is.
+        said = λ f cell row prefix long is alive.
             let same : f ≡ front = one_front f front top prefix (job.firm.servers k) (long ∙ rev) in
             subst (λ b. SaidOk setting top next visits reached f b cell row) (sym s.body)
             (subst (λ g. SaidOk setting top next visits reached g s.post.body cell row) (sym same)
-            (post_said s.post s.there cell row (subst (λ g. IsLinked setting g cell row) same is)));
+            (post_said s.post s.there cell row (subst (λ g. IsLinked setting g cell row) same is)
+            (subst (λ g. AliveIn (state_after setting.servers g) cell) same alive)));
+        lives = λ between f prefix long cell of.
+            let same : f ≡ front = one_front f front top prefix (job.firm.servers k) (long ∙ rev) in
+            subst (λ g. live (state_after setting.servers g) cell ≡ true) (sym same)
+            (job.keeping.lives s.post s.there (ap (λ (b : Body). is_between (subject_of b)) (sym s.body) ∙ between) cell
+            (ap (λ (b : Body). (about b).cell) (sym s.body) ∙ of));
         page = λ f prefix long map link block after is.
             let same : f ≡ front = one_front f front top prefix (job.firm.servers k) (long ∙ rev) in
             subst (λ g. IsOfLink (state_after setting.servers g) (record { map = map; block = block }) link) (sym same)
@@ -675,31 +731,33 @@ module _ (setting : Setting) (records : List Record) (w : World) (stores : ℕ �
   -- ### All of it
 
   job_flags : KeepsFlags setting records top (with_stores w stores) v k server good job.step
-  job_flags cell row own whole is alone seat_then visit flagged =
+  job_flags cell row own whole is alive alone seat_then visit flagged =
       let mine : IsLinked setting front cell row = subst (λ f. IsLinked setting f cell row) job.applied is in
-      let here = seated.here_visit setting records w stores k good job.firm job.rests job.works cell row mine in
+      let mine_alive = subst (λ f. AliveIn (state_after setting.servers f) cell) job.applied alive in
+      let here = seated.here_visit setting records w stores k good job.firm job.rests job.works cell row mine mine_alive in
       let same : own ≡ (w.servers k).own = same_some (sym visit ∙ ap (λ f. good.visits k (place_by setting f row) cell) job.applied ∙ here) in
-      let keeps = worked.keeps_holder setting records w stores v k server good done job cell row mine whole alone in
+      let keeps = worked.keeps_holder setting records w stores v k server good done job cell row mine mine_alive whole alone in
       ap (λ (o : Own). is_flagged o (id_of row)) job.own_is ∙ (keeps.caught (ap (λ (o : Own). is_flagged o (id_of row)) (sym same) ∙ flagged)).2
 
-  unlinked_before : (cell : Cell) → cell_link (state_after setting.servers top) cell ≡ None → cell_link (server_state setting w k) cell ≡ None
-  unlinked_before cell none = elim (some_or_none (cell_link (server_state setting w k) cell)) [
-    | inl h ↦ none_some none (linked_on setting top job.firm.plain front top cell h.0 (job.firm.servers k) (front_itself top) h.1).1
-    | inr gone ↦ gone
-  ]
+  -- what holds by the server's state before holds by that then, which is the same
+  state_then : (P : State → Type 0) → P (server_state setting w k) → P (state_in setting.servers server.log)
+  state_then P p = subst (λ f. P (state_after setting.servers f)) (sym job.applied) p
 
   job_sound : IsSoundOwn setting top v k server
   job_sound = record {
-    born = λ cell none.
-        ap (λ (o : Own). chain_in o.store.chains cell) job.own_is ∙ (job.keeping.unlinked cell (unlinked_before cell none)).rest.chain
-        ∙ ap (λ (s : Store). chain_in s.chains cell) (sym job.works.real) ∙ good.born cell none k;
     unheard = λ cell none.
-        let mine = ap (λ f. cell_link (state_after setting.servers f) cell) (sym job.applied) ∙ none in
-        subst (λ (o : Own). IsUnheard o cell) (sym job.own_is) (job.keeping.unheard cell mine (let h = good.unheard k cell mine in record { last = h.last; pages = h.pages }));
+        let mine = ap (λ f. stage_at (state_after setting.servers f) cell) (sym job.applied) ∙ none in
+        let was = subst (λ (o : Own). IsUnheard (server_state setting w k) o cell) (λ i. record (w.servers k).own { store = job.works.real i })
+        (good.unheard k cell mine) in
+        state_then (λ s. IsUnheard s server.own cell)
+        (subst (λ (o : Own). IsUnheard (server_state setting w k) o cell) (sym job.own_is) (job.keeping.unheard cell mine was));
+    copied = λ cell last there. state_then (λ s. live s cell ≡ true)
+        (job.keeping.copied cell last (ap (λ (o : Own). last_copy o cell) (sym job.own_is) ∙ there));
     rising = λ cell. subst (λ (o : Own). IsRising nat_cmp (chain_in o.store.chains cell)) (sym job.own_is) (job.keeping.rising cell);
     counts = subst (λ (o : Own). 1 ≤ o.pairs.next) (sym job.own_is) (let one = good.counts k in let more = job.keeping.counts in omega arith);
     filled = subst (λ (o : Own). AreFilled o.store.chains) (sym job.own_is) job.keeping.filled;
-    marks = λ when. subst (λ (o : Own). HaveMarks o.pairs.pending o.store) (sym job.own_is) job.keeping.marks;
+    marks = λ when. state_then (λ s. HaveMarks s server.own.pairs.pending server.own.store)
+        (subst (λ (o : Own). HaveMarks (server_state setting w k) o.pairs.pending o.store) (sym job.own_is) job.keeping.marks);
   }
 
   pub job_good : (own : Record) → IsThen setting (records ++ own ∷ []) v

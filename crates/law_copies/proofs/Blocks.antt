@@ -7,16 +7,11 @@ use Rattle.global_tables.specs.Map.{tuple_of}
 use Rattle.global_tables.specs.Region.{link_of}
 use Rattle.global_tables.specs.declared.link.LinkRow.{LinkRow}
 use Rattle.petal_base.specs.declared.cell.Cell.{Cell}
-use Rattle.petal_command.specs.declared.command.Command.{Command}
-use Rattle.petal_history.specs.Claims.{IsPrefix}
 use Rattle.petal_state.specs.CellState.{cell_link}
-use Rattle.petal_state.specs.Command.{state_after}
 use Rattle.petal_rules.specs.Copies.{cell_at}
 use Rattle.petal_rules.specs.State.{State}
 use Rattle.petal_rules.proofs.Tests.{both_true, none_some, same_numbers, some_or_none}
-use Rattle.law_state.specs.Plain.{IsPlainLog}
 use Rattle.law_state.proofs.Places.{found_at}
-use Rattle.law_state.proofs.Steady.{log_grown}
 use Rattle.law_copies.specs.Copied.{links_of}
 
 module _ (state : State) (cell : Cell) (row : LinkRow) (is : cell_link state cell ≡ Some row) where
@@ -53,12 +48,3 @@ module _ (state : State) (cell : Cell) (row : LinkRow) (is : cell_link state cel
   on_block block same =
       let one : cell_at row block ≡ record { map = cell.map; block = block } = λ i. record { map = both.0 i; block = block } in
       ap (cell_link state) one ∙ found_by block ∙ ap (link_at state.links cell.map) (same ∙ sym block_on) ∙ sym (found_by cell.block) ∙ is
-
--- a map that is known has so many links later, too
-pub links_stay : (servers : ℕ) (front whole : List Command) → IsPlainLog servers whole → IsPrefix front whole → (cell : Cell) (row : LinkRow)
-    → cell_link (state_after servers front) cell ≡ Some row
-    → links_of (state_after servers whole) cell.map ≡ links_of (state_after servers front) cell.map
-links_stay servers front whole plain prefix cell row is =
-    let there = tuple_there (state_after servers front) cell row is in
-    let later = (log_grown servers front whole plain prefix).maps cell.map there.0 there.1 in
-    ap (λ o. option_map_or length o 0) (later ∙ sym there.1)

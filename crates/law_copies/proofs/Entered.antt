@@ -1,5 +1,5 @@
 -- What is kept after an entry that a server applies.
-use Rattle.std.proofs.Common.{◌≡◌, ◌≢◌, ◌≤◌, ◌<◌, ◌++◌, ◌==◌, ℕ, Bool, List, [], ◌∷◌, length, true, false, Option, Some, None, is_some, refl, sym, ap, ◌∙◌, subst, ◌⊎◌, inl, inr, arith}
+use Rattle.std.proofs.Common.{◌≡◌, ◌≢◌, ◌≤◌, ◌<◌, ◌+◌, ◌++◌, ◌==◌, ℕ, Bool, List, [], ◌∷◌, length, true, false, Option, Some, None, is_some, refl, sym, ap, ◌∙◌, subst, ◌⊎◌, inl, inr, arith}
 use Rattle.std.specs.Prelude.{unwrap_or}
 use Rattle.std.specs.Option.{option_map_or}
 use Rattle.std.specs.Ordering.{nat_cmp}
@@ -10,6 +10,7 @@ use Rattle.global_tables.specs.declared.link.LinkState.TheVariants.{Both, Only}
 use Rattle.petal_base.specs.declared.cell.Cell.{Cell}
 use Rattle.petal_command.specs.declared.command.Command.{Command}
 use Rattle.petal_table.specs.Table.{at}
+use Rattle.petal_table.proofs.Rows.{at-empty}
 use Rattle.petal_msg.specs.Kinds.{about}
 use Rattle.petal_msg.specs.declared.body.Body.{Body}
 use Rattle.petal_msg.specs.declared.copying.Progress.{Progress}
@@ -26,8 +27,8 @@ use Rattle.petal_rules.specs.Server.{Own, Pairs, Server}
 use Rattle.petal_rules.specs.State.{id_of, is_in, link_cmp}
 use Rattle.petal_rules.specs.Store.{Store, cell_cmp, chain_in, mark_on}
 use Rattle.petal_rules.specs.World.{Setting, World, blank_joins_in, chosen_log, server_state}
-use Rattle.petal_rules.specs.Writes.{pending_on}
-use Rattle.petal_rules.proofs.Tests.{none_some, same_or_apart, same_some}
+use Rattle.petal_rules.specs.Writes.{is_clients, pending_on}
+use Rattle.petal_rules.proofs.Tests.{none_some, same_or_apart, same_some, some_or_none}
 use Rattle.law_state.specs.Firm.{Firm}
 use Rattle.law_state.specs.Places.{StaysSo}
 use Rattle.law_state.specs.Started.{is_flagged}
@@ -37,9 +38,9 @@ use Rattle.law_state.proofs.Steady.{front_plain, log_steady}
 use Rattle.law_steps.specs.Ready.{IsRising, Rests}
 use Rattle.law_copies.specs.Copied.{AreAlike, AreCopying, IsCovered, IsPage, IsTold, Is_equal, Is_marked_here, Is_marked_there, Is_to_be_copied, links_of}
 use Rattle.law_copies.specs.Good.{AloneOk, AreTwins, BothOk, Good, SaidOk, StaysLeft, pair_at}
-use Rattle.law_copies.specs.Pair.{HaveMarks, IsRecalled, Known, Pair, PairOk, pair_of}
+use Rattle.law_copies.specs.Pair.{IsRecalled, Known, Pair, PairOk, far, pair_of}
 use Rattle.law_copies.specs.Steps.{AreFilled, StaysTold}
-use Rattle.law_copies.specs.Visits.{IsLinked, Visits, half, place_by, store_by, with_stores}
+use Rattle.law_copies.specs.Visits.{AliveIn, IsLinked, Visits, half, place_by, store_by, with_stores}
 use Rattle.law_copies.proofs.Counts.{joins_at}
 use Rattle.law_copies.proofs.Entering as entering
 use Rattle.law_copies.proofs.Entering.{IsCrossed, KeepsAll, keeps_onward}
@@ -47,8 +48,8 @@ use Rattle.law_copies.proofs.Following.{kept_copying, kept_told}
 use Rattle.law_copies.proofs.HolderSteps as steps
 use Rattle.law_copies.proofs.Framed.{LeavesStore, alike_same, filled_framed, marked_back, marked_on, other_is_one, pair_same, recalled_on, to_copy_on}
 use Rattle.law_copies.proofs.Fresh.{IsFresh, fresh_alike, fresh_first, fresh_first_known, fresh_holder, fresh_holder_told, fresh_other, fresh_other_told, fresh_second}
+use Rattle.law_copies.proofs.NewPlaces.{half_store}
 use Rattle.law_copies.proofs.Later.{holder_is_one}
-use Rattle.law_copies.proofs.Marking.{same_have}
 use Rattle.law_copies.proofs.Others.{other_apart}
 use Rattle.law_copies.proofs.Places.{one_row}
 use Rattle.law_copies.proofs.Quiet.{stores_leave}
@@ -94,13 +95,19 @@ stays_alike own to row cell a b pages alike = record {
 
 -- ### Pairs that move on
 
+-- of an entry that moves, the second one of a pair has nothing until it has followed
+abbrev IsLacking : Pair → Type 0
+IsLacking pair = (op : Pending) → pair.pending ≡ Some op → is_clients op.kind ≡ false → far pair ≤ op.op + op.op
+    → at nat_cmp pair.second op.key.epoch ≡ None
+
 -- what is so of a pair, and what letters tell of it, is so of the other one
 pub record PairGoes (old new : Pair) : Type 0 where
   pub ok : PairOk old → PairOk new
   pub known : (said : Body) → Known old said → Known new said
+  pub lacks : IsLacking old → IsLacking new
 
 pub goes_same : (old new : Pair) → old ≡ new → PairGoes old new
-goes_same old new same = record { ok = subst PairOk same; known = λ said. subst (λ p. Known p said) same }
+goes_same old new same = record { ok = subst PairOk same; known = λ said. subst (λ p. Known p said) same; lacks = subst IsLacking same }
 
 module _ (setting : Setting) (records : List Record) (w : World) (stores : ℕ → Store) (v : World) (k : ℕ) (server : Server)
     (good : Good setting records (chosen_log setting w) (with_stores w stores))
@@ -168,6 +175,9 @@ module _ (setting : Setting) (records : List Record) (w : World) (stores : ℕ �
         → Arriving place cell row
     Has_stayed : good.visits k place cell ≡ Some old → visits k place cell ≡ Some new → KeepsAll old new row cell → Arriving place cell row
 
+  alive_there : (cell : Cell) → AliveIn (state_in setting.servers server.log) cell → AliveIn (server_state setting w k) cell
+  alive_there = entering.alive_before setting records w stores k server good firm rests runs entry more step.within left
+
   -- it was In as itself where it is so behind an entry that does not touch a link of its own
   seat_before : (row : LinkRow) (cell : Cell) → has_server k row ≡ true → StaysSo cell row (server_state setting w k) (state_in setting.servers server.log)
       → is_in (state_in setting.servers server.log) k server.life.inc ≡ true → is_in (server_state setting w k) k (w.servers k).life.inc ≡ true
@@ -204,11 +214,11 @@ module _ (setting : Setting) (records : List Record) (w : World) (stores : ℕ �
         let end = subst (IsLinked setting server.log.applied cell) one there.linked in
         let place : place_by setting front row ≡ place_by setting server.log.applied row = there.at ∙ ap (place_by setting server.log.applied) one in
         let visit : visits k (place_by setting front row) cell ≡ Some new = now.is in
-        elim (entering.comes_or_stays setting records w stores k server good firm rests runs entry more step.within left cell row end) [
+        elim (entering.comes_or_stays setting records w stores k server good firm rests runs entry more step.within left cell row end there.alive) [
           | inl c ↦ Has_come (ap (λ p. good.visits k p cell) place ∙ c.unseen) visit c.fresh
               (λ both. ap (λ (p : Pairs). at cell_cmp p.pending cell) left.pairs ∙ c.free both)
           | inr s ↦ (
-              let h = good.here k cell row s.linked (seat_before row cell has s.so there.seat) in
+              let h = good.here k cell row s.linked (seat_before row cell has s.so there.seat) (alive_there cell there.alive) in
               Has_stayed (ap (λ p. good.visits k p cell) (place ∙ s.place) ∙ h.is ∙ ap Some h.same) visit s.keeps)
         ])
   ]
@@ -241,6 +251,7 @@ module _ (setting : Setting) (records : List Record) (w : World) (stores : ℕ �
         ok = λ h. subst PairOk after (fresh_first new row cell fresh (olds front k) second counts_on (free both) (subst PairOk before h));
         known = λ said h. subst (λ p. Known p said) after
             (fresh_first_known new row cell fresh (olds front k) second said counts_on (free both) (subst (λ p. Known p said) before h));
+        lacks = λ h. subst IsLacking after (λ op is fill le. none_some (free both) is);
       }
   first_goes front place cell row m both ne (Has_stayed was is keeps) =
       let other = good.visits m place cell in
@@ -330,15 +341,33 @@ module _ (setting : Setting) (records : List Record) (w : World) (stores : ℕ �
           twins.recalled old op (was old before) (sym keeps.keeps.rest.pending
           ∙ ap (λ (o : Own). at cell_cmp o.pairs.pending cell) (same_some (sym now ∙ mine)) ∙ there)
 
+  lacking_before : (front : List Command) (place : ℕ) (cell : Cell) (n m : ℕ) → AreTwins (olds front) good.visits place cell n m
+      → IsLacking (pair_at (olds front) good.visits place cell n m)
+  lacking_before front place cell n m twins op is fill le = elim (some_or_none (good.visits n place cell)) [
+    | inl h ↦ ap (λ (a : Store). at nat_cmp (chain_in a.chains cell) op.key.epoch) (half_store (good.visits m place cell) (olds front m))
+        ∙ twins.lacks h.0 op h.1 (sym (ap (λ x. at cell_cmp (half x (olds front n)).pairs.pending cell) h.1) ∙ is) fill le
+    | inr none ↦ none_some (ap (λ x. at cell_cmp (half x (olds front n)).pairs.pending cell) none ∙ at-empty cell_cmp cell) is
+  ]
+
+  lacking_then : (front : List Command) (place : ℕ) (cell : Cell) (n m : ℕ) → IsLacking (pair_at (news front) visits place cell n m)
+      → (own : Own) (op : Pending) → visits n place cell ≡ Some own → at cell_cmp own.pairs.pending cell ≡ Some op → is_clients op.kind ≡ false
+      → far (pair_at (news front) visits place cell n m) ≤ op.op + op.op → at nat_cmp (chain_in (news front m).chains cell) op.key.epoch ≡ None
+  lacking_then front place cell n m lacking own op visit there fill le =
+      ap (λ (a : Store). at nat_cmp (chain_in a.chains cell) op.key.epoch) (sym (half_store (visits m place cell) (news front m)))
+      ∙ lacking op (ap (λ x. at cell_cmp (half x (news front n)).pairs.pending cell) visit ∙ there) fill le
+
   pub both_entered : (front : List Command) (cell : Cell) (row : LinkRow) → IsPrefix front top → IsLinked setting front cell row → row.state ≡ Both
       → BothOk setting top next_stores visits reached front cell row
   both_entered front cell row prefix is both = record {
-    twins = λ last.
+    twins = λ lives last.
         let place = place_by setting front row in
-        let twins = (good.both front cell row prefix is both).twins (let more = up cell in omega arith) in
+        let twins = (good.both front cell row prefix is both).twins lives (let more = up cell in omega arith) in
+        let goes = pair_goes front cell row prefix is both in
         record {
-          pair = (pair_goes front cell row prefix is both).ok twins.pair;
+          pair = goes.ok twins.pair;
           recalled = λ own op visit there. recalled_then front cell row prefix is twins own op visit there both;
+          lacks = lacking_then front place cell row.primary row.secondary
+              (goes.lacks (lacking_before front place cell row.primary row.secondary twins));
         };
   }
 
@@ -453,11 +482,12 @@ module _ (setting : Setting) (records : List Record) (w : World) (stores : ℕ �
           ∙ sym (store_there front cell row prefix is (subst (λ m. has_server m row ≡ true) now.who has) now.there) ∙ ap (news front) (sym now.who))
     ]
 
-    keeps_left : (own : Own) → visits holder place cell ≡ Some own → ((p : ℕ) → place < p → visits other p cell ≡ None)
+    keeps_left : AliveIn (state_after setting.servers top) cell → (own : Own) → visits holder place cell ≡ Some own →
+        ((p : ℕ) → place < p → visits other p cell ≡ None)
         → StaysLeft row cell own (news front holder)
-    keeps_left own e beyond = elim (visit_so holder own holds e) [
+    keeps_left lives own e beyond = elim (visit_so holder own holds e) [
       | inl was ↦ (
-          let still = (good.alone front cell row holder whole prefix is alone).stays own was (λ p lt. nones other p cell (beyond p lt)) in (
+          let still = (good.alone front cell row holder whole prefix is alone).stays lives own was (λ p lt. nones other p cell (beyond p lt)) in (
             λ marked. marked_on (olds front holder) (news front holder) cell (leaves front holder cell) (still.0 marked),
             λ all copied. to_copy_on row (olds front holder) (news front holder) cell (leaves front holder cell).chain (still.1 all copied),
           ))
@@ -469,8 +499,8 @@ module _ (setting : Setting) (records : List Record) (w : World) (stores : ℕ �
         let ok = good.alone front cell row holder whole prefix is alone in
         record {
           copying = alone_goes.copying ok.copying;
-          beside = λ last.
-              let beside = ok.beside (let more = up cell in omega arith) in
+          beside = λ lives last.
+              let beside = ok.beside lives (let more = up cell in omega arith) in
               record {
                 alike = alone_goes.alike beside.alike;
                 still = λ own e. elim (visit_so other own (other_is_one row holder) e) [
@@ -479,8 +509,8 @@ module _ (setting : Setting) (records : List Record) (w : World) (stores : ℕ �
                 ];
               };
           stays = keeps_left;
-          unfilled = λ all_of. filled_framed setting top good.stores next_stores good.visits visits good.reached reached up nones front cell holder other
-              (leaves front other cell).chain (ok.unfilled all_of);
+          unfilled = λ lives all_of. filled_framed setting top good.stores next_stores good.visits visits good.reached reached up nones front cell holder other
+              (leaves front other cell).chain (ok.unfilled lives all_of);
         }
 
     some_goes : is_some (good.visits other place cell) ≡ true → is_some (visits other place cell) ≡ true
@@ -494,17 +524,19 @@ module _ (setting : Setting) (records : List Record) (w : World) (stores : ℕ �
     }
 
   pub said_entered : (letter : Letter) → In letter w.sent → (front : List Command) (cell : Cell) (row : LinkRow) → IsPrefix front top
-      → length front ≡ letter.rev → IsLinked setting front cell row → SaidOk setting top next_stores visits reached front letter.body cell row
-  said_entered letter there front cell row prefix long is =
-      let old_said = good.letters letter there front cell row prefix long is in
+      → length front ≡ letter.rev → IsLinked setting front cell row → AliveIn (state_after setting.servers front) cell
+      → SaidOk setting top next_stores visits reached front letter.body cell row
+  said_entered letter there front cell row prefix long is alive =
+      let old_said = good.letters letter there front cell row prefix long is alive in
       record {
-        both = λ both last of. (pair_goes front cell row prefix is both).known letter.body (old_said.both both (let more = up cell in omega arith) of);
+        both = λ lives both last of. (pair_goes front cell row prefix is both).known letter.body
+            (old_said.both lives both (let more = up cell in omega arith) of);
         alone = λ holder whole alone of.
             (alone_goes front cell row holder whole prefix is alone).told (good.alone front cell row holder whole prefix is alone).copying letter.body of
             (old_said.alone holder whole alone of);
-        page = λ holder whole after block alone said last.
+        page = λ lives holder whole after block alone said last.
             page_goes front cell row holder whole prefix is alone after block
-            (old_said.page holder whole after block alone said (let more = up cell in omega arith));
+            (old_said.page lives holder whole after block alone said (let more = up cell in omega arith));
         met = λ holder whole after block alone said. some_goes front cell row holder whole prefix is alone (old_said.met holder whole after block alone said);
       }
 
@@ -513,13 +545,13 @@ module _ (setting : Setting) (records : List Record) (w : World) (stores : ℕ �
 
   -- a server that stays at the place of a link forgets nothing of it
   entered_flags : KeepsFlags setting records top u v k server good step
-  entered_flags cell row own whole is alone seat visit flagged =
-      elim (entering.comes_or_stays setting records w stores k server good firm rests runs entry more step.within left cell row is) [
+  entered_flags cell row own whole is alive alone seat visit flagged =
+      elim (entering.comes_or_stays setting records w stores k server good firm rests runs entry more step.within left cell row is alive) [
         | inl c ↦ none_some c.unseen visit
         | inr s ↦ (
             let has = holder_is_one (state_in setting.servers server.log)
             (log_steady setting.servers server.log.applied (front_plain setting.servers server.log.applied top step.plain step.within)) k cell row is alone in
-            let h = good.here k cell row s.linked (seat_before row cell has s.so seat) in
+            let h = good.here k cell row s.linked (seat_before row cell has s.so seat) (alive_there cell alive) in
             let was : own ≡ old = same_some (sym visit ∙ ap (λ p. good.visits k p cell) s.place ∙ h.is ∙ ap Some h.same) in
             ap (λ p. option_map_or (λ (x : Progress). x.caught) p false) s.keeps.pages
             ∙ ap (λ (o : Own). is_flagged o (id_of row)) (sym was) ∙ flagged)
@@ -529,13 +561,12 @@ module _ (setting : Setting) (records : List Record) (w : World) (stores : ℕ �
 
   own_sound : IsSoundOwn setting top v k server
   own_sound = record {
-    born = λ cell none. ap (λ t. chain_in t cell) left.chains ∙ good.born cell none k;
-    unheard = λ cell none. entering.still_unheard setting records w stores k server good firm rests runs entry more step.within left cell none;
+    unheard = entering.still_unheard setting records w stores k server good firm rests runs entry more step.within left;
+    copied = entering.still_copied setting records w stores k server good firm rests runs entry more step.within left;
     rising = rising_on;
     counts = counts_on;
     filled = subst AreFilled (sym left.chains) (good.filled k);
-    marks = λ when. subst (λ (p : Pairs). HaveMarks p.pending new.store) (sym left.pairs)
-        (same_have old.pairs.pending old.store new.store left.marks (good.marks k (inl runs)));
+    marks = λ when. entering.still_marks setting records w stores k server good firm rests runs entry more step.within left;
   }
 
   pub entered_good : (own : Record) → IsThen setting (records ++ own ∷ []) v

@@ -1,6 +1,6 @@
 -- An entry that a server applies: of each cell the server comes to a new place with nothing in memory of it, or it stays where it was.
-use Rattle.std.proofs.Common.{◌≡◌, ◌+◌, ◌≤◌, ◌++◌, not, cond, ℕ, List, [], ◌∷◌, length, Bool, true, false, Option, Some, None, refl, sym, ap, ◌∙◌, subst, ◌⊎◌, inl, inr, arith}
-use Rattle.std.specs.Prelude.{filter, unwrap_or}
+use Rattle.std.proofs.Common.{◌≡◌, ◌+◌, ◌≤◌, ◌<◌, ◌++◌, ◌&&◌, ◌||◌, not, cond, ℕ, List, [], ◌∷◌, length, Bool, true, false, Option, Some, None, refl, sym, ap, ◌∙◌, subst, ◌⊎◌, inl, inr, arith}
+use Rattle.std.specs.Prelude.{filter, is_none, option_and_then, unwrap_or}
 use Rattle.std.specs.Option.{option_map_or}
 use Rattle.std.specs.Ordering.{is_eq}
 use Rattle.busy_marks.specs.Marks.{has_mark}
@@ -13,27 +13,29 @@ use Rattle.petal_command.specs.declared.command.Command.TheVariants.{Caught}
 use Rattle.petal_table.specs.Table.{Table, at}
 use Rattle.petal_table.proofs.Rows.{at-where}
 use Rattle.petal_msg.specs.declared.copying.Copying.{Copying}
+use Rattle.petal_msg.specs.declared.copying.LastCopy.{LastCopy}
 use Rattle.petal_msg.specs.declared.copying.LinkId.{LinkId}
 use Rattle.petal_msg.specs.declared.copying.Progress.{Progress}
 use Rattle.petal_msg.specs.declared.operation.Pending.{Pending}
 use Rattle.petal_history.specs.Claims.{IsPrefix}
 use Rattle.petal_history.specs.declared.record.Record.{Record}
-use Rattle.petal_state.specs.CellState.{cell_link}
+use Rattle.petal_state.specs.CellState.{cell_link, row_lead}
 use Rattle.petal_state.specs.Command.{after, state_after}
 use Rattle.petal_state.specs.Place.{touches, touches_cell}
 use Rattle.petal_rules.specs.Copies.{cell_at}
-use Rattle.petal_rules.specs.Crossing.{crossed, touches_link}
+use Rattle.petal_rules.specs.Crossing.{crossed, dies, ends_cell, ends_link, touches_link}
 use Rattle.petal_rules.specs.Lists.{In}
 use Rattle.petal_rules.specs.Progress.{copying_on, last_copy, no_progress, progress_on}
 use Rattle.petal_rules.specs.Server.{Copies, Own, Pairs, Server}
-use Rattle.petal_rules.specs.State.{State, id_of, is_in, lead, link_cmp}
+use Rattle.petal_rules.specs.State.{State, id_of, is_in, link_cmp, link_named, live}
 use Rattle.petal_rules.specs.Store.{Store, cell_cmp, chain_in, mark_on}
 use Rattle.petal_rules.specs.World.{Setting, World, chosen_log, server_state}
 use Rattle.petal_rules.specs.Writes.{pending_on}
 use Rattle.petal_rules.proofs.CellTables.{cell_cmp_same}
 use Rattle.petal_rules.proofs.ListLemmas.{in_later}
-use Rattle.petal_rules.proofs.Tests.{by_bool, is_the_one, none_some, same_some, some_or_none, true_false}
+use Rattle.petal_rules.proofs.Tests.{by_bool, is_the_one, none_some, same_or_apart, same_some, some_or_none, true_false}
 use Rattle.law_log.proofs.Flags.{same_id}
+use Rattle.law_state.specs.Homes.{stage_at}
 use Rattle.law_state.specs.Firm.{Firm}
 use Rattle.law_state.specs.Places.{IsCaughtBy, By_caught, By_join, By_leave, StaysSo}
 use Rattle.law_state.specs.Plain.{IsPlain, IsPlainLog}
@@ -41,25 +43,29 @@ use Rattle.law_state.specs.Started.{HasStarted}
 use Rattle.law_state.specs.Steady.{IsSteady}
 use Rattle.law_state.proofs.Again.{left_not_both, left_row}
 use Rattle.law_state.proofs.Ages.{in_once}
-use Rattle.law_state.proofs.Alone.{led_row}
-use Rattle.law_state.proofs.Cells.{led_by}
+use Rattle.law_state.proofs.Cells.{link_led_by}
 use Rattle.law_state.proofs.Grown.{alone_not_both}
 use Rattle.law_state.proofs.Joins.{both_before}
+use Rattle.law_state.proofs.Links.{either_false}
 use Rattle.law_state.proofs.Steady.{front_plain, log_steady}
 use Rattle.law_state.proofs.Touching.{log_entry_stays, log_touched}
 use Rattle.law_steps.specs.Ready.{Rests}
 use Rattle.law_steps.proofs.Fronts.{front_itself, front_more}
+use Rattle.law_steps.proofs.Leading.{live_stage, stage_live}
 use Rattle.law_steps.proofs.Minds.{held_as_flag}
 use Rattle.law_steps.proofs.Resting.{row_named}
 use Rattle.law_copies.specs.Good.{Good, IsUnheard}
-use Rattle.law_copies.specs.Steps.{KeepsCell}
-use Rattle.law_copies.specs.Visits.{IsLinked, place_by, with_stores}
+use Rattle.law_copies.specs.Pair.{HaveMarks}
+use Rattle.law_copies.specs.Steps.{IsBare, KeepsCell}
+use Rattle.law_copies.specs.Visits.{AliveIn, IsLinked, place_by, with_stores}
 use Rattle.law_copies.proofs.Fresh.{IsFresh}
 use Rattle.law_copies.proofs.Later.{same_only}
+use Rattle.law_copies.proofs.Marking.{same_have}
 use Rattle.law_copies.proofs.Onward.{IsOnward, onward_by}
 use Rattle.law_copies.proofs.Pacing.{IsPaced}
-use Rattle.law_copies.proofs.Places.{linked_on, place_of_later, place_touched, place_untouched, rows_later, state_next}
+use Rattle.law_copies.proofs.Places.{below_at, linked_alive, place_of_later, place_touched, place_untouched, places_up, rows_later, state_next}
 use Rattle.law_copies.proofs.Standing.{cell_map}
+use Rattle.law_copies.proofs.Working.{above_none}
 
 -- ### What an entry leaves of a server's own part
 
@@ -96,58 +102,94 @@ cond_none : {X : Type 0} (b : Bool) (o : Option X) → o ≡ None → cond b o N
 cond_none true o none = none
 cond_none false o none = refl
 
+-- a cell that is not dead with the entry doesn't die by it
+lives_on : (state : State) (entry : Command) (cell : Cell) → stage_at state cell ≤ stage_at (after state entry) cell
+    → stage_at (after state entry) cell < 4 → dies state entry cell ≡ false
+lives_on state entry cell up alive = by_bool (live state cell)
+    (λ on.
+    let born = (live_stage state cell on).0 in
+    let lives_then : live (after state entry) cell ≡ true = stage_live (after state entry) cell (omega arith) alive in
+    ap (λ b. live state cell && not b) lives_then ∙ ap (λ b. b && false) on)
+    (λ off. ap (λ b. b && not (live (after state entry) cell)) off)
+
+-- one that is live and doesn't die is live then
+live_then : (state : State) (entry : Command) (cell : Cell) → dies state entry cell ≡ false → live state cell ≡ true
+    → live (after state entry) cell ≡ true
+live_then state entry cell stays on = by_bool (live (after state entry) cell) (λ t. t)
+    (λ off. true_false (ap (λ b. live state cell && not b) off ∙ ap (λ b. b && true) on) stays)
+
 module _ (state : State) (entry : Command) (own : Own) where
   cells_left : {X : Type 0} (t : Table Cell X) (cell : Cell)
-      → at cell_cmp (filter (λ row. not (touches_cell state entry row.0)) t) cell ≡ cond (not (touches_cell state entry cell)) (at cell_cmp t cell) None
-  cells_left t cell = at-where cell_cmp t (λ k. not (touches_cell state entry k)) cell (λ k tie. ap (λ q. not (touches_cell state entry q)) (sym (cell_cmp_same cell k tie)))
+      → at cell_cmp (filter (λ row. not (ends_cell state entry row.0)) t) cell ≡ cond (not (ends_cell state entry cell)) (at cell_cmp t cell) None
+  cells_left t cell = at-where cell_cmp t (λ k. not (ends_cell state entry k)) cell
+      (λ k tie. ap (λ q. not (ends_cell state entry q)) (sym (cell_cmp_same cell k tie)))
 
-  links_left : (id : LinkId) → at link_cmp (crossed state entry own).copies.progress id ≡ cond (not (touches_link state entry id)) (at link_cmp own.copies.progress id) None
-  links_left id = at-where link_cmp own.copies.progress (λ k. not (touches_link state entry k)) id (λ k tie. ap (λ q. not (touches_link state entry q)) (sym (same_id id k (ap is_eq tie))))
+  links_left : (id : LinkId) → at link_cmp (crossed state entry own).copies.progress id ≡ cond (not (ends_link state entry id))
+      (at link_cmp own.copies.progress id) None
+  links_left id = at-where link_cmp own.copies.progress (λ k. not (ends_link state entry k)) id
+      (λ k tie. ap (λ q. not (ends_link state entry q)) (sym (same_id id k (ap is_eq tie))))
 
-  cell_gone : {X : Type 0} (t : Table Cell X) (cell : Cell) → touches_cell state entry cell ≡ true
-      → at cell_cmp (filter (λ row. not (touches_cell state entry row.0)) t) cell ≡ None
+  cell_gone : {X : Type 0} (t : Table Cell X) (cell : Cell) → ends_cell state entry cell ≡ true
+      → at cell_cmp (filter (λ row. not (ends_cell state entry row.0)) t) cell ≡ None
   cell_gone t cell on = cells_left t cell ∙ ap (λ b. cond (not b) (at cell_cmp t cell) None) on
 
-  cell_stays : {X : Type 0} (t : Table Cell X) (cell : Cell) → touches_cell state entry cell ≡ false
-      → at cell_cmp (filter (λ row. not (touches_cell state entry row.0)) t) cell ≡ at cell_cmp t cell
+  cell_stays : {X : Type 0} (t : Table Cell X) (cell : Cell) → ends_cell state entry cell ≡ false
+      → at cell_cmp (filter (λ row. not (ends_cell state entry row.0)) t) cell ≡ at cell_cmp t cell
   cell_stays t cell off = cells_left t cell ∙ ap (λ b. cond (not b) (at cell_cmp t cell) None) off
 
   -- what was not there is not
   cell_never : {X : Type 0} (t : Table Cell X) (cell : Cell) → at cell_cmp t cell ≡ None
-      → at cell_cmp (filter (λ row. not (touches_cell state entry row.0)) t) cell ≡ None
-  cell_never t cell none = cells_left t cell ∙ cond_none (not (touches_cell state entry cell)) (at cell_cmp t cell) none
+      → at cell_cmp (filter (λ row. not (ends_cell state entry row.0)) t) cell ≡ None
+  cell_never t cell none = cells_left t cell ∙ cond_none (not (ends_cell state entry cell)) (at cell_cmp t cell) none
 
   link_never : (row : LinkRow) → progress_on own row ≡ no_progress → progress_on (crossed state entry own) row ≡ no_progress
   link_never row none =
-      ap (λ o. unwrap_or o no_progress) (links_left (id_of row)) ∙ either (not (touches_link state entry (id_of row)))
+      ap (λ o. unwrap_or o no_progress) (links_left (id_of row)) ∙ either (not (ends_link state entry (id_of row)))
     where
       either : (b : Bool) → unwrap_or (cond b (at link_cmp own.copies.progress (id_of row)) None) no_progress ≡ no_progress
       either true = none
       either false = refl
 
-  -- a copy that is left was there
+  -- what is left was there, and the cell doesn't die
+  cell_left : {X : Type 0} (t : Table Cell X) (q : Cell) (x : X) → at cell_cmp (filter (λ row. not (ends_cell state entry row.0)) t) q ≡ Some x
+      → (at cell_cmp t q ≡ Some x) × (ends_cell state entry q ≡ false)
+  cell_left t q x is = by_bool (ends_cell state entry q)
+      (λ on. none_some (cell_gone t q on) is)
+      (λ off. (sym (cell_stays t q off) ∙ is, off))
+
   copy_left : (q : Cell) (copy : Copying) → copying_on (crossed state entry own) q ≡ Some copy → copying_on own q ≡ Some copy
-  copy_left q copy is = by_bool (touches_cell state entry q)
-      (λ on. none_some (cell_gone own.copies.pending q on) is)
-      (λ off. sym (cell_stays own.copies.pending q off) ∙ is)
+  copy_left q copy is = (cell_left own.copies.pending q copy is).0
+
+  -- a last copy that is left is of a cell that is live then
+  pub last_left : ((q : Cell) (last : LastCopy) → last_copy own q ≡ Some last → live state q ≡ true) → (q : Cell) (last : LastCopy)
+      → last_copy (crossed state entry own) q ≡ Some last → live (after state entry) q ≡ true
+  last_left copied q last is =
+      let was = cell_left own.copies.last q last is in
+      live_then state entry q (either_false (touches_cell state entry q) (dies state entry q) was.1).1 (copied q last was.0)
 
   -- a cell that the entry touches is new to it
   pub touched_fresh : (cell : Cell) (row : LinkRow) → cell_link state cell ≡ Some row → touches state entry row ≡ true → IsFresh (crossed state entry own) row cell
   touched_fresh cell row is on =
       let touched : touches_cell state entry cell ≡ true = ap (λ o. option_map_or (touches state entry) o false) is ∙ on in
       let link : touches_link state entry (id_of row) ≡ true = ap (λ o. option_map_or (touches state entry) o false) (row_named state cell row is) ∙ on in
+      let ends : ends_cell state entry cell ≡ true = ap (λ b. b || dies state entry cell) touched in
+      let ends_too : ends_link state entry (id_of row) ≡ true = ap (λ b. b || is_none (link_named (after state entry) (id_of row))) link in
       record {
-        last = cell_gone own.pairs.last cell touched;
-        copying = cell_gone own.copies.pending cell touched;
-        last_copy = cell_gone own.copies.last cell touched;
-        pages = ap (λ o. unwrap_or o no_progress) (links_left (id_of row) ∙ ap (λ b. cond (not b) (at link_cmp own.copies.progress (id_of row)) None) link);
+        last = cell_gone own.pairs.last cell ends;
+        copying = cell_gone own.copies.pending cell ends;
+        last_copy = cell_gone own.copies.last cell ends;
+        pages = ap (λ o. unwrap_or o no_progress) (links_left (id_of row) ∙ ap (λ b. cond (not b) (at link_cmp own.copies.progress (id_of row)) None) ends_too);
       }
 
-  -- one that it does not touch is as before
-  pub untouched_keeps : (cell : Cell) (row : LinkRow) → cell_link state cell ≡ Some row → touches state entry row ≡ false → KeepsAll own (crossed state entry own) row cell
-  untouched_keeps cell row is off =
-      let away : touches_cell state entry cell ≡ false = ap (λ o. option_map_or (touches state entry) o false) is ∙ off in
-      let link : touches_link state entry (id_of row) ≡ false = ap (λ o. option_map_or (touches state entry) o false) (row_named state cell row is) ∙ off in
+  -- one that it does not touch is as before, where the cell doesn't die, and its link stays
+  pub untouched_keeps : (cell : Cell) (row : LinkRow) → cell_link state cell ≡ Some row → touches state entry row ≡ false → dies state entry cell ≡ false
+      → link_named (after state entry) (id_of row) ≡ Some row → KeepsAll own (crossed state entry own) row cell
+  untouched_keeps cell row is off stays named =
+      let away : ends_cell state entry cell ≡ false =
+      ap (λ b. b || dies state entry cell) (ap (λ o. option_map_or (touches state entry) o false) is ∙ off) ∙ stays in
+      let link : ends_link state entry (id_of row) ≡ false =
+      ap (λ b. b || is_none (link_named (after state entry) (id_of row)))
+      (ap (λ o. option_map_or (touches state entry) o false) (row_named state cell row is) ∙ off) ∙ ap is_none named in
       record {
         keeps = record {
           rest = record {
@@ -191,10 +233,21 @@ module _ (state : State) (entry : Command) (own : Own) where
       copies = λ q copy is. all.copies q copy (ap (λ (c : Copies). at cell_cmp c.pending q) (sym left.copies) ∙ is);
     }
 
-    pub left_unheard : (cell : Cell) → IsUnheard (crossed state entry own) cell → IsUnheard new cell
-    left_unheard cell unheard = record {
-      last = ap (λ (p : Pairs). at cell_cmp p.last cell) left.pairs ∙ unheard.last;
-      pages = λ row same. ap (λ (c : Copies). unwrap_or (at link_cmp c.progress (id_of row)) no_progress) left.copies ∙ unheard.pages row same;
+    pub left_copied : ((q : Cell) (last : LastCopy) → last_copy own q ≡ Some last → live state q ≡ true) → (q : Cell) (last : LastCopy)
+        → last_copy new q ≡ Some last → live (after state entry) q ≡ true
+    left_copied copied q last is = last_left copied q last (ap (λ (c : Copies). at cell_cmp c.last q) (sym left.copies) ∙ is)
+
+    -- a cell of which there was nothing, and nothing was heard
+    pub left_unheard : (later : State) (cell : Cell) → IsBare own cell → at cell_cmp own.pairs.last cell ≡ None
+        → (cell_link later cell ≡ None → (row : LinkRow) → row.map ≡ cell.map → progress_on own row ≡ no_progress) → IsUnheard later new cell
+    left_unheard later cell bare last pages = record {
+      bare = record {
+        chain = ap (λ t. chain_in t cell) left.chains ∙ bare.chain;
+        marks = λ kind. ap (has_mark (mark_on kind cell)) left.marks ∙ bare.marks kind;
+      };
+      last = ap (λ (p : Pairs). at cell_cmp p.last cell) left.pairs ∙ cell_never own.pairs.last cell last;
+      pages = λ none row same. ap (λ (c : Copies). unwrap_or (at link_cmp c.progress (id_of row)) no_progress) left.copies
+          ∙ link_never row (pages none row same);
     }
 
 -- ### At the server's own places
@@ -242,12 +295,27 @@ module _ (setting : Setting) (records : List Record) (w : World) (stores : ℕ �
   row_then : (cell : Cell) (now : LinkRow) → IsLinked setting next cell now → cell_link (after earlier entry) cell ≡ Some now
   row_then cell now end = sym (ap (λ (s : State). cell_link s cell) next_is) ∙ end
 
+  stages_up : (cell : Cell) → stage_at earlier cell ≤ stage_at (state_after setting.servers next) cell
+  stages_up cell = (below_at setting next plain_next front next step_on (front_itself next)).stages cell
+
+  pub alive_before : (cell : Cell) → AliveIn (state_after setting.servers next) cell → AliveIn earlier cell
+  alive_before cell alive = let le = stages_up cell in omega arith
+
+  -- a cell that isn't dead and has no link isn't live yet
+  unborn : (cell : Cell) → AliveIn earlier cell → cell_link earlier cell ≡ None → stage_at earlier cell ≡ 0
+  unborn cell alive none = elim (same_or_apart (stage_at earlier cell) 0) [
+    | inl zero ↦ zero
+    | inr ne ↦ none_some none (steady_front.lives cell (stage_live earlier cell (above_none (stage_at earlier cell) ne) alive)).is
+  ]
+
   -- nothing is pending there on a link that its Caught puts in Both: the holder had its ballot in mind, and the other server does not lead
-  caught_free : (cell : Cell) (row : LinkRow) → cell_link earlier cell ≡ Some row → IsCaughtBy earlier entry row → (op : Pending) → pending_on old cell ≡ Some op → ⊥
-  caught_free cell row is acts op there =
+  caught_free : (cell : Cell) (row : LinkRow) → cell_link earlier cell ≡ Some row → AliveIn earlier cell → IsCaughtBy earlier entry row → (op : Pending)
+      → pending_on old cell ≡ Some op → ⊥
+  caught_free cell row is alive acts op there =
       let staged = (rests.pending k).staged cell op there in
       let seated = rests.seated k cell op runs there in
-      elim (led_by earlier steady_front cell k (is_the_one (lead earlier cell) k staged.lead)) [
+      let on = stage_live earlier cell staged.born alive in
+      elim (link_led_by earlier steady_front cell k (is_the_one (option_and_then (row_lead earlier) (cell_link earlier cell)) k (staged.leads on))) [
         | inl b ↦ alone_not_both row acts.holder acts.alone (ap (λ (r : LinkRow). r.state) (same_some (sym is ∙ b.0.is)) ∙ b.0.so)
         | inr held ↦
             let mine : acts.holder ≡ k = same_only (sym acts.alone ∙ ap (λ (r : LinkRow). r.state) (same_some (sym is ∙ held.is)) ∙ held.so) in
@@ -259,7 +327,7 @@ module _ (setting : Setting) (records : List Record) (w : World) (stores : ℕ �
             let mine_started = subst (λ n. HasStarted w.servers n acts.inc (length front) (id_of row)) mine started in
             elim mine_started [
               | inl past ↦ absurd (omega (arith, inc_is))
-              | inr flag ↦ true_false (held_as_flag earlier old cell row is ∙ flag.1.flagged refl) staged.unheld
+              | inr flag ↦ true_false (held_as_flag earlier old cell row is ∙ flag.1.flagged refl) (staged.unheld on)
             ]
       ]
 
@@ -285,12 +353,17 @@ module _ (setting : Setting) (records : List Record) (w : World) (stores : ℕ �
     pub keeps : KeepsAll old new now cell
 
   -- by a link that is made
-  comes_new : (cell : Cell) (now : LinkRow) → IsLinked setting next cell now → cell_link earlier cell ≡ None → ComesTo cell now
-  comes_new cell now end none =
-      let unheard = good.unheard k cell none in
+  comes_new : (cell : Cell) (now : LinkRow) → IsLinked setting next cell now → AliveIn (state_after setting.servers next) cell
+      → cell_link earlier cell ≡ None → ComesTo cell now
+  comes_new cell now end alive none =
+      let before = alive_before cell alive in
+      let zero = unborn cell before none in
+      let unheard = good.unheard k cell zero in
       let map_is : now.map ≡ cell.map = sym (cell_map (state_after setting.servers next) cell now end) in
       record {
-        unseen = unvisited (place_by setting next now) cell (λ own e. none_some none (good.been k (place_by setting next now) cell own e).linked);
+        unseen = unvisited (place_by setting next now) cell (λ own e.
+            let b = good.been k (place_by setting next now) cell own e in
+            none_some none (linked_alive setting front plain_front b.front front cell b.row b.within (front_itself front) b.linked before).1);
         fresh = left_fresh earlier entry old new left now cell (record {
           last = cell_never earlier entry old old.pairs.last cell unheard.last;
           copying = cell_never earlier entry old old.copies.pending cell (elim (some_or_none (copying_on old cell)) [
@@ -298,27 +371,27 @@ module _ (setting : Setting) (records : List Record) (w : World) (stores : ℕ �
             | inr gone ↦ gone
           ]);
           last_copy = cell_never earlier entry old old.copies.last cell (elim (some_or_none (last_copy old cell)) [
-            | inl h ↦ none_some none ((rests.resting k).lasts cell h.0 h.1).is
+            | inl h ↦ elim ((rests.resting k).lasts cell h.0 h.1) [ inl rests ↦ none_some none rests.is | inr dead ↦ absurd (omega arith) ]
             | inr gone ↦ gone
           ]);
-          pages = link_never earlier entry old now (unheard.pages now map_is);
+          pages = link_never earlier entry old now (unheard.pages none now map_is);
         });
         free = λ both. no_pending cell (λ op there.
-            let staged = (rests.pending k).staged cell op there in
-            none_some none (led_row earlier steady_front k cell staged.lead).1);
+            let born = ((rests.pending k).staged cell op there).born in absurd (omega arith));
       }
 
   -- by an entry that touches it
-  comes_touched : (cell : Cell) (row now : LinkRow) → IsLinked setting next cell now → cell_link earlier cell ≡ Some row → touches earlier entry row ≡ true → ComesTo cell now
-  comes_touched cell row now end is on =
+  comes_touched : (cell : Cell) (row now : LinkRow) → IsLinked setting next cell now → AliveIn (state_after setting.servers next) cell
+      → cell_link earlier cell ≡ Some row → touches earlier entry row ≡ true → ComesTo cell now
+  comes_touched cell row now end alive is on =
       let so = rows_later setting next plain_next front next cell row now step_on (front_itself next) is end in
       let id_same : id_of now ≡ id_of row = (λ i. record { map = so.map i; link = so.link i }) in
       let fresh = touched_fresh earlier entry old cell row is on in
       record {
         unseen = unvisited (place_by setting next now) cell (λ own e.
             let b = good.been k (place_by setting next now) cell own e in
-            let same : b.row ≡ row = same_some (sym b.linked ∙ is) in
-            let le = subst (λ r. place_by setting next now ≤ place_by setting front r) same b.past in
+            let at = b.at in
+            let le = places_up setting front plain_front b.front front cell b.row row b.within (front_itself front) b.linked is in
             let later_place = place_of_later setting next plain_next front next next cell row now step_on (front_itself next) is end in
             let one : place_by setting next row ≡ place_by setting front row + 1 = ap (λ f. place_by setting f row) more ∙ place_touched setting front entry row on in
             absurd (omega arith));
@@ -333,38 +406,63 @@ module _ (setting : Setting) (records : List Record) (w : World) (stores : ℕ �
               (sym (left_row row left.server left.one_of) ∙ ap (λ (r : LinkRow). r.state) (same_some (sym at ∙ row_then cell now end)) ∙ both)
           | By_join joined at apart seats ↦ absurd (apart (both_before joined.server joined.blank row
               (ap (λ (r : LinkRow). r.state) (same_some (sym at ∙ row_then cell now end)) ∙ both)))
-          | By_caught acts stays ↦ caught_free cell row is acts op there
+          | By_caught acts stays ↦ caught_free cell row is (alive_before cell alive) acts op there
         ]);
       }
 
-  stays_untouched : (cell : Cell) (row now : LinkRow) → IsLinked setting next cell now → cell_link earlier cell ≡ Some row → touches earlier entry row ≡ false → StaysAt cell now
-  stays_untouched cell row now end is off =
-      let so = log_entry_stays setting.servers front entry cell row plain_front plain_entry is off in
+  stays_so : (cell : Cell) (row now : LinkRow) → IsLinked setting next cell now → cell_link earlier cell ≡ Some row → touches earlier entry row ≡ false
+      → StaysSo cell row earlier (after earlier entry)
+  stays_so cell row now end is off = elim (log_entry_stays setting.servers front entry cell row plain_front plain_entry is off) [
+    | inl so ↦ so
+    | inr died ↦ none_some died.0 (row_then cell now end)
+  ]
+
+  stays_untouched : (cell : Cell) (row now : LinkRow) → IsLinked setting next cell now → AliveIn (state_after setting.servers next) cell
+      → cell_link earlier cell ≡ Some row → touches earlier entry row ≡ false → StaysAt cell now
+  stays_untouched cell row now end alive is off =
+      let so = stays_so cell row now end is off in
       let same : row ≡ now = same_some (sym so.same ∙ row_then cell now end) in
+      let stage : stage_at (state_after setting.servers next) cell ≡ stage_at (after earlier entry) cell = ap (λ (s : State). stage_at s cell) next_is in
+      let up = stages_up cell in
+      let stays = lives_on earlier entry cell (omega arith) (omega arith) in
       subst (StaysAt cell) same (record {
         linked = is;
         place = ap (λ f. place_by setting f row) more ∙ place_untouched setting front entry row off;
         so = subst (StaysSo cell row earlier) (sym next_is) so;
-        keeps = left_keeps earlier entry old new left row cell (untouched_keeps earlier entry old cell row is off);
+        keeps = left_keeps earlier entry old new left row cell (untouched_keeps earlier entry old cell row is off stays
+            (row_named (after earlier entry) cell row so.same));
       })
 
-  pub comes_or_stays : (cell : Cell) (now : LinkRow) → IsLinked setting next cell now → ComesTo cell now ⊎ StaysAt cell now
-  comes_or_stays cell now end = elim (some_or_none (cell_link earlier cell)) [
+  pub comes_or_stays : (cell : Cell) (now : LinkRow) → IsLinked setting next cell now → AliveIn (state_after setting.servers next) cell
+      → ComesTo cell now ⊎ StaysAt cell now
+  comes_or_stays cell now end alive = elim (some_or_none (cell_link earlier cell)) [
     | inl h ↦ by_bool (touches earlier entry h.0)
-        (λ on. inl (comes_touched cell h.0 now end h.1 on))
-        (λ off. inr (stays_untouched cell h.0 now end h.1 off))
-    | inr none ↦ inl (comes_new cell now end none)
+        (λ on. inl (comes_touched cell h.0 now end alive h.1 on))
+        (λ off. inr (stays_untouched cell h.0 now end alive h.1 off))
+    | inr none ↦ inl (comes_new cell now end alive none)
   ]
 
-  -- of a cell that has no link then it had heard nothing, and hears nothing
-  pub still_unheard : (cell : Cell) → cell_link (state_after setting.servers next) cell ≡ None → IsUnheard new cell
-  still_unheard cell none =
-      let before : cell_link earlier cell ≡ None = elim (some_or_none (cell_link earlier cell)) [
-        | inl h ↦ none_some none (linked_on setting next plain_next front next cell h.0 step_on (front_itself next) h.1).1
+  -- of a cell that is not live then it had heard nothing, and hears nothing
+  pub still_unheard : (cell : Cell) → stage_at (state_after setting.servers next) cell ≡ 0 → IsUnheard (state_after setting.servers next) new cell
+  still_unheard cell zero =
+      let up = stages_up cell in
+      let unheard = good.unheard k cell (omega arith) in
+      left_unheard earlier entry old new left (state_after setting.servers next) cell unheard.bare unheard.last
+      (λ none. unheard.pages (elim (some_or_none (cell_link earlier cell)) [
+        | inl h ↦ none_some none (linked_alive setting next plain_next front next cell h.0 step_on (front_itself next) h.1 (omega arith)).1
         | inr gone ↦ gone
-      ] in
-      let unheard = good.unheard k cell before in
-      left_unheard earlier entry old new left cell (record {
-        last = cell_never earlier entry old old.pairs.last cell unheard.last;
-        pages = λ row same. link_never earlier entry old row (unheard.pages row same);
-      })
+      ]))
+
+  -- a last copy that is remembered then is of a live cell
+  pub still_copied : (cell : Cell) (last : LastCopy) → last_copy new cell ≡ Some last → live (state_after setting.servers next) cell ≡ true
+  still_copied cell last is = ap (λ (s : State). live s cell) next_is ∙ left_copied earlier entry old new left (good.copied k) cell last is
+
+  -- operations find what they found
+  pub still_marks : HaveMarks (state_after setting.servers next) new.pairs.pending new.store
+  still_marks cell op on is =
+      let was : at cell_cmp old.pairs.pending cell ≡ Some op = ap (λ (p : Pairs). at cell_cmp p.pending cell) (sym left.pairs) ∙ is in
+      let born = ((rests.pending k).staged cell op was).born in
+      let most = (live_stage (state_after setting.servers next) cell on).1 in
+      let up = stages_up cell in
+      same_have earlier old.pairs.pending old.store new.store left.chains left.marks (good.marks k (inl runs)) cell op
+      (stage_live earlier cell born (omega arith)) was

@@ -10,7 +10,7 @@ use Rattle.petal_rules.specs.Boots.{blanked, stays}
 use Rattle.petal_rules.specs.Crossing.{crossed}
 use Rattle.petal_rules.specs.Jobs.{Acted}
 use Rattle.petal_rules.specs.Lists.{put_at}
-use Rattle.petal_rules.specs.State.{State, is_in, is_lead}
+use Rattle.petal_rules.specs.State.{State, is_in, leads_link, live}
 use Rattle.petal_rules.specs.Store.{Store, chain_in}
 use Rattle.petal_rules.specs.Server.{Server, Done}
 use Rattle.petal_rules.specs.World.{Setting, World, chosen_log, chosen_state, counted, kept, server_state, setting_of, start}
@@ -20,7 +20,6 @@ use Rattle.petal_rules.proofs.Settled.{settling}
 use Rattle.petal_rules.proofs.Tests.{same_or_apart, true_false}
 use Rattle.law_log.proofs.Histories.{history_is_firm}
 use Rattle.law_state.specs.Firm.{Firm}
-use Rattle.law_state.proofs.Cells.{leads_so}
 use Rattle.law_steps.specs.Did.{Did}
 use Rattle.law_steps.specs.Happens.{Happens, Handled, IsSeated, Serves, Blanks, Turns, Serving, Goes, Ends, Stays, Wakes, Fails, By_job, By_ballot, By_entry, own_place}
 use Rattle.law_steps.specs.Ready.{Rests}
@@ -41,42 +40,46 @@ module _ (setting : Setting) (records : List Record) (w : World) (firm : Firm se
     → IsAtWork setting w (kept setting w) k) where
   -- in a job of a server that leads the cell
   job_first : (k : ℕ) (done : Done) → (w.servers k).life.running ≡ true → Did (Handled w k) (own_place setting w k) (w.servers k).own done
-      → IsSeated (own_place setting w k) (w.servers k).own done → (cell : Cell) → is_lead (server_state setting w k) k cell ≡ true
-      → chain_in done.own.store.chains cell ≢ chain_in (w.servers k).own.store.chains cell → IsMarked (w.servers k).own.store cell
-  job_first k done runs did (inl seat) cell lead changed =
+      → IsSeated (own_place setting w k) (w.servers k).own done → (cell : Cell) → live (server_state setting w k) cell ≡ true
+      → leads_link (server_state setting w k) k cell ≡ true → chain_in done.own.store.chains cell ≢ chain_in (w.servers k).own.store.chains cell
+      → IsMarked (w.servers k).own.store cell
+  job_first k done runs did (inl seat) cell on lead changed =
       let at = works k runs seat in
       (job_marked (Handled w k) (own_place setting w k) (w.servers k).own (own_steady setting w firm k) (rests.pending k)
       (seated.marks setting records w (kept setting w) k good firm rests at)
-      (idle_copies setting records w (kept setting w) k good firm rests at) done did).first cell lead changed
-  job_first k done runs did (inr apart) cell lead changed = absurd (changed (ap (λ o. chain_in o.store.chains cell) apart.same))
+      (idle_copies setting records w (kept setting w) k good firm rests at) done did).first cell on lead changed
+  job_first k done runs did (inr apart) cell on lead changed = absurd (changed (ap (λ o. chain_in o.store.chains cell) apart.same))
 
-  server_first : (k : ℕ) (what : Step) (acted : Acted) → Serving setting w k what acted → (cell : Cell) → is_lead (server_state setting w k) k cell ≡ true
-      → chain_in acted.server.own.store.chains cell ≢ chain_in (w.servers k).own.store.chains cell → IsMarked (w.servers k).own.store cell
-  server_first k what _ (Goes _ _ queue runs (By_job log done same did seat) queued works) cell lead changed = job_first k done runs did seat cell lead changed
-  server_first k what _ (Goes _ _ queue runs (By_ballot log started posts same starts logged) queued works) cell lead changed =
+  server_first : (k : ℕ) (what : Step) (acted : Acted) → Serving setting w k what acted → (cell : Cell) → live (server_state setting w k) cell ≡ true
+      → leads_link (server_state setting w k) k cell ≡ true → chain_in acted.server.own.store.chains cell ≢ chain_in
+      (w.servers k).own.store.chains cell → IsMarked (w.servers k).own.store cell
+  server_first k what _ (Goes _ _ queue runs
+      (By_job log done same did seat) queued works) cell on lead changed = job_first k done runs did seat cell on lead changed
+  server_first k what _ (Goes _ _ queue runs (By_ballot log started posts same starts logged) queued works) cell on lead changed =
       absurd (changed (ap (λ (s : Store). chain_in s.chains cell) (ballot_alike (server_state setting w k) (w.servers k).own started).2))
-  server_first k what _ (Goes _ _ queue runs (By_entry log entry more front) queued works) cell lead changed =
+  server_first k what _ (Goes _ _ queue runs (By_entry log entry more front) queued works) cell on lead changed =
       absurd (changed (ap (λ t. chain_in t cell) (settling (own_place setting w k) entry (crossed (server_state setting w k) entry (w.servers k).own)).chains))
-  server_first k what _ (Ends _ _ runs (By_job log done same did seat)) cell lead changed = job_first k done runs did seat cell lead changed
-  server_first k what _ (Ends _ _ runs (By_ballot log started posts same starts logged)) cell lead changed =
+  server_first k what _ (Ends _ _ runs (By_job log done same did seat)) cell on lead changed = job_first k done runs did seat cell on lead changed
+  server_first k what _ (Ends _ _ runs (By_ballot log started posts same starts logged)) cell on lead changed =
       absurd (changed (ap (λ (s : Store). chain_in s.chains cell) (ballot_alike (server_state setting w k) (w.servers k).own started).2))
-  server_first k what _ (Ends _ _ runs (By_entry log entry more front)) cell lead changed =
+  server_first k what _ (Ends _ _ runs (By_entry log entry more front)) cell on lead changed =
       absurd (changed (ap (λ t. chain_in t cell) (settling (own_place setting w k) entry (crossed (server_state setting w k) entry (w.servers k).own)).chains))
-  server_first k what _ (Stays who posts from shown) cell lead changed = absurd (changed refl)
-  server_first k what _ (Wakes booted asleep) cell lead changed = absurd (changed refl)
-  server_first k what _ (Fails booted asleep) cell lead changed = absurd (changed refl)
+  server_first k what _ (Stays who posts from shown) cell on lead changed = absurd (changed refl)
+  server_first k what _ (Wakes booted asleep) cell on lead changed = absurd (changed refl)
+  server_first k what _ (Fails booted asleep) cell on lead changed = absurd (changed refl)
 
   happens_first : (v : World) → Happens setting (chosen_state setting v) w v → (n : ℕ) (cell : Cell) → (w.servers n).life.running ≡ true
-      → is_lead (server_state setting w n) n cell ≡ true
+      → live (server_state setting w n) cell ≡ true → leads_link (server_state setting w n) n cell ≡ true
       → chain_in (v.servers n).own.store.chains cell ≢ chain_in (w.servers n).own.store.chains cell → IsMarked (w.servers n).own.store cell
-  happens_first v what n cell runs lead changed = by (chosen_state setting v) v what lead changed
+  happens_first v what n cell runs on lead changed = by (chosen_state setting v) v what lead changed
     where
-      by : (state : State) (u : World) → Happens setting state w u → is_lead (server_state setting w n) n cell ≡ true
+      by : (state : State) (u : World) → Happens setting state w u → leads_link (server_state setting w n) n cell ≡ true
           → chain_in (u.servers n).own.store.chains cell ≢ chain_in (w.servers n).own.store.chains cell → IsMarked (w.servers n).own.store cell
       by state _ (Serves k stamp step acted lt small unblanked serving) lead changed = elim (same_or_apart n k) [
         | inl e ↦
             subst (λ i. IsMarked (w.servers i).own.store cell) (sym e)
-            (server_first k step acted serving cell (subst (λ i. is_lead (server_state setting w i) i cell ≡ true) e lead)
+            (server_first k step acted serving cell (subst (λ i. live (server_state setting w i) cell ≡ true) e on)
+            (subst (λ i. leads_link (server_state setting w i) i cell ≡ true) e lead)
             (λ same. changed
             (ap (λ i. chain_in (put_at w.servers k acted.server i).own.store.chains cell) e
             ∙ ap (λ (s : Server). chain_in s.own.store.chains cell) (put_same w.servers k acted.server) ∙ same
@@ -103,8 +106,7 @@ marks_first script records sound legal front back own e n cell =
     let rests = rests_after setting (start setting) front (always_firm script front sound legal_front) (start_rests script) legal_front in
     let happens = last_happens script front own (always_firm script all sound legal_all) legal_all (chosen_state setting v) (below_itself (chosen_state setting v)) in
     record {
-      marked = λ runs leads changed. happens_first setting front w firm rests (good_after script front sound legal_front)
-          (at_work script front sound legal_front) v happens n cell runs
-          (sym (leads_so (server_state setting w n) (own_steady setting w firm n) cell n) ∙ leads)
+      marked = λ runs on leads changed. happens_first setting front w firm rests (good_after script front sound legal_front)
+          (at_work script front sound legal_front) v happens n cell runs on leads
           (λ same. changed (ap (λ (u : World). chain_in (u.servers n).own.store.chains cell) (sym (world_more setting (start setting) front own)) ∙ same));
     }

@@ -1,6 +1,7 @@
 -- What is kept at a front where a step leaves the cell as it is at both servers of the link: what they were at the place, and their
 -- stores' chain and marks.
-use Rattle.std.proofs.Common.{◌≡◌, ◌≤◌, ◌==◌, ◌⊎◌, ℕ, Bool, List, [], true, Option, Some, None, is_some, refl, sym, ap, ◌∙◌, subst, inl, inr, arith}
+use Rattle.std.proofs.Common.{◌≡◌, ◌≤◌, ◌+◌, ◌==◌, ◌⊎◌, ℕ, Bool, List, [], true, Option, Some, None, is_some, refl, sym, ap, ◌∙◌, subst, inl, inr, arith}
+use Rattle.std.specs.Ordering.{nat_cmp}
 use Rattle.busy_marks.specs.declared.marks.MarkKind.{MarkKind}
 use Rattle.busy_marks.specs.declared.marks.MarkKind.TheVariants.{Busy, Stale}
 use Rattle.global_tables.specs.Link.{has_server, other_of}
@@ -20,8 +21,8 @@ use Rattle.petal_rules.proofs.Tests.{by_test, none_some, some_or_none}
 use Rattle.law_state.proofs.Roles.{primary_is_one, secondary_is_one}
 use Rattle.law_copies.specs.Copied.{AreAlike, AreCopying, IsCovered, IsPage, IsTold, links_of, Is_equal, Is_marked_here, Is_marked_there, Is_to_be_copied}
 use Rattle.law_copies.specs.Good.{AloneOk, AreBeside, AreTwins, BothOk, SaidOk, pair_at}
-use Rattle.law_copies.specs.Pair.{IsRecalled, Known, PairOk, pair_of}
-use Rattle.law_copies.specs.Visits.{HasFilled, Visits, half, place_by, store_by}
+use Rattle.law_copies.specs.Pair.{IsRecalled, Known, PairOk, far, pair_of}
+use Rattle.law_copies.specs.Visits.{AliveIn, HasFilled, Visits, half, place_by, store_by}
 
 -- ### Stores
 
@@ -51,7 +52,11 @@ marked_back old new cell same = marks_back old new cell same.marks
 pub recalled_on : (old new : Store) (cell : Cell) (op : Pending) → LeavesStore old new cell → IsRecalled op old cell → IsRecalled op new cell
 recalled_on old new cell op same r = record {
   rests = r.rests;
-  marks = record { busy = λ e. same.marks Busy ∙ r.marks.busy e; stale = λ e. same.marks Stale ∙ r.marks.stale e };
+  marks = record {
+    busy = λ e. same.marks Busy ∙ r.marks.busy e;
+    stale = λ e. same.marks Stale ∙ r.marks.stale e;
+    lacks = λ fill unput. ap (λ c. at nat_cmp c op.key.epoch) same.chain ∙ r.marks.lacks fill unput;
+  };
 }
 
 -- ### Pairs
@@ -123,41 +128,52 @@ module _ (setting : Setting) (top : List Command) (old new : ℕ → ℕ → Sto
   abbrev news : List Command → ℕ → Store
   news = store_by setting new
 
-  -- the cell is as before at a server of its link
+  -- the cell is as before at a server of its link: its store, too, unless the cell is dead
   pub record LeavesAt (front : List Command) (n place : ℕ) (cell : Cell) : Type 0 where
     pub visit : later n place cell ≡ visits n place cell
-    pub store : LeavesStore (olds front n) (news front n) cell
+    pub store : AliveIn (state_after setting.servers top) cell → LeavesStore (olds front n) (news front n) cell
 
   -- at both
   abbrev pub LeavesBoth : List Command → (place : ℕ) → Cell → LinkRow → Type 0
   LeavesBoth front place cell row = (n : ℕ) → has_server n row ≡ true → LeavesAt front n place cell
 
-  pub pair_framed : (front : List Command) (place : ℕ) (cell : Cell) (n m : ℕ) → LeavesAt front n place cell → LeavesAt front m place cell
+  pub pair_framed : (front : List Command) (place : ℕ) (cell : Cell) (n m : ℕ) → AliveIn (state_after setting.servers top) cell
+      → LeavesAt front n place cell → LeavesAt front m place cell
       → pair_at (olds front) visits place cell n m ≡ pair_at (news front) later place cell n m
-  pair_framed front place cell n m one two =
-      pair_same (visits n place cell) (visits m place cell) (olds front n) (olds front m) (news front n) (news front m) cell one.store.chain two.store.chain
+  pair_framed front place cell n m alive one two =
+      pair_same (visits n place cell) (visits m place cell) (olds front n) (olds front m) (news front n) (news front m) cell (one.store alive).chain
+      (two.store alive).chain
       ∙ (λ i. pair_of (half (sym one.visit i) (news front n)) (half (sym two.visit i) (news front m)) cell)
 
-  pub twins_framed : (front : List Command) (place : ℕ) (cell : Cell) (n m : ℕ) → LeavesAt front n place cell → LeavesAt front m place cell → AreTwins (olds front) visits place cell n m
+  pub twins_framed : (front : List Command) (place : ℕ) (cell : Cell) (n m : ℕ) → AliveIn (state_after setting.servers top) cell
+      → LeavesAt front n place cell → LeavesAt front m place cell → AreTwins (olds front) visits place cell n m
       → AreTwins (news front) later place cell n m
-  twins_framed front place cell n m one two twins = record {
-    pair = subst PairOk (pair_framed front place cell n m one two) twins.pair;
-    recalled = λ own op is there. recalled_on (olds front n) (news front n) cell op one.store (twins.recalled own op (sym one.visit ∙ is) there);
-  }
+  twins_framed front place cell n m alive one two twins =
+      let same = pair_framed front place cell n m alive one two in
+      record {
+        pair = subst PairOk same twins.pair;
+        recalled = λ own op is there. recalled_on (olds front n) (news front n) cell op (one.store alive) (twins.recalled own op (sym one.visit ∙ is) there);
+        lacks = λ own op is there fill le.
+            ap (λ c. at nat_cmp c op.key.epoch) (two.store alive).chain
+            ∙ twins.lacks own op (sym one.visit ∙ is) there fill (subst (λ p. far p ≤ op.op + op.op) (sym same) le);
+      }
 
-  pub beside_framed : (front : List Command) (place : ℕ) (row : LinkRow) (cell : Cell) (holder other : ℕ) → LeavesAt front holder place cell → LeavesAt front other place cell
+  pub beside_framed : (front : List Command) (place : ℕ) (row : LinkRow) (cell : Cell) (holder other : ℕ) → AliveIn (state_after setting.servers top) cell
+      → LeavesAt front holder place cell → LeavesAt front other place cell
       → AreBeside (olds front) visits place row cell holder other → AreBeside (news front) later place row cell holder other
-  beside_framed front place row cell holder other one two beside = record {
+  beside_framed front place row cell holder other alive one two beside = record {
     alike = subst (AreAlike row cell (news front holder) (news front other)) (sym one.visit)
-        (alike_same row cell (olds front holder) (olds front other) (news front holder) (news front other) (visits holder place cell) one.store two.store beside.alike);
-    still = λ own is. beside.still own (sym two.visit ∙ is) ∙ sym two.store.chain;
+        (alike_same row cell (olds front holder) (olds front other) (news front holder) (news front other) (visits holder place cell) (one.store alive)
+        (two.store alive) beside.alike);
+    still = λ own is. beside.still own (sym two.visit ∙ is) ∙ sym (two.store alive).chain;
   }
 
-  pub page_framed : (front : List Command) (place : ℕ) (cell : Cell) (other : ℕ) (after block : Option ℕ) → LeavesAt front other place cell
+  pub page_framed : (front : List Command) (place : ℕ) (cell : Cell) (other : ℕ) (after block : Option ℕ)
+      → AliveIn (state_after setting.servers top) cell → LeavesAt front other place cell
       → IsPage cell (olds front other) (visits other place cell) after block → IsPage cell (news front other) (later other place cell) after block
-  page_framed front place cell other after block two page = record {
+  page_framed front place cell other after block alive two page = record {
     met = ap is_some two.visit ∙ page.met;
-    least = λ ahead upto marked. page.least ahead upto (marked_back (olds front other) (news front other) cell two.store marked);
+    least = λ ahead upto marked. page.least ahead upto (marked_back (olds front other) (news front other) cell (two.store alive) marked);
   }
 
   module _ (up : (cell : Cell) → reached cell ≤ counted cell)
@@ -185,8 +201,9 @@ module _ (setting : Setting) (top : List Command) (old new : ℕ → ℕ → Sto
     pub both_framed : (front : List Command) (cell : Cell) (row : LinkRow) → LeavesBoth front (place_by setting front row) cell row
         → BothOk setting top old visits reached front cell row → BothOk setting top new later counted front cell row
     both_framed front cell row leaves ok = record {
-      twins = λ last. twins_framed front (place_by setting front row) cell row.primary row.secondary (leaves row.primary (primary_is_one row row.primary refl))
-          (leaves row.secondary (secondary_is_one row row.secondary refl)) (ok.twins (last_before cell (place_by setting front row) last));
+      twins = λ alive last. twins_framed front (place_by setting front row) cell row.primary row.secondary alive
+          (leaves row.primary (primary_is_one row row.primary refl)) (leaves row.secondary (secondary_is_one row row.secondary refl))
+          (ok.twins alive (last_before cell (place_by setting front row) last));
     }
 
     -- what is so of the visits alone
@@ -216,13 +233,13 @@ module _ (setting : Setting) (top : List Command) (old new : ℕ → ℕ → Sto
         let two = leaves other (other_is_one row holder) in
         record {
           copying = copying_framed (links_of (state_after setting.servers front) cell.map) place cell row holder one.visit two.visit ok.copying;
-          beside = λ last. beside_framed front place row cell holder other one two (ok.beside (last_before cell place last));
-          stays = λ own is beyond.
-              let was = ok.stays own (sym one.visit ∙ is) (λ p lt. nones other p cell (beyond p lt)) in (
-                λ marked. marked_on (olds front holder) (news front holder) cell one.store (was.0 marked),
-                λ all copied. to_copy_on row (olds front holder) (news front holder) cell one.store.chain (was.1 all copied),
+          beside = λ alive last. beside_framed front place row cell holder other alive one two (ok.beside alive (last_before cell place last));
+          stays = λ alive own is beyond.
+              let was = ok.stays alive own (sym one.visit ∙ is) (λ p lt. nones other p cell (beyond p lt)) in (
+                λ marked. marked_on (olds front holder) (news front holder) cell (one.store alive) (was.0 marked),
+                λ all copied. to_copy_on row (olds front holder) (news front holder) cell (one.store alive).chain (was.1 all copied),
               );
-          unfilled = λ whole. filled_framed front cell holder other two.store.chain (ok.unfilled whole);
+          unfilled = λ alive whole. filled_framed front cell holder other (two.store alive).chain (ok.unfilled alive whole);
         }
 
     pub said_framed : (front : List Command) (said : Body) (cell : Cell) (row : LinkRow)
@@ -232,16 +249,16 @@ module _ (setting : Setting) (top : List Command) (old new : ℕ → ℕ → Sto
     said_framed front said cell row has leaves ok =
         let place = place_by setting front row in
         record {
-          both = λ both last of. subst (λ p. Known p said)
-              (pair_framed front place cell row.primary row.secondary (leaves row.primary (primary_is_one row row.primary refl))
+          both = λ alive both last of. subst (λ p. Known p said)
+              (pair_framed front place cell row.primary row.secondary alive (leaves row.primary (primary_is_one row row.primary refl))
               (leaves row.secondary (secondary_is_one row row.secondary refl)))
-              (ok.both both (last_before cell place last) of);
+              (ok.both alive both (last_before cell place last) of);
           alone = λ holder whole alone of.
               told_framed place cell row holder said (leaves holder (has holder whole alone)).visit (leaves (other_of holder row) (other_is_one row holder)).visit
               (ok.alone holder whole alone of);
-          page = λ holder whole after block alone is last.
-              page_framed front place cell (other_of holder row) after block (leaves (other_of holder row) (other_is_one row holder))
-              (ok.page holder whole after block alone is (last_before cell place last));
+          page = λ alive holder whole after block alone is last.
+              page_framed front place cell (other_of holder row) after block alive (leaves (other_of holder row) (other_is_one row holder))
+              (ok.page alive holder whole after block alone is (last_before cell place last));
           met = λ holder whole after block alone is.
               ap is_some (leaves (other_of holder row) (other_is_one row holder)).visit ∙ ok.met holder whole after block alone is;
         }

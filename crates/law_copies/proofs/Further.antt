@@ -107,7 +107,7 @@ module _ (setting : Setting) (records : List Record) (v : World) (first : List C
             chains = ap (λ (s : Store). s.chains) is ∙ empty.chains;
             marks = ap (λ (s : Store). s.marks) is ∙ empty.marks;
             out = is_out n on;
-            rested = λ when. subst (HaveMarks (v.servers n).own.pairs.pending) (sym is) (rested n on when);
+            rested = λ when. subst (HaveMarks (server_state setting v n) (v.servers n).own.pairs.pending) (sym is) (rested n on when);
           };
     }
       where
@@ -116,9 +116,10 @@ module _ (setting : Setting) (records : List Record) (v : World) (first : List C
         own_by n none false = refl
 
         rested : (n : ℕ) → joins_blank so_far entry n ≡ true → ((v.servers n).life.running ≡ true) ⊎ (v.before_blank n ≡ None)
-            → HaveMarks (v.servers n).own.pairs.pending (store_of v n)
-        rested n on (inl runs) = λ cell op there. true_false (further.rests.seated n cell op runs there) (is_out n on)
-        rested n on (inr none) = subst (HaveMarks (v.servers n).own.pairs.pending) (own_by n none (joins top n == joins first n)) (good.marks n (inr none))
+            → HaveMarks (server_state setting v n) (v.servers n).own.pairs.pending (store_of v n)
+        rested n on (inl runs) = λ cell op lives there. true_false (further.rests.seated n cell op runs there) (is_out n on)
+        rested n on (inr none) = subst (HaveMarks (server_state setting v n) (v.servers n).own.pairs.pending)
+            (own_by n none (joins top n == joins first n)) (good.marks n (inr none))
 
   grow_by : (visits : Visits) (reached : Cell → ℕ) (more top : List Command) → chosen ≡ top ++ more → IsPrefix first top → IsBehind setting records top v
       → IsGrownTo setting records (with_stores v (recounted_by top)) visits reached top → IsGrownTo setting records

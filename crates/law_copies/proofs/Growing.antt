@@ -1,9 +1,10 @@
 -- The chosen log grows by an entry that no server has applied: what was kept at the fronts so far is kept at the new one. Where the
 -- entry touches a link, no server has been at the link's new place. Where it is a Join of a server with an empty store, that store is the
 -- server's from the new front on.
-use Rattle.std.proofs.Common.{◌≡◌, ◌≢◌, ◌≤◌, ◌++◌, ◌==◌, ◌⊎◌, ℕ, Bool, List, [], ◌∷◌, length, length-append, true, false, if◌then◌else◌, Option, Some, None, refl, sym, ap, ◌∙◌, subst, inl, inr, arith}
+use Rattle.std.proofs.Common.{◌≡◌, ◌≢◌, ◌≤◌, ◌++◌, ◌==◌, ◌⊎◌, ℕ, Bool, List, [], ◌∷◌, length, length-append, true, false, if◌then◌else◌, Some, None, refl, sym, ap, ◌∙◌, subst, inl, inr, arith}
 use Rattle.std.specs.Prelude.{slice_get}
 use Rattle.std.specs.Ordering.{nat_cmp}
+use Rattle.busy_marks.specs.Marks.{has_mark}
 use Rattle.global_tables.specs.Link.{has_server, left_state, other_of, row_blanked, row_left}
 use Rattle.global_tables.specs.declared.link.LinkRow.{LinkRow}
 use Rattle.global_tables.specs.declared.link.LinkState.TheVariants.{Both, Only}
@@ -16,7 +17,6 @@ use Rattle.petal_history.specs.declared.record.Record.{Record}
 use Rattle.petal_msg.specs.Kinds.{subject_of}
 use Rattle.petal_msg.specs.declared.body.Body.{Body}
 use Rattle.petal_msg.specs.declared.copying.LinkId.{LinkId}
-use Rattle.petal_msg.specs.declared.operation.Pending.{Pending}
 use Rattle.petal_state.specs.CellState.{cell_link, serves}
 use Rattle.petal_state.specs.Command.{after, may_join, state_after}
 use Rattle.petal_state.specs.Place.{touches}
@@ -24,13 +24,13 @@ use Rattle.petal_rules.specs.Blanked.{joins_blank}
 use Rattle.petal_rules.specs.Lists.{In}
 use Rattle.petal_rules.specs.Server.{Own}
 use Rattle.petal_rules.specs.State.{State, id_of, is_in, is_whole}
-use Rattle.petal_rules.specs.Store.{Store, cell_cmp, chain_in}
+use Rattle.petal_rules.specs.Store.{Store, cell_cmp, chain_in, is_marked, mark_on}
 use Rattle.petal_rules.specs.World.{Setting, World, blank_joins_in, server_state, start, with_store}
 use Rattle.petal_rules.proofs.ListLemmas.{in_later}
 use Rattle.petal_rules.proofs.Tests.{by_bool, none_some, number_itself, same_numbers, same_some, some_or_none, true_false}
-use Rattle.petal_table.specs.Table.{at}
 use Rattle.petal_table.proofs.Rows.{at-empty}
 use Rattle.law_log.specs.Requested.{WasStarted}
+use Rattle.law_state.specs.Homes.{stage_at}
 use Rattle.law_state.specs.Places.{IsCaughtBy, By_caught, By_join, By_leave, row_joined}
 use Rattle.law_state.specs.Plain.{IsPlain, IsPlainLog}
 use Rattle.law_state.specs.Rows.{IsLater, ByBoth, ByNone, ByOne}
@@ -39,24 +39,23 @@ use Rattle.law_state.specs.Steady.{IsSteady}
 use Rattle.law_state.proofs.Again.{left_not_both, left_row, stays_row}
 use Rattle.law_state.proofs.BlankJoins.{joins_grow}
 use Rattle.law_state.proofs.Grown.{alone_not_both, one_before}
-use Rattle.law_state.proofs.Leaves.{other_between}
 use Rattle.law_state.proofs.Roles.{primary_is_one, secondary_is_one}
 use Rattle.law_state.proofs.Steady.{front_plain, log_steady}
 use Rattle.law_state.proofs.Touching.{log_entry_stays, log_touched}
 use Rattle.law_steps.specs.Happens.{is_between}
 use Rattle.law_steps.specs.Ready.{IsRising}
 use Rattle.law_steps.proofs.Fronts.{front_itself, front_long, front_more, front_on}
-use Rattle.law_copies.specs.Copied.{AreAlike, AreCopying, IsCovered, IsPage, Is_equal, Is_marked_here, Is_marked_there, Is_to_be_copied, links_of}
-use Rattle.law_copies.specs.Good.{AloneOk, AreBeside, AreTwins, BothOk, Good, SaidOk, StaysLeft, pair_at}
-use Rattle.law_copies.specs.Pair.{HaveMarks, IsRecalled, Known, PairOk, pair_of}
-use Rattle.law_copies.specs.Steps.{AreFilled}
-use Rattle.law_copies.specs.Visits.{AreReached, HasFilled, IsHere, IsLinked, Visits, half, place_by, store_by, with_stores}
+use Rattle.law_copies.specs.Copied.{AreCopying, IsCovered, IsPage, Is_equal, links_of}
+use Rattle.law_copies.specs.Good.{AloneOk, AreBeside, AreTwins, BothOk, Good, IsUnheard, SaidOk, StaysLeft, pair_at}
+use Rattle.law_copies.specs.Pair.{HaveMarks, Known}
+use Rattle.law_copies.specs.Steps.{AreFilled, IsBare}
+use Rattle.law_copies.specs.Visits.{AliveIn, AreReached, HasFilled, IsHere, IsLinked, Visits, place_by, store_by, with_stores}
 use Rattle.law_copies.proofs.Counts.{joins_at, store_at}
-use Rattle.law_copies.proofs.Covering.{AreRecalled, covered_first, covered_second}
 use Rattle.law_copies.proofs.Framed.{other_is_one}
 use Rattle.law_copies.proofs.Later.{alone_not_lost, holder_is_one, other_than}
 use Rattle.law_copies.proofs.Mute.{said_mute}
-use Rattle.law_copies.proofs.Places.{front_or_all, linked_on, links_up, other_later, place_of_later, place_touched, place_untouched, places_up, rows_later, state_next}
+use Rattle.law_copies.proofs.NewPlaces.{beside_same, both_cover, cover_anew, in_common, new_alone, new_twins, twins_same}
+use Rattle.law_copies.proofs.Places.{alive_on, below_at, front_or_all, linked_between, links_up, other_later, place_of_later, place_touched, place_untouched, places_up, rows_later, state_next, unborn}
 use Rattle.law_copies.proofs.Renewed.{blanked_alone, counts_more, counts_same, filled_cover, joined_not_both, joins_so, no_blank_join, no_chains}
 
 -- every server has applied entries of this log alone, now and at each world on the way
@@ -72,127 +71,6 @@ behind_on setting records top more w prefix behind = record {
   ever = λ before later is n. front_on _ top more (behind.ever before later is n) prefix;
 }
 
--- ### The other server
-
--- what a holder and the other server have in common, the primary and the secondary have
-in_common : {X : Type 0} (f : ℕ → X) (row : LinkRow) (holder : ℕ) → has_server holder row ≡ true → f holder ≡ f (other_of holder row)
-    → f row.primary ≡ f row.secondary
-in_common f row holder has same = elim (other_between row holder has) [
-  | inl pair ↦ ap f pair.0 ∙ sym same ∙ ap f (sym pair.1)
-  | inr pair ↦ ap f pair.0 ∙ same ∙ ap f (sym pair.1)
-]
-
--- ### Two copies of a link in Both
-
-pub half_store : (visit : Option Own) (store : Store) → (half visit store).store ≡ store
-half_store None store = refl
-half_store (Some own) store = refl
-
--- what a server has in memory of the place it recalls
-recalled_half : (visit : Option Own) (a : Store) (cell : Cell)
-    → ((own : Own) (op : Pending) → visit ≡ Some own → at cell_cmp own.pairs.pending cell ≡ Some op → IsRecalled op a cell) → AreRecalled (half visit a) cell
-recalled_half None a cell recalled op there = none_some (at-empty cell_cmp cell) there
-recalled_half (Some own) a cell recalled op there = recalled own op refl there
-
-module _ (stores : ℕ → Store) (visits : Visits) (place : ℕ) (row now : LinkRow) (cell : Cell)
-    (twins : AreTwins stores visits place cell row.primary row.secondary) where
-  abbrev lead_half : Own
-  lead_half = half (visits row.primary place cell) (stores row.primary)
-
-  abbrev second_half : Own
-  second_half = half (visits row.secondary place cell) (stores row.secondary)
-
-  recalled : AreRecalled lead_half cell
-  recalled = recalled_half (visits row.primary place cell) (stores row.primary) cell twins.recalled
-
-  lead_store : lead_half.store ≡ stores row.primary
-  lead_store = half_store (visits row.primary place cell) (stores row.primary)
-
-  second_store : second_half.store ≡ stores row.secondary
-  second_store = half_store (visits row.secondary place cell) (stores row.secondary)
-
-  -- where one of them holds it alone from then on, an unequal block is marked
-  pub both_cover : (holder : ℕ) → has_server holder row ≡ true → IsCovered now cell (stores holder) (stores (other_of holder row)) None
-  both_cover holder has = elim (other_between row holder has) [
-    | inr pair ↦
-        subst (λ n. IsCovered now cell (stores n) (stores (other_of holder row)) None) pair.0
-        (subst (λ m. IsCovered now cell (stores row.primary) (stores m) None) pair.1
-        (subst (λ a. IsCovered now cell a (stores row.secondary) None) lead_store
-        (subst (λ b. IsCovered now cell lead_half.store b None) second_store (covered_first now lead_half second_half cell None twins.pair recalled))))
-    | inl pair ↦
-        subst (λ n. IsCovered now cell (stores n) (stores (other_of holder row)) None) pair.1
-        (subst (λ m. IsCovered now cell (stores row.secondary) (stores m) None) pair.0
-        (subst (λ a. IsCovered now cell a (stores row.primary) None) second_store
-        (subst (λ b. IsCovered now cell second_half.store b None) lead_store (covered_second now lead_half second_half cell twins.pair recalled))))
-  ]
-
--- what covers the copies at one place covers them at the next one, at which the holder has heard of no block
-pub cover_anew : (row now : LinkRow) (cell : Cell) (a b : Store) (visit : Option Own) → (is_whole row.state ≡ true → is_whole now.state ≡ true)
-    → IsCovered row cell a b visit → IsCovered now cell a b None
-cover_anew row now cell a b visit whole (Is_equal same) = Is_equal same
-cover_anew row now cell a b visit whole (Is_marked_here marked) = Is_marked_here marked
-cover_anew row now cell a b visit whole (Is_marked_there marked ahead) = Is_marked_there marked tt
-cover_anew row now cell a b visit whole (Is_to_be_copied all copied) = Is_to_be_copied (record { whole = whole all.whole; stored = all.stored }) tt
-
--- ### A new place
-
--- two equal copies, of which nobody has anything in memory
-pub new_twins : (stores : ℕ → Store) (visits : Visits) (place : ℕ) (cell : Cell) (n m : ℕ) → ((k : ℕ) → visits k place cell ≡ None)
-    → chain_in (stores n).chains cell ≡ chain_in (stores m).chains cell → AreTwins stores visits place cell n m
-unfolding at
-new_twins stores visits place cell n m unseen same = record {
-  pair = subst (λ o. PairOk (pair_of (half o (stores n)) (half (visits m place cell) (stores m)) cell)) (sym (unseen n))
-      (subst (λ o. PairOk (pair_of (half None (stores n)) (half o (stores m)) cell)) (sym (unseen m))
-      (record { copies = same; below = omega arith; fresh = omega arith }));
-  recalled = λ own op visited there. none_some (unseen n) visited;
-}
-
--- nobody has anything in memory of a place at which one server holds the link alone
-pub new_alone : (setting : Setting) (top : List Command) (stores : ℕ → ℕ → Store) (visits : Visits) (reached : Cell → ℕ) (front : List Command) (cell : Cell)
-    (row : LinkRow) (holder : ℕ) → ((k : ℕ) → visits k (place_by setting front row) cell ≡ None)
-    → IsCovered row cell (store_by setting stores front holder) (store_by setting stores front (other_of holder row)) None
-    → (is_whole row.state ≡ true → (chain_in (store_by setting stores front (other_of holder row)).chains cell ≡ [])
-    ⊎ HasFilled setting top visits front cell holder (other_of holder row))
-    → AloneOk setting top stores visits reached front cell row holder
-new_alone setting top stores visits reached front cell row holder unseen covered unfilled = record {
-  copying = record {
-    risen = λ own visited. none_some (unseen holder) visited;
-    copying = λ own copy visited there. none_some (unseen holder) visited;
-    lasts = λ own last visited there. none_some (unseen (other_of holder row)) visited;
-    caught = λ own visited flagged. none_some (unseen holder) visited;
-    met = λ own visited page. none_some (unseen holder) visited;
-    ordered = λ own visited. none_some (unseen holder) visited;
-  };
-  beside = λ last. record {
-    alike = record {
-      covered = subst (IsCovered row cell (store_by setting stores front holder) (store_by setting stores front (other_of holder row)))
-          (sym (unseen holder)) covered;
-      caught = λ own visited flagged. none_some (unseen holder) visited;
-    };
-    still = λ own visited. none_some (unseen (other_of holder row)) visited;
-  };
-  stays = λ own visited beyond. none_some (unseen holder) visited;
-  unfilled = unfilled;
-}
-
--- ### The same two stores
-
-module _ (old new : ℕ → Store) (visits : Visits) (place : ℕ) (cell : Cell) where
-  pub twins_same : (n m : ℕ) → new n ≡ old n → new m ≡ old m → AreTwins old visits place cell n m → AreTwins new visits place cell n m
-  twins_same n m one two twins = record {
-    pair = subst (λ a. PairOk (pair_of (half (visits n place cell) a) (half (visits m place cell) (new m)) cell)) (sym one)
-        (subst (λ b. PairOk (pair_of (half (visits n place cell) (old n)) (half (visits m place cell) b) cell)) (sym two) twins.pair);
-    recalled = λ own op visit there. subst (λ a. IsRecalled op a cell) (sym one) (twins.recalled own op visit there);
-  }
-
-  pub beside_same : (row : LinkRow) (holder other : ℕ) → new holder ≡ old holder → new other ≡ old other
-      → AreBeside old visits place row cell holder other → AreBeside new visits place row cell holder other
-  beside_same row holder other one two beside = record {
-    alike = subst (λ a. AreAlike row cell a (new other) (visits holder place cell)) (sym one)
-        (subst (λ b. AreAlike row cell (old holder) b (visits holder place cell)) (sym two) beside.alike);
-    still = λ own visit. beside.still own visit ∙ ap (λ (s : Store). chain_in s.chains cell) (sym two);
-  }
-
 -- what is kept of this front of the log, with these visits and places that count
 pub record IsGrownTo (setting : Setting) (records : List Record) (w : World) (visits : Visits) (reached : Cell → ℕ) (log : List Command) : Type 0 where
   pub good : Good setting records log w
@@ -206,7 +84,7 @@ pub record IsRenewed (setting : Setting) (u : World) (n : ℕ) (store : Store) :
   pub chains : store.chains ≡ []
   pub marks : store.marks ≡ []
   pub out : is_in (server_state setting u n) n (u.servers n).life.inc ≡ false
-  pub rested : ((u.servers n).life.running ≡ true) ⊎ (u.before_blank n ≡ None) → HaveMarks (u.servers n).own.pairs.pending store
+  pub rested : ((u.servers n).life.running ≡ true) ⊎ (u.before_blank n ≡ None) → HaveMarks (server_state setting u n) (u.servers n).own.pairs.pending store
 
 -- the stores that count once the entry does
 pub record AreRecounted (setting : Setting) (u : World) (here : State) (entry : Command) (old new : ℕ → Store) : Type 0 where
@@ -247,21 +125,28 @@ module _ (setting : Setting) (records : List Record) (top : List Command) (entry
   later_then : (cell : Cell) (row now : LinkRow) → IsLinked setting top cell row → IsLinked setting next cell now → IsLater row now
   later_then cell row now is end = rows_later setting next all top next cell row now (front_more top entry) (front_itself next) is end
 
-  -- who was at a place of a cell knows its link, and the place is not behind that by the entries so far
-  been_linked : (n place : ℕ) (cell : Cell) (own : Own) → good.visits n place cell ≡ Some own
-      → (row : LinkRow) × IsLinked setting top cell row × (place ≤ place_by setting top row)
-  been_linked n place cell own visited =
+  -- who was at a place of a cell that has a link then knew its link
+  been_linked : (n place : ℕ) (cell : Cell) (own : Own) → good.visits n place cell ≡ Some own → (now : LinkRow) → IsLinked setting next cell now
+      → (row : LinkRow) × IsLinked setting top cell row
+  been_linked n place cell own visited now end =
       let b = good.been n place cell own visited in
-      let on = linked_on setting next all (u.servers n).log.applied top cell b.row (behind.now n) (front_more top entry) b.linked in
-      let up = places_up setting next all (u.servers n).log.applied top cell b.row on.0 (behind.now n) (front_more top entry) b.linked on.1 in
-      let past = b.past in
-      (on.0, on.1, omega arith)
+      linked_between setting next all b.front top next cell b.row now (front_on b.front _ top b.within (behind.now n)) (front_more top entry)
+      (front_itself next) b.linked end
 
+  -- and the place is not behind that by the entries so far
   been_below : (n place : ℕ) (cell : Cell) (own : Own) (row : LinkRow) → good.visits n place cell ≡ Some own → IsLinked setting top cell row
       → place ≤ place_by setting top row
   been_below n place cell own row visited is =
-      let b = been_linked n place cell own visited in
-      subst (λ r. place ≤ place_by setting top r) (same_some (sym b.1 ∙ is)) b.2
+      let b = good.been n place cell own visited in
+      let up = places_up setting next all b.front top cell b.row row (front_on b.front _ top b.within (behind.now n)) (front_more top entry) b.linked is in
+      let at = b.at in
+      omega arith
+
+  -- ### How far a cell is
+
+  -- a cell that isn't dead then was not before
+  alive_before : (cell : Cell) → AliveIn then_state cell → AliveIn here cell
+  alive_before cell alive = alive_on setting next all top next cell (front_more top entry) (front_itself next) alive
 
   -- the last place is not behind that by the entries so far
   reached_below : (cell : Cell) (row : LinkRow) → IsLinked setting top cell row → good.reached cell ≤ place_by setting top row
@@ -287,18 +172,22 @@ module _ (setting : Setting) (records : List Record) (top : List Command) (entry
       → (IsLinked setting top cell now → place_by setting next now ≡ place_by setting top now → B)
       → ((row : LinkRow) → IsLinked setting top cell row → touches here entry row ≡ true → ((n : ℕ) → good.visits n (place_by setting next now) cell ≡ None)
       → B)
-      → (cell_link here cell ≡ None → ((n : ℕ) → good.visits n (place_by setting next now) cell ≡ None) → B)
+      → (stage_at here cell ≡ 0 → ((n : ℕ) → good.visits n (place_by setting next now) cell ≡ None) → B)
       → B
   by_next cell now end still moved made = elim (some_or_none (cell_link here cell)) [
     | inl h ↦ by_bool (touches here entry h.0)
         (λ on. moved h.0 h.1 on (unseen_new cell h.0 now h.1 end on))
         (λ off.
-        let stays = log_entry_stays setting.servers top entry cell h.0 plain_top plain_entry h.1 off in
-        let same : h.0 ≡ now = same_some (sym stays.same ∙ row_then cell now end) in
-        still (subst (IsLinked setting top cell) same h.1)
-        (subst (λ r. place_by setting next r ≡ place_by setting top r) same (place_untouched setting top entry h.0 off)))
-    | inr none ↦ made none (λ n. unvisited n (place_by setting next now) cell
-        (λ own visited. none_some none (been_linked n (place_by setting next now) cell own visited).1))
+        elim (log_entry_stays setting.servers top entry cell h.0 plain_top plain_entry h.1 off) [
+          | inl stays ↦ (
+              let same : h.0 ≡ now = same_some (sym stays.same ∙ row_then cell now end) in
+              still (subst (IsLinked setting top cell) same h.1)
+              (subst (λ r. place_by setting next r ≡ place_by setting top r) same (place_untouched setting top entry h.0 off)))
+          | inr died ↦ none_some died.0 (row_then cell now end)
+        ])
+    | inr none ↦ made (unborn setting next all top next cell now (front_more top entry) (front_itself next) none end)
+        (λ n. unvisited n (place_by setting next now) cell
+        (λ own visited. none_some none (been_linked n (place_by setting next now) cell own visited now end).1))
   ]
 
   -- ### Stores
@@ -337,12 +226,12 @@ module _ (setting : Setting) (records : List Record) (top : List Command) (entry
   old_stores : store_by setting good.stores top ≡ old
   old_stores = λ i n. good.now n i
 
-  -- a cell without a link is empty at each server
-  born_then : (cell : Cell) → cell_link here cell ≡ None → (n : ℕ) → chain_in (new n).chains cell ≡ []
+  -- a cell that is not live yet is empty at each server
+  born_then : (cell : Cell) → stage_at here cell ≡ 0 → (n : ℕ) → chain_in (new n).chains cell ≡ []
   born_then cell none n = by_bool (joins_blank here entry n) (λ on. no_chains (new n) cell (recounts.renewed n on).chains)
       (λ off. ap (λ (s : Store). chain_in s.chains cell) (recounts.same n off) ∙ good.born cell none n)
 
-  still_empty : (cell : Cell) → cell_link here cell ≡ None → (n m : ℕ) → chain_in (new n).chains cell ≡ chain_in (new m).chains cell
+  still_empty : (cell : Cell) → stage_at here cell ≡ 0 → (n m : ℕ) → chain_in (new n).chains cell ≡ chain_in (new m).chains cell
   still_empty cell none n m = born_then cell none n ∙ sym (born_then cell none m)
 
   -- an entry that is no Join with an empty store
@@ -361,53 +250,54 @@ module _ (setting : Setting) (records : List Record) (top : List Command) (entry
 
   -- ### In Both
 
-  twins_top : (cell : Cell) (row : LinkRow) → IsLinked setting top cell row → row.state ≡ Both
+  twins_top : (cell : Cell) (row : LinkRow) → IsLinked setting top cell row → AliveIn here cell → row.state ≡ Both
       → AreTwins old good.visits (place_by setting top row) cell row.primary row.secondary
-  twins_top cell row is both = subst (λ s. AreTwins s good.visits (place_by setting top row) cell row.primary row.secondary) old_stores
-      ((good.both top cell row (front_itself top) is both).twins (reached_below cell row is))
+  twins_top cell row is alive both = subst (λ s. AreTwins s good.visits (place_by setting top row) cell row.primary row.secondary) old_stores
+      ((good.both top cell row (front_itself top) is both).twins alive (reached_below cell row is))
 
-  beside_top : (cell : Cell) (row : LinkRow) (holder : ℕ) (whole : Bool) → IsLinked setting top cell row → row.state ≡ Only holder whole
-      → AreBeside old good.visits (place_by setting top row) row cell holder (other_of holder row)
-  beside_top cell row holder whole is alone =
+  beside_top : (cell : Cell) (row : LinkRow) (holder : ℕ) (whole : Bool) → IsLinked setting top cell row → AliveIn here cell
+      → row.state ≡ Only holder whole → AreBeside old good.visits (place_by setting top row) row cell holder (other_of holder row)
+  beside_top cell row holder whole is alive alone =
       subst (λ s. AreBeside s good.visits (place_by setting top row) row cell holder (other_of holder row)) old_stores
-      ((good.alone top cell row holder whole (front_itself top) is alone).beside (reached_below cell row is))
+      ((good.alone top cell row holder whole (front_itself top) is alone).beside alive (reached_below cell row is))
 
   -- the holder has the link in mind
-  minded : (cell : Cell) (row : LinkRow) → IsLinked setting top cell row → (acts : IsCaughtBy here entry row)
+  minded : (cell : Cell) (row : LinkRow) → IsLinked setting top cell row → AliveIn here cell → (acts : IsCaughtBy here entry row)
       → (own : Own) × (good.visits acts.holder (place_by setting top row) cell ≡ Some own) × (is_flagged own (id_of row) ≡ true)
-  minded cell row is acts =
+  minded cell row is alive acts =
       let told = started row.map row.link acts.holder acts.inc (other_of acts.holder row) acts.other_inc acts.is in
-      good.started acts.holder acts.inc acts.whole top cell row (front_itself top) is acts.alone acts.holds told
+      good.started acts.holder acts.inc acts.whole top cell row (front_itself top) is alive acts.alone acts.holds told
 
   -- by its Caught, for which the holder was done: then the copies were equal
-  caught_equal : (cell : Cell) (row : LinkRow) → IsLinked setting top cell row → (acts : IsCaughtBy here entry row)
+  caught_equal : (cell : Cell) (row : LinkRow) → IsLinked setting top cell row → AliveIn here cell → (acts : IsCaughtBy here entry row)
       → chain_in (new row.primary).chains cell ≡ chain_in (new row.secondary).chains cell
-  caught_equal cell row is acts =
-      let mind = minded cell row is acts in
+  caught_equal cell row is alive acts =
+      let mind = minded cell row is alive acts in
       let same = no_caught row.map row.link acts.holder acts.inc (other_of acts.holder row) acts.other_inc acts.is in
-      let beside = beside_top cell row acts.holder acts.whole is acts.alone in
+      let beside = beside_top cell row acts.holder acts.whole is alive acts.alone in
       ap (λ (s : Store). chain_in s.chains cell) (same row.primary)
       ∙ in_common (λ n. chain_in (old n).chains cell) row acts.holder (holder_is_one here steady_top acts.holder cell row is acts.alone)
       (beside.alike.caught mind.0 mind.1 mind.2)
       ∙ ap (λ (s : Store). chain_in s.chains cell) (sym (same row.secondary))
 
   both_moved : (cell : Cell) (row now : LinkRow) → IsLinked setting top cell row → IsLinked setting next cell now → touches here entry row ≡ true
-      → now.state ≡ Both
+      → AliveIn here cell → now.state ≡ Both
       → chain_in (new now.primary).chains cell ≡ chain_in (new now.secondary).chains cell
-  both_moved cell row now is end on both = elim (log_touched setting.servers top entry cell row plain_top plain_entry is on) [
+  both_moved cell row now is end on alive both = elim (log_touched setting.servers top entry cell row plain_top plain_entry is on) [
     | By_leave left there seats ↦ left_not_both (other_of left.server row) row.state
         (sym (left_row row left.server left.one_of) ∙ ap (λ (r : LinkRow). r.state) (same_some (sym there ∙ row_then cell now end)) ∙ both)
     | By_join joined there apart seats ↦
         joined_not_both row joined.server joined.blank apart (ap (λ (r : LinkRow). r.state) (same_some (sym there ∙ row_then cell now end)) ∙ both)
     | By_caught acts stays ↦ (
         let so = later_then cell row now is end in
-        ap (λ n. chain_in (new n).chains cell) so.primary ∙ caught_equal cell row is acts ∙ ap (λ n. chain_in (new n).chains cell) (sym so.secondary))
+        ap (λ n. chain_in (new n).chains cell) so.primary ∙ caught_equal cell row is alive acts ∙ ap (λ n. chain_in (new n).chains cell) (sym so.secondary))
   ]
 
   both_on : (f : List Command) (cell : Cell) (row : LinkRow) → IsPrefix f top → BothOk setting top good.stores good.visits good.reached f cell row
       → BothOk setting next stores good.visits good.reached f cell row
   both_on f cell row prefix b = record {
-    twins = λ last. subst (λ s. AreTwins s good.visits (place_by setting f row) cell row.primary row.secondary) (front_stores f prefix) (b.twins last);
+    twins = λ alive last. subst (λ s. AreTwins s good.visits (place_by setting f row) cell row.primary row.secondary) (front_stores f prefix)
+        (b.twins (alive_before cell alive) last);
   }
 
   -- at a place that stays each server of the link has the store that it had
@@ -418,25 +308,26 @@ module _ (setting : Setting) (records : List Record) (top : List Command) (entry
 
   -- two equal copies, of which nobody has anything in memory
   made_twins : (cell : Cell) (now : LinkRow) → ((k : ℕ) → good.visits k (place_by setting next now) cell ≡ None)
-      → chain_in (new now.primary).chains cell ≡ chain_in (new now.secondary).chains cell → BothOk setting next stores good.visits good.reached next cell now
+      → (AliveIn here cell → chain_in (new now.primary).chains cell ≡ chain_in (new now.secondary).chains cell)
+      → BothOk setting next stores good.visits good.reached next cell now
   made_twins cell now unseen same = record {
-    twins = λ last. subst (λ s. AreTwins s good.visits (place_by setting next now) cell now.primary now.secondary) next_stores
-        (new_twins new good.visits (place_by setting next now) cell now.primary now.secondary unseen same);
+    twins = λ alive last. subst (λ s. AreTwins s good.visits (place_by setting next now) cell now.primary now.secondary) next_stores
+        (new_twins new good.visits (place_by setting next now) cell now.primary now.secondary unseen (same (alive_before cell alive)));
   }
 
   both_next : (cell : Cell) (now : LinkRow) → IsLinked setting next cell now → now.state ≡ Both
       → BothOk setting next stores good.visits good.reached next cell now
   both_next cell now end both = by_next cell now end
       (λ is same. record {
-        twins = λ last. subst (λ place. AreTwins (store_by setting stores next) good.visits place cell now.primary now.secondary) (sym same)
+        twins = λ alive last. subst (λ place. AreTwins (store_by setting stores next) good.visits place cell now.primary now.secondary) (sym same)
             (twins_same (store_by setting stores top) (store_by setting stores next) good.visits (place_by setting top now) cell now.primary now.secondary
             (same_store cell now now.primary is end same (primary_is_one now now.primary refl))
             (same_store cell now now.secondary is end same (secondary_is_one now now.secondary refl))
-            ((both_on top cell now (front_itself top) (good.both top cell now (front_itself top) is both)).twins
+            ((both_on top cell now (front_itself top) (good.both top cell now (front_itself top) is both)).twins alive
             (subst (λ place. good.reached cell ≤ place) same last)));
       })
-      (λ row is on unseen. made_twins cell now unseen (both_moved cell row now is end on both))
-      (λ none unseen. made_twins cell now unseen (still_empty cell none now.primary now.secondary))
+      (λ row is on unseen. made_twins cell now unseen (λ alive. both_moved cell row now is end on alive both))
+      (λ none unseen. made_twins cell now unseen (λ alive. still_empty cell none now.primary now.secondary))
 
   -- ### Alone
 
@@ -447,26 +338,26 @@ module _ (setting : Setting) (records : List Record) (top : List Command) (entry
 
   -- a link that one server held alone, and holds so still
   alone_cover : (cell : Cell) (row now : LinkRow) (holder : ℕ) (whole : Bool) → IsLinked setting top cell row → IsLinked setting next cell now
-      → row.state ≡ Only holder whole → now.state ≡ Only holder whole → IsCovered now cell (old holder) (old (other_of holder now)) None
-  alone_cover cell row now holder whole is end alone still =
-      let beside = beside_top cell row holder whole is alone in
+      → AliveIn here cell → row.state ≡ Only holder whole → now.state ≡ Only holder whole → IsCovered now cell (old holder) (old (other_of holder now)) None
+  alone_cover cell row now holder whole is end alive alone still =
+      let beside = beside_top cell row holder whole is alive alone in
       subst (λ m. IsCovered now cell (old holder) (old m) None) (sym (other_later row now holder (later_then cell row now is end)))
       (cover_anew row now cell (old holder) (old (other_of holder row)) (good.visits holder (place_by setting top row) cell)
       (λ all. ap is_whole (still ∙ sym alone) ∙ all) beside.alike.covered)
 
   -- one of its two servers has left
   left_cover : (cell : Cell) (row now : LinkRow) (holder server : ℕ) (whole : Bool) → IsLinked setting top cell row → IsLinked setting next cell now
-      → has_server server row ≡ true → row_left server row ≡ now → now.state ≡ Only holder whole
+      → AliveIn here cell → has_server server row ≡ true → row_left server row ≡ now → now.state ≡ Only holder whole
       → IsCovered now cell (old holder) (old (other_of holder now)) None
-  left_cover cell row now holder server whole is end has same alone = elim (steady_top.linked cell row is).served [
+  left_cover cell row now holder server whole is end alive has same alone = elim (steady_top.linked cell row is).served [
     | ByBoth so one other ↦ (
         let later = later_then cell row now is end in
         let has_holder : has_server holder row ≡ true = sym (one_before row now holder later)
         ∙ holder_is_one then_state (log_steady setting.servers next all) holder cell now end alone in
         subst (λ m. IsCovered now cell (old holder) (old m) None) (sym (other_later row now holder later))
-        (both_cover old good.visits (place_by setting top row) row now cell (twins_top cell row is so) holder has_holder))
+        (both_cover old good.visits (place_by setting top row) row now cell (twins_top cell row is alive so) holder has_holder))
     | ByOne h other kept so pair out ↦
-        alone_cover cell row now holder whole is end (ap (λ (r : LinkRow). r.state) (sym (stays_row row server h has so) ∙ same) ∙ alone) alone
+        alone_cover cell row now holder whole is end alive (ap (λ (r : LinkRow). r.state) (sym (stays_row row server h has so) ∙ same) ∙ alone) alone
     | ByNone one other so pair out ↦ alone_not_lost now holder alone
         (ap (λ (r : LinkRow). r.state) (sym same) ∙ left_row row server has ∙ ap (left_state (other_of server row)) so)
   ]
@@ -490,12 +381,12 @@ module _ (setting : Setting) (records : List Record) (top : List Command) (entry
       (filled_cover now cell (new holder) (new server) (ap is_whole alone ∙ kept.1) (no_chains (new server) cell (recounts.renewed server on).chains))
 
   alone_moved : (cell : Cell) (row now : LinkRow) (holder : ℕ) (whole : Bool) → IsLinked setting top cell row → IsLinked setting next cell now
-      → touches here entry row ≡ true → now.state ≡ Only holder whole → IsCovered now cell (new holder) (new (other_of holder now)) None
-  alone_moved cell row now holder whole is end on alone = elim (log_touched setting.servers top entry cell row plain_top plain_entry is on) [
+      → touches here entry row ≡ true → AliveIn here cell → now.state ≡ Only holder whole → IsCovered now cell (new holder) (new (other_of holder now)) None
+  alone_moved cell row now holder whole is end on alive alone = elim (log_touched setting.servers top entry cell row plain_top plain_entry is on) [
     | By_leave left there seats ↦
         cover_same now cell holder (other_of holder now) (no_leave left.server left.inc left.is holder)
         (no_leave left.server left.inc left.is (other_of holder now))
-        (left_cover cell row now holder left.server whole is end left.one_of (same_some (sym there ∙ row_then cell now end)) alone)
+        (left_cover cell row now holder left.server whole is end alive left.one_of (same_some (sym there ∙ row_then cell now end)) alone)
     | By_join joined there apart seats ↦ joins joined.server joined.inc joined.blank joined.is joined.may joined.one_of there apart
     | By_caught acts stays ↦ alone_not_both now holder alone (ap (λ (r : LinkRow). r.state) (same_some (sym (row_then cell now end) ∙ stays.same)))
   ]
@@ -505,7 +396,7 @@ module _ (setting : Setting) (records : List Record) (top : List Command) (entry
           → IsCovered now cell (new holder) (new (other_of holder now)) None
       joins server inc false e may has there apart =
           cover_same now cell holder (other_of holder now) (no_blank server inc e holder) (no_blank server inc e (other_of holder now))
-          (alone_cover cell row now holder whole is end (ap (λ (r : LinkRow). r.state) (same_some (sym there ∙ row_then cell now end)) ∙ alone) alone)
+          (alone_cover cell row now holder whole is end alive (ap (λ (r : LinkRow). r.state) (same_some (sym there ∙ row_then cell now end)) ∙ alone) alone)
       joins server inc true e may has there apart =
           blank_cover cell row now holder server whole is end has (same_some (sym there ∙ row_then cell now end)) apart
           (ap (λ (c : Command). joins_blank here c server) e ∙ joins_so here server inc may) alone
@@ -542,36 +433,37 @@ module _ (setting : Setting) (records : List Record) (top : List Command) (entry
       (chain_in (new (other_of holder now)).chains cell ≡ []) ⊎ HasFilled setting next good.visits next cell holder (other_of holder now)
 
   still_unfilled : (cell : Cell) (row now : LinkRow) (holder : ℕ) (whole : Bool) → IsLinked setting top cell row → IsLinked setting next cell now
-      → row.state ≡ Only holder whole → joins_blank here entry (other_of holder row) ≡ false → whole ≡ true → IsUnfilled cell now holder
-  still_unfilled cell row now holder whole is end alone off all_of =
+      → AliveIn here cell → row.state ≡ Only holder whole → joins_blank here entry (other_of holder row) ≡ false → whole ≡ true → IsUnfilled cell now holder
+  still_unfilled cell row now holder whole is end alive alone off all_of =
       let other = other_of holder row in
       subst (λ m. (chain_in (new m).chains cell ≡ []) ⊎ HasFilled setting next good.visits next cell holder m)
       (sym (other_later row now holder (later_then cell row now is end)))
-      (elim ((good.alone top cell row holder whole (front_itself top) is alone).unfilled (ap is_whole alone ∙ all_of)) [
+      (elim ((good.alone top cell row holder whole (front_itself top) is alone).unfilled alive (ap is_whole alone ∙ all_of)) [
         | inl empty ↦ inl (ap (λ (s : Store). chain_in s.chains cell) (recounts.same other off ∙ sym (good.now other)) ∙ empty)
         | inr h ↦ inr (filled_next cell holder other (counts_same setting top entry other off) h)
       ])
 
   -- one of the link's two servers has left
   left_unfilled : (cell : Cell) (row now : LinkRow) (holder server inc : ℕ) (whole : Bool) → IsLinked setting top cell row → IsLinked setting next cell now
-      → entry ≡ Leave server inc → has_server server row ≡ true → row_left server row ≡ now → now.state ≡ Only holder whole → whole ≡ true
-      → IsUnfilled cell now holder
-  left_unfilled cell row now holder server inc whole is end entry_is has same alone all_of = elim (steady_top.linked cell row is).served [
+      → AliveIn here cell → entry ≡ Leave server inc → has_server server row ≡ true → row_left server row ≡ now → now.state ≡ Only holder whole
+      → whole ≡ true → IsUnfilled cell now holder
+  left_unfilled cell row now holder server inc whole is end alive entry_is has same alone all_of = elim (steady_top.linked cell row is).served [
     | ByBoth so one other ↦ true_false all_of
         (sym (ap is_whole alone) ∙ ap (λ (r : LinkRow). is_whole r.state) (sym same) ∙ ap is_whole (left_row row server has)
         ∙ ap (λ x. is_whole (left_state (other_of server row) x)) so)
     | ByOne h other kept so pair out ↦
-        still_unfilled cell row now holder whole is end (ap (λ (r : LinkRow). r.state) (sym (stays_row row server h has so) ∙ same) ∙ alone)
+        still_unfilled cell row now holder whole is end alive (ap (λ (r : LinkRow). r.state) (sym (stays_row row server h has so) ∙ same) ∙ alone)
         (no_blank_join here entry (λ s i e. let f : Leave server inc ≡ Join s i true = sym entry_is ∙ e in absurd cc) (other_of holder row)) all_of
     | ByNone one other so pair out ↦ alone_not_lost now holder alone
         (ap (λ (r : LinkRow). r.state) (sym same) ∙ left_row row server has ∙ ap (left_state (other_of server row)) so)
   ]
 
   unfilled_moved : (cell : Cell) (row now : LinkRow) (holder : ℕ) (whole : Bool) → IsLinked setting top cell row → IsLinked setting next cell now
-      → touches here entry row ≡ true → now.state ≡ Only holder whole → whole ≡ true → IsUnfilled cell now holder
-  unfilled_moved cell row now holder whole is end on alone all_of = elim (log_touched setting.servers top entry cell row plain_top plain_entry is on) [
+      → touches here entry row ≡ true → AliveIn here cell → now.state ≡ Only holder whole → whole ≡ true → IsUnfilled cell now holder
+  unfilled_moved cell row now holder whole is end on alive alone all_of = elim (log_touched setting.servers top entry cell row plain_top plain_entry is on) [
     | By_leave left there seats ↦
-        left_unfilled cell row now holder left.server left.inc whole is end left.is left.one_of (same_some (sym there ∙ row_then cell now end)) alone all_of
+        left_unfilled cell row now holder left.server left.inc whole is end alive left.is left.one_of
+        (same_some (sym there ∙ row_then cell now end)) alone all_of
     | By_join joined there apart seats ↦ joins joined.server joined.inc joined.blank joined.is joined.may joined.one_of there apart
     | By_caught acts stays ↦ alone_not_both now holder alone (ap (λ (r : LinkRow). r.state) (same_some (sym (row_then cell now end) ∙ stays.same)))
   ]
@@ -580,7 +472,7 @@ module _ (setting : Setting) (records : List Record) (top : List Command) (entry
           → has_server server row ≡ true → cell_link (after here entry) cell ≡ Some (row_joined server blank row) → row.state ≢ Both
           → IsUnfilled cell now holder
       joins server inc false e may has there apart =
-          still_unfilled cell row now holder whole is end (ap (λ (r : LinkRow). r.state) (same_some (sym there ∙ row_then cell now end)) ∙ alone)
+          still_unfilled cell row now holder whole is end alive (ap (λ (r : LinkRow). r.state) (same_some (sym there ∙ row_then cell now end)) ∙ alone)
           (no_blank_join here entry (λ s i f. let g : Join server inc false ≡ Join s i true = sym e ∙ f in absurd cc) (other_of holder row)) all_of
       joins server inc true e may has there apart =
           let other = blank_other cell row now holder server whole is end has (same_some (sym there ∙ row_then cell now end)) apart alone in
@@ -594,9 +486,11 @@ module _ (setting : Setting) (records : List Record) (top : List Command) (entry
       let other = other_of holder row in
       record {
         copying = a.copying;
-        beside = λ last. subst (λ s. AreBeside s good.visits (place_by setting f row) row cell holder other) (front_stores f prefix) (a.beside last);
-        stays = λ own visit beyond. subst (λ (s : ℕ → Store). StaysLeft row cell own (s holder)) (front_stores f prefix) (a.stays own visit beyond);
-        unfilled = λ all_of. elim (a.unfilled all_of) [
+        beside = λ alive last. subst (λ s. AreBeside s good.visits (place_by setting f row) row cell holder other) (front_stores f prefix)
+            (a.beside (alive_before cell alive) last);
+        stays = λ alive own visit beyond. subst (λ (s : ℕ → Store). StaysLeft row cell own (s holder)) (front_stores f prefix)
+            (a.stays (alive_before cell alive) own visit beyond);
+        unfilled = λ alive all_of. elim (a.unfilled (alive_before cell alive) all_of) [
           | inl empty ↦ inl (subst (λ (s : ℕ → Store). chain_in (s other).chains cell ≡ []) (front_stores f prefix) empty)
           | inr h ↦ inr (filled_on f cell holder other h)
         ];
@@ -616,12 +510,12 @@ module _ (setting : Setting) (records : List Record) (top : List Command) (entry
             (good.visits other (place_by setting next now) cell))
             (sym (links_up setting next all top next cell now (front_more top entry) (front_itself next) is))
             (subst (λ place. AreCopying (links_of here cell.map) now cell (good.visits holder place cell) (good.visits other place cell)) (sym same) a.copying);
-        beside = λ last. subst (λ place. AreBeside (store_by setting stores next) good.visits place now cell holder other) (sym same)
+        beside = λ alive last. subst (λ place. AreBeside (store_by setting stores next) good.visits place now cell holder other) (sym same)
             (beside_same (store_by setting stores top) (store_by setting stores next) good.visits (place_by setting top now) cell now holder other one two
-            (a.beside (subst (λ place. good.reached cell ≤ place) same last)));
-        stays = λ own visit beyond. subst (λ s. StaysLeft now cell own s) (sym one)
-            (a.stays own (ap (λ p. good.visits holder p cell) (sym same) ∙ visit) (λ p lt. beyond p (let e = same in omega arith)));
-        unfilled = λ all_of. elim (a.unfilled all_of) [
+            (a.beside alive (subst (λ place. good.reached cell ≤ place) same last)));
+        stays = λ alive own visit beyond. subst (λ s. StaysLeft now cell own s) (sym one)
+            (a.stays alive own (ap (λ p. good.visits holder p cell) (sym same) ∙ visit) (λ p lt. beyond p (let e = same in omega arith)));
+        unfilled = λ alive all_of. elim (a.unfilled alive all_of) [
           | inl empty ↦ inl (ap (λ (s : Store). chain_in s.chains cell) two ∙ empty)
           | inr h ↦ inr (record {
             more = h.more;
@@ -638,24 +532,26 @@ module _ (setting : Setting) (records : List Record) (top : List Command) (entry
       }
 
   made_alone : (cell : Cell) (now : LinkRow) (holder : ℕ) → ((k : ℕ) → good.visits k (place_by setting next now) cell ≡ None)
-      → IsCovered now cell (new holder) (new (other_of holder now)) None → (is_whole now.state ≡ true → IsUnfilled cell now holder)
+      → (AliveIn here cell → IsCovered now cell (new holder) (new (other_of holder now)) None)
+      → (AliveIn here cell → is_whole now.state ≡ true → IsUnfilled cell now holder)
       → AloneOk setting next stores good.visits good.reached next cell now holder
   made_alone cell now holder unseen covered unfilled =
       let other = other_of holder now in
       new_alone setting next stores good.visits good.reached next cell now holder unseen
-      (subst (λ (s : ℕ → Store). IsCovered now cell (s holder) (s other) None) next_stores covered)
-      (subst (λ (s : ℕ → Store). is_whole now.state ≡ true → (chain_in (s other).chains cell ≡ []) ⊎ HasFilled setting next good.visits next cell holder other)
-      next_stores unfilled)
+      (λ alive. subst (λ (s : ℕ → Store). IsCovered now cell (s holder) (s other) None) next_stores (covered (alive_before cell alive)))
+      (λ alive. subst (λ (s : ℕ → Store). is_whole now.state ≡ true → (chain_in (s other).chains cell ≡ [])
+      ⊎ HasFilled setting next good.visits next cell holder other)
+      next_stores (unfilled (alive_before cell alive)))
 
   alone_next : (cell : Cell) (now : LinkRow) (holder : ℕ) (whole : Bool) → IsLinked setting next cell now → now.state ≡ Only holder whole
       → AloneOk setting next stores good.visits good.reached next cell now holder
   alone_next cell now holder whole end alone = by_next cell now end
       (λ is same. same_alone cell now holder whole is end alone same
       (alone_on top cell now holder (front_itself top) (good.alone top cell now holder whole (front_itself top) is alone)))
-      (λ row is on unseen. made_alone cell now holder unseen (alone_moved cell row now holder whole is end on alone)
-      (λ all_of. unfilled_moved cell row now holder whole is end on alone (sym (ap is_whole alone) ∙ all_of)))
-      (λ none unseen. made_alone cell now holder unseen (Is_equal (still_empty cell none holder (other_of holder now)))
-      (λ all_of. inl (born_then cell none (other_of holder now))))
+      (λ row is on unseen. made_alone cell now holder unseen (λ alive. alone_moved cell row now holder whole is end on alive alone)
+      (λ alive all_of. unfilled_moved cell row now holder whole is end on alive alone (sym (ap is_whole alone) ∙ all_of)))
+      (λ none unseen. made_alone cell now holder unseen (λ alive. Is_equal (still_empty cell none holder (other_of holder now)))
+      (λ alive all_of. inl (born_then cell none (other_of holder now))))
 
   -- ### All of it
 
@@ -695,6 +591,7 @@ module _ (setting : Setting) (records : List Record) (top : List Command) (entry
         prefix = front_on r.front top next r.prefix (front_more top entry);
         row = r.row;
         linked = r.linked;
+        alive = r.alive;
         at = r.at;
         server = r.server;
         serving = r.serving;
@@ -704,11 +601,9 @@ module _ (setting : Setting) (records : List Record) (top : List Command) (entry
     ];
   }
 
-  none_before : (cell : Cell) → cell_link then_state cell ≡ None → cell_link here cell ≡ None
-  none_before cell none = elim (some_or_none (cell_link here cell)) [
-    | inl h ↦ none_some none (linked_on setting next all top next cell h.0 (front_more top entry) (front_itself next) h.1).1
-    | inr before ↦ before
-  ]
+  -- a cell that is not live yet then was not before
+  unborn_before : (cell : Cell) → stage_at then_state cell ≡ 0 → stage_at here cell ≡ 0
+  unborn_before cell none = let le = (below_at setting next all top next (front_more top entry) (front_itself next)).stages cell in omega arith
 
   said_on : (f : List Command) (said : Body) (cell : Cell) (row : LinkRow) → IsPrefix f top
       → SaidOk setting top good.stores good.visits good.reached f said cell row
@@ -716,12 +611,12 @@ module _ (setting : Setting) (records : List Record) (top : List Command) (entry
   said_on f said cell row prefix s =
       let place = place_by setting f row in
       record {
-        both = λ both last of. subst (λ t. Known (pair_at t good.visits place cell row.primary row.secondary) said) (front_stores f prefix)
-            (s.both both last of);
+        both = λ alive both last of. subst (λ t. Known (pair_at t good.visits place cell row.primary row.secondary) said) (front_stores f prefix)
+            (s.both (alive_before cell alive) both last of);
         alone = s.alone;
-        page = λ holder whole after block alone told last.
+        page = λ alive holder whole after block alone told last.
             subst (λ (t : ℕ → Store). IsPage cell (t (other_of holder row)) (good.visits (other_of holder row) place cell) after block) (front_stores f prefix)
-            (s.page holder whole after block alone told last);
+            (s.page (alive_before cell alive) holder whole after block alone told last);
         met = s.met;
       }
 
@@ -732,9 +627,9 @@ module _ (setting : Setting) (records : List Record) (top : List Command) (entry
       absurd (omega (arith, ap length was.at, length-append top (entry ∷ [])))
 
   here_next : (n : ℕ) (cell : Cell) (row : LinkRow) → IsLinked setting (u.servers n).log.applied cell row
-      → is_in (server_state setting u n) n (u.servers n).life.inc ≡ true → IsHere setting v good.visits n cell row
-  here_next n cell row is seat =
-      let h = good.here n cell row is seat in
+      → is_in (server_state setting u n) n (u.servers n).life.inc ≡ true → AliveIn (server_state setting u n) cell → IsHere setting v good.visits n cell row
+  here_next n cell row is seat alive =
+      let h = good.here n cell row is seat alive in
       by_bool (joins_blank here entry n)
       (λ on. true_false seat (recounts.renewed n on).out)
       (λ off. record { own = h.own; is = h.is; same = h.same ∙ ap (λ (s : Store). (with_store (u.servers n) s).own) (sym (recounts.same n off)) })
@@ -744,6 +639,20 @@ module _ (setting : Setting) (records : List Record) (top : List Command) (entry
       (λ on. subst (IsRising nat_cmp) (sym (no_chains (new n) cell (recounts.renewed n on).chains)) tt)
       (λ off. subst (λ (s : Store). IsRising nat_cmp (chain_in s.chains cell)) (sym (recounts.same n off)) (good.rising n cell))
 
+  unheard_next : (n : ℕ) (cell : Cell) → stage_at (server_state setting u n) cell ≡ 0 → IsUnheard (server_state setting u n) (v.servers n).own cell
+  unheard_next n cell none =
+      let h = good.unheard n cell none in
+      let bare : IsBare (v.servers n).own cell = by_bool (joins_blank here entry n)
+      (λ on. record {
+        chain = no_chains (new n) cell (recounts.renewed n on).chains;
+        marks = λ kind. ap (has_mark (mark_on kind cell)) (recounts.renewed n on).marks;
+      })
+      (λ off. record {
+        chain = ap (λ (s : Store). chain_in s.chains cell) (recounts.same n off) ∙ h.bare.chain;
+        marks = λ kind. ap (λ (s : Store). is_marked s kind cell) (recounts.same n off) ∙ h.bare.marks kind;
+      }) in
+      record { bare = bare; last = h.last; pages = h.pages }
+
   pub grow_one : Good setting records next v
   grow_one = record {
     visits = good.visits;
@@ -752,10 +661,12 @@ module _ (setting : Setting) (records : List Record) (top : List Command) (entry
     stores = stores;
     now = next_store;
     here = here_next;
-    been = λ n place cell own visit. let b = good.been n place cell own visit in record { row = b.row; linked = b.linked; past = b.past };
+    been = λ n place cell own visit.
+        let b = good.been n place cell own visit in
+        record { front = b.front; within = b.within; row = b.row; linked = b.linked; alive = b.alive; at = b.at };
     came = good.came;
-    born = λ cell none. born_then cell (none_before cell none);
-    unheard = λ n cell none. let h = good.unheard n cell none in record { last = h.last; pages = h.pages };
+    born = λ cell none. born_then cell (unborn_before cell none);
+    unheard = unheard_next;
     rising = rising_next;
     ever = λ n joins cell. by_bool (joins == blank_joins_in setting next n)
         (λ t. subst (λ (s : Store). IsRising nat_cmp (chain_in s.chains cell)) (sym (stores_so n joins true t)) (rising_next n cell))
@@ -766,7 +677,7 @@ module _ (setting : Setting) (records : List Record) (top : List Command) (entry
         (λ off. subst (λ (s : Store). AreFilled s.chains) (sym (recounts.same n off)) (good.filled n));
     marks = λ n when. by_bool (joins_blank here entry n)
         (λ on. (recounts.renewed n on).rested when)
-        (λ off. subst (HaveMarks (u.servers n).own.pairs.pending) (sym (recounts.same n off)) (good.marks n when));
+        (λ off. subst (HaveMarks (server_state setting u n) (u.servers n).own.pairs.pending) (sym (recounts.same n off)) (good.marks n when));
     both = λ front cell row prefix. at_fronts (λ f. IsLinked setting f cell row → row.state ≡ Both
         → BothOk setting next stores good.visits good.reached f cell row)
         (λ f p is both. both_on f cell row p (good.both f cell row p is both)) (both_next cell row) front prefix;
@@ -774,18 +685,23 @@ module _ (setting : Setting) (records : List Record) (top : List Command) (entry
         at_fronts (λ f. IsLinked setting f cell row → row.state ≡ Only holder whole → AloneOk setting next stores good.visits good.reached f cell row holder)
         (λ f p is alone. alone_on f cell row holder p (good.alone f cell row holder whole p is alone)) (alone_next cell row holder whole) front prefix;
     revs = λ letter sent between. let le = good.revs letter sent between in omega (arith, length-append top (entry ∷ []));
-    letters = λ letter sent front cell row prefix long is. by_bool (is_between (subject_of letter.body))
+    letters = λ letter sent front cell row prefix long is alive. by_bool (is_between (subject_of letter.body))
         (λ between. let le = good.revs letter sent between in
-        by_length front prefix (omega arith) (λ p. said_on front letter.body cell row p (good.letters letter sent front cell row p long is)))
+        by_length front prefix (omega arith) (λ p. said_on front letter.body cell row p (good.letters letter sent front cell row p long is alive)))
         (λ mute. said_mute setting next stores good.visits good.reached front letter.body cell row mute);
+    lives = λ letter sent between front prefix long cell of.
+        let le = good.revs letter sent between in
+        by_length front prefix (omega arith) (λ p. good.lives letter sent between front p long cell of);
+    copied = good.copied;
     pages = λ letter sent front prefix long of link block after said.
         let le = good.revs letter sent (ap (λ (b : Body). is_between (subject_of b)) said) in
         by_length front prefix (omega arith) (λ p. good.pages letter sent front p long of link block after said);
     started = λ holder inc whole front cell row prefix.
-        at_fronts (λ f. IsLinked setting f cell row → row.state ≡ Only holder whole → is_in (state_after setting.servers f) holder inc ≡ true
+        at_fronts (λ f. IsLinked setting f cell row → AliveIn (state_after setting.servers f) cell → row.state ≡ Only holder whole → is_in
+        (state_after setting.servers f) holder inc ≡ true
         → WasStarted setting records holder inc f (id_of row)
         → (own : Own) × (good.visits holder (place_by setting f row) cell ≡ Some own) × (is_flagged own (id_of row) ≡ true))
-        (λ f p. good.started holder inc whole f cell row p) (λ is alone seat was. not_started holder inc (id_of row) was) front prefix;
+        (λ f p. good.started holder inc whole f cell row p) (λ is alive alone seat was. not_started holder inc (id_of row) was) front prefix;
   }
 
   pub grown_one : (visits : Visits) (reached : Cell → ℕ) → ((n place : ℕ) (cell : Cell) → good.visits n place cell ≡ visits n place cell)

@@ -30,10 +30,10 @@ use Rattle.petal_rules.specs.Crossing.{crossed, settled_by}
 use Rattle.petal_rules.specs.Jobs.{Acted}
 use Rattle.petal_rules.specs.Lists.{In, put_at}
 use Rattle.petal_rules.specs.Log.{state_in}
-use Rattle.petal_rules.specs.Progress.{no_progress}
+use Rattle.petal_rules.specs.Progress.{last_copy, no_progress}
 use Rattle.petal_rules.specs.Returns.{proposed}
 use Rattle.petal_rules.specs.Server.{Own, Copies, Pairs, Server, Post, Sender, Done, no_copies, no_pairs, silent, sender, letters_of}
-use Rattle.petal_rules.specs.State.{State, id_of, is_in, link_cmp}
+use Rattle.petal_rules.specs.State.{State, id_of, is_in, link_cmp, live}
 use Rattle.petal_rules.specs.Store.{Store, cell_cmp, chain_in, empty_store, mark_on}
 use Rattle.petal_rules.specs.World.{Setting, World, acts, before_blanks, blank_joins_in, chosen_log, chosen_state, counted, counted_by, kept, reacts, server_state, setting_of, stamped, start, with_store}
 use Rattle.petal_rules.specs.declared.step.Step.{Step}
@@ -43,9 +43,11 @@ use Rattle.petal_rules.proofs.Settled.{settling}
 use Rattle.petal_rules.proofs.Tests.{by_bool, none_some, number_itself, same_or_apart, true_false}
 use Rattle.law_log.proofs.Histories.{chosen_caught_was, history_grows, history_is_firm, out_has_stopped, who_is_in_has_begun}
 use Rattle.law_state.specs.Firm.{Firm}
+use Rattle.law_state.specs.Homes.{stage_at}
 use Rattle.law_state.specs.Started.{is_flagged}
 use Rattle.law_state.proofs.Entries.{start_plain}
 use Rattle.law_state.proofs.Rows.{past_link}
+use Rattle.law_state.proofs.Steady.{front_plain, log_below}
 use Rattle.law_steps.specs.Happens.{Happens, Serves, Blanks, Turns, Serving, Goes, Ends, Stays, Wakes, Fails, By_job, By_ballot, By_entry, Starts, served_so, stopped_so, shown_so, is_between, own_place, without_rev}
 use Rattle.law_steps.specs.Ready.{IsRising, Rests}
 use Rattle.law_steps.specs.Waking.{AllMayWake}
@@ -67,7 +69,8 @@ use Rattle.law_copies.proofs.Entered as entries
 use Rattle.law_copies.proofs.Entering.{IsCrossed}
 use Rattle.law_copies.proofs.Framed.{store_itself, store_same}
 use Rattle.law_copies.proofs.Further.{IsFurther, grow}
-use Rattle.law_copies.proofs.Growing.{IsBehind, new_alone, new_twins}
+use Rattle.law_copies.proofs.Growing.{IsBehind}
+use Rattle.law_copies.proofs.NewPlaces.{new_alone, new_twins}
 use Rattle.law_copies.proofs.Keeping.{ballot_keeping, job_keeping}
 use Rattle.law_copies.proofs.Later.{AllStarted}
 use Rattle.law_copies.proofs.Mute.{asked_mute, logged_mute}
@@ -199,16 +202,22 @@ module _ (setting : Setting) (records : List Record) (w : World) (known : IsKnow
       counts_same : server.own ≡ (before.servers k).own
       counts_same = ap (λ (o : Own). record o { store = kept_here o.store }) own_same
 
+      then_so_state : (P : State → Type 0) → P (server_state setting w k) → P (state_in setting.servers acted.server.log)
+      then_so_state P p = subst (λ f. P (state_after setting.servers f)) (sym applied) p
+
       same_sound : IsSoundOwn setting top v k server
       same_sound = record {
-        born = λ cell none. ap (λ (o : Own). chain_in o.store.chains cell) counts_same ∙ good.born cell none k;
-        unheard = λ cell none. subst (λ (o : Own). IsUnheard o cell) (sym counts_same)
-            (good.unheard k cell (ap (λ f. cell_link (state_after setting.servers f) cell) (sym applied) ∙ none));
+        unheard = λ cell none. then_so_state (λ s. IsUnheard s server.own cell)
+            (subst (λ (o : Own). IsUnheard (server_state setting w k) o cell) (sym counts_same)
+            (good.unheard k cell (ap (λ f. stage_at (state_after setting.servers f) cell) (sym applied) ∙ none)));
+        copied = λ cell last there. then_so_state (λ s. live s cell ≡ true)
+            (good.copied k cell last (ap (λ (o : Own). last_copy o cell) (sym counts_same) ∙ there));
         rising = λ cell. subst (λ (o : Own). IsRising nat_cmp (chain_in o.store.chains cell)) (sym counts_same) (good.rising k cell);
         counts = subst (λ (o : Own). 1 ≤ o.pairs.next) (sym counts_same) (good.counts k);
         filled = subst (λ (o : Own). AreFilled o.store.chains) (sym counts_same) (good.filled k);
-        marks = λ when. subst (λ (o : Own). HaveMarks o.pairs.pending o.store) (sym counts_same)
-            (good.marks k (elim when [ inl runs ↦ inl (ran runs) | inr none ↦ inr (was_blank k none) ]));
+        marks = λ when. then_so_state (λ s. HaveMarks s server.own.pairs.pending server.own.store)
+            (subst (λ (o : Own). HaveMarks (server_state setting w k) o.pairs.pending o.store) (sym counts_same)
+            (good.marks k (elim when [ inl runs ↦ inl (ran runs) | inr none ↦ inr (was_blank k none) ])));
       }
 
       -- and it says nothing of pairs or copies
@@ -218,7 +227,7 @@ module _ (setting : Setting) (records : List Record) (w : World) (known : IsKnow
           let step = same_step applied in
           quiet.quiet_good setting records top before v k server good step
           (quiet.same_visits setting records top before v k server good step counts_same applied inc)
-          (λ cell. store_same (before.servers k).own.store server.own.store cell (ap (λ (o : Own). o.store) counts_same))
+          (λ cell alive. store_same (before.servers k).own.store server.own.store cell (ap (λ (o : Own). o.store) counts_same))
           own (then_so then_world then_is) same_sound (mute_letters step who posts is mute)
 
     -- a server that is not In as itself then, with its blocks and marks as they were
@@ -233,7 +242,7 @@ module _ (setting : Setting) (records : List Record) (w : World) (known : IsKnow
           let marks_same = kept_alike (λ (s : Store). s.marks) joins (w.before_blank k) acted.server.own.store (w.servers k).own.store marks in
           quiet.quiet_good setting records top before v k server good step
           (quiet.out_visits setting records top before v k server good step out)
-          (λ cell. record { chain = ap (λ t. chain_in t cell) same; marks = λ kind. ap (λ ms. has_mark (mark_on kind cell) ms) marks_same })
+          (λ cell alive. record { chain = ap (λ t. chain_in t cell) same; marks = λ kind. ap (λ ms. has_mark (mark_on kind cell) ms) marks_same })
           own (then_so then_world then_is) sound (mute_letters step who posts is mute)
 
     -- a server that is In as itself does a job, or starts a ballot
@@ -301,19 +310,28 @@ module _ (setting : Setting) (records : List Record) (w : World) (known : IsKnow
           own (then_so then_world then_is) (mute_letters entry_step who posts is mute)
 
   -- what a server's own part is that has nothing in memory
-  woken_sound : (v : World) (k : ℕ) (server : Server) → server.own.pairs ≡ no_pairs → server.own.copies ≡ no_copies
-      → server.own.store.chains ≡ (before.servers k).own.store.chains → IsSoundOwn setting top v k server
-  woken_sound v k server pairs copies chains = record {
-    born = λ cell none. ap (λ t. chain_in t cell) chains ∙ good.born cell none k;
-    unheard = λ cell none. record {
-      last = ap (λ (p : Pairs). at cell_cmp p.last cell) pairs ∙ at-empty cell_cmp cell;
-      pages = λ row same. ap (λ (c : Copies). unwrap_or (at link_cmp c.progress (id_of row)) no_progress) copies
-          ∙ ap (λ o. unwrap_or o no_progress) (at-empty link_cmp (id_of row));
-    };
+  woken_sound : (v : World) (k : ℕ) (server : Server) → IsStep setting top before v k server → server.own.pairs ≡ no_pairs → server.own.copies ≡ no_copies
+      → server.own.store.chains ≡ (before.servers k).own.store.chains → server.own.store.marks ≡ (before.servers k).own.store.marks
+      → IsSoundOwn setting top v k server
+  woken_sound v k server step pairs copies chains marks = record {
+    unheard = λ cell none.
+        let le = (log_below setting.servers (w.servers k).log.applied server.log.applied
+        (front_plain setting.servers server.log.applied top known.firm.plain step.within) step.onward).stages cell in
+        let bare = (good.unheard k cell (omega arith)).bare in
+        record {
+          bare = record {
+            chain = ap (λ t. chain_in t cell) chains ∙ bare.chain;
+            marks = λ kind. ap (has_mark (mark_on kind cell)) marks ∙ bare.marks kind;
+          };
+          last = ap (λ (p : Pairs). at cell_cmp p.last cell) pairs ∙ at-empty cell_cmp cell;
+          pages = λ unlinked row same. ap (λ (c : Copies). unwrap_or (at link_cmp c.progress (id_of row)) no_progress) copies
+              ∙ ap (λ o. unwrap_or o no_progress) (at-empty link_cmp (id_of row));
+        };
+    copied = λ cell last there. none_some (ap (λ (c : Copies). at cell_cmp c.last cell) copies ∙ at-empty cell_cmp cell) there;
     rising = λ cell. subst (λ t. IsRising nat_cmp (chain_in t cell)) (sym chains) (good.rising k cell);
     counts = subst (λ (p : Pairs). 1 ≤ p.next) (sym pairs) (omega arith);
     filled = subst AreFilled (sym chains) (good.filled k);
-    marks = λ when cell op there. none_some (at-empty cell_cmp cell) (ap (λ (p : Pairs). at cell_cmp p.pending cell) (sym pairs) ∙ there);
+    marks = λ when cell op on there. none_some (at-empty cell_cmp cell) (ap (λ (p : Pairs). at cell_cmp p.pending cell) (sym pairs) ∙ there);
   }
 
   no_posts : (post : Post) → In post [] → is_between (subject_of post.body) ≡ false
@@ -372,8 +390,10 @@ module _ (setting : Setting) (records : List Record) (w : World) (known : IsKnow
       let acted = wakes (own_place setting w k) woken in
       let wake = known.wake k in
       out_goes k stamp what acted unblanked wake.out (step_of k stamp what acted unblanked wake.onward wake.chosen) refl refl
-      (woken_sound (v k stamp what acted unblanked) k (server k stamp what acted unblanked) refl refl
-      (kept_alike (λ (s : Store). s.chains) (blank_joins_in setting top k) (w.before_blank k) woken.own.store (w.servers k).own.store refl)) _ _ refl
+      (woken_sound (v k stamp what acted unblanked) k (server k stamp what acted unblanked)
+      (step_of k stamp what acted unblanked wake.onward wake.chosen) refl refl
+      (kept_alike (λ (s : Store). s.chains) (blank_joins_in setting top k) (w.before_blank k) woken.own.store (w.servers k).own.store refl)
+      (kept_alike (λ (s : Store). s.marks) (blank_joins_in setting top k) (w.before_blank k) woken.own.store (w.servers k).own.store refl)) _ _ refl
       (all_down k (w.servers k).life.inc _)
   server_goes k stamp what _ unblanked (Fails booted asleep) =
       let acted = stays (raised (w.servers k)) in
@@ -409,11 +429,11 @@ module _ (setting : Setting) (records : List Record) (w : World) (known : IsKnow
       } in
       quiet.quiet_good setting records top before v k (before.servers k) good step
       (quiet.same_visits setting records top before v k (before.servers k) good step refl refl refl)
-      (λ cell. store_itself (before.servers k).own.store cell)
+      (λ cell alive. store_itself (before.servers k).own.store cell)
       own (then_so then_world then_is)
       (record {
-        born = λ cell none. good.born cell none k;
         unheard = good.unheard k;
+        copied = good.copied k;
         rising = good.rising k;
         counts = good.counts k;
         filled = good.filled k;
@@ -442,11 +462,11 @@ module _ (setting : Setting) (records : List Record) (w : World) (known : IsKnow
       } in
       quiet.quiet_good setting records top before v 0 (before.servers 0) good step
       (quiet.same_visits setting records top before v 0 (before.servers 0) good step refl refl refl)
-      (λ cell. store_itself (before.servers 0).own.store cell)
+      (λ cell alive. store_itself (before.servers 0).own.store cell)
       own (then_so then_world then_is)
       (record {
-        born = λ cell none. good.born cell none 0;
         unheard = good.unheard 0;
+        copied = good.copied 0;
         rising = good.rising 0;
         counts = good.counts 0;
         filled = good.filled 0;
@@ -489,28 +509,32 @@ start_good setting =
       reaching = record { below = λ front cell row n own prefix is serving visit. none_some refl visit; by = λ cell. inl refl };
       stores = stores;
       now = λ n. refl;
-      here = λ n cell row is seat. none_some (start_unlinked setting.servers cell) is;
+      here = λ n cell row is seat alive. none_some (start_unlinked setting.servers cell) is;
       been = λ n place cell own visit. none_some refl visit;
       came = λ n place cell own visit. none_some refl visit;
       born = λ cell none n. no_chain setting.slots cell;
       unheard = λ n cell none. record {
+        bare = record { chain = no_chain setting.slots cell; marks = λ kind. refl };
         last = at-empty cell_cmp cell;
-        pages = λ row of. ap (λ o. unwrap_or o no_progress) (at-empty link_cmp (id_of row));
+        pages = λ unlinked row of. ap (λ o. unwrap_or o no_progress) (at-empty link_cmp (id_of row));
       };
       rising = λ n cell. subst (IsRising nat_cmp) (sym (no_chain setting.slots cell)) tt;
       ever = λ n joins cell. subst (IsRising nat_cmp) (sym (no_chain setting.slots cell)) tt;
       counts = λ n. omega arith;
       filled = λ n cell there. none_some (at-empty cell_cmp cell) there;
-      marks = λ n when cell op there. none_some (at-empty cell_cmp cell) there;
+      copied = λ n cell last there. none_some (at-empty cell_cmp cell) there;
+      marks = λ n when cell op on there. none_some (at-empty cell_cmp cell) there;
       both = λ front cell row prefix is both. record {
-        twins = λ last. new_twins (λ n. empty_store setting.slots) visits (place_by setting front row) cell row.primary row.secondary (λ n. refl) refl;
+        twins = λ alive last. new_twins (λ n. empty_store setting.slots) visits (place_by setting front row) cell row.primary row.secondary (λ n. refl) refl;
       };
       alone = λ front cell row holder whole prefix is alone.
-          new_alone setting top stores visits reached front cell row holder (λ n. refl) (Is_equal refl) (λ all_of. inl (no_chain setting.slots cell));
+          new_alone setting top stores visits reached front cell row holder (λ n. refl) (λ alive. Is_equal refl)
+          (λ alive all_of. inl (no_chain setting.slots cell));
       revs = λ letter i. absurd i;
       letters = λ letter i. absurd i;
+      lives = λ letter i. absurd i;
       pages = λ letter i. absurd i;
-      started = λ holder inc whole front cell row prefix is alone seat was. true_false was.minded
+      started = λ holder inc whole front cell row prefix is alive alone seat was. true_false was.minded
           (ap (λ u. is_flagged ((world_after setting (start setting) u).servers holder).own (id_of row)) (none_before_none was.before was.later was.is)
           ∙ ap (λ o. option_map_or (λ (p : Progress). p.caught) o false) (at-empty link_cmp (id_of row)));
     }
@@ -627,7 +651,7 @@ module _ (script : Script) (records : List Record) (own : Record) (sound : IsSou
         visits = λ n place cell. by_bool (is_at setting n ((counted setting next).servers n) place cell)
             (λ on.
             let at = at_by setting n ((counted setting next).servers n) place cell on in
-            let h = grown.good.here n cell at.row at.linked at.seat in
+            let h = grown.good.here n cell at.row at.linked at.seat at.alive in
             ap (λ p. grown.good.visits n p cell) at.at ∙ h.is ∙ ap Some h.same
             ∙ sym (ap (λ b. if b then Some ((counted setting next).servers n).own else good.visits n place cell) on))
             (λ off. grown.visits_are n place cell ∙ goes.visits n place cell

@@ -17,33 +17,37 @@ use Rattle.petal_msg.specs.declared.copying.Copying.{Copying}
 use Rattle.petal_msg.specs.declared.copying.LastCopy.{LastCopy}
 use Rattle.petal_msg.specs.declared.copying.LinkId.{LinkId}
 use Rattle.petal_msg.specs.declared.copying.Progress.{Progress}
+use Rattle.petal_msg.specs.declared.operation.Action.{Action}
+use Rattle.petal_msg.specs.declared.operation.Action.TheVariants as action
 use Rattle.petal_msg.specs.declared.operation.Ending.TheVariants as ending
 use Rattle.petal_msg.specs.declared.operation.Pending.{Pending}
 use Rattle.petal_state.specs.CellState.{cell_link}
 use Rattle.petal_state.specs.Command.{is_alone}
 use Rattle.petal_history.specs.Claims.{IsMarked}
 use Rattle.petal_rules.specs.Copies.{begins_copy, cell_at, closes, idle_mark, same_block, turns_page as turned, with_copied, with_page}
+use Rattle.petal_rules.specs.Fills.{fill_operation}
 use Rattle.petal_rules.specs.Lists.{In}
-use Rattle.petal_rules.specs.Progress.{copying_on, progress_on, with_copying, with_full, with_last_copy, without_copying}
+use Rattle.petal_rules.specs.Progress.{copying_on, has_proposed, progress_on, with_copying, with_full, with_last_copy, without_copying}
 use Rattle.petal_rules.specs.Server.{Own, Copies, Pairs, Here, Post, Done, silent}
-use Rattle.petal_rules.specs.State.{id_of, in_both, is_second, link_cmp, link_named}
+use Rattle.petal_rules.specs.State.{id_of, in_both, is_second, link_cmp, link_named, live}
 use Rattle.petal_rules.specs.Store.{Store, cell_cmp, chain_in, epochs_of, is_marked, version_of, with_mark_on, with_ticket}
-use Rattle.petal_rules.specs.Writes.{Wanted, finishes, gives_back, marks, operation, opened, pending_on, puts, unmarks, without_pending}
+use Rattle.petal_rules.specs.Writes.{acts, ends, gives_back, marks, next_stage, operation, pending_on, puts, unmarks, with_opened, without_pending}
 use Rattle.petal_rules.proofs.CellTables.{cell_gone, cell_gone_apart, cell_same}
-use Rattle.petal_rules.proofs.Tests.{by_bool, same_some, some_or_none, true_false}
+use Rattle.petal_rules.proofs.Tests.{by_bool, by_test, same_some, some_or_none, true_false}
 use Rattle.law_state.specs.Started.{is_flagged}
 use Rattle.law_log.proofs.Flags.{progress_beside, same_id}
 use Rattle.law_steps.specs.Ready.{IsRising}
-use Rattle.law_steps.specs.DidLead.{DidLead, IsNew, Asks, A_slot, A_copy, A_trim, A_copied_entry, A_page, Of_the_log, Asks_for, Repeats, Is_full, Opens, Marks, Puts, Gives_up, Unmarks, Closes, Opens_alone, Marks_alone, Puts_alone, Unmarks_alone, Closes_alone, Taken}
+use Rattle.law_steps.specs.DidLead.{DidLead, Asks, A_slot, A_copy, A_trim, A_copied_entry, A_page, An_entry_to_move, Of_the_log, Asks_for, Repeats, Is_full, Opens, Marks, Puts, Gives_up, Unmarks, Closes, Opens_alone, Marks_alone, Puts_alone, Unmarks_alone, Closes_alone, Opens_fill, Opens_fill_alone, Has_fill, Has_no_room, Goes_on_dead, Taken}
 use Rattle.law_steps.specs.DidHolder.{DidHolder, CopyStep, Asks_to_trim, Sends, Unmarks_copied, Closes_copy, TakenCopy, Copy_as_is, Copy_trimmed, Copy_synced, Asks_page, Turns_page, Begins_copy, Goes_on_copying, Finds_it_full, Tidies, IsHeldWith, first_copy}
 use Rattle.law_steps.specs.DidOther.{DidOther, first_last, TrimStep, Is_trimmed, Drops_entry, Answers_page, Is_copied_to, Goes_on_trimming, Puts_entry, Has_entry, Has_no_slot}
 use Rattle.law_steps.specs.DidSecond.{DidSecond}
-use Rattle.law_steps.specs.Did.{Did, Ignores, Refuses, By_read, By_lead, By_second, By_holder, By_other}
+use Rattle.law_steps.specs.Did.{Did, Ignores, Refuses, By_read, By_lead, By_second, By_holder, By_other, By_filler, By_sweep}
 use Rattle.law_steps.proofs.CopyFrames.{of_holder, of_other}
+use Rattle.law_steps.proofs.Leading.{stage_live}
 use Rattle.law_steps.proofs.Letters.{one_post, posted}
 use Rattle.law_steps.proofs.Minds.{held_as_flag}
 use Rattle.law_steps.proofs.Staged.{same_cell_or_apart}
-use Rattle.law_steps.proofs.Subjects.{of_lead, of_read, of_second}
+use Rattle.law_steps.proofs.Subjects.{of_ending, of_filler, of_lead, of_read, of_second, of_sweep}
 use Rattle.law_steps.proofs.Taking.{IsTaken, taking}
 use Rattle.law_copies.specs.Copied.{AreCopying, IsLeft, IsTold}
 use Rattle.law_copies.specs.Steps.{HolderKeeps, IsHolding, KeepsCell}
@@ -60,9 +64,48 @@ use Rattle.law_copies.proofs.Marks.{mark_kept, stale_kept}
 use Rattle.law_copies.proofs.Onward.{IsOnward, begun_onward, closed_onward, copied_itself, ended_onward, going_onward, onward_by, onward_tables}
 use Rattle.law_copies.proofs.Pacing.{IsPaced, link_itself, paced_beside, paced_copied, paced_table}
 use Rattle.law_copies.proofs.Rising.{did_rising}
-use Rattle.law_copies.proofs.Sent.{answered_not, at_away, holder_says, lead_sends, logged_not, none_in, other_says, paired_not, refused_not, untold}
-use Rattle.law_copies.proofs.Standing.{alone_not_in_both, alone_not_row, alone_not_second, cell_map, holder_not_other, idle_on, named_id, one_named, only_alone, page_on}
-use Rattle.law_copies.proofs.Working.{Away, IsHeldBy, copy_step_beside, holder_beside, holder_cell, lead_beside, lead_cell, other_beside, other_cell, other_held, page_cell, second_beside, second_follows}
+use Rattle.law_copies.proofs.Sent.{at_away, filling_not, holder_says, lead_sends, logged_not, none_in, other_says, paired_not, read_not, refused_not, untold}
+use Rattle.law_copies.proofs.Standing.{alone_not_in_both, alone_not_row, alone_not_second, cell_map, holder_not_other, idle_on, kept_lives, named_id, one_named, only_alone, page_on}
+use Rattle.law_copies.proofs.Working.{Away, IsHeldBy, copy_step_beside, filler_beside, holder_beside, holder_cell, lead_beside, lead_cell, other_beside, other_cell, other_held, page_cell, second_beside, second_follows, sweep_beside}
+
+module _ (heard : Body → Type 0) (here : Here) (own : Own) where
+  -- ### Numbers only grow
+
+  acts_count : (now : Own) (op : Pending) (next : Action) → now.pairs.next ≤ (acts here now op next).own.pairs.next
+  acts_count now op action.Reserve = omega arith
+  acts_count now op (action.Mark which) = omega arith
+  acts_count now op action.Put = omega arith
+  acts_count now op action.Replicate = omega arith
+  acts_count now op (action.Unmark which) = omega arith
+  acts_count now op action.Answer = let e = (of_ending here (without_pending now op.cell) op op.kind ending.Written).next in omega arith
+  acts_count now op action.Drop =
+      by_test (λ (o : Own). now.pairs.next ≤ o.pairs.next) op.stage.put (without_pending now op.cell) (gives_back (without_pending now op.cell))
+      (λ put. omega arith) (λ fresh. omega arith)
+
+  pub lead_counts : (done : Done) → DidLead heard here own done → own.pairs.next ≤ done.own.pairs.next
+  lead_counts _ (Asks_for posts h) = omega arith
+  lead_counts _ (Repeats want last h lead is e) = omega arith
+  lead_counts _ (Is_full want new no_room) = omega arith
+  lead_counts _ (Gives_up op h is reserved put) =
+      let e = (of_ending here (gives_back (without_pending own op.cell)) op op.kind ending.Full).next in omega arith
+  lead_counts _ (Opens want new both) = omega arith
+  lead_counts _ (Marks op h is both stage) = omega arith
+  lead_counts _ (Puts op is both stage) = omega arith
+  lead_counts _ (Unmarks op h is both stage) = omega arith
+  lead_counts _ (Closes op is both stage) =
+      let e = (of_ending here (without_pending own op.cell) op op.kind ending.Written).next in omega arith
+  lead_counts _ (Opens_alone want new alone) = omega arith
+  lead_counts _ (Marks_alone now op taken alone fresh) = let e = (taking own now op taken).next in omega arith
+  lead_counts _ (Puts_alone now op taken alone stale put) = let e = (taking own now op taken).next in omega arith
+  lead_counts _ (Unmarks_alone now op taken alone stale put busy) = let e = (taking own now op taken).next in omega arith
+  lead_counts _ (Closes_alone now op taken alone stale put free) =
+      let e = (of_ending here (without_pending now op.cell) op op.kind ending.Written).next in let k = (taking own now op taken).next in omega arith
+  lead_counts _ (Opens_fill moving new room both) = omega arith
+  lead_counts _ (Opens_fill_alone moving new room alone) = omega arith
+  lead_counts _ (Has_fill moving there) = omega arith
+  lead_counts _ (Has_no_room moving new no_room) = omega arith
+  lead_counts _ (Goes_on_dead now op taken off) =
+      let le = acts_count now op (next_stage here.state here.me op) in let k = (taking own now op taken).next in omega arith
 
 module _ (heard : Body → Type 0) (here : Here) (links : ℕ) (row : LinkRow) (vo : Option Own) (own : Own) where
   -- ### A write on the cell
@@ -83,11 +126,15 @@ module _ (heard : Body → Type 0) (here : Here) (links : ℕ) (row : LinkRow) (
     taken_marks : IsMarked own.store op.cell → IsMarked now.store op.cell
     taken_marks m = subst (λ (s : Store). IsMarked s op.cell) (sym k.store) m
 
+    -- an operation of a cell that is not dead is of a live one
+    lives : live here.state op.cell ≡ true
+    lives = stage_live here.state op.cell (f.fit.ready.staged op.cell k.old k.was).born f.alive
+
     -- the block is marked stale, where the stage says so
     stale_there : op.stage.stale ≡ true → is_marked now.store Stale op.cell ≡ true
     stale_there stale =
         let old_stale : k.old.stage.stale ≡ true = sym (ap (λ (o : Pending). o.stage.stale) k.is) ∙ stale in
-        ap (λ (s : Store). is_marked s Stale op.cell) k.store ∙ (f.fit.marks op.cell k.old k.was).stale old_stale
+        ap (λ (s : Store). is_marked s Stale op.cell) k.store ∙ (f.fit.marks op.cell k.old lives k.was).stale old_stale
 
     taken_chain : chain_in now.store.chains op.cell ≡ chain_in own.store.chains op.cell
     taken_chain = ap (λ (s : Store). chain_in s.chains op.cell) k.store
@@ -126,43 +173,35 @@ module _ (heard : Body → Type 0) (here : Here) (links : ℕ) (row : LinkRow) (
     unmarks_at stale rises = taken_step (unmarks now op Busy).own refl refl
         (λ m. inr (stale_kept now.store op.cell op.cell ∙ stale_there stale)) (inl refl) (λ some. some) rises
 
-    closes_at : IsRising nat_cmp (chain_in now.store.chains op.cell)
-        → HolderStep heard links row op.cell vo own (finishes (without_pending now op.cell) op.client op.seq ending.Written).own
-    closes_at rises = taken_step (finishes (without_pending now op.cell) op.client op.seq ending.Written).own refl refl (λ m. m)
-        (inl refl) (λ some. some) rises
+    closes_at : IsRising nat_cmp (chain_in (ends here (without_pending now op.cell) op op.kind ending.Written).own.store.chains op.cell)
+        → HolderStep heard links row op.cell vo own (ends here (without_pending now op.cell) op op.kind ending.Written).own
+    closes_at rises =
+        let e = of_ending here (without_pending now op.cell) op op.kind ending.Written in
+        taken_step (ends here (without_pending now op.cell) op op.kind ending.Written).own e.copies e.next
+        (λ m. subst (λ (s : Store). IsMarked s op.cell) (sym e.store) m) (inl (ap (λ (s : Store). chain_in s.chains op.cell) e.store))
+        (λ some none. some (ap (λ (s : Store). chain_in s.chains op.cell) (sym e.store) ∙ none)) rises
 
   gives_up_at : (op : Pending) → pending_on own op.cell ≡ Some op → (f : IsHolding heard here links row op.cell own vo)
-      → HolderStep heard links row op.cell vo own (finishes (gives_back (without_pending own op.cell)) op.client op.seq ending.Full).own
-  gives_up_at op is f = steps.write_step heard links row op.cell vo own f.old (steps.pending_idle heard links row op.cell vo own f.old op is)
-      (steps.pending_unflagged heard links row op.cell vo own f.old op is) _ refl (omega arith) (λ m. m) (inl refl) (λ some. some)
-      (f.fit.rising op.cell)
+      → HolderStep heard links row op.cell vo own (ends here (gives_back (without_pending own op.cell)) op op.kind ending.Full).own
+  gives_up_at op is f =
+      let e = of_ending here (gives_back (without_pending own op.cell)) op op.kind ending.Full in
+      let chain : chain_in (ends here
+      (gives_back (without_pending own op.cell)) op op.kind ending.Full).own.store.chains op.cell ≡ chain_in own.store.chains op.cell =
+      ap (λ (s : Store). chain_in s.chains op.cell) e.store in
+      steps.write_step heard links row op.cell vo own f.old (steps.pending_idle heard links row op.cell vo own f.old op is)
+      (steps.pending_unflagged heard links row op.cell vo own f.old op is) _ e.copies (let n = e.next in omega arith)
+      (λ m. subst (λ (s : Store). IsMarked s op.cell) (sym e.store) m) (inl chain) (λ some none. some (sym chain ∙ none))
+      (subst (IsRising nat_cmp) (sym chain) (f.fit.rising op.cell))
 
-  opens_at : (want : Wanted) → IsNew heard here own want → (f : IsHolding heard here links row want.cell own vo)
-      → HolderStep heard links row want.cell vo own (marks (opened here own want) (operation here own.pairs.next want) Stale).own
-  opens_at want new f = steps.write_step heard links row want.cell vo own f.old new.uncopied
-      (sym (held_as_flag here.state own want.cell row f.is) ∙ new.unheld) _ refl (omega arith)
+  opens_at : (op : Pending) → copying_on own op.cell ≡ None → has_proposed here.state own op.cell ≡ false
+      → (f : IsHolding heard here links row op.cell own vo)
+      → HolderStep heard links row op.cell vo own (marks (with_opened own op) op Stale).own
+  opens_at op uncopied unheld f = steps.write_step heard links row op.cell vo own f.old uncopied
+      (sym (held_as_flag here.state own op.cell row f.is) ∙ unheld) _ refl (omega arith)
       (λ m. elim m [
-        | inl busy ↦ inl (mark_kept (with_ticket own.store) Stale Busy want.cell want.cell busy)
-        | inr stale ↦ inr (mark_kept (with_ticket own.store) Stale Stale want.cell want.cell stale)
-      ]) (inl refl) (λ some. some) (f.fit.rising want.cell)
-
-  -- ### Numbers only grow
-
-  lead_counts : (done : Done) → DidLead heard here own done → own.pairs.next ≤ done.own.pairs.next
-  lead_counts _ (Asks_for posts h) = omega arith
-  lead_counts _ (Repeats want last h lead is e) = omega arith
-  lead_counts _ (Is_full want new no_room) = omega arith
-  lead_counts _ (Gives_up op h is reserved put) = omega arith
-  lead_counts _ (Opens want new both) = omega arith
-  lead_counts _ (Marks op h is both stage) = omega arith
-  lead_counts _ (Puts op is both stage) = omega arith
-  lead_counts _ (Unmarks op h is both stage) = omega arith
-  lead_counts _ (Closes op is both stage) = omega arith
-  lead_counts _ (Opens_alone want new alone) = omega arith
-  lead_counts _ (Marks_alone now op taken alone fresh) = let e = (taking own now op taken).next in omega arith
-  lead_counts _ (Puts_alone now op taken alone stale put) = let e = (taking own now op taken).next in omega arith
-  lead_counts _ (Unmarks_alone now op taken alone stale put busy) = let e = (taking own now op taken).next in omega arith
-  lead_counts _ (Closes_alone now op taken alone stale put free) = let e = (taking own now op taken).next in omega arith
+        | inl busy ↦ inl (mark_kept (with_ticket own.store) Stale Busy op.cell op.cell busy)
+        | inr stale ↦ inr (mark_kept (with_ticket own.store) Stale Stale op.cell op.cell stale)
+      ]) (inl refl) (λ some. some) (f.fit.rising op.cell)
 
   -- ### A copy of the cell
 
@@ -279,7 +318,7 @@ module _ (heard : Body → Type 0) (here : Here) (links : ℕ) (row : LinkRow) (
     lead_apart done d apart =
         let copies = (of_lead heard here own done d).copies in
         let paced = same_paced done.own (ap (λ (c : Copies). c.progress) copies) (ap (λ (c : Copies). c.pending) copies) in
-        kept done (lead_beside heard here own f.fit.ready done d cell apart) (lead_counts done d) paced.0 paced.1
+        kept done (lead_beside heard here own f.fit.ready done d cell apart) (lead_counts heard here own done d) paced.0 paced.1
 
     -- at the cell of the operation, or apart from it
     either : (c : Cell) (to : Own) → (IsHolding heard here links row c own vo → HolderStep heard links row c vo own to)
@@ -307,7 +346,8 @@ module _ (heard : Body → Type 0) (here : Here) (links : ℕ) (row : LinkRow) (
     lead_step _ (Puts op is both stage) = both_not op.cell _ both (λ ne. lead_apart _ (Puts op is both stage) ne)
     lead_step _ (Unmarks op h is both stage) = both_not op.cell _ both (λ ne. lead_apart _ (Unmarks op h is both stage) ne)
     lead_step _ (Closes op is both stage) = both_not op.cell _ both (λ ne. lead_apart _ (Closes op is both stage) ne)
-    lead_step _ (Opens_alone want new alone) = either want.cell _ (opens_at want new) (λ ne. lead_apart _ (Opens_alone want new alone) ne)
+    lead_step _ (Opens_alone want new alone) =
+        either want.cell _ (opens_at (operation here own.pairs.next want) new.uncopied new.unheld) (λ ne. lead_apart _ (Opens_alone want new alone) ne)
     lead_step _ (Marks_alone now op taken alone fresh) =
         either op.cell _ (λ g. marks_at now op taken g (rises _ (Marks_alone now op taken alone fresh) op.cell))
         (λ ne. lead_apart _ (Marks_alone now op taken alone fresh) ne)
@@ -320,6 +360,14 @@ module _ (heard : Body → Type 0) (here : Here) (links : ℕ) (row : LinkRow) (
     lead_step _ (Closes_alone now op taken alone stale put free) =
         either op.cell _ (λ g. closes_at now op taken g (rises _ (Closes_alone now op taken alone stale put free) op.cell))
         (λ ne. lead_apart _ (Closes_alone now op taken alone stale put free) ne)
+    lead_step _ (Opens_fill moving new room both) = both_not (cell_of moving.key) _ both (λ ne. lead_apart _ (Opens_fill moving new room both) ne)
+    lead_step _ (Opens_fill_alone moving new room alone) =
+        either (cell_of moving.key) _ (opens_at (fill_operation here own.pairs.next moving) new.uncopied new.unheld)
+        (λ ne. lead_apart _ (Opens_fill_alone moving new room alone) ne)
+    lead_step _ (Has_fill moving there) = lead_apart _ (Has_fill moving there) tt
+    lead_step _ (Has_no_room moving new no_room) = lead_apart _ (Has_no_room moving new no_room) tt
+    lead_step _ (Goes_on_dead now op taken off) = either op.cell _ (λ g. true_false (lives now op taken g) off)
+        (λ ne. lead_apart _ (Goes_on_dead now op taken off) ne)
 
     -- what is asked again of a copy of the cell
     asks_told : (post : Post) → Asks here own post → (about post.body).cell ≡ Some cell → IsTold row (Some own) vo post.body
@@ -333,6 +381,8 @@ module _ (heard : Body → Type 0) (here : Here) (links : ℕ) (row : LinkRow) (
         (moves.entry_told heard links row cell vo own f.old copy (subst (λ (q : Cell). copying_on own q ≡ Some copy) (same_some e) is) r trimmed
         (subst (λ (q : Cell). slice_get (chain_in own.store.chains q) copy.index ≡ Some r) (same_some e) there))
     asks_told _ (A_page r at on so fresh) e = tt
+    asks_told post (An_entry_to_move _ next) e =
+        untold row (Some own) vo post.body (filling_not post.body (ap (λ (p : Post). subject_of p.body) next.is))
     asks_told post (Of_the_log _ logged) e = untold row (Some own) vo post.body (logged_not (subject_of post.body) logged)
 
     lead_says : (done : Done) → DidLead heard here own done → Says cell done
@@ -506,7 +556,8 @@ module _ (heard : Body → Type 0) (here : Here) (links : ℕ) (row : LinkRow) (
         (λ ne. let begun = sym (begun_own c done step) in
         holder_apart done (Begins_copy id r other c _ held next step) ne
         (subst (IsPaced row own) begun (record { paged = refl; after = refl; flag = refl }))
-        (subst (IsOnward links row cell own) begun (begun_onward here.state links row cell f.is f.links_are c ne own r n)))
+        (subst (IsOnward links row cell own) begun
+        (begun_onward here.state links row cell f.is f.links_are c ne own r n (kept_lives heard here own f.fit cell f.alive))))
     holder_step done (Goes_on_copying c now copy _ taken step) = copy_either c done (λ g. goes_on_at c g now copy done taken step)
         (λ ne. (
           goes_apart c ne now copy done taken step,
@@ -565,12 +616,12 @@ module _ (heard : Body → Type 0) (here : Here) (links : ℕ) (row : LinkRow) (
     did_step _ Ignores = (itself cell own f.old, (λ post i. none_in post i))
     did_step _ (Refuses to said is why because) = (
       itself cell own f.old,
-      (λ post i e. untold row (Some own) vo post.body (refused_not post.body (ap subject_of (one_post to said post i).1 ∙ is))),
+      (λ post i e. untold row (Some own) vo post.body (refused_not post.body (ap subject_of (one_post to said post i).1 ∙ is.refused))),
     )
     did_step done (By_read _ d) =
         let r = of_read heard here own done d in (
           subst (λ (x : Own). HolderStep heard links row cell vo own x) (sym r.same) (itself cell own f.old),
-          (λ post i e. untold row (Some done.own) vo post.body (answered_not post.body (ap subject_of (r.says post i).is))),
+          (λ post i e. untold row (Some done.own) vo post.body (read_not post (r.says post i))),
         )
     did_step done (By_lead _ d) = (lead_step done d, lead_says done d)
     did_step done (By_second _ d) = (
@@ -579,6 +630,19 @@ module _ (heard : Body → Type 0) (here : Here) (links : ℕ) (row : LinkRow) (
     )
     did_step done (By_holder _ d) = holder_step done d
     did_step done (By_other _ d) = other_step done d
+    did_step done (By_filler _ d) =
+        let frame = of_filler heard here own done d in
+        let paced = same_paced done.own frame.progress frame.pending in (
+          kept done (filler_beside heard here own done d cell) (let e = ap (λ (p : Pairs). p.next) frame.pairs in omega arith) paced.0 paced.1,
+          (λ post i e. untold row (Some done.own) vo post.body (filling_not post.body (frame.says post i))),
+        )
+    did_step done (By_sweep _ d) =
+        let frame = of_sweep heard here own done d in
+        let paced = same_paced done.own (ap (λ (c : Copies). c.progress) frame.copies) (ap (λ (c : Copies). c.pending) frame.copies) in (
+          kept done (sweep_beside heard here own done d cell f.alive (f.fit.bare cell))
+              (let e = ap (λ (p : Pairs). p.next) frame.pairs in omega arith) paced.0 paced.1,
+          (λ post i e. absurd (frame.silent post i)),
+        )
 
     -- what is kept
     pub holds : (done : Done) → Did heard here own done → HolderKeeps heard links row cell own vo done

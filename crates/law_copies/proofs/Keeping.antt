@@ -1,5 +1,5 @@
 -- What a job, and a ballot that is started, keeps by itself.
-use Rattle.std.proofs.Common.{◌≡◌, ◌≢◌, ℕ, true, false, List, [], Option, Some, None, refl, sym, ap, ◌∙◌, subst, inl, arith}
+use Rattle.std.proofs.Common.{◌≡◌, ◌≢◌, ◌≤◌, ◌+◌, ℕ, true, false, List, [], Option, Some, None, refl, sym, ap, ◌∙◌, subst, inl, arith}
 use Rattle.std.specs.Ordering.{eq_by_cmp, nat_cmp}
 use Rattle.global_tables.specs.declared.link.LinkRow.{LinkRow}
 use Rattle.petal_base.specs.declared.cell.Cell.{Cell}
@@ -15,7 +15,8 @@ use Rattle.petal_rules.specs.Progress.{progress_on}
 use Rattle.petal_rules.specs.Returns.{holds_link, proposed}
 use Rattle.petal_rules.specs.Server.{Own, Pairs, Here, Post, Done}
 use Rattle.petal_rules.specs.State.{holder_of, id_of, link_cmp, link_named}
-use Rattle.petal_rules.specs.Store.{Store, cell_cmp, chain_in}
+use Rattle.petal_rules.specs.Store.{Store, cell_cmp, chain_in, is_marked}
+use Rattle.petal_rules.proofs.Tests.{true_false}
 use Rattle.petal_rules.specs.World.{Setting, World, chosen_log, server_state}
 use Rattle.law_state.specs.Firm.{Firm}
 use Rattle.law_state.specs.Tables.{IsPlainState}
@@ -25,12 +26,14 @@ use Rattle.law_state.proofs.Steady.{front_plain}
 use Rattle.law_log.proofs.Flags.{progress_beside}
 use Rattle.law_steps.specs.Did.{Did}
 use Rattle.law_steps.specs.Happens.{Handled, Starts, is_between, own_place}
+use Rattle.law_steps.specs.Operations.{progress}
 use Rattle.law_steps.specs.Ready.{IsRising, Rests}
+use Rattle.law_steps.proofs.Leading.{stage_live}
 use Rattle.law_copies.specs.Copied.{links_of}
 use Rattle.law_copies.specs.Good.{Good}
 use Rattle.law_copies.specs.Pair.{HaveMarks, IsRecalled, Keeps, PairOk, pair_of}
 use Rattle.law_copies.specs.Steps.{AreFilled, HolderKeeps, IsFollowing, IsHolding, OtherKeeps}
-use Rattle.law_copies.proofs.Apart.{lost_keeps, not_of_idle, unlinked_keeps}
+use Rattle.law_copies.proofs.Apart.{lost_keeps, not_of_idle, unborn_bare, unborn_keeps, unlinked_keeps}
 use Rattle.law_copies.proofs.Ballots.{IsBallot, ballot_alike, ballot_keeps}
 use Rattle.law_copies.specs.Visits.{with_stores}
 use Rattle.law_copies.proofs.Filled.{did_filled}
@@ -45,8 +48,8 @@ use Rattle.law_copies.proofs.Rising.{did_rising}
 use Rattle.law_copies.proofs.Seated as seated
 use Rattle.law_copies.proofs.Seated.{IsAtWork}
 use Rattle.law_copies.proofs.Sent.{page_link, page_map, page_sent, pages_sent}
-use Rattle.law_copies.proofs.Speaking.{idle_silent}
-use Rattle.law_copies.proofs.Standing.{named_id, one_named}
+use Rattle.law_copies.proofs.Speaking.{did_copied, did_lives, idle_silent}
+use Rattle.law_copies.proofs.Standing.{kept_lives, named_id, one_named}
 use Rattle.law_copies.proofs.Twins.{lead_step, second_step}
 use Rattle.law_copies.proofs.Unheard.{did_next, did_pages, unlinked_apart}
 use Rattle.law_copies.proofs.Worked.{IsKeeping}
@@ -79,15 +82,17 @@ module _ (setting : Setting) (records : List Record) (w : World) (stores : ℕ �
       let marks = seated.marks setting records w stores k good firm rests works in
       let idle = seated.idle_copies setting records w stores k good firm rests works in
       record {
-        lead = λ cell row second is both leads ok known.
-            lead_step (Handled w k) here own steady cell row is both leads second (rests.pending k) marks idle rising ok known done did;
-        second = λ cell row first is both follows ok known.
-            second_step (Handled w k) here own steady cell row is both follows first (rests.pending k) rising ok known done did;
+        lead = λ cell row second is alive both leads ok known.
+            lead_step (Handled w k) here own steady cell row is alive both leads second (rests.pending k) marks idle rising fit.bare ok known done did;
+        second = λ cell row first is alive both follows ok known.
+            second_step (Handled w k) here own steady cell row is alive both follows first (rests.pending k) rising fit.bare ok known done did;
         holder = λ cell row other f. holders.holds (Handled w k) here (links_at cell) row other own cell f done did;
         other = λ cell row holder f. others.follows (Handled w k) here (links_at cell) row holder own cell f done did;
-        unlinked = λ cell none. unlinked_keeps (Handled w k) here own fit cell none done did;
-        lost = λ cell row is lost. lost_keeps (Handled w k) here own fit cell row is lost done did;
+        unlinked = λ cell none alive. unlinked_keeps (Handled w k) here own fit cell alive none done did;
+        lost = λ cell row is alive lost. lost_keeps (Handled w k) here own fit cell alive row is lost done did;
         silent = λ cell not_of. idle_silent (Handled w k) here own fit cell (not_of_idle here steady cell not_of) done did;
+        lives = λ post i between cell of. did_lives (Handled w k) here own fit cell done did post i between of;
+        copied = λ cell last is. did_copied (Handled w k) here own fit cell done did last is;
         paged = λ cell row is post i after block e.
             let a = page_sent (Handled w k) here own done did post i row.map row.link after block e in
             let same = sym a.is ∙ e in
@@ -99,11 +104,12 @@ module _ (setting : Setting) (records : List Record) (w : World) (stores : ℕ �
         filled = did_filled (Handled w k) here own filled done did;
         counts = did_next (Handled w k) here own done did;
         marks = (job_marked (Handled w k) here own steady (rests.pending k) marks idle done did).marks;
-        unheard = λ cell none unheard. record {
-          last = (unlinked_keeps (Handled w k) here own fit cell none done did).rest.followed ∙ unheard.last;
-          pages = λ row map_is.
+        unheard = λ cell unborn unheard. record {
+          bare = unborn_bare (Handled w k) here own fit cell unborn done did;
+          last = (unborn_keeps (Handled w k) here own fit cell unborn done did).rest.followed ∙ unheard.last;
+          pages = λ none row map_is.
               did_pages (Handled w k) here own row (unlinked_apart setting.servers (server_state setting w k) plain_here cell none row map_is) done did
-              ∙ unheard.pages row map_is;
+              ∙ unheard.pages none row map_is;
         };
       }
 
@@ -174,7 +180,7 @@ module _ (setting : Setting) (records : List Record) (w : World) (stores : ℕ �
     holder_keeps : (cell : Cell) (row : LinkRow) (other : Option Own) → IsHolding (Handled w k) here (links_at cell) row cell own other
         → HolderKeeps (Handled w k) (links_at cell) row cell own other begun
     holder_keeps cell row other f =
-        let b = ballot_keeps here (links_at cell) row cell other own f.old f.is started starts in
+        let b = ballot_keeps here (links_at cell) row cell other own f.old f.is (kept_lives (Handled w k) here own f.fit cell f.alive) started starts in
         record {
           copying = b.copying;
           told = b.told;
@@ -201,36 +207,50 @@ module _ (setting : Setting) (records : List Record) (w : World) (stores : ℕ �
 
     pub ballot_keeping : IsKeeping setting w k begun
     ballot_keeping = record {
-      lead = λ cell row second is both leads ok known. record {
+      lead = λ cell row second is alive both leads ok known. record {
         keeps = first_keeps second cell ok;
         recalled = λ op there.
             let was = ap (λ (p : Pairs). at cell_cmp p.pending cell) (sym pairs_same) ∙ there in
-            let marks = seated.marks setting records w stores k good firm rests works cell op was in
+            let staged = (rests.pending k).staged cell op was in
+            let on = stage_live (server_state setting w k) cell staged.born alive in
+            let marks = seated.marks setting records w stores k good firm rests works cell op on was in
             subst (λ (s : Store). IsRecalled op s cell) (sym store_same)
-            (record { rests = ((rests.pending k).staged cell op was).stage (so_both (server_state setting w k) cell row is both); marks = marks });
+            (record { rests = staged.stage on (so_both (server_state setting w k) cell row is both); marks = marks });
+        lacks = λ old op there fill le. old op (ap (λ (p : Pairs). at cell_cmp p.pending cell) (sym pairs_same) ∙ there) fill le;
         says = λ post i of. known_mute (pair_of to second cell) post.body (mute post i);
         rising = rises cell;
       };
-      second = λ cell row first is both follows ok known. record {
+      second = λ cell row first is alive both follows ok known. record {
         keeps = second_keeps first cell ok;
+        lacks = λ old op there fill le. ap (λ (s : Store). at nat_cmp (chain_in s.chains cell) op.key.epoch) store_same
+            ∙ old op there fill (subst (λ (p : Pairs). progress (at cell_cmp p.last cell) ≤ op.op + op.op) pairs_same le);
         says = λ post i of. known_mute (pair_of first to cell) post.body (mute post i);
         rising = rises cell;
       };
       holder = holder_keeps;
       other = other_keeps;
-      unlinked = λ cell none. keeps_alike cell own to alike.0;
-      lost = λ cell row is lost. keeps_alike cell own to alike.0;
+      unlinked = λ cell none alive. keeps_alike cell own to alike.0;
+      lost = λ cell row is alive lost. keeps_alike cell own to alike.0;
       silent = λ cell not_of post i of. mute post i;
+      lives = λ post i between cell of. true_false between (mute post i);
+      copied = λ cell last is. (seated.fit setting records w stores k good firm rests works).copied cell last
+          (ap (λ t. at cell_cmp t cell) (sym alike.0.last) ∙ is);
       paged = λ cell row is post i after block e. no_page post.body (mute post i) row.map row.link after block e;
       pages = λ post i map link block after e. no_page post.body (mute post i) map link after (Some block) e;
       rising = λ cell. rises cell (seated.rising setting records w stores k good firm rests works cell);
       filled = subst (λ (s : Store). AreFilled s.chains) (sym store_same) (seated.filled setting records w stores k good firm rests works);
       counts = (let e = ap (λ (p : Pairs). p.next) pairs_same in omega arith);
-      marks = subst (λ (s : Store). HaveMarks to.pairs.pending s) (sym store_same)
-          (subst (λ (p : Pairs). HaveMarks p.pending own.store) (sym pairs_same) (seated.marks setting records w stores k good firm rests works));
-      unheard = λ cell none unheard. record {
+      marks = subst (λ (s : Store). HaveMarks (server_state setting w k) to.pairs.pending s) (sym store_same)
+          (subst (λ (p : Pairs). HaveMarks (server_state setting w k) p.pending own.store) (sym pairs_same)
+          (seated.marks setting records w stores k good firm rests works));
+      unheard = λ cell unborn unheard. record {
+        bare = record {
+          chain = ap (λ (s : Store). chain_in s.chains cell) store_same ∙ unheard.bare.chain;
+          marks = λ kind. ap (λ (s : Store). is_marked s kind cell) store_same ∙ unheard.bare.marks kind;
+        };
         last = alike_last cell ∙ unheard.last;
-        pages = λ row map_is. ballot_pages row (unlinked_apart setting.servers (server_state setting w k) plain_here cell none row map_is) started ∙ unheard.pages row map_is;
+        pages = λ none row map_is. ballot_pages row (unlinked_apart setting.servers (server_state setting w k) plain_here cell none row map_is) started
+            ∙ unheard.pages none row map_is;
       };
     }
       where

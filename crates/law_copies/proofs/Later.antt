@@ -36,8 +36,8 @@ use Rattle.law_steps.proofs.Minds.{held_as_flag}
 use Rattle.law_steps.proofs.Ties.{stays_alone, stays_both}
 use Rattle.law_copies.specs.Copied.{IsCaught}
 use Rattle.law_copies.specs.Good.{Good}
-use Rattle.law_copies.specs.Visits.{IsLinked, place_by, with_stores}
-use Rattle.law_copies.proofs.Places.{at_most_or_above, fronts_meet, one_row, other_later, places_up, rows_later}
+use Rattle.law_copies.specs.Visits.{AliveIn, IsLinked, place_by, with_stores}
+use Rattle.law_copies.proofs.Places.{alive_on, at_most_or_above, fronts_meet, one_row, other_later, places_up, rows_later}
 
 -- each Caught that is chosen was started by its holder behind the entries before it
 abbrev pub AllStarted : Setting → List Record → World → Type 0
@@ -113,7 +113,9 @@ module _ (setting : Setting) (records : List Record) (w : World) (stores : ℕ �
       → place ≤ place_by setting (own_front n) row
   been_below n place cell own row e is =
       let b = good.been n place cell own e in
-      subst (λ r. place ≤ place_by setting (own_front n) r) (same_some (sym b.linked ∙ is)) b.past
+      let up = places_up setting chosen firm.plain b.front (own_front n) cell b.row row b.within (firm.servers n) b.linked is in
+      let at = b.at in
+      omega arith
 
   pub unseen_beyond : (n : ℕ) (cell : Cell) (row : LinkRow) → IsLinked setting (own_front n) cell row
       → (place : ℕ) → place_by setting (own_front n) row < place → good.visits n place cell ≡ None
@@ -124,9 +126,10 @@ module _ (setting : Setting) (records : List Record) (w : World) (stores : ℕ �
 
   -- a server that is In as itself and serves its own place counts
   pub reached_here : (k : ℕ) (cell : Cell) (row : LinkRow) → is_in (server_state setting w k) k (w.servers k).life.inc ≡ true
-      → IsLinked setting (own_front k) cell row → serves k row row.state ≡ true → place_by setting (own_front k) row ≤ good.reached cell
-  reached_here k cell row seat is serving =
-      let here = good.here k cell row is seat in
+      → IsLinked setting (own_front k) cell row → AliveIn (server_state setting w k) cell → serves k row row.state ≡ true
+      → place_by setting (own_front k) row ≤ good.reached cell
+  reached_here k cell row seat is alive serving =
+      let here = good.here k cell row is seat alive in
       good.reaching.below (own_front k) cell row k here.own (firm.servers k) is serving here.is
 
   -- at a place behind the last one that counts nobody who serves it has been
@@ -138,9 +141,10 @@ module _ (setting : Setting) (records : List Record) (w : World) (stores : ℕ �
   ]
 
   pub not_serving : (k : ℕ) (cell : Cell) (row : LinkRow) → is_in (server_state setting w k) k (w.servers k).life.inc ≡ true
-      → IsLinked setting (own_front k) cell row → good.reached cell < place_by setting (own_front k) row → serves k row row.state ≡ false
-  not_serving k cell row seat is lt = by_bool (serves k row row.state)
-      (λ on. let le = reached_here k cell row seat is on in absurd (omega arith))
+      → IsLinked setting (own_front k) cell row → AliveIn (server_state setting w k) cell → good.reached cell < place_by setting (own_front k) row
+      → serves k row row.state ≡ false
+  not_serving k cell row seat is alive lt = by_bool (serves k row row.state)
+      (λ on. let le = reached_here k cell row seat is alive on in absurd (omega arith))
       (λ off. off)
 
   -- ### A link that one server holds alone
@@ -163,23 +167,26 @@ module _ (setting : Setting) (records : List Record) (w : World) (stores : ℕ �
 
   module _ (started : AllStarted setting records w) where
     caught_up : (front more : List Command) (cell : Cell) (row : LinkRow) (holder : ℕ) (whole : Bool) → IsPrefix more chosen
-        → IsCaughtStill setting.servers front more cell row holder whole → IsCaughtUp front more cell holder whole
-    caught_up front more cell row holder whole two still =
+        → AliveIn (state_after setting.servers more) cell → IsCaughtStill setting.servers front more cell row holder whole
+        → IsCaughtUp front more cell holder whole
+    caught_up front more cell row holder whole two alive still =
         let c = still.found in
         let was : LinkRow = record row { state = Only holder still.later } in
         let acts = c.acts in
         let holder_is : acts.holder ≡ holder = same_only (sym acts.alone) in
         let stands = front_on (c.until ++ c.entry ∷ []) more chosen c.stands two in
         let until_chosen = front_on c.until (c.until ++ c.entry ∷ []) chosen (front_more c.until c.entry) stands in
+        let until_more = front_on c.until (c.until ++ c.entry ∷ []) more (front_more c.until c.entry) c.stands in
+        let lives = alive_on setting chosen firm.plain c.until more cell until_more two alive in
         let told = started c.until was.map was.link acts.holder acts.inc (other_of acts.holder was) acts.other_inc
         (subst (λ (x : Command). IsPrefix (c.until ++ x ∷ []) chosen) acts.is stands) in
-        let mind = good.started acts.holder acts.inc acts.whole c.until cell was until_chosen c.was acts.alone acts.holds told in
+        let mind = good.started acts.holder acts.inc acts.whole c.until cell was until_chosen c.was lives acts.alone acts.holds told in
         let copying = (good.alone c.until cell was acts.holder acts.whole until_chosen c.was acts.alone).copying in
         let caught = copying.caught mind.0 mind.1 mind.2 in
         record {
           until = c.until;
           behind = c.behind;
-          before = front_on c.until (c.until ++ c.entry ∷ []) more (front_more c.until c.entry) c.stands;
+          before = until_more;
           row = was;
           linked = c.was;
           later = still.later;
@@ -195,13 +202,13 @@ module _ (setting : Setting) (records : List Record) (w : World) (stores : ℕ �
 
     -- at each later front its holder has it alone still, or it is Lost, or the holder was done with it before it was in Both again
     pub alone_since : (front more : List Command) (cell : Cell) (row now : LinkRow) (holder : ℕ) (whole : Bool) → IsPrefix front more → IsPrefix more chosen
-        → IsLinked setting front cell row → row.state ≡ Only holder whole → IsLinked setting more cell now
+        → IsLinked setting front cell row → row.state ≡ Only holder whole → IsLinked setting more cell now → AliveIn (state_after setting.servers more) cell
         → IsHeldStill holder whole now.state ⊎ (now.state ≡ Lost) ⊎ IsCaughtUp front more cell holder whole
-    alone_since front more cell row now holder whole one two is alone end =
+    alone_since front more cell row now holder whole one two is alone end alive =
         elim (log_alone setting.servers front more (plain_at more two) one cell row now holder whole is alone end) [
           | inl same ↦ inl same
           | inr (inl lost) ↦ inr (inl lost.0)
-          | inr (inr c) ↦ inr (inr (caught_up front more cell row holder whole two c))
+          | inr (inr c) ↦ inr (inr (caught_up front more cell row holder whole two alive c))
         ]
 
     -- the holder started its ballot at a place at which the other server was
@@ -222,12 +229,12 @@ module _ (setting : Setting) (records : List Record) (w : World) (stores : ℕ �
 
     -- where the other server was at no later place, the holder was done with it at this one
     pub alone_or_flagged : (front more : List Command) (cell : Cell) (row now : LinkRow) (holder : ℕ) (whole : Bool) → IsPrefix front more → IsPrefix more chosen
-        → IsLinked setting front cell row → row.state ≡ Only holder whole → IsLinked setting more cell now
+        → IsLinked setting front cell row → row.state ≡ Only holder whole → IsLinked setting more cell now → AliveIn (state_after setting.servers more) cell
         → ((place : ℕ) → place_by setting front row < place → good.visits (other_of holder row) place cell ≡ None)
         → IsHeldStill holder whole now.state ⊎ (now.state ≡ Lost)
         ⊎ ((own : Own) × (good.visits holder (place_by setting front row) cell ≡ Some own) × (is_flagged own (id_of row) ≡ true))
-    alone_or_flagged front more cell row now holder whole one two is alone end unseen =
-        elim (alone_since front more cell row now holder whole one two is alone end) [
+    alone_or_flagged front more cell row now holder whole one two is alone end alive unseen =
+        elim (alone_since front more cell row now holder whole one two is alone end alive) [
           | inl same ↦ inl same
           | inr (inl lost) ↦ inr (inl lost)
           | inr (inr u) ↦ (
@@ -265,15 +272,18 @@ module _ (setting : Setting) (records : List Record) (w : World) (stores : ℕ �
 
     -- a link in Both is at the same place at each later front, or the server holds it alone
     pub both_since : row.state ≡ Both → has_server k row ≡ true → (more : List Command) (now : LinkRow) → IsPrefix (own_front k) more → IsPrefix more chosen
-        → IsLinked setting more cell now → (place_by setting more now ≡ place_by setting (own_front k) row) ⊎ ((whole : Bool) × (now.state ≡ Only k whole))
-    both_since both has more now one two end =
-        elim (stays_both setting w firm k runs (own_front k) more (front_itself (own_front k)) one two seat cell row is has (ap (serves k row) both ∙ has) both) [
+        → IsLinked setting more cell now → AliveIn (state_after setting.servers more) cell
+        → (place_by setting more now ≡ place_by setting (own_front k) row) ⊎ ((whole : Bool) × (now.state ≡ Only k whole))
+    both_since both has more now one two end alive =
+        elim (stays_both setting w firm k runs (own_front k) more (front_itself (own_front k)) one two seat cell row is has
+        (ap (serves k row) both ∙ has) alive both) [
           | inl stays ↦ inl (still_both more now both one two stays end)
           | inr alone ↦ inr (only_holder (state_after setting.servers more) k cell now end alone)
         ]
 
     -- no server that serves the link has been at a later place, where each later front is at this one, or the server serves it alone
     last_by : {B : Type 0} → ((more : List Command) (now : LinkRow) → IsPrefix (own_front k) more → IsPrefix more chosen → IsLinked setting more cell now
+        → AliveIn (state_after setting.servers more) cell
         → (place_by setting more now ≡ place_by setting (own_front k) row) ⊎ ((whole : Bool) × (now.state ≡ Only k whole)) ⊎ B)
         → (good.reached cell ≤ place_by setting (own_front k) row) ⊎ B
     last_by since = elim (good.reaching.by cell) [
@@ -283,7 +293,7 @@ module _ (setting : Setting) (records : List Record) (w : World) (stores : ℕ �
             let up = places_up setting chosen firm.plain r.front (own_front k) cell r.row row p (firm.servers k) r.linked is in
             let at = r.at in
             inl (omega arith))
-        | inr p ↦ elim (since r.front r.row p r.prefix r.linked) [
+        | inr p ↦ elim (since r.front r.row p r.prefix r.linked r.alive) [
           | inl same ↦ let at = r.at in inl (omega arith)
           | inr (inl alone) ↦ inl (been_below k (good.reached cell) cell r.own row
               (subst (λ n. good.visits n (good.reached cell) cell ≡ Some r.own) (serves_alone k r.server r.row alone.1 r.serving) r.visited) is)
@@ -293,7 +303,8 @@ module _ (setting : Setting) (records : List Record) (w : World) (stores : ℕ �
     ]
 
     pub both_last : row.state ≡ Both → has_server k row ≡ true → good.reached cell ≤ place_by setting (own_front k) row
-    both_last both has = either_left (last_by (λ more now one two end. elim (both_since both has more now one two end) [ inl same ↦ inl same | inr alone ↦ inr (inl alone) ]))
+    both_last both has = either_left
+        (last_by (λ more now one two end alive. elim (both_since both has more now one two end alive) [ inl same ↦ inl same | inr alone ↦ inr (inl alone) ]))
       where
         either_left : {A : Type 0} → A ⊎ ⊥ → A
         either_left (inl a) = a
@@ -302,11 +313,13 @@ module _ (setting : Setting) (records : List Record) (w : World) (stores : ℕ �
     module _ (started : AllStarted setting records w) where
       -- one that the server holds alone it holds so still, or it was done with it
       pub holds_since : (whole : Bool) → row.state ≡ Only k whole → (more : List Command) (now : LinkRow) → IsPrefix (own_front k) more → IsPrefix more chosen
-          → IsLinked setting more cell now → IsHeldStill k whole now.state ⊎ (is_flagged (w.servers k).own (id_of row) ≡ true)
-      holds_since whole alone more now one two end =
+          → IsLinked setting more cell now → AliveIn (state_after setting.servers more) cell
+          → IsHeldStill k whole now.state ⊎ (is_flagged (w.servers k).own (id_of row) ≡ true)
+      holds_since whole alone more now one two end alive =
           let has = holder_is_one (server_state setting w k) (steady_at (own_front k) (firm.servers k)) k cell row is alone in
-          elim (stays_alone setting w firm k runs (own_front k) more (front_itself (own_front k)) one two seat cell row is has (serves_its k row alone) whole alone) [
-            | inl on ↦ elim (alone_since started (own_front k) more cell row now k whole one two is alone end) [
+          elim (stays_alone setting w firm k runs (own_front k) more (front_itself (own_front k)) one two seat cell row is has
+          (serves_its k row alone) alive whole alone) [
+            | inl on ↦ elim (alone_since started (own_front k) more cell row now k whole one two is alone end alive) [
               | inl same ↦ inl same
               | inr (inl lost) ↦ alone_not_lost now k (only_holder (state_after setting.servers more) k cell now end on).1 lost
               | inr (inr u) ↦ (
@@ -316,7 +329,7 @@ module _ (setting : Setting) (records : List Record) (w : World) (stores : ℕ �
                   let same : place_by setting u.until u.row ≡ place_by setting (own_front k) row = omega arith in
                   let one_is : u.row ≡ row =
                   one_row setting chosen firm.plain (own_front k) u.until cell row u.row (firm.servers k) until_chosen is u.linked (sym same) in
-                  let here = good.here k cell row is seat in
+                  let here = good.here k cell row is seat (alive_on setting chosen firm.plain (own_front k) more cell one two alive) in
                   let mine : u.own ≡ here.own = same_some (sym u.visited ∙ ap (λ p. good.visits k p cell) same ∙ here.is) in
                   inr (ap (λ (o : Own). is_flagged o (id_of row)) (sym here.same ∙ sym mine) ∙ ap (λ (r : LinkRow). is_flagged u.own (id_of r)) (sym one_is) ∙ u.flagged))
             ]
@@ -325,7 +338,7 @@ module _ (setting : Setting) (records : List Record) (w : World) (stores : ℕ �
 
       pub alone_last : (whole : Bool) → row.state ≡ Only k whole
           → (good.reached cell ≤ place_by setting (own_front k) row) ⊎ (is_flagged (w.servers k).own (id_of row) ≡ true)
-      alone_last whole alone = last_by (λ more now one two end. elim (holds_since whole alone more now one two end) [
+      alone_last whole alone = last_by (λ more now one two end alive. elim (holds_since whole alone more now one two end alive) [
         | inl still ↦ inr (inl (still.0, still.1))
         | inr flagged ↦ inr (inr flagged)
       ])

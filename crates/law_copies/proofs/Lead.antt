@@ -7,34 +7,43 @@ use Rattle.global_tables.specs.declared.link.LinkState.TheVariants.{Both}
 use Rattle.petal_base.specs.declared.cell.Cell.{Cell}
 use Rattle.petal_base.specs.Cells.{cell_of}
 use Rattle.petal_table.specs.Table.{at, put, without}
-use Rattle.petal_msg.specs.Kinds.{about, is_logged, subject_of}
+use Rattle.petal_msg.specs.Kinds.{Filling, about, is_logged, subject_of}
 use Rattle.petal_msg.specs.declared.body.Body.{Body}
 use Rattle.petal_msg.specs.declared.body.Body.TheVariants as body
 use Rattle.petal_msg.specs.declared.letter.Actor.TheVariants as actor
+use Rattle.petal_msg.specs.declared.operation.Action.{Action}
+use Rattle.petal_msg.specs.declared.operation.Action.TheVariants as action
 use Rattle.petal_msg.specs.declared.operation.Ending.{Ending}
 use Rattle.petal_msg.specs.declared.operation.Ending.TheVariants as ending
+use Rattle.petal_msg.specs.declared.operation.OpKind.{OpKind}
+use Rattle.petal_msg.specs.declared.operation.OpKind.TheVariants as kind
 use Rattle.petal_msg.specs.declared.operation.Pending.{Pending}
 use Rattle.petal_msg.specs.declared.operation.Stage.{Stage}
 use Rattle.petal_state.specs.CellState.{cell_link}
+use Rattle.petal_rules.specs.Fills.{fill_operation}
 use Rattle.petal_rules.specs.Lists.{In}
 use Rattle.petal_rules.specs.Progress.{has_proposed}
-use Rattle.petal_rules.specs.State.{in_both, is_alone_on, second}
+use Rattle.petal_rules.specs.State.{in_both, is_alone_on, live, second}
 use Rattle.petal_rules.specs.Store.{Chain, Store, cell_cmp, chain_in, version_of}
 use Rattle.petal_rules.specs.Server.{Own, Here, Post, Done, post_to}
-use Rattle.petal_rules.specs.Writes.{operation, opened, with_reserved, with_paired, with_mark_at, ended, finishes, gives_back, marks, puts, unmarks, with_pending, without_pending, Wanted}
+use Rattle.petal_rules.specs.Writes.{acts, ends, moved_as, next_stage, old_lead, operation, with_opened, with_reserved, with_paired, with_mark_at, ended, finishes, gives_back, marks, puts, unmarks, with_pending, without_pending}
 use Rattle.petal_rules.proofs.CellTables.{cell_same, cell_apart, cell_gone, cell_gone_apart}
-use Rattle.petal_rules.proofs.Tests.{same_some, true_false}
+use Rattle.petal_rules.proofs.Tests.{by_test, same_some, true_false}
 use Rattle.law_state.proofs.Alone.{both_not_alone, so_both}
 use Rattle.law_steps.specs.Operations.{waiting, putting, copying}
-use Rattle.law_steps.specs.DidLead.{DidLead, Asks_for, Repeats, Is_full, Opens, Marks, Puts, Gives_up, Unmarks, Closes, Opens_alone, Marks_alone, Puts_alone, Unmarks_alone, Closes_alone, Asks, A_slot, A_copy, A_trim, A_copied_entry, A_page, Of_the_log, IsNew, Taken}
+use Rattle.law_steps.specs.DidLead.{DidLead, Asks_for, Repeats, Is_full, Opens, Marks, Puts, Gives_up, Unmarks, Closes, Opens_alone, Marks_alone, Puts_alone, Unmarks_alone, Closes_alone, Opens_fill, Opens_fill_alone, Has_fill, Has_no_room, Goes_on_dead, Asks, A_slot, A_copy, A_trim, A_copied_entry, A_page, An_entry_to_move, Of_the_log, Taken}
 use Rattle.law_steps.specs.Ready.{IsReady}
+use Rattle.law_steps.proofs.Leading.{stage_live}
 use Rattle.law_steps.proofs.Letters.{one_post, posted}
 use Rattle.law_steps.proofs.Staged.{same_cell_or_apart, put_put}
+use Rattle.law_steps.proofs.Subjects.{of_ending}
 use Rattle.law_steps.proofs.Taking.{taking}
 use Rattle.law_copies.specs.BothSteps.{SaysKnown}
 use Rattle.law_copies.specs.Pair.{Pair, pair_of, PairOk, Keeps, Known, ceiling_of}
+use Rattle.law_copies.specs.Visits.{AliveIn}
 use Rattle.law_copies.proofs.Chains.{chain_put, chain_apart}
 use Rattle.law_copies.proofs.Moves as moves
+use Rattle.law_copies.proofs.Working.{lead_beside}
 
 -- letters that speak of no pair tell nothing of it
 pub logged_known : (pair : Pair) (said : Body) → is_logged (subject_of said) ≡ true → Known pair said
@@ -45,9 +54,42 @@ logged_known pair (body.Replicate number key version bytes) e = cc
 logged_known pair (body.Replicated number cell) e = cc
 logged_known pair _ e = tt
 
+-- nor do those that speak of entries that move
+pub filling_known : (pair : Pair) (said : Body) → subject_of said ≡ Filling → Known pair said
+filling_known pair (body.Reserve number cell) e = cc
+filling_known pair (body.Reserved number cell) e = cc
+filling_known pair (body.PairFull number cell) e = cc
+filling_known pair (body.Replicate number key version bytes) e = cc
+filling_known pair (body.Replicated number cell) e = cc
+filling_known pair _ e = tt
+
 pub ended_known : (pair : Pair) (seq : ℕ) (how : Ending) → Known pair (ended seq how)
 ended_known pair seq ending.Written = tt
 ended_known pair seq ending.Full = tt
+
+-- what ends an operation tells nothing of the pair
+pub ends_known : (here : Here) (own : Own) (op : Pending) (of : OpKind) (how : Ending) (post : Post) → In post (ends here own op of how).posts
+    → (pair : Pair) → Known pair post.body
+unfolding In
+ends_known here own op kind.Write how post i pair = subst (Known pair) (sym (one_post _ _ post i).1) (ended_known pair op.seq how)
+ends_known here own op kind.Fill how post i pair =
+    filling_known pair post.body (ap subject_of (posted (old_lead here.state op.cell) (moved_as op.key how) post i) ∙ moved_filling how)
+  where
+    moved_filling : (how : Ending) → subject_of (moved_as op.key how) ≡ Filling
+    moved_filling ending.Written = refl
+    moved_filling ending.Full = refl
+ends_known here own op kind.Copy how post i pair = absurd i
+
+-- no action changes the number of the next operation
+acts_next : (here : Here) (own : Own) (op : Pending) (next : Action) → (acts here own op next).own.pairs.next ≡ own.pairs.next
+acts_next here own op action.Reserve = refl
+acts_next here own op (action.Mark kind) = refl
+acts_next here own op action.Put = refl
+acts_next here own op action.Replicate = refl
+acts_next here own op (action.Unmark kind) = refl
+acts_next here own op action.Answer = (of_ending here (without_pending own op.cell) op op.kind ending.Written).next
+acts_next here own op action.Drop = by_test (λ (o : Own). o.pairs.next ≡ own.pairs.next) op.stage.put (without_pending own op.cell)
+    (gives_back (without_pending own op.cell)) (λ t. refl) (λ t. refl)
 
 -- what a step leaves of the cell, and of what it tells
 pub record IsKept (own new : Own) (posts : List Post) (second : Own) (cell : Cell) : Type 0 where
@@ -55,7 +97,8 @@ pub record IsKept (own new : Own) (posts : List Post) (second : Own) (cell : Cel
   pub says : SaysKnown posts cell (pair_of new second cell)
 
 module _ (heard : Body → Type 0) (here : Here) (own : Own) (ready : IsReady here.state here.me (has_proposed here.state own) own.pairs.pending)
-    (cell : Cell) (row : LinkRow) (is_row : cell_link here.state cell ≡ Some row) (both_row : row.state ≡ Both) (second_own : Own)
+    (cell : Cell) (row : LinkRow) (is_row : cell_link here.state cell ≡ Some row) (alive : AliveIn here.state cell) (both_row : row.state ≡ Both)
+    (second_own : Own)
     (ok : PairOk (pair_of own second_own cell))
     (known : (said : Body) → heard said → (about said).cell ≡ Some cell → Known (pair_of own second_own cell) said) where
   abbrev K : Own → List Post → Type 0
@@ -148,6 +191,8 @@ module _ (heard : Body → Type 0) (here : Here) (own : Own) (ready : IsReady he
   asks_known _ (A_trim q copy to is fresh e) of = tt
   asks_known _ (A_copied_entry q copy entry to is trimmed got e) of = tt
   asks_known _ (A_page other to there e fresh) of = tt
+  asks_known _ (An_entry_to_move post next) of =
+      filling_known (pair_of own second_own cell) post.body (ap (λ (p : Post). subject_of p.body) next.is)
   asks_known post (Of_the_log _ e) of = logged_known (pair_of own second_own cell) post.body e
 
   -- ### Its own operations
@@ -186,19 +231,20 @@ module _ (heard : Body → Type 0) (here : Here) (own : Own) (ready : IsReady he
         last = at cell_cmp second_own.pairs.last op.cell;
       }) (keeps e))
 
-  opens_keeps : (want : Wanted) → IsNew heard here own want
-      → K (opened here own want) (post_to (second here.state want.cell) (body.Reserve own.pairs.next want.cell))
-  opens_keeps want fresh =
-      let q = want.cell in
-      let op = operation here own.pairs.next want in
-      let new = opened here own want in
+  -- one opens
+  opens_keeps : (op : Pending) → at cell_cmp own.pairs.pending op.cell ≡ None → op.op ≡ own.pairs.next → op.stage.reserved ≡ false → op.stage.put ≡ false
+      → K (with_opened own op) (post_to (second here.state op.cell) (body.Reserve own.pairs.next op.cell))
+  opens_keeps op none number unreserved unput =
+      let q = op.cell in
+      let new = with_opened own op in
       let there : at cell_cmp new.pairs.pending q ≡ Some op = cell_same own.pairs.pending q op in
       record {
         keeps = at_cell q new (λ c ne. refl) (λ c ne. cell_apart own.pairs.pending q op c ne) (omega arith)
             (λ e. subst (Keeps (pair_of own second_own q)) (λ i. record (pair_of new second_own q) { pending = sym there i })
-            (moves.opens (pair_of own second_own q) op (ok_at q e) fresh.none refl refl refl));
+            (moves.opens (pair_of own second_own q) op (ok_at q e) none number unreserved unput));
         says = says_at q new _ (body.Reserve own.pairs.next q) (λ post i. posted _ _ post i) refl
-            (λ e. subst (λ o. Known (record (pair_of new second_own q) { pending = o }) (body.Reserve own.pairs.next q)) (sym there) (omega arith));
+            (λ e. subst (λ o. Known (record (pair_of new second_own q) { pending = o }) (body.Reserve own.pairs.next q)) (sym there)
+            (omega (arith, number)));
       }
 
   marks_keeps : (op : Pending) → heard (body.Reserved op.op op.cell) → at cell_cmp own.pairs.pending op.cell ≡ Some op → op.stage ≡ waiting
@@ -250,13 +296,12 @@ module _ (heard : Body → Type 0) (here : Here) (own : Own) (ready : IsReady he
 
   -- ### Another cell, which it holds alone
 
-  opens_alone : (want : Wanted) → is_alone_on here.state here.me want.cell ≡ true → K (marks (opened here own want) (operation here own.pairs.next want) Stale).own []
-  opens_alone want on =
-      let op = operation here own.pairs.next want in
-      let new = (marks (opened here own want) op Stale).own in
+  opens_alone : (op : Pending) → is_alone_on here.state here.me op.cell ≡ true → K (marks (with_opened own op) op Stale).own []
+  opens_alone op on =
+      let new = (marks (with_opened own op) op Stale).own in
       record {
-        keeps = at_cell want.cell new (λ q ne. refl) (λ q ne. put_put own.pairs.pending want.cell op (with_mark_at op Stale true) q ne) (omega arith)
-            (λ e. not_alone want.cell here.me on e);
+        keeps = at_cell op.cell new (λ q ne. refl) (λ q ne. put_put own.pairs.pending op.cell op (with_mark_at op Stale true) q ne) (omega arith)
+            (λ e. not_alone op.cell here.me on e);
         says = none_said new;
       }
 
@@ -284,6 +329,42 @@ module _ (heard : Body → Type 0) (here : Here) (own : Own) (ready : IsReady he
       mute_one new (record { to = actor.Client client; body = ended seq how } ∷ []) (ended seq how)
       (λ post i. (one_post (actor.Client client) (ended seq how) post i).1) (λ pair. ended_known pair seq how)
 
+  -- an operation ends
+  ending_says : (new base : Own) (op : Pending) (how : Ending)
+      → SaysKnown (ends here base op op.kind how).posts cell (pair_of new second_own cell)
+  ending_says new base op how = mute new _ (λ post i. ends_known here base op op.kind how post i)
+
+  -- one on a cell that is dead is of another cell
+  dead_apart : (now : Own) (op : Pending) → Taken own now op → live here.state op.cell ≡ false → cell ≢ op.cell
+  dead_apart now op taken off e =
+      let t = taking own now op taken in
+      let born = (ready.staged op.cell t.old t.was).born in
+      true_false (stage_live here.state op.cell born (subst (λ (c : Cell). AliveIn here.state c) e alive)) off
+
+  dead_says : (now : Own) (op : Pending) → cell_of op.key ≡ op.cell → cell ≢ op.cell → (new : Own) (next : Action)
+      → SaysKnown (acts here now op next).posts cell (pair_of new second_own cell)
+  dead_says now op keyed ne new action.Reserve = says_at op.cell new _ (body.Reserve op.op op.cell) (λ post i. posted _ _ post i) refl
+      (λ e. absurd (ne (sym e)))
+  dead_says now op keyed ne new (action.Mark kind) = none_said new
+  dead_says now op keyed ne new action.Put = none_said new
+  dead_says now op keyed ne new action.Replicate =
+      says_at (cell_of op.key) new _ (body.Replicate op.op op.key op.version op.bytes) (λ post i. posted _ _ post i) refl (λ e. absurd (ne (sym e ∙ keyed)))
+  dead_says now op keyed ne new (action.Unmark kind) = none_said new
+  dead_says now op keyed ne new action.Answer = ending_says new (without_pending now op.cell) op ending.Written
+  dead_says now op keyed ne new action.Drop = none_said new
+
+  goes_on_dead : (now : Own) (op : Pending) → (taken : Taken own now op) → (dead : live here.state op.cell ≡ false)
+      → K (acts here now op (next_stage here.state here.me op)).own (acts here now op (next_stage here.state here.me op)).posts
+  goes_on_dead now op taken dead =
+      let next = next_stage here.state here.me op in
+      let ne = dead_apart now op taken dead in
+      let kept = (lead_beside heard here own ready (acts here now op next) (Goes_on_dead now op taken dead) cell ne).rest in
+      let same : (acts here now op next).own.pairs.next ≡ own.pairs.next = acts_next here now op next ∙ (taking own now op taken).next in
+      record {
+        keeps = off (acts here now op next).own kept.chain kept.pending (omega arith);
+        says = dead_says now op (taken_keyed now op taken) ne (acts here now op next).own next;
+      }
+
   -- ### Each kind of its jobs
 
   pub lead_keeps : (done : Done) → DidLead heard here own done → K done.own done.posts
@@ -293,23 +374,28 @@ module _ (heard : Body → Type 0) (here : Here) (own : Own) (ready : IsReady he
       let after = (finishes own want.client want.seq ending.Full).own in
       record { keeps = off after refl refl (omega arith); says = ended_says after want.client want.seq ending.Full }
   lead_keeps _ (Gives_up op h is reserved put) =
-      let after = (finishes (gives_back (without_pending own op.cell)) op.client op.seq ending.Full).own in
+      let base = gives_back (without_pending own op.cell) in
+      let after = (ends here base op op.kind ending.Full).own in
+      let f = of_ending here base op op.kind ending.Full in
       record {
-        keeps = done_with op after refl refl refl (λ e. moves.refuses (pair_of own second_own op.cell) op (ok_at op.cell e) is put);
-        says = ended_says after op.client op.seq ending.Full;
+        keeps = done_with op after (ap (λ (t : Store). t.chains) f.store) f.next f.pending
+            (λ e. moves.refuses (pair_of own second_own op.cell) op (ok_at op.cell e) is put);
+        says = ending_says after base op ending.Full;
       }
-  lead_keeps _ (Opens want new both) = opens_keeps want new
+  lead_keeps _ (Opens want new both) = opens_keeps (operation here own.pairs.next want) new.none refl refl refl
   lead_keeps _ (Marks op h is both stage) = marks_keeps op h is stage
   lead_keeps _ (Puts op is both stage) = puts_keeps op is stage
   lead_keeps _ (Unmarks op h is both stage) = unmarks_keeps op h is stage
   lead_keeps _ (Closes op is both stage) =
-      let after = (finishes (without_pending own op.cell) op.client op.seq ending.Written).own in
+      let base = without_pending own op.cell in
+      let after = (ends here base op op.kind ending.Written).own in
+      let f = of_ending here base op op.kind ending.Written in
       record {
-        keeps = done_with op after refl refl refl
+        keeps = done_with op after (ap (λ (t : Store). t.chains) f.store) f.next f.pending
             (λ e. moves.closes (pair_of own second_own op.cell) op (ok_at op.cell e) is (ap (λ (s : Stage). s.put) stage) (ap (λ (s : Stage). s.paired) stage));
-        says = ended_says after op.client op.seq ending.Written;
+        says = ending_says after base op ending.Written;
       }
-  lead_keeps _ (Opens_alone want new on) = opens_alone want on
+  lead_keeps _ (Opens_alone want new on) = opens_alone (operation here own.pairs.next want) on
   lead_keeps _ (Marks_alone now op taken on fresh) =
       let after = (marks now op Stale).own in
       taken_keeps now op taken on after [] (λ q ne. refl) (λ q ne. cell_apart now.pairs.pending op.cell _ q ne) refl (none_said after)
@@ -321,6 +407,15 @@ module _ (heard : Body → Type 0) (here : Here) (own : Own) (ready : IsReady he
       let after = (unmarks now op Busy).own in
       taken_keeps now op taken on after [] (λ q ne. refl) (λ q ne. cell_apart now.pairs.pending op.cell _ q ne) refl (none_said after)
   lead_keeps _ (Closes_alone now op taken on stale put free) =
-      let after = (finishes (without_pending now op.cell) op.client op.seq ending.Written).own in
-      taken_keeps now op taken on after _ (λ q ne. refl) (λ q ne. cell_gone_apart now.pairs.pending op.cell q ne) refl
-      (ended_says after op.client op.seq ending.Written)
+      let base = without_pending now op.cell in
+      let after = (ends here base op op.kind ending.Written).own in
+      let f = of_ending here base op op.kind ending.Written in
+      taken_keeps now op taken on after _ (λ q ne. ap (λ (t : Store). chain_in t.chains q) f.store)
+      (λ q ne. ap (λ t. at cell_cmp t q) f.pending ∙ cell_gone_apart now.pairs.pending op.cell q ne) f.next
+      (ending_says after base op ending.Written)
+  lead_keeps _ (Opens_fill moving new room both) = opens_keeps (fill_operation here own.pairs.next moving) new.none refl refl refl
+  lead_keeps _ (Opens_fill_alone moving new room on) = opens_alone (fill_operation here own.pairs.next moving) on
+  lead_keeps _ (Has_fill moving there) = same_part own _ refl refl (mute_one own _ (body.Filled moving.key) (λ post i. posted _ _ post i) (λ pair. tt))
+  lead_keeps _ (Has_no_room moving new no_room) =
+      same_part own _ refl refl (mute_one own _ (body.FillFull moving.key) (λ post i. posted _ _ post i) (λ pair. tt))
+  lead_keeps _ (Goes_on_dead now op taken dead) = goes_on_dead now op taken dead

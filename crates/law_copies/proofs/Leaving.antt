@@ -23,16 +23,17 @@ use Rattle.law_state.specs.Started.{is_flagged}
 use Rattle.law_state.specs.Steady.{IsSteady}
 use Rattle.law_state.proofs.BlankJoins.{joins_grow}
 use Rattle.law_state.proofs.Steady.{front_plain, log_steady}
+use Rattle.law_steps.proofs.Fronts.{front_itself}
 use Rattle.law_copies.specs.Copied.{IsCovered, NotCopied, links_of}
 use Rattle.law_copies.specs.Good.{Good}
 use Rattle.law_copies.specs.Steps.{IsLeftBy, OtherKeeps}
-use Rattle.law_copies.specs.Visits.{IsLinked, place_by, store_by, with_stores}
+use Rattle.law_copies.specs.Visits.{AliveIn, IsLinked, place_by, store_by, with_stores}
 use Rattle.law_copies.proofs.Between.{held_same, to_fill}
 use Rattle.law_copies.proofs.Framed.{LeavesStore}
-use Rattle.law_copies.proofs.Growing.{both_cover, cover_anew}
+use Rattle.law_copies.proofs.NewPlaces.{both_cover, cover_anew}
 use Rattle.law_copies.proofs.Later.{AllStarted, alone_last, alone_or_flagged, both_since, holder_is_one, holds_since, not_reached, not_serving, serves_its, unseen_beyond}
 use Rattle.law_copies.proofs.Others.{other_apart}
-use Rattle.law_copies.proofs.Places.{at_most_or_above, fronts_meet, other_later, places_up, rows_later}
+use Rattle.law_copies.proofs.Places.{alive_on, at_most_or_above, fronts_meet, other_later, places_up, rows_later}
 use Rattle.law_copies.proofs.Renewed.{filled_cover}
 use Rattle.law_copies.proofs.Seated as seated
 use Rattle.law_copies.proofs.Seated.{other_back}
@@ -119,9 +120,18 @@ module _ (setting : Setting) (records : List Record) (w : World) (stores : ℕ �
   left_so f cell same leaves = subst (λ a. LeavesStore a (news f k) cell) (sym (store_was f same))
       (subst (λ b. LeavesStore (w.servers k).own.store b cell) (sym (store_now f same)) leaves)
 
-  module _ (cell : Cell) (mine : LinkRow) (is : IsLinked setting front cell mine) (has : has_server k mine ≡ true) where
+  -- a cell that is not dead by what is chosen is not dead at any front
+  pub alive_at : (f : List Command) (cell : Cell) → IsPrefix f top → AliveIn (state_after setting.servers top) cell
+      → AliveIn (state_after setting.servers f) cell
+  alive_at f cell prefix lives = alive_on setting top job.firm.plain f top cell prefix (front_itself top) lives
+
+  module _ (cell : Cell) (lives : AliveIn (state_after setting.servers top) cell) (mine : LinkRow) (is : IsLinked setting front cell mine)
+      (has : has_server k mine ≡ true) where
     abbrev place : ℕ
     place = place_by setting front mine
+
+    alive : AliveIn (server_state setting w k) cell
+    alive = alive_at front cell (job.firm.servers k) lives
 
     apart : mine.primary ≢ mine.secondary
     apart = ((steady_at front (job.firm.servers k)).linked cell mine is).apart
@@ -130,21 +140,22 @@ module _ (setting : Setting) (records : List Record) (w : World) (stores : ℕ �
     pub flagged_leaves : (whole : Bool) → mine.state ≡ Only k whole → is_flagged (w.servers k).own (id_of mine) ≡ true
         → LeavesStore (w.servers k).own.store done.own.store cell
     flagged_leaves whole alone flagged =
-        let keeps = worked.keeps_holder setting records w stores v k server good done job cell mine is whole alone in
+        let keeps = worked.keeps_holder setting records w stores v k server good done job cell mine is alive whole alone in
         let kept = keeps.caught flagged in
-        let caught = (seated.copying_here setting records w stores k good job.firm job.rests job.works cell mine is whole alone).caught (w.servers k).own refl flagged in
+        let caught = (seated.copying_here setting records w stores k good job.firm job.rests job.works cell mine is alive whole alone).caught
+        (w.servers k).own refl flagged in
         record { chain = kept.0; marks = marks_none (w.servers k).own.store done.own.store cell caught.unmarked kept.1 }
 
     -- as one of the servers of a link that is Lost
     pub lost_leaves : mine.state ≡ Lost → LeavesStore (w.servers k).own.store done.own.store cell
-    lost_leaves lost = let keeps = job.keeping.lost cell mine is lost in record { chain = keeps.rest.chain; marks = keeps.marks }
+    lost_leaves lost = let keeps = job.keeping.lost cell mine is alive lost in record { chain = keeps.rest.chain; marks = keeps.marks }
 
     module _ (h : ℕ) (whole : Bool) (alone : mine.state ≡ Only h whole) (ne : h ≢ k) where
       pub other : other_of h mine ≡ k
       other = other_back mine h k (holder_is_one (server_state setting w k) (steady_at front (job.firm.servers k)) h cell mine is alone) has ne
 
       pub keeps_other : OtherKeeps (links_of (server_state setting w k) cell.map) mine cell (good.visits h place cell) (w.servers k).own done
-      keeps_other = worked.keeps_other setting records w stores v k server good done job cell mine is h whole alone other has
+      keeps_other = worked.keeps_other setting records w stores v k server good done job cell mine is alive h whole alone other has
 
       unseen_later : (p : ℕ) → place < p → good.visits (other_of h mine) p cell ≡ None
       unseen_later p lt = ap (λ n. good.visits n p cell) other ∙ unseen_beyond setting records w stores job.firm good k cell mine is p lt
@@ -161,7 +172,7 @@ module _ (setting : Setting) (records : List Record) (w : World) (stores : ℕ �
       -- at a front before the server's own place
       before_leaves : place_by setting f row < place → IsLeftAt f (place_by setting f row) cell row
       before_leaves lt =
-          let idle = not_serving setting records w stores job.firm good k cell mine job.works.seat is (omega arith) in
+          let idle = not_serving setting records w stores job.firm good k cell mine job.works.seat is alive (omega arith) in
           elim ((steady_at front (job.firm.servers k)).linked cell mine is).served [
             | ByBoth so one two ↦ true_false (ap (serves k mine) so ∙ has) idle
             | ByOne h o whole so pair out ↦ (
@@ -170,6 +181,9 @@ module _ (setting : Setting) (records : List Record) (w : World) (stores : ℕ �
                 none_some (not_reached setting records w stores job.firm good front cell mine h (job.firm.servers k) is (serves_its h mine so) (omega arith)) m.met))))
             | ByNone one o so pair out ↦ Same_store (left_so f cell now (lost_leaves so))
           ]
+
+      alive_then : AliveIn (state_after setting.servers f) cell
+      alive_then = alive_at f cell prefix lives
 
       module _ (on : IsPrefix front f) (past : place < place_by setting f row) where
         unseen : good.visits k (place_by setting f row) cell ≡ None
@@ -197,11 +211,11 @@ module _ (setting : Setting) (records : List Record) (w : World) (stores : ℕ �
 
         -- where it came back with nothing since, it has nothing of the cell, and all is to be copied
         fresh_covers : {B : Type 0} → ((more : List Command) (other : LinkRow) → IsPrefix front more → IsPrefix more top → IsLinked setting more cell other
-            → (place_by setting more other ≡ place) ⊎ ((whole : Bool) × (other.state ≡ Only k whole)) ⊎ B)
+            → AliveIn (state_after setting.servers more) cell → (place_by setting more other ≡ place) ⊎ ((whole : Bool) × (other.state ≡ Only k whole)) ⊎ B)
             → (whole : Bool) → row.state ≡ Only k whole → blank_joins_in setting front beside_k < blank_joins_in setting f beside_k
             → IsLeftAt f (place_by setting f row) cell row ⊎ B
         fresh_covers since whole so lt =
-            elim (to_fill setting records w stores job.firm good started k cell mine is has since f row whole on prefix end so lt) [
+            elim (to_fill setting records w stores job.firm good started k cell mine is has since f row whole on prefix end lives so lt) [
               | inl u ↦ inl (Covers whole so unseen (filled_cover row cell (news f k) (news f (other_of k row)) u.whole
                   (ap (λ (s : Store). chain_in s.chains cell) (store_apart f (other_of k row) (λ e. apart_k (sym same_other ∙ e))) ∙ u.empty)))
               | inr other ↦ inr other
@@ -209,11 +223,11 @@ module _ (setting : Setting) (records : List Record) (w : World) (stores : ℕ �
 
         -- it shares the link at its own place
         both_leaves : mine.state ≡ Both → IsLeftAt f (place_by setting f row) cell row
-        both_leaves both = elim (both_since setting records w stores job.firm good k job.works.runs job.works.seat cell mine is both has f row on prefix end) [
+        both_leaves both = elim (both_since setting records w stores job.firm good k job.works.runs job.works.seat cell mine is both has f row on prefix end alive_then) [
           | inl same ↦ absurd (ne_place same)
           | inr alone ↦ elim (at_most_or_above (blank_joins_in setting f beside_k) (blank_joins_in setting front beside_k)) [
             | inl le ↦ (
-                let twins = (worked.both_now setting records w stores v k server good done job cell mine is both has).twins in
+                let twins = (worked.both_now setting records w stores v k server good done job cell mine is alive lives both has).twins in
                 same_covers alone.0 alone.1 (let up = joins_grow setting.servers front f beside_k on in omega arith)
                 (both_cover (news front) visits place mine row cell twins k has))
             | inr lt ↦ without (fresh_covers since alone.0 alone.1 lt)
@@ -221,9 +235,9 @@ module _ (setting : Setting) (records : List Record) (w : World) (stores : ℕ �
         ]
           where
             since : (more : List Command) (other : LinkRow) → IsPrefix front more → IsPrefix more top → IsLinked setting more cell other
-                → (place_by setting more other ≡ place) ⊎ ((whole : Bool) × (other.state ≡ Only k whole)) ⊎ ⊥
-            since more other one two linked =
-                elim (both_since setting records w stores job.firm good k job.works.runs job.works.seat cell mine is both has more other one two linked) [
+                → AliveIn (state_after setting.servers more) cell → (place_by setting more other ≡ place) ⊎ ((whole : Bool) × (other.state ≡ Only k whole)) ⊎ ⊥
+            since more other one two linked alive_more =
+                elim (both_since setting records w stores job.firm good k job.works.runs job.works.seat cell mine is both has more other one two linked alive_more) [
                   | inl same ↦ inl same
                   | inr alone ↦ inr (inl alone)
                 ]
@@ -235,11 +249,11 @@ module _ (setting : Setting) (records : List Record) (w : World) (stores : ℕ �
         -- it holds it alone
         holder_leaves : (whole : Bool) → mine.state ≡ Only k whole → IsLeftAt f (place_by setting f row) cell row
         holder_leaves whole alone =
-            elim (holds_since setting records w stores job.firm good k job.works.runs job.works.seat cell mine is started whole alone f row on prefix end) [
+            elim (holds_since setting records w stores job.firm good k job.works.runs job.works.seat cell mine is started whole alone f row on prefix end alive_then) [
               | inl so ↦ elim (at_most_or_above (blank_joins_in setting f beside_k) (blank_joins_in setting front beside_k)) [
                 | inl le ↦ elim (alone_last setting records w stores job.firm good k job.works.runs job.works.seat cell mine is started whole alone) [
                   | inl last_here ↦ (
-                      let beside = (worked.alone_now setting records w stores v k server good done job cell mine is k whole alone has).beside last_here in
+                      let beside = (worked.alone_now setting records w stores v k server good done job cell mine is alive k whole alone has).beside lives last_here in
                       same_covers so.0 so.1 (let up = joins_grow setting.servers front f beside_k on in omega arith)
                       (cover_anew mine row cell (news front k) (news front beside_k) (visits k place cell)
                       (λ all. ap is_whole so.1 ∙ so.2 (sym (ap is_whole alone) ∙ all)) beside.alike.covered))
@@ -254,9 +268,10 @@ module _ (setting : Setting) (records : List Record) (w : World) (stores : ℕ �
             ]
           where
             since : (more : List Command) (other : LinkRow) → IsPrefix front more → IsPrefix more top → IsLinked setting more cell other
-                → (place_by setting more other ≡ place) ⊎ ((kept : Bool) × (other.state ≡ Only k kept)) ⊎ (is_flagged (w.servers k).own (id_of mine) ≡ true)
-            since more other one two linked =
-                elim (holds_since setting records w stores job.firm good k job.works.runs job.works.seat cell mine is started whole alone more other one two linked) [
+                → AliveIn (state_after setting.servers more) cell → (place_by setting more other ≡ place) ⊎
+                ((kept : Bool) × (other.state ≡ Only k kept)) ⊎ (is_flagged (w.servers k).own (id_of mine) ≡ true)
+            since more other one two linked alive_more =
+                elim (holds_since setting records w stores job.firm good k job.works.runs job.works.seat cell mine is started whole alone more other one two linked alive_more) [
                   | inl still ↦ inr (inl (still.0, still.1))
                   | inr flagged ↦ inr (inr flagged)
                 ]
@@ -265,17 +280,20 @@ module _ (setting : Setting) (records : List Record) (w : World) (stores : ℕ �
         other_left : (h : ℕ) (whole : Bool) → mine.state ≡ Only h whole → h ≢ k → IsLeftAt f (place_by setting f row) cell row
         other_left h whole alone ne = elim (keeps_other h whole alone ne).changes [
           | inl chain ↦ Same_store (left_so f cell now (record { chain = chain; marks = (keeps_other h whole alone ne).marks }))
-          | inr m ↦ elim (alone_or_flagged setting records w stores job.firm good started front f cell mine row h whole on prefix is alone end (unseen_later h whole alone ne)) [
-            | inl so ↦ elim (held_same setting records w stores job.firm good started front f cell mine row h whole so.0 on prefix is alone end so.1
-                (unseen_later h whole alone ne)) [
-                  | inl joins ↦ Left_by h so.0 so.1 ne unseen (still_left m so.0 so.1 so.2 joins)
-                      (λ kind. ap (λ s. is_marked s kind cell) (store_now f now) ∙ (keeps_other h whole alone ne).marks kind
-                      ∙ ap (λ s. is_marked s kind cell) (sym (store_was f now)))
-                  | inr c ↦ worked.not_caught setting records w stores v k server good done job cell mine is h whole alone (other h whole alone ne) has m c.0 c.1 c.2
-                ]
-            | inr (inl lost) ↦ lost_at m lost
-            | inr (inr c) ↦ worked.not_caught setting records w stores v k server good done job cell mine is h whole alone (other h whole alone ne) has m c.0 c.1 c.2
-          ]
+          | inr m ↦ elim (alone_or_flagged setting records w stores job.firm good started front f cell mine row h whole on prefix is alone end alive_then
+              (unseen_later h whole alone ne)) [
+                | inl so ↦ elim (held_same setting records w stores job.firm good started front f cell mine row h whole so.0 on prefix is alone end alive_then so.1
+                    (unseen_later h whole alone ne)) [
+                      | inl joins ↦ Left_by h so.0 so.1 ne unseen (still_left m so.0 so.1 so.2 joins)
+                          (λ kind. ap (λ s. is_marked s kind cell) (store_now f now) ∙ (keeps_other h whole alone ne).marks kind
+                          ∙ ap (λ s. is_marked s kind cell) (sym (store_was f now)))
+                      | inr c ↦ worked.not_caught setting records w stores v k server good done job cell mine is alive h whole alone
+                          (other h whole alone ne) has m c.0 c.1 c.2
+                    ]
+                | inr (inl lost) ↦ lost_at m lost
+                | inr (inr c) ↦ worked.not_caught setting records w stores v k server good done job cell mine is alive h whole alone
+                    (other h whole alone ne) has m c.0 c.1 c.2
+              ]
         ]
           where
             -- nothing is copied at a place at which the server was not
@@ -289,7 +307,8 @@ module _ (setting : Setting) (records : List Record) (w : World) (stores : ℕ �
                 → blank_joins_in setting front h ≡ blank_joins_in setting f h → IsStillLeft f (place_by setting f row) cell row h
             still_left m last_whole so kept joins =
                 let same : olds front h ≡ olds f h = ap (good.stores h) joins in
-                elim (worked.left_still setting records w stores v k server good done job cell mine is h whole alone (other h whole alone ne) has m) [
+                elim (worked.left_still setting records w stores v k server good done job cell mine is alive h whole alone
+                (other h whole alone ne) has lives m) [
                   | inl marked ↦ inl (subst (λ s. IsMarked s cell) same marked)
                   | inr all ↦ inr (
                     record {

@@ -25,16 +25,16 @@ use Rattle.petal_msg.specs.declared.operation.Pending.{Pending}
 use Rattle.petal_state.specs.CellState.{cell_link}
 use Rattle.petal_table.specs.Table.{Table, at}
 use Rattle.petal_history.specs.Claims.{IsMarked, IsToBeCopied}
-use Rattle.petal_rules.specs.Copies.{blocks_left, cell_at, is_link_under_way, least, marked_blocks, next_block, next_copy, stored_blocks}
+use Rattle.petal_rules.specs.Copies.{blocks_left, cell_at, is_kept_on, is_link_under_way, least, marked_blocks, next_block, next_copy, stored_blocks}
 use Rattle.petal_rules.specs.Lists.{In}
 use Rattle.petal_rules.specs.Progress.{copying_on, progress_on}
 use Rattle.petal_rules.specs.Server.{Own}
-use Rattle.petal_rules.specs.State.{State, is_on, is_whole, link_named}
+use Rattle.petal_rules.specs.State.{State, is_on, is_whole, link_named, live}
 use Rattle.petal_rules.specs.Store.{Chain, Store, cell_cmp, chain_in, is_marked, mark_on}
 use Rattle.petal_rules.specs.Writes.{is_under_way, pending_on}
 use Rattle.petal_rules.proofs.CellTables.{cell_cmp_same, cell_cmp_total}
 use Rattle.petal_rules.proofs.ListLemmas.{in-append, in_former, in_later}
-use Rattle.petal_rules.proofs.Tests.{by_bool, by_test, none_some, number_itself, same_some, some_or_none, true_false}
+use Rattle.petal_rules.proofs.Tests.{both_true, by_bool, by_test, none_some, number_itself, same_some, some_or_none, true_false}
 use Rattle.law_state.proofs.Links.{either_false, in_map}
 use Rattle.law_steps.proofs.Resting.{among_least, cell_left, in_none, on_row, same_cell}
 use Rattle.law_copies.proofs.Marks.{is_mark, same_itself}
@@ -88,31 +88,42 @@ pub on_itself : (state : State) (row : LinkRow) (cell : Cell) → cell_link stat
 on_itself state row cell is = ap (λ o. option_map_or (is_link row.map row.link) o false) is
     ∙ ap (λ b. b && (row.link == row.link)) (number_itself row.map) ∙ number_itself row.link
 
--- a marked cell of the link is one of its marked blocks
-pub among_marked : (state : State) (row : LinkRow) (own : Own) (cell : Cell) → is_on state row cell ≡ true → IsMarked own.store cell
-    → In cell.block (marked_blocks state row own)
-among_marked state row own cell on marked = elim marked [
+-- a live cell of the link counts
+kept_on : (state : State) (row : LinkRow) (cell : Cell) → is_on state row cell ≡ true → live state cell ≡ true → is_kept_on state row cell ≡ true
+kept_on state row cell on lives = ap (λ b. b && live state cell) on ∙ lives
+
+-- a marked live cell of the link is one of its marked blocks
+pub among_marked : (state : State) (row : LinkRow) (own : Own) (cell : Cell) → is_on state row cell ≡ true → live state cell ≡ true
+    → IsMarked own.store cell → In cell.block (marked_blocks state row own)
+among_marked state row own cell on lives marked = elim marked [
   | inl busy ↦ by Busy (mark_in own.store Busy cell busy)
   | inr stale ↦ by Stale (mark_in own.store Stale cell stale)
 ]
   where
     by : (kind : MarkKind) → In (mark_on kind cell) own.store.marks → In cell.block (marked_blocks state row own)
-    by kind i = in_mapped (λ (m : Mark). m.cell.block) (filter (λ m. is_on state row m.cell) own.store.marks) (mark_on kind cell)
-        (in_kept (λ m. is_on state row m.cell) own.store.marks (mark_on kind cell) i on)
+    by kind i = in_mapped (λ (m : Mark). m.cell.block) (filter (λ m. is_kept_on state row m.cell) own.store.marks) (mark_on kind cell)
+        (in_kept (λ m. is_kept_on state row m.cell) own.store.marks (mark_on kind cell) i (kept_on state row cell on lives))
 
--- a marked block of the link is a cell of it, and marked
+-- a marked block of the link is a live cell of it, and marked
 pub record IsMarkedOn (state : State) (row : LinkRow) (own : Own) (block : ℕ) : Type 0 where
   pub is : cell_link state (cell_at row block) ≡ Some row
+  pub lives : live state (cell_at row block) ≡ true
   pub marked : IsMarked own.store (cell_at row block)
 
 pub marked_on : (state : State) (id : LinkId) (row : LinkRow) (own : Own) (block : ℕ) → link_named state id ≡ Some row
     → In block (marked_blocks state row own) → IsMarkedOn state row own block
 marked_on state id row own block named i =
-    let m = in_map (λ (m : Mark). m.cell.block) (filter (λ m. is_on state row m.cell) own.store.marks) block i in
-    let left = in_left (λ (m : Mark). is_on state row m.cell) own.store.marks m.0 m.1 in
-    let there = on_row state id row named m.0.cell left.1 in
+    let m = in_map (λ (m : Mark). m.cell.block) (filter (λ m. is_kept_on state row m.cell) own.store.marks) block i in
+    let left = in_left (λ (m : Mark). is_kept_on state row m.cell) own.store.marks m.0 m.1 in
+    let two = both_true (is_on state row m.0.cell) (live state m.0.cell) left.1 in
+    let there = on_row state id row named m.0.cell two.0 in
     let same : m.0.cell ≡ cell_at row block = λ j. record { map = there.1 j; block = sym m.2 j } in
-    record { is = ap (cell_link state) (sym same) ∙ there.0; marked = subst (IsMarked own.store) same (in_mark own.store m.0 left.0) }
+    record {
+      is = ap (cell_link state) (sym same) ∙ there.0;
+      lives = ap (live state) (sym same) ∙ two.1;
+      marked = subst (IsMarked own.store) same
+          (in_mark own.store m.0 left.0);
+    }
 
 -- ### What is under way
 
@@ -161,13 +172,13 @@ none_on {X} state row t cell none on = elim (some_or_none (at cell_cmp t cell)) 
 
 -- ### Stored blocks
 
--- a cell of the link that has an entry is one of its stored blocks
-among_stored : (state : State) (row : LinkRow) (own : Own) (cell : Cell) → is_on state row cell ≡ true → chain_in own.store.chains cell ≢ []
-    → In cell.block (stored_blocks state row own)
-among_stored state row own cell on stored = elim (some_or_none (at cell_cmp own.store.chains cell)) [
-  | inl there ↦ in_mapped (λ (chain : Cell × Chain). chain.0.block) (filter (λ chain. is_on state row chain.0) own.store.chains) (cell, there.0)
-      (in_kept (λ (chain : Cell × Chain). is_on state row chain.0) own.store.chains (cell, there.0)
-      (cell_in own.store.chains cell there.0 there.1) on)
+-- a live cell of the link that has an entry is one of its stored blocks
+among_stored : (state : State) (row : LinkRow) (own : Own) (cell : Cell) → is_on state row cell ≡ true → live state cell ≡ true
+    → chain_in own.store.chains cell ≢ [] → In cell.block (stored_blocks state row own)
+among_stored state row own cell on lives stored = elim (some_or_none (at cell_cmp own.store.chains cell)) [
+  | inl there ↦ in_mapped (λ (chain : Cell × Chain). chain.0.block) (filter (λ chain. is_kept_on state row chain.0) own.store.chains) (cell, there.0)
+      (in_kept (λ (chain : Cell × Chain). is_kept_on state row chain.0) own.store.chains (cell, there.0)
+      (cell_in own.store.chains cell there.0 there.1) (kept_on state row cell on lives))
   | inr none ↦ absurd (stored (ap (λ o. unwrap_or {T = Chain} o []) none))
 ]
 
@@ -175,9 +186,10 @@ among_stored state row own cell on stored = elim (some_or_none (at cell_cmp own.
 stored_on : (state : State) (id : LinkId) (row : LinkRow) (own : Own) (block : ℕ) → link_named state id ≡ Some row
     → In block (stored_blocks state row own) → is_some (at cell_cmp own.store.chains (cell_at row block)) ≡ true
 stored_on state id row own block named i =
-    let m = in_map (λ (chain : Cell × Chain). chain.0.block) (filter (λ chain. is_on state row chain.0) own.store.chains) block i in
-    let left = in_left (λ (chain : Cell × Chain). is_on state row chain.0) own.store.chains m.0 m.1 in
-    let there = on_row state id row named m.0.0 left.1 in
+    let m = in_map (λ (chain : Cell × Chain). chain.0.block) (filter (λ chain. is_kept_on state row chain.0) own.store.chains) block i in
+    let left = in_left (λ (chain : Cell × Chain). is_kept_on state row chain.0) own.store.chains m.0 m.1 in
+    let two = both_true (is_on state row m.0.0) (live state m.0.0) left.1 in
+    let there = on_row state id row named m.0.0 two.0 in
     let same : m.0.0 ≡ cell_at row block = λ j. record { map = there.1 j; block = sym m.2 j } in
     ap (λ c. is_some (at cell_cmp own.store.chains c)) (sym same) ∙ in_found own.store.chains m.0 left.0
 
@@ -192,6 +204,10 @@ left_stored state row own block whole past i = in_later block (marked_blocks sta
 
 -- ### The next copy
 
+-- the server has a mark or an entry of the cell
+abbrev pub HasAny : Own → Cell → Type 0
+HasAny own cell = IsMarked own.store cell ⊎ (chain_in own.store.chains cell ≢ [])
+
 -- the block has a chain, all is to be copied, and it is above what was copied
 pub record IsStored (row : LinkRow) (own : Own) (cell : Cell) : Type 0 where
   pub whole : is_whole row.state ≡ true
@@ -201,6 +217,7 @@ pub record IsStored (row : LinkRow) (own : Own) (cell : Cell) : Type 0 where
 -- the cell whose copy begins next: nothing is under way on it, it is left to copy, and none below it is
 pub record IsNext (state : State) (row : LinkRow) (own : Own) (cell : Cell) : Type 0 where
   pub is : cell_link state cell ≡ Some row
+  pub lives : live state cell ≡ true
   pub paged : (progress_on own row).paged ≡ true
   pub free : pending_on own cell ≡ None
   pub idle : copying_on own cell ≡ None
@@ -238,8 +255,10 @@ module _ (state : State) (id : LinkId) (row : LinkRow) (own : Own) (named : link
   next_at paged block is unused =
       let i = among_least (blocks_left state row own) block is in
       let two = idle own (cell_at row block) unused in
+      let on = cell_left state id row own named block i in
       record {
-        is = cell_left state id row own named block i;
+        is = on.0;
+        lives = on.1;
         paged = paged;
         free = two.0;
         idle = two.1;
@@ -268,12 +287,13 @@ module _ (state : State) (id : LinkId) (row : LinkRow) (own : Own) (named : link
       (next_block state row own (least (blocks_left state row own))) Ask
       (λ paged e. next_block_is paged (least (blocks_left state row own)) refl cell e) (λ f e. let g : Ask ≡ Block cell = e in absurd cc)
 
-  module _ (cell : Cell) (is : cell_link state cell ≡ Some row) where
+  -- a cell of which the server has something only where it is live
+  module _ (cell : Cell) (is : cell_link state cell ≡ Some row) (lives : HasAny own cell → live state cell ≡ true) where
     -- a block of all that are to be copied is left
     pub to_be_copied_left : IsToBeCopied row own.store cell → above (progress_on own row).copied cell.block ≡ true
         → In cell.block (blocks_left state row own)
     to_be_copied_left all past = left_stored state row own cell.block all.whole past
-        (among_stored state row own cell (on_itself state row cell is) all.stored)
+        (among_stored state row own cell (on_itself state row cell is) (lives (inr all.stored)) all.stored)
 
     done_at : (progress_on own row).paged ≡ true → least (blocks_left state row own) ≡ None → is_link_under_way state row own ≡ false
         → IsDone state row own cell
@@ -287,7 +307,7 @@ module _ (state : State) (id : LinkId) (row : LinkRow) (own : Own) (named : link
           idle = none_on state row own.copies.pending cell two.1 on;
           unmarked = λ marked.
               let least_is = least_below (blocks_left state row own) cell.block
-              (in_former cell.block _ _ (among_marked state row own cell on marked)) in
+              (in_former cell.block _ _ (among_marked state row own cell on (lives (inl marked)) marked)) in
               none_some none least_is.1;
           copied = λ all past. none_some none (least_below (blocks_left state row own) cell.block (to_be_copied_left all past)).1;
         }

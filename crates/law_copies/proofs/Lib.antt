@@ -33,6 +33,7 @@ pub mod Counts
 pub mod Later
 pub mod Mute
 pub mod Renewed
+pub mod NewPlaces
 pub mod Growing
 pub mod Further
 pub mod Between

@@ -1,5 +1,5 @@
 -- A mark that is set is there, and marks on other cells stay as they are.
-use Rattle.std.proofs.Common.{◌≡◌, ◌≢◌, ◌==◌, true, false, ◌||◌, not, cond, List, [], ◌∷◌, refl, ap, sym, ◌∙◌, arith}
+use Rattle.std.proofs.Common.{◌≡◌, ◌≢◌, ◌==◌, Bool, true, false, ◌||◌, not, cond, List, [], ◌∷◌, refl, ap, sym, ◌∙◌, arith}
 use Rattle.std.proofs.lemmas.Bool.Decides.{nat_tests}
 use Rattle.std.proofs.lemmas.List.Folds.{list_any-append}
 use Rattle.busy_marks.specs.Marks.{same_kind, same_mark, has_mark, with_mark, without_mark}
@@ -8,7 +8,7 @@ use Rattle.busy_marks.specs.declared.marks.MarkKind.{MarkKind}
 use Rattle.busy_marks.specs.declared.marks.MarkKind.TheVariants.{Busy, Stale}
 use Rattle.petal_base.specs.declared.cell.Cell.{Cell}
 use Rattle.petal_rules.specs.Store.{Store, is_marked, mark_on, with_mark_on, without_mark_on}
-use Rattle.petal_rules.proofs.Tests.{by_test, by_bool, both_true, same_numbers}
+use Rattle.petal_rules.proofs.Tests.{by_test, by_bool, both_true, same_numbers, true_false}
 
 same_kind_itself : (kind : MarkKind) → same_kind kind kind ≡ true
 same_kind_itself Busy = refl
@@ -88,3 +88,28 @@ set_apart marks mark other ne = by_test (λ xs. has_mark other xs ≡ has_mark o
 pub mark_beside : (store : Store) (kind other : MarkKind) (cell q : Cell) → q ≢ cell
     → is_marked (with_mark_on store kind cell) other q ≡ is_marked store other q
 mark_beside store kind other cell q ne = set_apart store.marks (mark_on kind cell) (mark_on other q) (other_cells kind other cell q ne)
+
+-- a mark that is there was there before another one went
+kept_more : (b t : Bool) → (t ≡ true → b ≡ true) → (a : Bool) → a || t ≡ true → a || b ≡ true
+kept_more b t up true e = refl
+kept_more b t up false e = up e
+
+unset_back : (marks : List Mark) (mark other : Mark) → has_mark other (without_mark marks mark) ≡ true → has_mark other marks ≡ true
+unset_back [] mark other e = e
+unset_back (m ∷ marks) mark other e = by_test (λ xs. has_mark other xs ≡ true → has_mark other (m ∷ marks) ≡ true) (not (same_mark m mark))
+    (m ∷ without_mark marks mark) (without_mark marks mark)
+    (λ apart f. kept_more (has_mark other marks) (has_mark other (without_mark marks mark)) (unset_back marks mark other) (same_mark m other) f)
+    (λ same f. more_true (same_mark m other) (has_mark other marks) (unset_back marks mark other f)) e
+  where
+    more_true : (a b : Bool) → b ≡ true → a || b ≡ true
+    more_true true b e = refl
+    more_true false b e = e
+
+pub unmark_back : (store : Store) (kind other : MarkKind) (cell q : Cell) → is_marked (without_mark_on store kind cell) other q ≡ true
+    → is_marked store other q ≡ true
+unmark_back store kind other cell q e = unset_back store.marks (mark_on kind cell) (mark_on other q) e
+
+pub unmark_none : (store : Store) (kind other : MarkKind) (cell q : Cell) → is_marked store other q ≡ false
+    → is_marked (without_mark_on store kind cell) other q ≡ false
+unmark_none store kind other cell q none = by_bool (is_marked (without_mark_on store kind cell) other q)
+    (λ t. true_false (unmark_back store kind other cell q t) none) (λ f. f)

@@ -39,10 +39,10 @@ no_page said e map link after block is = true_false (ap (λ (b : Body). is_betwe
 pub said_mute : (setting : Setting) (top : List Command) (stores : ℕ → ℕ → Store) (visits : Visits) (reached : Cell → ℕ) (front : List Command) (said : Body) (cell : Cell)
     (row : LinkRow) → is_between (subject_of said) ≡ false → SaidOk setting top stores visits reached front said cell row
 said_mute setting top stores visits reached front said cell row e = record {
-  both = λ both last of. known_mute (pair_at (store_by setting stores front) visits (place_by setting front row) cell row.primary row.secondary) said e;
+  both = λ alive both last of. known_mute (pair_at (store_by setting stores front) visits (place_by setting front row) cell row.primary row.secondary) said e;
   alone = λ holder whole alone of.
       told_mute row (visits holder (place_by setting front row) cell) (visits (other_of holder row) (place_by setting front row) cell) said e;
-  page = λ holder whole after block alone is last. no_page said e row.map row.link after block is;
+  page = λ alive holder whole after block alone is last. no_page said e row.map row.link after block is;
   met = λ holder whole after block alone is. no_page said e row.map row.link after block is;
 }
 

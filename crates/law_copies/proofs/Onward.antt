@@ -17,7 +17,7 @@ use Rattle.petal_history.specs.Claims.{IsMarked, IsToBeCopied}
 use Rattle.petal_rules.specs.Copies.{begins_copy, cell_at, with_copied}
 use Rattle.petal_rules.specs.Progress.{copying_on, no_progress, progress_on, with_copying, with_progress, without_copying}
 use Rattle.petal_rules.specs.Server.{Own}
-use Rattle.petal_rules.specs.State.{State, id_of, link_cmp}
+use Rattle.petal_rules.specs.State.{State, id_of, link_cmp, live}
 use Rattle.petal_rules.specs.Store.{cell_cmp}
 use Rattle.petal_rules.proofs.CellTables.{cell_apart, cell_gone, cell_gone_apart}
 use Rattle.petal_rules.proofs.Tests.{by_bool, by_test, none_some, same_or_apart, same_some}
@@ -28,7 +28,7 @@ use Rattle.law_steps.proofs.Staged.{same_cell_or_apart}
 use Rattle.law_copies.specs.Copied.{AreInOrder, HasPage, IsCopied, NotCopied, links_of}
 use Rattle.law_copies.proofs.Blocks.{block_on, on_block}
 use Rattle.law_copies.proofs.Frames.{copied_alike}
-use Rattle.law_copies.proofs.Left.{IsNext, to_be_copied_left}
+use Rattle.law_copies.proofs.Left.{HasAny, IsNext, to_be_copied_left}
 use Rattle.law_copies.proofs.Pacing.{IsPaced, paced_copied}
 use Rattle.law_copies.proofs.Standing.{cell_map, one_named}
 
@@ -144,13 +144,14 @@ module _ (state : State) (links : ℕ) (row : LinkRow) (cell : Cell) (is : cell_
 
   module _ (own : Own) where
     -- a copy of the other cell begins, and no block below it is left
-    pub begun_onward : (r : LinkRow) → IsNext state r own c → IsOnward links row cell own (begins_copy own c)
-    begun_onward r next = onward_by links row cell own (begins_copy own c) (record { paged = refl; after = refl; flag = refl }) refl
+    pub begun_onward : (r : LinkRow) → IsNext state r own c → (HasAny own cell → live state cell ≡ true)
+        → IsOnward links row cell own (begins_copy own c)
+    begun_onward r next lives = onward_by links row cell own (begins_copy own c) (record { paged = refl; after = refl; flag = refl }) refl
         (λ later copy lt on there. elim (same_cell_or_apart (cell_at row later) c) [
           | inl e ↦ inr (λ all ahead.
               let same : r ≡ row = same_some (sym next.is ∙ ap (cell_link state) (sym e) ∙ later_on later on) in
               let one = subst (λ (x : LinkRow). IsNext state x own c) same next in
-              let le = one.least cell.block (to_be_copied_left state (id_of row) row own (row_named state cell row is) cell is all ahead) in
+              let le = one.least cell.block (to_be_copied_left state (id_of row) row own (row_named state cell row is) cell is lives all ahead) in
               let block : later ≡ c.block = ap (λ (q : Cell). q.block) e in
               absurd (omega arith))
           | inr apart ↦ inl (copy, sym (cell_apart own.copies.pending c (first_copy own.pairs.next) (cell_at row later) apart) ∙ there)

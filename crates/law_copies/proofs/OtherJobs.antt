@@ -17,18 +17,18 @@ use Rattle.petal_rules.specs.Copies.{Entry, marked_blocks, puts_entry}
 use Rattle.petal_rules.specs.Lists.{In}
 use Rattle.petal_rules.specs.Progress.{last_copy, with_last_copy}
 use Rattle.petal_rules.specs.Server.{Own, Here, Post, Done, says_to}
-use Rattle.petal_rules.specs.State.{is_lead, is_on, is_second}
+use Rattle.petal_rules.specs.State.{is_on, is_second}
 use Rattle.petal_rules.specs.Store.{Store, chain_in, is_marked}
 use Rattle.petal_rules.proofs.Tests.{same_some}
 use Rattle.law_state.proofs.Alone.{IsBothRow}
-use Rattle.law_steps.specs.DidLead.{DidLead, Asks, A_slot, A_copy, A_trim, A_copied_entry, A_page, Of_the_log}
+use Rattle.law_steps.specs.DidLead.{DidLead, Asks, A_slot, A_copy, A_trim, A_copied_entry, A_page, An_entry_to_move, Of_the_log}
 use Rattle.law_steps.specs.DidHolder.{DidHolder}
 use Rattle.law_steps.specs.DidOther.{DidOther, IsOfCopy, first_last, TrimStep, Is_trimmed, Drops_entry, Answers_page, Is_copied_to, Goes_on_trimming, Puts_entry, Has_entry, Has_no_slot}
 use Rattle.law_steps.specs.DidSecond.{DidSecond}
-use Rattle.law_steps.specs.Did.{Did, Ignores, Refuses, By_read, By_lead, By_second, By_holder, By_other}
+use Rattle.law_steps.specs.Did.{Did, Ignores, Refuses, By_read, By_lead, By_second, By_holder, By_other, By_filler, By_sweep}
 use Rattle.law_steps.proofs.Letters.{one_post, posted}
 use Rattle.law_steps.proofs.Staged.{same_cell_or_apart}
-use Rattle.law_steps.proofs.Subjects.{of_read, of_second}
+use Rattle.law_steps.proofs.Subjects.{of_filler, of_read, of_second, of_sweep}
 use Rattle.law_copies.specs.Copied.{AreCopying, IsPage, IsTold, IsUpTo}
 use Rattle.law_copies.specs.Steps.{IsFollowing, IsLeftBy, KeepsCell, OtherKeeps, StaysTold}
 use Rattle.law_copies.proofs.Apart.{away}
@@ -38,9 +38,9 @@ use Rattle.law_copies.proofs.Lasts.{past_last, past_of, stays_told, to_put, to_t
 use Rattle.law_copies.proofs.Left.{among_marked, least_below, on_itself}
 use Rattle.law_copies.proofs.Rising.{did_rising}
 use Rattle.law_copies.proofs.Rows.{in_kept}
-use Rattle.law_copies.proofs.Sent.{answered_not, at_away, holder_says, lead_sends, logged_not, none_in, other_says, page_after, page_block, page_link, page_map, page_sent, paired_not, refused_not, untold}
-use Rattle.law_copies.proofs.Standing.{IsHeldHere, IsOtherOf, alone_not_row, alone_not_second, copying_held, holder_works, named_id, one_named, other_alone, other_not_alone, other_not_lead, other_row}
-use Rattle.law_copies.proofs.Working.{Away, holder_beside, holder_cell, lead_beside, lead_cell, lead_leads, other_beside, other_cell, second_beside, second_follows}
+use Rattle.law_copies.proofs.Sent.{at_away, filling_not, holder_says, lead_sends, logged_not, none_in, other_says, page_after, page_block, page_link, page_map, page_sent, paired_not, read_not, refused_not, untold}
+use Rattle.law_copies.proofs.Standing.{IsHeldHere, IsOtherOf, alone_not_row, alone_not_second, copying_held, holder_works, kept_lives, named_id, one_named, other_alone, other_not_alone, other_not_leading, other_row}
+use Rattle.law_copies.proofs.Working.{Away, IsLedHere, filler_beside, holder_beside, holder_cell, lead_beside, lead_cell, lead_leads, led_alive, other_beside, other_cell, second_beside, second_follows, sweep_beside}
 
 -- what a job keeps of the cell, but for pages and for the order of its epochs
 record KeepsHere (links : ℕ) (row : LinkRow) (cell : Cell) (vh : Option Own) (own : Own) (done : Done) : Type 0 where
@@ -169,12 +169,15 @@ module _ (heard : Body → Type 0) (here : Here) (links : ℕ) (row : LinkRow) (
     asks_told to _ (A_copied_entry c copy r at is trimmed there so) e = absurd
         (no_holder (subst (IsHeldHere here) (same_some e) (copying_held heard here own f.fit c copy is)))
     asks_told to _ (A_page r at on so fresh) e = tt
+    asks_told to post (An_entry_to_move _ next) e =
+        untold row vh (Some to) post.body (filling_not post.body (ap (λ (p : Post). subject_of p.body) next.is))
     asks_told to post (Of_the_log _ logged) e = untold row vh (Some to) post.body (logged_not (subject_of post.body) logged)
 
     lead_here : (done : Done) → DidLead heard here own done → KeepsHere links row cell vh own done
     lead_here done d = beside done
         (lead_beside heard here own f.fit.ready done d cell
-        (away (λ c. is_lead here.state here.me c ≡ true) cell (λ e. other_not_lead here f.fit.steady cell row f.is f.by f.held e)
+        (away (IsLedHere heard here own) cell
+        (λ led. other_not_leading here f.fit.steady cell row f.is f.by f.held (led_alive heard here own cell f.alive led))
         (lead_cell heard here own done d)
         (lead_leads heard here own f.fit.ready done d)))
         (λ post i e. elim (lead_sends heard here own done d post i) [
@@ -238,15 +241,19 @@ module _ (heard : Body → Type 0) (here : Here) (links : ℕ) (row : LinkRow) (
     here_by : (done : Done) → Did heard here own done → KeepsHere links row cell vh own done
     here_by _ Ignores = beside _ (keeps_itself cell own) (λ post i. none_in post i)
     here_by _ (Refuses to said is why because) = beside _ (keeps_itself cell own)
-        (λ post i e. untold row vh (Some own) post.body (refused_not post.body (ap subject_of (one_post to said post i).1 ∙ is)))
+        (λ post i e. untold row vh (Some own) post.body (refused_not post.body (ap subject_of (one_post to said post i).1 ∙ is.refused)))
     here_by done (By_read _ d) =
         let r = of_read heard here own done d in
         beside done (subst (KeepsCell cell own) (sym r.same) (keeps_itself cell own))
-        (λ post i e. untold row vh (Some done.own) post.body (answered_not post.body (ap subject_of (r.says post i).is)))
+        (λ post i e. untold row vh (Some done.own) post.body (read_not post (r.says post i)))
     here_by done (By_lead _ d) = lead_here done d
     here_by done (By_second _ d) = second_here done d
     here_by done (By_holder _ d) = holder_here done d
     here_by done (By_other _ d) = other_here done d
+    here_by done (By_filler _ d) = beside done (filler_beside heard here own done d cell)
+        (λ post i e. untold row vh (Some done.own) post.body (filling_not post.body ((of_filler heard here own done d).says post i)))
+    here_by done (By_sweep _ d) = beside done (sweep_beside heard here own done d cell f.alive (f.fit.bare cell))
+        (λ post i e. absurd ((of_sweep heard here own done d).silent post i))
 
     -- ### Pages
 
@@ -266,7 +273,7 @@ module _ (heard : Body → Type 0) (here : Here) (links : ℕ) (row : LinkRow) (
           least = λ past up_to marked.
               let was : IsMarked own.store cell = subst (λ (o : Own). IsMarked o.store cell) p.same marked in
               let there = in_kept (above p.after) (marked_blocks here.state p.row own) cell.block
-              (among_marked here.state p.row own cell on was)
+              (among_marked here.state p.row own cell on (kept_lives heard here own f.fit cell f.alive (inl was)) was)
               (ap (λ o. above o cell.block) (sym (ap page_after same)) ∙ past) in
               let first = least_below (filter (above p.after) (marked_blocks here.state p.row own)) cell.block there in
               let lt : cell.block < first.0 = subst (IsUpTo cell.block) (ap page_block same ∙ first.1) up_to in

@@ -6,14 +6,15 @@ use Rattle.global_tables.specs.declared.link.LinkRow.{LinkRow}
 use Rattle.global_tables.specs.declared.link.LinkState.{LinkState}
 use Rattle.global_tables.specs.declared.link.LinkState.TheVariants.{Both, Only, Lost}
 use Rattle.petal_base.specs.declared.cell.Cell.{Cell}
-use Rattle.petal_state.specs.CellState.{cell_link}
+use Rattle.petal_state.specs.CellState.{cell_link, row_lead}
 use Rattle.petal_rules.specs.Copies.{cell_holder}
 use Rattle.petal_rules.specs.Server.{Here}
 use Rattle.petal_state.specs.Command.{is_alone}
-use Rattle.petal_rules.specs.State.{holder_of, is_lead, lead as led}
+use Rattle.petal_rules.specs.State.{holder_of, is_lead, leads_link}
 use Rattle.petal_rules.proofs.Tests.{both_true, by_test, none_some, number_itself, same_numbers, same_some, some_or_none, true_false}
 use Rattle.law_state.specs.Steady.{IsSteady}
-use Rattle.law_state.proofs.Cells.{led_by}
+use Rattle.law_state.proofs.Cells.{link_led_by}
+use Rattle.law_steps.proofs.Leading.{lead_links}
 use Rattle.petal_rules.proofs.Tests.{is_the_one}
 
 -- a link's two servers are two
@@ -60,12 +61,12 @@ held_by here cell holder held = elim (some_or_none (cell_link here.state cell)) 
   | inr none ↦ none_some (ap (option_and_then (holder_of here.me)) none) held
 ]
 
--- it leads no cell of the link
-pub held_not_lead : (here : Here) → IsSteady here.state → (cell : Cell) (holder : ℕ) → cell_holder here cell ≡ Some holder
-    → is_lead here.state here.me cell ≡ true → {B : Type 0} → B
-held_not_lead here steady cell holder held lead =
+-- it doesn't lead the link
+pub held_not_leading : (here : Here) → IsSteady here.state → (cell : Cell) (holder : ℕ) → cell_holder here cell ≡ Some holder
+    → leads_link here.state here.me cell ≡ true → {B : Type 0} → B
+held_not_leading here steady cell holder held leads =
     let h = held_by here cell holder held in
-    elim (led_by here.state steady cell here.me (is_the_one (led here.state cell) here.me lead)) [
+    elim (link_led_by here.state steady cell here.me (is_the_one (option_and_then (row_lead here.state) (cell_link here.state cell)) here.me leads)) [
       | inl b ↦
           let same : b.0.row ≡ h.0 = same_some (sym b.0.is ∙ h.1.is) in
           (let f : false ≡ true = sym (ap (is_alone (other_of here.me h.0)) (ap (λ (r : LinkRow). r.state) (sym same) ∙ b.0.so)) ∙ h.1.alone in absurd cc)
@@ -76,3 +77,8 @@ held_not_lead here steady cell holder held lead =
           (ap (is_alone here.me) (ap (λ (r : LinkRow). r.state) (sym same)) ∙ only_alone here.me alone.row alone.whole alone.so) h.1.alone in
           absurd (other_apart h.0 here.me (steady.linked cell h.0 h.1.is).apart (sym me))
     ]
+
+pub held_not_lead : (here : Here) → IsSteady here.state → (cell : Cell) (holder : ℕ) → cell_holder here cell ≡ Some holder
+    → is_lead here.state here.me cell ≡ true → {B : Type 0} → B
+held_not_lead here steady cell holder held lead =
+    held_not_leading here steady cell holder held (lead_links here.state here.me cell lead).1

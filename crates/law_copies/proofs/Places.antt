@@ -1,5 +1,5 @@
 -- Fronts of one log, and the places of a link by them.
-use Rattle.std.proofs.Common.{◌≡◌, ◌+◌, ◌≤◌, ◌<◌, ◌++◌, ◌==◌, ℕ, List, [], ◌∷◌, length, length-append, true, false, if◌then◌else◌, Some, sym, ap, ◌∙◌, subst, ◌⊎◌, inl, inr, arith}
+use Rattle.std.proofs.Common.{◌≡◌, ◌+◌, ◌≤◌, ◌<◌, ◌++◌, ◌==◌, ℕ, List, [], ◌∷◌, length, length-append, true, false, if◌then◌else◌, Some, None, sym, ap, ◌∙◌, subst, ◌⊎◌, inl, inr, arith}
 use Rattle.std.proofs.lemmas.Grind.{fold-append}
 use Rattle.std.specs.Prelude.{option_and_then}
 use Rattle.std.specs.Option.{option_map_or}
@@ -16,17 +16,21 @@ use Rattle.petal_state.specs.Place.{touches}
 use Rattle.petal_state.specs.State.{start}
 use Rattle.petal_rules.specs.State.{State}
 use Rattle.petal_rules.specs.World.{Setting}
-use Rattle.petal_rules.proofs.Tests.{none_some, same_some, some_or_none}
+use Rattle.petal_rules.proofs.Tests.{none_some, same_some, some_or_none, true_false}
 use Rattle.law_state.specs.Below.{IsBelow}
+use Rattle.law_state.specs.Homes.{HasDied, stage_at}
 use Rattle.law_state.specs.Places.{StaysSo}
 use Rattle.law_state.specs.Plain.{IsPlainLog}
 use Rattle.law_state.specs.Rows.{IsLater}
 use Rattle.law_state.proofs.Again.{places_later}
-use Rattle.law_state.proofs.Steady.{front_plain, log_below, log_grown}
+use Rattle.law_state.proofs.Entries.{log_plain}
+use Rattle.law_state.proofs.Stages.{stage_most}
+use Rattle.law_state.proofs.Steady.{front_plain, log_below, log_grown, log_steady, tuple_on}
 use Rattle.law_state.proofs.Touching.{places_grow, places_on, same_place}
-use Rattle.law_steps.proofs.Fronts.{front_itself, front_long, front_more, front_within, one_front}
+use Rattle.law_steps.proofs.Fronts.{front_itself, front_long, front_more, front_on, front_within, one_front}
+use Rattle.law_steps.proofs.Leading.{stage_live}
 use Rattle.law_copies.specs.Copied.{links_of}
-use Rattle.law_copies.specs.Visits.{IsLinked, place_by}
+use Rattle.law_copies.specs.Visits.{AliveIn, IsLinked, place_by}
 
 -- ### Fronts
 
@@ -53,6 +57,10 @@ front_or_all front log entry p = elim (at_most_or_above (length front) (length l
 pub other_later : (row now : LinkRow) (holder : ℕ) → IsLater row now → other_of holder now ≡ other_of holder row
 other_later row now holder so = λ i. if so.primary i == holder then so.secondary i else so.primary i
 
+-- a cell that has died is dead
+pub dead_not : (state : State) (cell : Cell) → HasDied state cell → AliveIn state cell → ⊥
+dead_not state cell died alive = let dead = died.1 in omega arith
+
 -- ### Places
 
 module _ (setting : Setting) where
@@ -78,20 +86,58 @@ module _ (setting : Setting) where
       omega arith
 
   module _ (whole : List Command) (all : IsPlainLog setting.servers whole) where
-    below_at : (front more : List Command) → IsPrefix front more → IsPrefix more whole
+    pub below_at : (front more : List Command) → IsPrefix front more → IsPrefix more whole
         → IsBelow (state_after setting.servers front) (state_after setting.servers more)
     below_at front more one two = log_below setting.servers front more (front_plain setting.servers more whole all two) one
 
-    -- a cell that has a link has it later
+    -- a cell that has a link has it later, until it is dead
     pub linked_on : (front more : List Command) (cell : Cell) (row : LinkRow) → IsPrefix front more → IsPrefix more whole → IsLinked setting front cell row
-        → (now : LinkRow) × IsLinked setting more cell now
-    linked_on front more cell row one two is = let h = (below_at front more one two).rows cell row is in (h.now, h.is)
+        → ((now : LinkRow) × IsLinked setting more cell now) ⊎ HasDied (state_after setting.servers more) cell
+    linked_on front more cell row one two is = elim ((below_at front more one two).rows cell row is) [ inl h ↦ inl (h.now, h.is) | inr died ↦ inr died ]
+
+    -- a cell only goes forward
+    pub alive_on : (front more : List Command) (cell : Cell) → IsPrefix front more → IsPrefix more whole → AliveIn (state_after setting.servers more) cell
+        → AliveIn (state_after setting.servers front) cell
+    alive_on front more cell one two alive = let le = (below_at front more one two).stages cell in omega arith
+
+    pub linked_alive : (front more : List Command) (cell : Cell) (row : LinkRow) → IsPrefix front more → IsPrefix more whole → IsLinked setting front cell row
+        → AliveIn (state_after setting.servers more) cell → (now : LinkRow) × IsLinked setting more cell now
+    linked_alive front more cell row one two is alive = elim (linked_on front more cell row one two is) [
+      | inl h ↦ h
+      | inr died ↦ absurd (dead_not (state_after setting.servers more) cell died alive)
+    ]
+
+    -- where it has a link later, it has it on the way
+    pub linked_between : (front mid more : List Command) (cell : Cell) (row now : LinkRow) → IsPrefix front mid → IsPrefix mid more → IsPrefix more whole
+        → IsLinked setting front cell row → IsLinked setting more cell now → (there : LinkRow) × IsLinked setting mid cell there
+    linked_between front mid more cell row now one two three is end = elim (linked_on front mid cell row one (front_on mid more whole two three) is) [
+      | inl h ↦ h
+      | inr died ↦ none_some ((below_at mid more two three).died cell died).0 end
+    ]
+
+    -- one that has none, and has one later, is not live yet
+    pub unborn : (front more : List Command) (cell : Cell) (now : LinkRow) → IsPrefix front more → IsPrefix more whole
+        → cell_link (state_after setting.servers front) cell ≡ None → IsLinked setting more cell now → stage_at (state_after setting.servers front) cell ≡ 0
+    unborn front more cell now one two none end =
+        let here = state_after setting.servers front in
+        let steady = log_steady setting.servers front (front_plain setting.servers front more (front_plain setting.servers more whole all two) one) in
+        elim (at_most_or_above (stage_at here cell) 0) [
+          | inl le ↦ omega arith
+          | inr low ↦ elim (at_most_or_above 4 (stage_at here cell)) [
+            | inl dead ↦ (
+                let most = stage_most here cell in
+                let is : stage_at here cell ≡ 4 = omega arith in
+                none_some ((below_at front more one two).died cell (none, is)).0 end)
+            | inr lt ↦ true_false (stage_live here cell low lt) (steady.dead cell none)
+          ]
+        ]
 
     pub rows_later : (front more : List Command) (cell : Cell) (row now : LinkRow) → IsPrefix front more → IsPrefix more whole
         → IsLinked setting front cell row → IsLinked setting more cell now → IsLater row now
-    rows_later front more cell row now one two is end =
-        let h = (below_at front more one two).rows cell row is in
-        subst (IsLater row) (same_some (sym h.is ∙ end)) h.so
+    rows_later front more cell row now one two is end = elim ((below_at front more one two).rows cell row is) [
+      | inl h ↦ subst (IsLater row) (same_some (sym h.is ∙ end)) h.so
+      | inr died ↦ none_some died.0 end
+    ]
 
     -- the later row counts the same places
     pub place_of_later : (front more counted_by : List Command) (cell : Cell) (row now : LinkRow) → IsPrefix front more → IsPrefix more whole
@@ -104,8 +150,11 @@ module _ (setting : Setting) where
         → links_of (state_after setting.servers more) cell.map ≡ links_of (state_after setting.servers front) cell.map
     links_up front more cell row one two is = elim (some_or_none (tuple_of (state_after setting.servers front).maps cell.map)) [
       | inl h ↦
+          let plain = front_plain setting.servers more whole all two in
           ap (λ o. option_map_or length o 0)
-          ((log_grown setting.servers front more (front_plain setting.servers more whole all two) one).maps cell.map h.0 h.1 ∙ sym h.1)
+          (tuple_on setting.servers (state_after setting.servers front) (state_after setting.servers more)
+          (log_plain setting.servers front (front_plain setting.servers front more plain one)) (log_plain setting.servers more plain)
+          (log_grown setting.servers front more plain one) cell.map h.0 h.1 ∙ sym h.1)
       | inr none ↦ none_some (ap (option_and_then (λ tuple. link_at (state_after setting.servers front).links cell.map (link_of (length tuple) cell.block))) none) is
     ]
 
@@ -129,8 +178,11 @@ module _ (setting : Setting) where
         → IsLinked setting front cell row → IsLinked setting more cell now → place_by setting front row ≡ place_by setting more now
         → StaysSo cell row (state_after setting.servers front) (state_after setting.servers more)
     one_place_up front more cell row now one two is end same =
-        same_place setting.servers front more cell row (front_plain setting.servers more whole all two) one is
-        (sym (place_of_later front more more cell row now one two is end) ∙ sym same)
+        elim (same_place setting.servers front more cell row (front_plain setting.servers more whole all two) one is
+        (sym (place_of_later front more more cell row now one two is end) ∙ sym same)) [
+          | inl stays ↦ stays
+          | inr died ↦ none_some died.0 end
+        ]
 
     -- two fronts at one place of a link, the longer one before or behind, say the same of it
     pub one_place : (front more : List Command) (cell : Cell) (row now : LinkRow) → IsPrefix front whole → IsPrefix more whole

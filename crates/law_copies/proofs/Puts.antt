@@ -8,16 +8,23 @@ use Rattle.petal_table.specs.Table.{Table, put}
 use Rattle.petal_msg.specs.declared.body.Body.{Body}
 use Rattle.petal_msg.specs.declared.copying.Copying.{Copying}
 use Rattle.petal_msg.specs.declared.copying.LastCopy.{LastCopy}
+use Rattle.petal_msg.specs.declared.dead.Dead.TheVariants as dead
+use Rattle.petal_msg.specs.declared.operation.Action.{Action}
+use Rattle.petal_msg.specs.declared.operation.Action.TheVariants as action
+use Rattle.petal_msg.specs.declared.operation.Ending.{Ending}
+use Rattle.petal_msg.specs.declared.operation.Ending.TheVariants as ending
 use Rattle.petal_msg.specs.declared.operation.Pending.{Pending}
 use Rattle.petal_rules.specs.Server.{Own, Here, Done}
 use Rattle.petal_rules.specs.Store.{Chain, Store, Stored, cell_cmp, chain_in, without_entry}
-use Rattle.petal_rules.specs.Writes.{tells}
-use Rattle.law_steps.specs.DidLead.{DidLead, Asks_for, Repeats, Is_full, Opens, Marks, Puts, Gives_up, Unmarks, Closes, Opens_alone, Marks_alone, Puts_alone, Unmarks_alone, Closes_alone, Taken}
+use Rattle.petal_rules.specs.Writes.{acts, ends, gives_back, next_stage, tells, without_pending}
+use Rattle.petal_rules.proofs.Tests.{by_test}
+use Rattle.law_steps.specs.DidLead.{DidLead, Asks_for, Repeats, Is_full, Opens, Marks, Puts, Gives_up, Unmarks, Closes, Opens_alone, Marks_alone, Puts_alone, Unmarks_alone, Closes_alone, Opens_fill, Opens_fill_alone, Has_fill, Has_no_room, Goes_on_dead, Taken}
 use Rattle.law_steps.specs.DidSecond.{DidSecond, Sets_apart, Promises, Declines, Follows}
 use Rattle.law_steps.specs.DidHolder.{DidHolder, CopyStep, Asks_to_trim, Sends, Unmarks_copied, Closes_copy, TakenCopy, Copy_as_is, Copy_trimmed, Copy_synced, Asks_page, Turns_page, Begins_copy, Goes_on_copying, Finds_it_full, Tidies}
 use Rattle.law_steps.specs.DidOther.{DidOther, TrimStep, Is_trimmed, Drops_entry, Answers_page, Is_copied_to, Goes_on_trimming, Puts_entry, Has_entry, Has_no_slot}
-use Rattle.law_steps.specs.Did.{Did, Ignores, Refuses, By_read, By_lead, By_second, By_holder, By_other}
-use Rattle.law_steps.proofs.Subjects.{of_read, told_own}
+use Rattle.law_steps.specs.DidSweep.{DidSweep, Sweeps}
+use Rattle.law_steps.specs.Did.{Did, Ignores, Refuses, By_read, By_lead, By_second, By_holder, By_other, By_filler, By_sweep}
+use Rattle.law_steps.proofs.Subjects.{of_ending, of_filler, of_read, told_own}
 use Rattle.law_steps.proofs.Taking.{taking}
 use Rattle.law_copies.proofs.Chains.{copied_chains, page_chains}
 
@@ -32,21 +39,41 @@ module _ (P : Table Cell Chain → Type 0)
   taken_chains : (now : Own) (op : Pending) → Taken own now op → P now.store.chains
   taken_chains now op taken = same now (ap (λ (s : Store). s.chains) (taking own now op taken).store)
 
+  ending_chains : (now : Own) (op : Pending) (how : Ending) → P now.store.chains → P (ends here now op op.kind how).own.store.chains
+  ending_chains now op how kept = subst (λ (s : Store). P s.chains) (sym (of_ending here now op op.kind how).store) kept
+
+  -- whatever an operation does next
+  acts_chains : (now : Own) (op : Pending) (next : Action) → P now.store.chains → P (acts here now op next).own.store.chains
+  acts_chains now op action.Reserve kept = kept
+  acts_chains now op (action.Mark kind) kept = kept
+  acts_chains now op action.Put kept = puts now.store.chains (cell_of op.key) op.key.epoch _ kept
+  acts_chains now op action.Replicate kept = kept
+  acts_chains now op (action.Unmark kind) kept = kept
+  acts_chains now op action.Answer kept = ending_chains (without_pending now op.cell) op ending.Written kept
+  acts_chains now op action.Drop kept =
+      by_test (λ (o : Own). P o.store.chains) op.stage.put (without_pending now op.cell) (gives_back (without_pending now op.cell)) (λ put. kept)
+      (λ fresh. kept)
+
   lead_keeps : (done : Done) → DidLead heard here own done → P done.own.store.chains
   lead_keeps _ (Asks_for posts h) = all
   lead_keeps _ (Repeats want last h lead is e) = all
   lead_keeps _ (Is_full want new no_room) = all
-  lead_keeps _ (Gives_up op h is reserved put) = all
+  lead_keeps _ (Gives_up op h is reserved put) = ending_chains (gives_back (without_pending own op.cell)) op ending.Full all
   lead_keeps _ (Opens want new both) = all
   lead_keeps _ (Marks op h is both stage) = all
   lead_keeps _ (Puts op is both stage) = puts own.store.chains (cell_of op.key) op.key.epoch _ all
   lead_keeps _ (Unmarks op h is both stage) = all
-  lead_keeps _ (Closes op is both stage) = all
+  lead_keeps _ (Closes op is both stage) = ending_chains (without_pending own op.cell) op ending.Written all
   lead_keeps _ (Opens_alone want new on) = all
   lead_keeps _ (Marks_alone now op taken on fresh) = taken_chains now op taken
   lead_keeps _ (Puts_alone now op taken on stale put) = puts now.store.chains (cell_of op.key) op.key.epoch _ (taken_chains now op taken)
   lead_keeps _ (Unmarks_alone now op taken on stale put busy) = taken_chains now op taken
-  lead_keeps _ (Closes_alone now op taken on stale put free) = taken_chains now op taken
+  lead_keeps _ (Closes_alone now op taken on stale put free) = ending_chains (without_pending now op.cell) op ending.Written (taken_chains now op taken)
+  lead_keeps _ (Opens_fill moving new room both) = all
+  lead_keeps _ (Opens_fill_alone moving new room on) = all
+  lead_keeps _ (Has_fill moving there) = all
+  lead_keeps _ (Has_no_room moving new no_room) = all
+  lead_keeps _ (Goes_on_dead now op taken off) = acts_chains now op (next_stage here.state here.me op) (taken_chains now op taken)
 
   second_keeps : (done : Done) → DidSecond heard here own done → P done.own.store.chains
   second_keeps _ (Sets_apart number cell tickets h s le) = all
@@ -88,6 +115,10 @@ module _ (P : Table Cell Chain → Type 0)
   other_keeps _ (Has_entry entry holder last of_copy lt) = all
   other_keeps _ (Has_no_slot entry holder last of_copy at full) = all
 
+  sweep_keeps : (done : Done) → DidSweep here own done → P done.own.store.chains
+  sweep_keeps _ (Sweeps (dead.Key key) seated next off) = drops own.store key all
+  sweep_keeps _ (Sweeps (dead.Mark kind cell) seated next off) = all
+
   pub did_keeps : (done : Done) → Did heard here own done → P done.own.store.chains
   did_keeps _ Ignores = all
   did_keeps _ (Refuses to said is why because) = all
@@ -96,3 +127,5 @@ module _ (P : Table Cell Chain → Type 0)
   did_keeps _ (By_second done d) = second_keeps done d
   did_keeps _ (By_holder done d) = holder_keeps done d
   did_keeps _ (By_other done d) = other_keeps done d
+  did_keeps _ (By_filler done d) = same done.own (ap (λ (s : Store). s.chains) (of_filler heard here own done d).store)
+  did_keeps _ (By_sweep done d) = sweep_keeps done d

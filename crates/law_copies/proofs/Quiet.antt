@@ -23,7 +23,7 @@ use Rattle.law_state.proofs.Steady.{front_plain, log_steady}
 use Rattle.law_steps.specs.Happens.{is_between}
 use Rattle.law_steps.proofs.Letters.{said}
 use Rattle.law_copies.specs.Good.{Good}
-use Rattle.law_copies.specs.Visits.{IsLinked, Visits, place_by, store_by}
+use Rattle.law_copies.specs.Visits.{AliveIn, IsLinked, Visits, place_by, store_by}
 use Rattle.law_copies.proofs.Framed.{LeavesBoth, LeavesStore, alone_framed, both_framed, said_framed, store_same}
 use Rattle.law_copies.proofs.Later.{holder_is_one}
 use Rattle.law_copies.proofs.Mute.{no_page, said_mute}
@@ -35,7 +35,8 @@ pub mute_true : (setting : Setting) (top : List Command) (stores : ℕ → ℕ �
     → is_between (subject_of letter.body) ≡ false → IsTrue setting top stores visits reached letter
 mute_true setting top stores visits reached letter e = record {
   rev = λ between. true_false between e;
-  said = λ front cell row prefix long is. said_mute setting top stores visits reached front letter.body cell row e;
+  said = λ front cell row prefix long is alive. said_mute setting top stores visits reached front letter.body cell row e;
+  lives = λ between front prefix long cell of. true_false between e;
   page = λ front prefix long map link block after is. no_page letter.body e map link after (Some block) is;
 }
 
@@ -88,19 +89,21 @@ module _ (setting : Setting) (records : List Record) (top : List Command) (w v :
         let there = now.there in
         let h = good.here k cell there.row (subst (λ g. IsLinked setting g cell there.row) applied there.linked)
         (subst (λ i. is_in (state_after setting.servers (w.servers k).log.applied) k i ≡ true) inc
-        (subst (λ g. is_in (state_after setting.servers g) k server.life.inc ≡ true) applied there.seat)) in
+        (subst (λ g. is_in (state_after setting.servers g) k server.life.inc ≡ true) applied there.seat))
+        (subst (λ g. AliveIn (state_after setting.servers g) cell) applied there.alive) in
         now.is ∙ ap Some (own ∙ sym h.same) ∙ sym h.is
         ∙ (λ i. good.visits (sym now.who i) (place_by setting (sym applied i) there.row) cell)
         ∙ ap (λ p. good.visits n p cell) (sym there.at)
   ]
 
   module _ (still : (n place : ℕ) (cell : Cell) → visits n place cell ≡ good.visits n place cell)
-      (stores : (cell : Cell) → LeavesStore (w.servers k).own.store server.own.store cell) where
-    store_leaves : (front : List Command) (n : ℕ) (cell : Cell) → LeavesStore (store_by setting good.stores front n) (store_by setting next_stores front n) cell
-    store_leaves front n cell = stores_leave setting records top w v k server good step cell (stores cell) front n
+      (stores : (cell : Cell) → AliveIn (state_after setting.servers top) cell → LeavesStore (w.servers k).own.store server.own.store cell) where
+    store_leaves : (front : List Command) (n : ℕ) (cell : Cell) → AliveIn (state_after setting.servers top) cell → LeavesStore
+        (store_by setting good.stores front n) (store_by setting next_stores front n) cell
+    store_leaves front n cell alive = stores_leave setting records top w v k server good step cell (stores cell alive) front n
 
     leaves : (front : List Command) (place : ℕ) (cell : Cell) (row : LinkRow) → LeavesBoth setting top good.stores next_stores good.visits visits good.reached reached front place cell row
-    leaves front place cell row n has = record { visit = still n place cell; store = store_leaves front n cell }
+    leaves front place cell row n has = record { visit = still n place cell; store = λ alive. store_leaves front n cell alive }
 
     up : (cell : Cell) → good.reached cell ≤ reached cell
     up = counted_up setting records top w v k server good step
@@ -122,17 +125,17 @@ module _ (setting : Setting) (records : List Record) (top : List Command) (w v :
       alone = λ front cell row holder whole prefix is alone.
           alone_framed setting top good.stores next_stores good.visits visits good.reached reached up nones front cell row holder (holds front cell row holder prefix is whole alone)
           (leaves front (place_by setting front row) cell row) (good.alone front cell row holder whole prefix is alone);
-      said = λ letter there front cell row prefix long is.
+      said = λ letter there front cell row prefix long is alive.
           said_framed setting top good.stores next_stores good.visits visits good.reached reached up nones front letter.body cell row
           (λ holder whole alone. holds front cell row holder prefix is whole alone) (leaves front (place_by setting front row) cell row)
-          (good.letters letter there front cell row prefix long is);
+          (good.letters letter there front cell row prefix long is alive);
     }
 
     quiet_flags : KeepsFlags setting records top w v k server good step
-    quiet_flags cell row own whole is alone seat visit flagged =
+    quiet_flags cell row own whole is alive alone seat visit flagged =
         let same : own ≡ server.own =
         same_some (sym visit ∙ sym (still k (place_by setting server.log.applied row) cell)
-        ∙ visited_here setting records top w v k server good step cell row is seat) in
+        ∙ visited_here setting records top w v k server good step cell row is seat alive) in
         ap (λ (o : Own). is_flagged o (id_of row)) (sym same) ∙ flagged
 
     pub quiet_good : (own : Record) → IsThen setting (records ++ own ∷ []) v → IsSoundOwn setting top v k server

@@ -1,5 +1,6 @@
 -- The rules of two copies by what is chosen: in Both, and where one server holds a cell alone.
-use Rattle.std.proofs.Common.{◌≡◌, ◌≤◌, ◌==◌, ℕ, true, false, List, Option, Some, None, refl, sym, ap, ◌∙◌, subst, inl, inr, arith}
+use Rattle.std.proofs.Common.{◌≡◌, ◌≤◌, ◌==◌, ℕ, true, false, if◌then◌else◌, List, Option, Some, None, refl, sym, ap, ◌∙◌, subst, inl, inr, arith}
+use Rattle.std.specs.Prelude.{option_and_then, option_map}
 use Rattle.std.specs.Option.{option_map_or}
 use Rattle.busy_marks.specs.declared.marks.MarkKind.TheVariants.{Busy}
 use Rattle.global_tables.specs.Link.{other_of}
@@ -15,12 +16,14 @@ use Rattle.petal_history.specs.Claims.{AreCovered, Copies, Covered, TwoCopies, i
 use Rattle.petal_history.specs.Legal.{IsLegal, world_after}
 use Rattle.petal_history.specs.Sound.{IsSound}
 use Rattle.petal_history.specs.declared.record.Record.{Record}
+use Rattle.petal_state.specs.CellState.{cell_link}
+use Rattle.petal_state.specs.Role.{row_in_both}
 use Rattle.petal_state.specs.State.{inc_of}
 use Rattle.petal_rules.specs.Server.{Own}
-use Rattle.petal_rules.specs.State.{State, is_in}
+use Rattle.petal_rules.specs.State.{State, first, is_in, live}
 use Rattle.petal_rules.specs.Store.{Store, cell_cmp, chain_in, is_marked}
 use Rattle.petal_rules.specs.World.{Setting, World, chosen_log, chosen_state, counted, server_state, setting_of, start}
-use Rattle.petal_rules.proofs.Tests.{both_true, none_some, same_some}
+use Rattle.petal_rules.proofs.Tests.{both_true, by_bool, none_some, same_some}
 use Rattle.law_log.proofs.Histories.{history_is_firm}
 use Rattle.law_state.specs.Firm.{Firm}
 use Rattle.law_state.specs.Steady.{IsSteady}
@@ -28,14 +31,15 @@ use Rattle.law_state.proofs.Caughts.{alone_by}
 use Rattle.law_state.proofs.Cells.{first_by, second_by}
 use Rattle.law_state.proofs.Steady.{log_steady}
 use Rattle.law_steps.proofs.Fronts.{front_itself}
+use Rattle.law_steps.proofs.Leading.{live_stage}
 use Rattle.law_copies.specs.Copied.{IsCovered, Is_equal, Is_marked_here, Is_marked_there, Is_to_be_copied}
 use Rattle.law_copies.specs.Good.{AreTwins, Good, pair_at, store_of}
 use Rattle.law_copies.specs.Pair.{pair_of}
-use Rattle.law_copies.specs.Visits.{IsLinked, half, place_by, store_by}
+use Rattle.law_copies.specs.Visits.{AliveIn, IsLinked, half, place_by, store_by}
 use Rattle.law_copies.proofs.Covering.{copied}
-use Rattle.law_copies.proofs.Growing.{half_store}
+use Rattle.law_copies.proofs.NewPlaces.{half_store}
 use Rattle.law_copies.proofs.Histories.{good_after}
-use Rattle.law_copies.proofs.Places.{one_place, places_up}
+use Rattle.law_copies.proofs.Places.{alive_on, linked_alive, one_place, places_up}
 
 module _ (setting : Setting) (records : List Record) (w : World) (firm : Firm setting w)
     (good : Good setting records (chosen_log setting w) (counted setting w)) where
@@ -67,7 +71,7 @@ module _ (setting : Setting) (records : List Record) (w : World) (firm : Firm se
 
   -- ### In Both
 
-  module _ (cell : Cell) (row : LinkRow) (is : IsLinked setting top cell row) (both : row.state ≡ Both) where
+  module _ (cell : Cell) (row : LinkRow) (is : IsLinked setting top cell row) (alive : AliveIn now cell) (both : row.state ≡ Both) where
     abbrev place : ℕ
     place = place_by setting top row
 
@@ -78,7 +82,7 @@ module _ (setting : Setting) (records : List Record) (w : World) (firm : Firm se
     m = row.secondary
 
     pub twins : AreTwins stores good.visits place cell n m
-    twins = (good.both top cell row (front_itself top) is both).twins (reached_top cell row is)
+    twins = (good.both top cell row (front_itself top) is both).twins alive (reached_top cell row is)
 
     -- an operation that the first server has in mind
     pub record IsInMind (op : Pending) : Type 0 where
@@ -99,14 +103,18 @@ module _ (setting : Setting) (records : List Record) (w : World) (firm : Firm se
     at_work works own visit =
         let parts = both_true (w.servers n).life.running (is_in now n (w.servers n).life.inc) works in
         let b = good.been n place cell own visit in
-        let up = places_up setting top firm.plain (w.servers n).log.applied top cell b.row row (firm.servers n) (front_itself top) b.linked is in
-        let same : place_by setting (w.servers n).log.applied b.row ≡ place = (let past = b.past in omega arith) in
-        let so = one_place setting top firm.plain (w.servers n).log.applied top cell b.row row (firm.servers n) (front_itself top) b.linked is same in
-        let one : b.row ≡ row = same_some (sym so.same ∙ is) in
+        let own_front = (w.servers n).log.applied in
+        let mine_alive = alive_on setting top firm.plain own_front top cell (firm.servers n) (front_itself top) alive in
+        let mine = linked_alive setting top firm.plain b.front own_front cell b.row b.within (firm.servers n) b.linked mine_alive in
+        let low = places_up setting top firm.plain b.front own_front cell b.row mine.0 b.within (firm.servers n) b.linked mine.1 in
+        let up = places_up setting top firm.plain own_front top cell mine.0 row (firm.servers n) (front_itself top) mine.1 is in
+        let same : place_by setting own_front mine.0 ≡ place = (let at = b.at in omega arith) in
+        let so = one_place setting top firm.plain own_front top cell mine.0 row (firm.servers n) (front_itself top) mine.1 is same in
+        let one : mine.0 ≡ row = same_some (sym so.same ∙ is) in
         let inc_same = subst (λ (r : LinkRow). inc_of now r.primary ≡ inc_of (server_state setting w n) r.primary) one so.primary in
         let seat : is_in (server_state setting w n) n (w.servers n).life.inc ≡ true =
         ap (λ o. option_map_or (λ present. present == (w.servers n).life.inc) o false) (sym inc_same) ∙ parts.1 in
-        let h = good.here n cell b.row b.linked seat in
+        let h = good.here n cell mine.0 mine.1 seat mine_alive in
         same_some (sym visit ∙ ap (λ p. good.visits n p cell) (sym same) ∙ h.is) ∙ h.same
 
     first_chain : (pair_at stores good.visits place cell n m).first ≡ chain_in (store_of at_top n).chains cell
@@ -130,6 +138,13 @@ module _ (setting : Setting) (records : List Record) (w : World) (firm : Firm se
               ))
         ]
 
+  -- a cell that has a first server is live
+  first_alive : (cell : Cell) (n : ℕ) → first now cell ≡ Some n → AliveIn now cell
+  first_alive cell n leads = by_bool (live now cell)
+      (λ on. (live_stage now cell on).1)
+      (λ off. none_some (ap (λ b. option_map (λ (r : LinkRow). r.primary)
+      (if b then option_and_then (λ (r : LinkRow). row_in_both r r.state) (cell_link now cell) else None)) off) leads)
+
   pub two_copies : (cell : Cell) → TwoCopies now at_top cell
   two_copies cell n m leads follows =
       let one = first_by now steady cell n leads in
@@ -141,7 +156,7 @@ module _ (setting : Setting) (records : List Record) (w : World) (firm : Firm se
       (at cell_cmp (at_top.servers k).own.pairs.pending cell) (is_marked (store_of at_top k) Busy cell)) one.1
       (subst (λ k. Copies (chain_in (store_of at_top row.primary).chains cell) (chain_in (store_of at_top k).chains cell) (is_at_work now at_top row.primary)
       (at cell_cmp (at_top.servers row.primary).own.pairs.pending cell) (is_marked (store_of at_top row.primary) Busy cell)) second_is
-      (both_copies cell row one.0.is one.0.so))
+      (both_copies cell row one.0.is (first_alive cell n leads) one.0.so))
 
   -- ### Alone
 
@@ -152,9 +167,9 @@ module _ (setting : Setting) (records : List Record) (w : World) (firm : Firm se
   cover_of row cell a b visit (Is_to_be_copied all ahead) = inr (inr (inr all))
 
   pub covered : (cell : Cell) → Covered now at_top cell
-  covered cell row holder is alone =
+  covered cell row holder on is alone =
       let held = alone_by holder row.state alone in
-      let beside = (good.alone top cell row holder held.0 (front_itself top) is held.1).beside (reached_top cell row is) in
+      let beside = (good.alone top cell row holder held.0 (front_itself top) is held.1).beside (live_stage now cell on).1 (reached_top cell row is) in
       let place = place_by setting top row in
       subst (λ (s : Store). AreCovered row s (store_of at_top (other_of holder row)) cell) (good.now holder)
       (subst (λ (s : Store). AreCovered row (stores holder) s cell) (good.now (other_of holder row))

@@ -6,12 +6,12 @@ use Rattle.global_tables.specs.declared.link.LinkRow.{LinkRow}
 use Rattle.global_tables.specs.declared.link.LinkState.TheVariants.{Both, Only}
 use Rattle.petal_base.specs.declared.cell.Cell.{Cell}
 use Rattle.petal_command.specs.declared.command.Command.{Command}
-use Rattle.petal_msg.specs.Kinds.{about}
+use Rattle.petal_msg.specs.Kinds.{about, subject_of}
 use Rattle.petal_msg.specs.declared.body.Body.{Body}
 use Rattle.petal_msg.specs.declared.body.Body.TheVariants as body
 use Rattle.petal_msg.specs.declared.copying.Copying.{Copying}
 use Rattle.petal_history.specs.declared.record.Record.{Record}
-use Rattle.petal_state.specs.Command.{is_alone}
+use Rattle.petal_state.specs.Command.{is_alone, state_after}
 use Rattle.petal_rules.specs.Progress.{copying_on}
 use Rattle.petal_rules.specs.Server.{Own, Here}
 use Rattle.petal_rules.specs.State.{holder_of, is_in}
@@ -25,13 +25,14 @@ use Rattle.law_state.specs.Steady.{IsSteady}
 use Rattle.law_state.proofs.Leaves.{other_between}
 use Rattle.law_state.proofs.Roles.{primary_is_one, secondary_is_one}
 use Rattle.law_state.proofs.Steady.{front_plain, log_steady}
-use Rattle.law_steps.specs.Happens.{Handled, own_place}
+use Rattle.law_steps.specs.Happens.{Handled, is_between, own_place}
 use Rattle.law_steps.specs.Ready.{IsRising, Rests}
+use Rattle.law_steps.proofs.Leading.{live_stage}
 use Rattle.law_copies.specs.Copied.{AreCopying, IsTold, links_of}
 use Rattle.law_copies.specs.Good.{AloneOk, AreTwins, Good, SaidOk, pair_at}
 use Rattle.law_copies.specs.Pair.{HaveMarks, Known, PairOk, pair_of}
-use Rattle.law_copies.specs.Steps.{AreFilled, IsFit, IsFollowing, IsHolding, PagesOf}
-use Rattle.law_copies.specs.Visits.{IsLinked, half, place_by, store_by, with_stores}
+use Rattle.law_copies.specs.Steps.{AreFilled, IsBare, IsFit, IsFollowing, IsHolding, PagesOf}
+use Rattle.law_copies.specs.Visits.{AliveIn, IsLinked, half, place_by, store_by, with_stores}
 use Rattle.law_copies.proofs.Later.{both_last}
 use Rattle.law_copies.proofs.Standing.{copying_held, other_alone}
 
@@ -92,18 +93,19 @@ module _ (setting : Setting) (records : List Record) (w : World) (stores : ℕ �
   pub own_store : by k ≡ own.store
   own_store = ap (good.stores k) works.counts ∙ good.now k ∙ works.real
 
-  pub here_visit : (cell : Cell) (row : LinkRow) → IsLinked setting front cell row → good.visits k (place_by setting front row) cell ≡ Some own
-  here_visit cell row is = let h = good.here k cell row is works.seat in h.is ∙ ap Some (h.same ∙ own_same)
+  pub here_visit : (cell : Cell) (row : LinkRow) → IsLinked setting front cell row → AliveIn (server_state setting w k) cell
+      → good.visits k (place_by setting front row) cell ≡ Some own
+  here_visit cell row is alive = let h = good.here k cell row is works.seat alive in h.is ∙ ap Some (h.same ∙ own_same)
 
   -- what it handles tells what is known of it at the place
-  pub heard_said : (said : Body) → heard said → (cell : Cell) (row : LinkRow) → IsLinked setting front cell row
+  pub heard_said : (said : Body) → heard said → (cell : Cell) (row : LinkRow) → IsLinked setting front cell row → AliveIn (server_state setting w k) cell
       → SaidOk setting (chosen_log setting w) good.stores good.visits good.reached front said cell row
-  heard_said said h cell row is =
+  heard_said said h cell row is alive =
       subst (λ b. SaidOk setting (chosen_log setting w) good.stores good.visits good.reached front b cell row) h.is
-      (good.letters h.letter h.sent front cell row (firm.servers k) (sym h.at) is)
+      (good.letters h.letter h.sent front cell row (firm.servers k) (sym h.at) is alive)
 
-  pub marks : HaveMarks own.pairs.pending own.store
-  marks = subst (HaveMarks own.pairs.pending) works.real (good.marks k (inl works.runs))
+  pub marks : HaveMarks (server_state setting w k) own.pairs.pending own.store
+  marks = subst (HaveMarks (server_state setting w k) own.pairs.pending) works.real (good.marks k (inl works.runs))
 
   pub rising : (cell : Cell) → IsRising nat_cmp (chain_in own.store.chains cell)
   rising cell = subst (λ (s : Store). IsRising nat_cmp (chain_in s.chains cell)) works.real (good.rising k cell)
@@ -119,57 +121,66 @@ module _ (setting : Setting) (records : List Record) (w : World) (stores : ℕ �
     marks = marks;
     rising = rising;
     filled = filled;
+    bare = λ q none. subst (λ (o : Own). IsBare o q) own_same (good.unheard k q none).bare;
+    lives = λ said h between q of.
+        good.lives h.letter h.sent (ap (λ (b : Body). is_between (subject_of b)) h.is ∙ between) front (firm.servers k) (sym h.at) q
+        (ap (λ (b : Body). (about b).cell) h.is ∙ of);
+    copied = good.copied k;
     pages = λ q link after h. good.pages h.letter h.sent front (firm.servers k) (sym h.at) q.map link q.block after h.is;
   }
 
-  module _ (cell : Cell) (row : LinkRow) (is : IsLinked setting front cell row) where
+  module _ (cell : Cell) (row : LinkRow) (is : IsLinked setting front cell row) (alive : AliveIn (server_state setting w k) cell) where
     abbrev place : ℕ
     place = place_by setting front row
 
+    -- the cell is not dead by what is chosen, either
+    abbrev IsAliveLast : Type 0
+    IsAliveLast = AliveIn (state_after setting.servers (chosen_log setting w)) cell
+
     -- ### In Both
 
-    module _ (both : row.state ≡ Both) (has : has_server k row ≡ true) where
+    module _ (lives : IsAliveLast) (both : row.state ≡ Both) (has : has_server k row ≡ true) where
       -- no server of the link has been at a later place
       pub last_here : good.reached cell ≤ place
       last_here = both_last setting records w stores firm good k works.runs works.seat cell row is both has
 
       pub twins_here : AreTwins by good.visits place cell row.primary row.secondary
-      twins_here = (good.both front cell row (firm.servers k) is both).twins last_here
+      twins_here = (good.both front cell row (firm.servers k) is both).twins lives last_here
 
       pub known_here : (said : Body) → heard said → (about said).cell ≡ Some cell → Known (pair_at by good.visits place cell row.primary row.secondary) said
-      known_here said h of = (heard_said said h cell row is).both both last_here of
+      known_here said h of = (heard_said said h cell row is alive).both lives both last_here of
 
     -- what the other server is, by its store as it is now
     abbrev pub beside : ℕ → Own
     beside n = half (good.visits n place cell) (by n)
 
     first_pair : (m : ℕ) → pair_at by good.visits place cell k m ≡ pair_of own (beside m) cell
-    first_pair m = λ i. pair_of (half (here_visit cell row is i) (own_store i)) (beside m) cell
+    first_pair m = λ i. pair_of (half (here_visit cell row is alive i) (own_store i)) (beside m) cell
 
     second_pair : (n : ℕ) → pair_at by good.visits place cell n k ≡ pair_of (beside n) own cell
-    second_pair n = λ i. pair_of (beside n) (half (here_visit cell row is i) (own_store i)) cell
+    second_pair n = λ i. pair_of (beside n) (half (here_visit cell row is alive i) (own_store i)) cell
 
     -- as the first server
-    module _ (both : row.state ≡ Both) (leads : row.primary ≡ k) where
+    module _ (lives : IsAliveLast) (both : row.state ≡ Both) (leads : row.primary ≡ k) where
       pub first_at : pair_at by good.visits place cell row.primary row.secondary ≡ pair_of own (beside row.secondary) cell
       first_at = (λ i. pair_at by good.visits place cell (leads i) row.secondary) ∙ first_pair row.secondary
 
       pub first_ok : PairOk (pair_of own (beside row.secondary) cell)
-      first_ok = subst PairOk first_at (twins_here both (primary_is_one row k leads)).pair
+      first_ok = subst PairOk first_at (twins_here lives both (primary_is_one row k leads)).pair
 
       pub first_known : (said : Body) → heard said → (about said).cell ≡ Some cell → Known (pair_of own (beside row.secondary) cell) said
-      first_known said h of = subst (λ p. Known p said) first_at (known_here both (primary_is_one row k leads) said h of)
+      first_known said h of = subst (λ p. Known p said) first_at (known_here lives both (primary_is_one row k leads) said h of)
 
     -- as the second one
-    module _ (both : row.state ≡ Both) (follows : row.secondary ≡ k) where
+    module _ (lives : IsAliveLast) (both : row.state ≡ Both) (follows : row.secondary ≡ k) where
       pub second_at : pair_at by good.visits place cell row.primary row.secondary ≡ pair_of (beside row.primary) own cell
       second_at = (λ i. pair_at by good.visits place cell row.primary (follows i)) ∙ second_pair row.primary
 
       pub second_ok : PairOk (pair_of (beside row.primary) own cell)
-      second_ok = subst PairOk second_at (twins_here both (secondary_is_one row k follows)).pair
+      second_ok = subst PairOk second_at (twins_here lives both (secondary_is_one row k follows)).pair
 
       pub second_known : (said : Body) → heard said → (about said).cell ≡ Some cell → Known (pair_of (beside row.primary) own cell) said
-      second_known said h of = subst (λ p. Known p said) second_at (known_here both (secondary_is_one row k follows) said h of)
+      second_known said h of = subst (λ p. Known p said) second_at (known_here lives both (secondary_is_one row k follows) said h of)
 
     -- ### Alone
 
@@ -186,24 +197,26 @@ module _ (setting : Setting) (records : List Record) (w : World) (stores : ℕ �
       visit_beside = good.visits (other_of k row) place cell
 
       pub copying_here : AreCopying links row cell (Some own) visit_beside
-      copying_here = subst (λ o. AreCopying links row cell o visit_beside) (here_visit cell row is) (alone_here k whole alone).copying
+      copying_here = subst (λ o. AreCopying links row cell o visit_beside) (here_visit cell row is alive) (alone_here k whole alone).copying
 
       pub holding : IsHolding heard here links row cell own visit_beside
       holding = record {
         fit = fit;
         is = is;
+        alive = alive;
         links_are = refl;
         whole = whole;
         held = alone;
         old = copying_here;
-        told = λ said h of. subst (λ o. IsTold row o visit_beside said) (here_visit cell row is)
-            ((heard_said said h cell row is).alone k whole alone of);
-        met = λ after block h. (heard_said (body.Hello row.map row.link after block) h cell row is).met k whole after block alone refl;
+        told = λ said h of. subst (λ o. IsTold row o visit_beside said) (here_visit cell row is alive)
+            ((heard_said said h cell row is alive).alone k whole alone of);
+        met = λ after block h. (heard_said (body.Hello row.map row.link after block) h cell row is alive).met k whole after block alone refl;
       }
 
       -- pages that it handles tell of the other server's store as it is now, where no server has been at a later place
-      pub pages_here : good.reached cell ≤ place → PagesOf heard row cell (by (other_of k row)) visit_beside
-      pages_here last after block h = (heard_said (body.Hello row.map row.link after block) h cell row is).page k whole after block alone refl last
+      pub pages_here : IsAliveLast → good.reached cell ≤ place → PagesOf heard row cell (by (other_of k row)) visit_beside
+      pages_here lives last after block h =
+          (heard_said (body.Hello row.map row.link after block) h cell row is alive).page lives k whole after block alone refl last
 
     -- as the other server
     module _ (holder : ℕ) (whole : Bool) (alone : row.state ≡ Only holder whole) (other : other_of holder row ≡ k) where
@@ -211,7 +224,7 @@ module _ (setting : Setting) (records : List Record) (w : World) (stores : ℕ �
       visit_holder = good.visits holder place cell
 
       other_visit : good.visits (other_of holder row) place cell ≡ Some own
-      other_visit = ap (λ n. good.visits n place cell) other ∙ here_visit cell row is
+      other_visit = ap (λ n. good.visits n place cell) other ∙ here_visit cell row is alive
 
       pub follows_here : AreCopying links row cell visit_holder (Some own)
       follows_here = subst (AreCopying links row cell visit_holder) other_visit (alone_here holder whole alone).copying
@@ -220,16 +233,18 @@ module _ (setting : Setting) (records : List Record) (w : World) (stores : ℕ �
       following has back = record {
         fit = fit;
         is = is;
+        alive = alive;
         by = holder;
         held = holder_other row k holder has back alone;
         old = follows_here;
-        told = λ said h of. subst (λ o. IsTold row visit_holder o said) other_visit ((heard_said said h cell row is).alone holder whole alone of);
+        told = λ said h of. subst (λ o. IsTold row visit_holder o said) other_visit ((heard_said said h cell row is alive).alone holder whole alone of);
       }
 
   -- a cell of which a copy is under way has no operation
   pub idle_copies : (q : Cell) (copy : Copying) → copying_on own q ≡ Some copy → pending_on own q ≡ None
   idle_copies q copy there =
       let held = copying_held heard here own fit q copy there in
+      let alive = (live_stage (server_state setting w k) q ((rests.resting k).copying q copy there).live).1 in
       let alone = other_alone here.state k held.other held.row held.other_is in
       elim (steady.linked q held.row held.is).served [
         | ByBoth so one other ↦ true_false alone (ap (is_alone k) so)
@@ -237,5 +252,5 @@ module _ (setting : Setting) (records : List Record) (w : World) (stores : ℕ �
         | ByOne holder other whole so pair out ↦ (
             let mine : holder ≡ k = same_numbers holder k (sym (ap (is_alone k) so) ∙ alone) in
             let is_mine : held.row.state ≡ Only k whole = so ∙ ap (λ n. Only n whole) mine in
-            ((copying_here q held.row held.is whole is_mine).copying own copy refl there).free)
+            ((copying_here q held.row held.is alive whole is_mine).copying own copy refl there).free)
       ]

@@ -1,33 +1,39 @@
 -- What a job sends of copies: each letter is about the cell that the job works on, or tells of a page.
-use Rattle.std.proofs.Common.{◌≡◌, ◌⊎◌, ℕ, Bool, true, false, List, [], Option, Some, None, refl, sym, ap, ◌∙◌, inl, inr}
+use Rattle.std.proofs.Common.{◌≡◌, ◌⊎◌, ℕ, Bool, true, false, [], Option, Some, None, refl, sym, ap, ◌∙◌, inl, inr}
 use Rattle.std.specs.Prelude.{filter}
 use Rattle.busy_marks.specs.Marks.{above}
 use Rattle.global_tables.specs.declared.link.LinkRow.{LinkRow}
 use Rattle.petal_base.specs.declared.cell.Cell.{Cell}
 use Rattle.petal_base.specs.Cells.{cell_of, key_at}
-use Rattle.petal_msg.specs.Kinds.{Subject, Answered, Copied, Paired, Refused, about, is_logged, subject_of}
+use Rattle.petal_base.specs.declared.cell.Key.{Key}
+use Rattle.petal_msg.specs.Kinds.{Subject, Answered, Copied, Filling, Paired, Refused, about, is_logged, subject_of}
 use Rattle.petal_msg.specs.declared.body.Body.{Body}
 use Rattle.petal_msg.specs.declared.body.Body.TheVariants as body
 use Rattle.petal_msg.specs.declared.copying.Copying.{Copying}
 use Rattle.petal_msg.specs.declared.copying.LastCopy.{LastCopy}
 use Rattle.petal_msg.specs.declared.copying.LinkId.{LinkId}
+use Rattle.petal_msg.specs.declared.operation.Action.{Action}
+use Rattle.petal_msg.specs.declared.operation.Action.TheVariants as action
 use Rattle.petal_msg.specs.declared.operation.Ending.{Ending}
 use Rattle.petal_msg.specs.declared.operation.Ending.TheVariants as ending
+use Rattle.petal_msg.specs.declared.operation.OpKind.{OpKind}
+use Rattle.petal_msg.specs.declared.operation.OpKind.TheVariants as kind
+use Rattle.petal_msg.specs.declared.operation.Pending.{Pending}
 use Rattle.petal_state.specs.CellState.{cell_link}
 use Rattle.petal_rules.specs.Copies.{begins_copy, least, marked_blocks, page_wanted}
 use Rattle.petal_rules.specs.Lists.{In}
 use Rattle.petal_rules.specs.Server.{Own, Here, Post, Done, post_to}
-use Rattle.petal_rules.specs.State.{holder_of, link_named}
+use Rattle.petal_rules.specs.State.{holder_of, link_named, live}
 use Rattle.petal_rules.specs.Store.{chain_in, epochs_of}
-use Rattle.petal_rules.specs.Writes.{ended}
+use Rattle.petal_rules.specs.Writes.{acts, ended, ends, gives_back, moved_as, next_stage, without_pending}
 use Rattle.petal_rules.proofs.Tests.{none_some, same_some, true_false}
-use Rattle.law_steps.specs.DidLead.{DidLead, Asks, A_slot, A_copy, A_trim, A_copied_entry, A_page, Of_the_log, Asks_for, Repeats, Is_full, Opens, Marks, Puts, Gives_up, Unmarks, Closes, Opens_alone, Marks_alone, Puts_alone, Unmarks_alone, Closes_alone}
+use Rattle.law_steps.specs.DidLead.{DidLead, Asks, A_slot, A_copy, A_trim, A_copied_entry, A_page, An_entry_to_move, Of_the_log, Asks_for, Repeats, Is_full, Opens, Marks, Puts, Gives_up, Unmarks, Closes, Opens_alone, Marks_alone, Puts_alone, Unmarks_alone, Closes_alone, Opens_fill, Opens_fill_alone, Has_fill, Has_no_room, Goes_on_dead}
 use Rattle.law_steps.specs.DidHolder.{DidHolder, CopyStep, Asks_to_trim, Sends, Unmarks_copied, Closes_copy, Asks_page, Turns_page, Begins_copy, Goes_on_copying, Finds_it_full, Tidies, first_copy}
 use Rattle.law_steps.specs.DidOther.{DidOther, first_last, TrimStep, Is_trimmed, Drops_entry, Answers_page, Is_copied_to, Goes_on_trimming, Puts_entry, Has_entry, Has_no_slot}
-use Rattle.law_steps.specs.Did.{Did, Ignores, Refuses, By_read, By_lead, By_second, By_holder, By_other}
+use Rattle.law_steps.specs.Did.{Did, Ignores, Refuses, By_read, By_lead, By_second, By_holder, By_other, By_filler, By_sweep}
 use Rattle.law_steps.proofs.Letters.{one_post, posted}
 use Rattle.law_steps.proofs.Resting.{among_least}
-use Rattle.law_steps.proofs.Subjects.{of_read, of_second}
+use Rattle.law_steps.proofs.Subjects.{HasData, HasNothing, of_filler, of_read, of_second, of_sweep}
 use Rattle.law_copies.specs.Copied.{IsOfLink, IsTold}
 use Rattle.law_copies.proofs.Left.{marked_on}
 use Rattle.law_copies.proofs.Rows.{in_left}
@@ -78,6 +84,18 @@ refused_not said e f = let g : Refused ≡ Copied = sym e ∙ f in absurd cc
 pub paired_not : (said : Body) → subject_of said ≡ Paired → subject_of said ≡ Copied → ⊥
 paired_not said e f = let g : Paired ≡ Copied = sym e ∙ f in absurd cc
 
+pub filling_not : (said : Body) → subject_of said ≡ Filling → subject_of said ≡ Copied → ⊥
+filling_not said e f = let g : Filling ≡ Copied = sym e ∙ f in absurd cc
+
+-- what tells a read of data, or that there is nothing
+pub read_not : (post : Post) → HasData post ⊎ HasNothing post → subject_of post.body ≡ Copied → ⊥
+read_not post (inl told) = answered_not post.body (ap subject_of told.is)
+read_not post (inr nothing) = refused_not post.body (ap subject_of nothing.is)
+
+pub moved_fills : (key : Key) (how : Ending) → subject_of (moved_as key how) ≡ Filling
+moved_fills key ending.Written = refl
+moved_fills key ending.Full = refl
+
 ended_answers : (seq : ℕ) (how : Ending) → subject_of (ended seq how) ≡ Answered
 ended_answers seq ending.Written = refl
 ended_answers seq ending.Full = refl
@@ -87,7 +105,7 @@ unfolding In
 none_in post i = absurd i
 
 -- a post stands where there is somebody to send it to
-addressed : (to : Option ℕ) (what : Body) (post : Post) → In post (post_to to what) → (n : ℕ) × (to ≡ Some n)
+pub addressed : (to : Option ℕ) (what : Body) (post : Post) → In post (post_to to what) → (n : ℕ) × (to ≡ Some n)
 unfolding In
 addressed None what post i = absurd i
 addressed (Some n) what post i = (n, refl)
@@ -104,25 +122,53 @@ at_away q (Some cell) here_it away_it = absurd (away_it here_it)
 module _ (heard : Body → Type 0) (here : Here) (own : Own) where
   -- ### Leads
 
+  -- an end answers a client, or tells the old lead
+  ending_sends : (now : Own) (op : Pending) (of : OpKind) (how : Ending) (post : Post) → In post (ends here now op of how).posts
+      → subject_of post.body ≡ Copied → ⊥
+  ending_sends now op kind.Write how post i =
+      answered_not post.body (ap subject_of (one_post _ _ post i).1 ∙ ended_answers op.seq how)
+  ending_sends now op kind.Fill how post i =
+      filling_not post.body (ap subject_of (posted _ (moved_as op.key how) post i) ∙ moved_fills op.key how)
+  ending_sends now op kind.Copy how post i = none_in post i
+
+  -- whatever an operation does next
+  acts_sends : (now : Own) (op : Pending) (next : Action) (post : Post) → In post (acts here now op next).posts → subject_of post.body ≡ Copied → ⊥
+  acts_sends now op action.Reserve post i =
+      paired_not post.body (ap subject_of (posted _ (body.Reserve op.op op.cell) post i))
+  acts_sends now op (action.Mark which) post i = none_in post i
+  acts_sends now op action.Put post i = none_in post i
+  acts_sends now op action.Replicate post i =
+      paired_not post.body (ap subject_of (posted _ (body.Replicate op.op op.key op.version op.bytes) post i))
+  acts_sends now op (action.Unmark which) post i = none_in post i
+  acts_sends now op action.Answer post i = ending_sends (without_pending now op.cell) op op.kind ending.Written post i
+  acts_sends now op action.Drop post i = none_in post i
+
   pub lead_sends : (done : Done) → DidLead heard here own done → (post : Post) → In post done.posts
       → (Asks here own post × (done.own ≡ own)) ⊎ (subject_of post.body ≡ Copied → ⊥)
   lead_sends _ (Asks_for posts h) post i = inl (h post i, refl)
   lead_sends _ (Repeats want last h lead is e) post i = inr
       (answered_not post.body (ap subject_of (one_post _ _ post i).1 ∙ ended_answers want.seq last.ending))
   lead_sends _ (Is_full want new no_room) post i = inr (answered_not post.body (ap subject_of (one_post _ _ post i).1))
-  lead_sends _ (Gives_up op h is reserved put) post i = inr (answered_not post.body (ap subject_of (one_post _ _ post i).1))
+  lead_sends _ (Gives_up op h is reserved put) post i = inr (ending_sends (gives_back (without_pending own op.cell)) op op.kind ending.Full post i)
   lead_sends _ (Opens want new both) post i = inr
       (paired_not post.body (ap subject_of (posted _ (body.Reserve own.pairs.next want.cell) post i)))
   lead_sends _ (Marks op h is both stage) post i = none_in post i
   lead_sends _ (Puts op is both stage) post i = none_in post i
   lead_sends _ (Unmarks op h is both stage) post i = none_in post i
-  lead_sends _ (Closes op is both stage) post i = inr (answered_not post.body (ap subject_of (one_post _ _ post i).1))
+  lead_sends _ (Closes op is both stage) post i = inr (ending_sends (without_pending own op.cell) op op.kind ending.Written post i)
   lead_sends _ (Opens_alone want new alone) post i = none_in post i
   lead_sends _ (Marks_alone now op taken alone fresh) post i = none_in post i
   lead_sends _ (Puts_alone now op taken alone stale put) post i = none_in post i
   lead_sends _ (Unmarks_alone now op taken alone stale put busy) post i = none_in post i
   lead_sends _ (Closes_alone now op taken alone stale put free) post i = inr
-      (answered_not post.body (ap subject_of (one_post _ _ post i).1))
+      (ending_sends (without_pending now op.cell) op op.kind ending.Written post i)
+  lead_sends _ (Opens_fill moving new room both) post i = inr
+      (paired_not post.body (ap subject_of (posted _ (body.Reserve own.pairs.next (cell_of moving.key)) post i)))
+  lead_sends _ (Opens_fill_alone moving new room alone) post i = none_in post i
+  lead_sends _ (Has_fill moving there) post i = inr (filling_not post.body (ap subject_of (posted _ (body.Filled moving.key) post i)))
+  lead_sends _ (Has_no_room moving new no_room) post i = inr
+      (filling_not post.body (ap subject_of (posted _ (body.FillFull moving.key) post i)))
+  lead_sends _ (Goes_on_dead now op taken off) post i = inr (acts_sends now op (next_stage here.state here.me op) post i)
 
   -- ### Holders and other servers
 
@@ -205,6 +251,7 @@ module _ (heard : Body → Type 0) (here : Here) (own : Own) where
   asks_no_page _ (A_trim cell copy to is fresh so) f = true_false f refl
   asks_no_page _ (A_copied_entry cell copy row to is trimmed at so) f = true_false f refl
   asks_no_page _ (A_page row to on so fresh) f = true_false f refl
+  asks_no_page post (An_entry_to_move _ next) f = copied_page post (filling_not post.body (ap (λ (p : Post). subject_of p.body) next.is)) f
   asks_no_page post (Of_the_log _ logged) f = copied_page post (logged_not (subject_of post.body) logged) f
 
   step_no_page : {A : Type 0} (now : Own) (cell : Cell) (copy : Copying) (done : Done) → CopyStep here now cell copy done → (post : Post)
@@ -249,22 +296,20 @@ module _ (heard : Body → Type 0) (here : Here) (own : Own) where
   other_page _ (Has_no_slot entry holder last of_copy at full) post i f =
       no_page post _ (posted (Some holder) (body.SyncFull entry.op (cell_of entry.key)) post i) refl f
 
-  data_not : (post : Post) (seq : ℕ) (bytes : List ℕ) → post.body ≡ body.Data seq bytes → subject_of post.body ≡ Copied → ⊥
-  data_not post seq bytes is = answered_not post.body (ap subject_of is)
-
   page_answered : (done : Done) → Did heard here own done → (post : Post) → In post done.posts → is_page post.body ≡ true
       → IsAnswered done post.body
   page_answered _ Ignores post i f = none_in post i
   page_answered _ (Refuses to said is why because) post i f = copied_page post
-      (refused_not post.body (ap subject_of (one_post _ _ post i).1 ∙ is)) f
+      (refused_not post.body (ap subject_of (one_post _ _ post i).1 ∙ is.refused)) f
   page_answered _ (By_read done d) post i f =
-      let r = (of_read heard here own done d).says post i in
-      copied_page post (data_not post r.seq r.bytes r.is) f
+      copied_page post (read_not post ((of_read heard here own done d).says post i)) f
   page_answered _ (By_lead done d) post i f = elim
       (lead_sends done d post i) [ inl asks ↦ asks_no_page post asks.0 f | inr ne ↦ copied_page post ne f ]
   page_answered _ (By_second done d) post i f = copied_page post (paired_not post.body ((of_second heard here own done d).says post i)) f
   page_answered _ (By_holder done d) post i f = holder_no_page done d post i f
   page_answered _ (By_other done d) post i f = other_page done d post i f
+  page_answered _ (By_filler done d) post i f = copied_page post (filling_not post.body ((of_filler heard here own done d).says post i)) f
+  page_answered _ (By_sweep done d) post i f = absurd ((of_sweep heard here own done d).silent post i)
 
   pub page_sent : (done : Done) → Did heard here own done → (post : Post) → In post done.posts → (map link : ℕ) (after block : Option ℕ)
       → post.body ≡ body.Hello map link after block → IsAnswered done post.body
@@ -282,4 +327,9 @@ module _ (heard : Body → Type 0) (here : Here) (own : Own) where
       let among = among_least (filter (above p.after) (marked_blocks here.state p.row own)) block block_is in
       let on = marked_on here.state p.id p.row own block p.named
       (in_left (above p.after) (marked_blocks here.state p.row own) block among).0 in
-      record { row = p.row; is = (λ j. cell_link here.state (record { map = sym map_is j; block = block })) ∙ on.is; link_is = link_is }
+      record {
+        lives = (λ j. live here.state (record { map = sym map_is j; block = block })) ∙ on.lives;
+        row = p.row;
+        is = (λ j. cell_link here.state (record { map = sym map_is j; block = block })) ∙ on.is;
+        link_is = link_is;
+      }

@@ -1,36 +1,42 @@
 -- What a server that works on a cell is to the cell's link: it can't be what else it is not.
-use Rattle.std.proofs.Common.{◌≡◌, ◌==◌, ◌&&◌, ◌⊎◌, ℕ, true, Option, Some, None, refl, sym, ap, ◌∙◌, subst, inl, inr}
+use Rattle.std.proofs.Common.{◌≡◌, ◌==◌, ◌&&◌, ◌<◌, ◌⊎◌, ℕ, true, Option, Some, None, refl, sym, ap, ◌∙◌, subst, inl, inr}
 use Rattle.std.specs.Prelude.{filter, not, option_and_then}
+use Rattle.busy_marks.specs.declared.marks.MarkKind.TheVariants.{Busy, Stale}
 use Rattle.global_tables.specs.Link.{is_link, other_of}
 use Rattle.global_tables.specs.declared.link.LinkRow.{LinkRow}
-use Rattle.global_tables.specs.declared.link.LinkState.TheVariants.{Both}
+use Rattle.global_tables.specs.declared.link.LinkState.TheVariants.{Both, Only}
 use Rattle.petal_base.specs.declared.cell.Cell.{Cell}
+use Rattle.petal_base.specs.Cells.{cell_of}
 use Rattle.petal_msg.specs.declared.body.Body.{Body}
 use Rattle.petal_msg.specs.declared.body.Body.TheVariants as body
 use Rattle.petal_msg.specs.declared.copying.Copying.{Copying}
+use Rattle.petal_msg.specs.declared.copying.LastCopy.{LastCopy}
 use Rattle.petal_msg.specs.declared.copying.LinkId.{LinkId}
 use Rattle.petal_msg.specs.declared.copying.NextCopy.TheVariants.{Block}
-use Rattle.petal_state.specs.CellState.{cell_link}
+use Rattle.petal_state.specs.CellState.{cell_link, row_lead}
 use Rattle.petal_state.specs.Command.{is_alone}
 use Rattle.petal_state.specs.State.{is_up}
-use Rattle.petal_rules.specs.Copies.{cell_at, cell_holder, idle_mark, marked_blocks, next_copy}
+use Rattle.petal_rules.specs.Copies.{Entry, cell_at, cell_holder, idle_mark, marked_blocks, next_copy}
 use Rattle.petal_rules.specs.Writes.{is_under_way}
 use Rattle.petal_rules.specs.Progress.{copying_on}
 use Rattle.petal_rules.specs.Server.{Own, Here, Done}
-use Rattle.petal_rules.specs.State.{State, holder_of, id_of, in_both, is_lead, is_second, link_named, other_in, second}
-use Rattle.petal_rules.proofs.Tests.{both_true, by_test, is_the_one, none_some, same_numbers, same_some, true_false}
+use Rattle.petal_rules.specs.State.{State, holder_of, id_of, in_both, is_second, leads_link, link_named, live, other_in, second}
+use Rattle.petal_rules.proofs.Tests.{both_true, by_test, is_the_one, none_some, same_numbers, same_or_apart, same_some, true_false}
+use Rattle.law_state.specs.Homes.{stage_at}
 use Rattle.law_state.specs.Steady.{IsSteady}
 use Rattle.law_state.proofs.Alone.{IsBothRow, both_row}
-use Rattle.law_state.proofs.Cells.{second_by}
+use Rattle.law_state.proofs.Cells.{link_led_by, second_by}
 use Rattle.law_state.proofs.Places.{found_at}
 use Rattle.law_steps.specs.DidHolder.{DidHolder, TakenCopy, Copy_as_is, Copy_trimmed, Copy_synced, Asks_page, Turns_page, Begins_copy, Goes_on_copying, Finds_it_full, Tidies, IsHeldWith}
+use Rattle.law_steps.specs.DidOther.{DidOther, IsOfCopy, Answers_page, Is_copied_to, Goes_on_trimming, Puts_entry, Has_entry, Has_no_slot}
+use Rattle.law_steps.proofs.Leading.{stage_live}
 use Rattle.law_steps.proofs.Resting.{among_least, on_row, row_named}
 use Rattle.law_copies.specs.Steps.{IsFit}
-use Rattle.law_copies.proofs.Left.{marked_on, next_is, on_itself}
+use Rattle.law_copies.proofs.Left.{HasAny, marked_on, next_is, on_itself}
 pub use Rattle.law_copies.proofs.Others.{IsOtherOf, alone_both, only_alone, other_row}
-use Rattle.law_copies.proofs.Others.{held_not_lead, other_apart}
+use Rattle.law_copies.proofs.Others.{held_not_leading, other_apart}
 use Rattle.law_copies.proofs.Rows.{in_left}
-use Rattle.law_copies.proofs.Working.{IsSo, holder_cell, page_cell}
+use Rattle.law_copies.proofs.Working.{IsSo, above_none, holder_cell, other_cell, page_cell}
 
 -- ### Rows
 
@@ -94,8 +100,23 @@ module _ (here : Here) (steady : IsSteady here.state) (cell : Cell) (row : LinkR
         absurd (other_apart row here.me (steady.linked cell row is).apart
         (sym (alone_both here.me (other_of here.me row) row.state mine theirs.alone)))
 
-    pub other_not_lead : {B : Type 0} → is_lead here.state here.me cell ≡ true → B
-    other_not_lead e = held_not_lead here steady cell holder (ap (option_and_then (holder_of here.me)) is ∙ held) e
+    pub other_not_leading : {B : Type 0} → leads_link here.state here.me cell ≡ true → B
+    other_not_leading e = held_not_leading here steady cell holder (ap (option_and_then (holder_of here.me)) is ∙ held) e
+
+  -- who leads a link of which another server is the second isn't that one
+  pub leads_not_second : {B : Type 0} → leads_link here.state here.me cell ≡ true → is_second here.state here.me cell ≡ true → B
+  leads_not_second leads e =
+      let b = second_by here.state steady cell here.me (is_the_one (second here.state cell) here.me e) in
+      let second : row ≡ b.0.row = same_some (sym is ∙ b.0.is) in
+      elim (link_led_by here.state steady cell here.me (is_the_one (option_and_then (row_lead here.state) (cell_link here.state cell)) here.me leads)) [
+        | inl first ↦
+            let same : first.0.row ≡ row = same_some (sym first.0.is ∙ is) in
+            absurd ((steady.linked cell row is).apart
+            (ap (λ (r : LinkRow). r.primary) (sym same) ∙ first.1 ∙ sym b.1 ∙ ap (λ (r : LinkRow). r.secondary) (sym second)))
+        | inr held ↦
+            let same : held.row ≡ b.0.row = same_some (sym held.is ∙ b.0.is) in
+            (let f : Only here.me held.whole ≡ Both = sym held.so ∙ ap (λ (r : LinkRow). r.state) same ∙ b.0.so in absurd cc)
+      ]
 
 -- ### Why a holder works on a cell
 
@@ -120,6 +141,17 @@ module _ (heard : Body → Type 0) (here : Here) (own : Own) (fit : IsFit heard 
       let same : of_link.row ≡ row = one_named here.state (cell_at row block) of_link.row id row of_link.is named
       (λ i. record { map = map_is i; link = of_link.link_is i }) in
       of_link.is ∙ ap Some same
+
+  -- of a cell that is not dead the server has something only where it is live
+  pub kept_lives : (cell : Cell) → stage_at here.state cell < 4 → HasAny own cell → live here.state cell ≡ true
+  kept_lives cell alive any = elim (same_or_apart (stage_at here.state cell) 0) [
+    | inl zero ↦ absurd (elim any [
+      | inl (inl busy) ↦ true_false busy ((fit.bare cell zero).marks Busy)
+      | inl (inr stale) ↦ true_false stale ((fit.bare cell zero).marks Stale)
+      | inr stored ↦ stored (fit.bare cell zero).chain
+    ])
+    | inr ne ↦ stage_live here.state cell (above_none (stage_at here.state cell) ne) alive
+  ]
 
   pub copying_held : (cell : Cell) (copy : Copying) → copying_on own cell ≡ Some copy → IsHeldHere here cell
   copying_held cell copy is = let r = fit.resting.copying cell copy is
@@ -166,3 +198,50 @@ module _ (heard : Body → Type 0) (here : Here) (own : Own) (fit : IsFit heard 
   holder_works _ (Goes_on_copying cell now copy _ taken step) = inl (taken_held cell now copy taken)
   holder_works _ (Finds_it_full cell copy h is trimmed lt) = inl (copying_held cell copy is)
   holder_works _ (Tidies id row block kind is both idle left) = inr (record { row = row; is = idle_on id row block is idle; both = both })
+
+  -- ### What is worked on is live
+
+  entry_lives : (entry : Entry) (holder : ℕ) (last : LastCopy) → IsOfCopy heard here own entry holder last
+      → live here.state (cell_of entry.key) ≡ true
+  entry_lives entry holder last of =
+      fit.lives (body.Sync entry.op entry.key entry.stored.version entry.index entry.stored.bytes) of.said refl (cell_of entry.key) refl
+
+  pub copying_lives : (cell : Cell) (copy : Copying) → copying_on own cell ≡ Some copy → live here.state cell ≡ true
+  copying_lives cell copy is = (fit.resting.copying cell copy is).live
+
+  pub taken_lives : (cell : Cell) (now : Own) (copy : Copying) → TakenCopy heard own cell now copy → live here.state cell ≡ true
+  taken_lives cell _ _ (Copy_as_is copy is) = copying_lives cell copy is
+  taken_lives cell _ _ (Copy_trimmed copy h is fresh) = copying_lives cell copy is
+  taken_lives cell _ _ (Copy_synced copy h is trimmed lt) = copying_lives cell copy is
+
+  page_lives : (id : LinkId) (row : LinkRow) (after block : Option ℕ) → heard (body.Hello id.map id.link after block)
+      → link_named here.state id ≡ Some row → IsSo (λ c. live here.state c ≡ true) (page_cell row block)
+  page_lives id row after None h named = tt
+  page_lives id row after (Some block) h named =
+      let id_is = named_id here.state id row named in
+      let said : heard (body.Hello row.map id.link after (Some block)) =
+      subst (λ m. heard (body.Hello m id.link after (Some block))) (sym (ap (λ (l : LinkId). l.map) id_is)) h in
+      (fit.pages (cell_at row block) id.link after said).lives
+
+  idle_lives : (id : LinkId) (row : LinkRow) (block : ℕ) → link_named here.state id ≡ Some row → idle_mark here.state row own ≡ Some block
+      → live here.state (cell_at row block) ≡ true
+  idle_lives id row block named idle =
+      let i = among_least (filter (λ b. not (is_under_way own (cell_at row b))) (marked_blocks here.state row own)) block idle in
+      (marked_on here.state id row own block named
+      (in_left (λ b. not (is_under_way own (cell_at row b))) (marked_blocks here.state row own) block i).0).lives
+
+  pub holder_lives : (done : Done) (d : DidHolder heard here own done) → IsSo (λ c. live here.state c ≡ true) (holder_cell heard here own done d)
+  holder_lives _ (Asks_page id row other held fresh) = tt
+  holder_lives _ (Turns_page id row other after block h held fresh at) = page_lives id row after block h held.is
+  holder_lives _ (Begins_copy id row other cell _ held next step) = (next_is here.state id row own held.is cell next).lives
+  holder_lives _ (Goes_on_copying cell now copy _ taken step) = taken_lives cell now copy taken
+  holder_lives _ (Finds_it_full cell copy h is trimmed lt) = copying_lives cell copy is
+  holder_lives _ (Tidies id row block kind is both idle left) = idle_lives id row block is idle
+
+  pub other_lives : (done : Done) (d : DidOther heard here own done) → IsSo (λ c. live here.state c ≡ true) (other_cell heard here own done d)
+  other_lives _ (Answers_page id row after h is) = tt
+  other_lives _ (Is_copied_to number cell epochs holder _ h held newer step) = fit.lives (body.Trim number cell epochs) h refl cell refl
+  other_lives _ (Goes_on_trimming cell holder last _ held is step) = fit.copied cell last is
+  other_lives _ (Puts_entry entry holder last of at room) = entry_lives entry holder last of
+  other_lives _ (Has_entry entry holder last of lt) = entry_lives entry holder last of
+  other_lives _ (Has_no_slot entry holder last of at full) = entry_lives entry holder last of

@@ -1,38 +1,45 @@
 -- What is kept after a step of one server, from what the step keeps at each front, and of what it sends.
-use Rattle.std.proofs.Common.{◌≡◌, ◌≤◌, ◌++◌, ℕ, List, [], ◌∷◌, length, Bool, true, Option, Some, None, sym, ◌∙◌, subst, ◌⊎◌, inl, inr}
+use Rattle.std.proofs.Common.{◌≡◌, ◌≤◌, ◌++◌, ℕ, List, [], ◌∷◌, length, Bool, true, Option, Some, None, sym, ◌∙◌, subst, ◌⊎◌, inl, inr, arith}
 use Rattle.std.specs.Ordering.{nat_cmp}
 use Rattle.global_tables.specs.declared.link.LinkRow.{LinkRow}
 use Rattle.global_tables.specs.declared.link.LinkState.TheVariants.{Both, Only}
 use Rattle.petal_base.specs.declared.cell.Cell.{Cell}
 use Rattle.petal_command.specs.declared.command.Command.{Command}
-use Rattle.petal_msg.specs.Kinds.{subject_of}
+use Rattle.petal_msg.specs.Kinds.{about, subject_of}
 use Rattle.petal_msg.specs.declared.body.Body.TheVariants as body
+use Rattle.petal_msg.specs.declared.copying.LastCopy.{LastCopy}
 use Rattle.petal_msg.specs.declared.letter.Letter.{Letter}
 use Rattle.petal_history.specs.Claims.{IsPrefix}
 use Rattle.petal_history.specs.declared.record.Record.{Record}
-use Rattle.petal_state.specs.CellState.{cell_link}
 use Rattle.petal_state.specs.Command.{state_after}
 use Rattle.petal_rules.specs.Lists.{In}
 use Rattle.petal_rules.specs.Log.{state_in}
+use Rattle.petal_rules.specs.Progress.{last_copy}
 use Rattle.petal_rules.specs.Server.{Own, Server}
+use Rattle.petal_rules.specs.State.{live}
 use Rattle.petal_rules.specs.Store.{Store, chain_in}
-use Rattle.petal_rules.specs.World.{Setting, World}
+use Rattle.petal_rules.specs.World.{Setting, World, server_state}
 use Rattle.petal_rules.proofs.Tests.{same_or_apart}
+use Rattle.law_state.specs.Homes.{stage_at}
 use Rattle.law_steps.specs.Happens.{is_between}
 use Rattle.law_steps.specs.Ready.{IsRising}
+use Rattle.law_steps.proofs.Fronts.{front_itself}
 use Rattle.law_copies.specs.Copied.{IsOfLink}
-use Rattle.law_copies.specs.Good.{AloneOk, BothOk, Good, IsUnheard, SaidOk}
+use Rattle.law_copies.specs.Good.{AloneOk, BothOk, Good, IsUnheard, SaidOk, store_of}
 use Rattle.law_copies.specs.Pair.{HaveMarks}
 use Rattle.law_copies.specs.Steps.{AreFilled}
-use Rattle.law_copies.specs.Visits.{IsLinked}
+use Rattle.law_copies.specs.Visits.{AliveIn, IsLinked}
 use Rattle.law_copies.proofs.Came.{came_then}
+use Rattle.law_copies.proofs.Places.{below_at}
 use Rattle.law_copies.proofs.Visited.{IsStep, IsThen, KeepsFlags, all_visited, been_now, counted, counted_up, ever_then, here_now, later, now_then, reaching_now, seen, started_now, stored}
 
 -- a letter that is sent tells what is so, by the link at the front of its sender
 pub record IsTrue (setting : Setting) (top : List Command) (stores : ℕ → ℕ → Store) (visits : (n place : ℕ) → Cell → Option Own) (reached : Cell → ℕ) (letter : Letter) : Type 0 where
   pub rev : is_between (subject_of letter.body) ≡ true → letter.rev ≤ length top
   pub said : (front : List Command) (cell : Cell) (row : LinkRow) → IsPrefix front top → length front ≡ letter.rev → IsLinked setting front cell row
-      → SaidOk setting top stores visits reached front letter.body cell row
+      → AliveIn (state_after setting.servers front) cell → SaidOk setting top stores visits reached front letter.body cell row
+  pub lives : is_between (subject_of letter.body) ≡ true → (front : List Command) → IsPrefix front top → length front ≡ letter.rev → (cell : Cell)
+      → (about letter.body).cell ≡ Some cell → live (state_after setting.servers front) cell ≡ true
   pub page : (front : List Command) → IsPrefix front top → length front ≡ letter.rev → (map link block : ℕ) (after : Option ℕ)
       → letter.body ≡ body.Hello map link after (Some block) → IsOfLink (state_after setting.servers front) (record { map = map; block = block }) link
 
@@ -46,12 +53,13 @@ pub record GoesOn (setting : Setting) (records : List Record) (top next : List C
 
 -- the server's own part, by its own state then
 pub record IsSoundOwn (setting : Setting) (top : List Command) (v : World) (k : ℕ) (server : Server) : Type 0 where
-  pub born : (cell : Cell) → cell_link (state_after setting.servers top) cell ≡ None → chain_in server.own.store.chains cell ≡ []
-  pub unheard : (cell : Cell) → cell_link (state_in setting.servers server.log) cell ≡ None → IsUnheard server.own cell
+  pub unheard : (cell : Cell) → stage_at (state_in setting.servers server.log) cell ≡ 0 → IsUnheard (state_in setting.servers server.log) server.own cell
+  pub copied : (cell : Cell) (last : LastCopy) → last_copy server.own cell ≡ Some last → live (state_in setting.servers server.log) cell ≡ true
   pub rising : (cell : Cell) → IsRising nat_cmp (chain_in server.own.store.chains cell)
   pub counts : 1 ≤ server.own.pairs.next
   pub filled : AreFilled server.own.store.chains
-  pub marks : (server.life.running ≡ true) ⊎ (v.before_blank k ≡ None) → HaveMarks server.own.pairs.pending server.own.store
+  pub marks : (server.life.running ≡ true) ⊎ (v.before_blank k ≡ None)
+      → HaveMarks (state_in setting.servers server.log) server.own.pairs.pending server.own.store
 
 module _ (setting : Setting) (records : List Record) (top : List Command) (w v : World) (k : ℕ) (server : Server)
     (good : Good setting records top w) (step : IsStep setting top w v k server) where
@@ -78,7 +86,21 @@ module _ (setting : Setting) (records : List Record) (top : List Command) (w v :
     pub alone : (front : List Command) (cell : Cell) (row : LinkRow) (holder : ℕ) (whole : Bool) → IsPrefix front top → IsLinked setting front cell row
         → row.state ≡ Only holder whole → AloneOk setting top stores visits reached front cell row holder
     pub said : (letter : Letter) → In letter w.sent → (front : List Command) (cell : Cell) (row : LinkRow) → IsPrefix front top
-        → length front ≡ letter.rev → IsLinked setting front cell row → SaidOk setting top stores visits reached front letter.body cell row
+        → length front ≡ letter.rev → IsLinked setting front cell row → AliveIn (state_after setting.servers front) cell
+        → SaidOk setting top stores visits reached front letter.body cell row
+
+  unheard_now : IsSoundOwn setting top v k server → (n : ℕ) (cell : Cell) → stage_at (server_state setting v n) cell ≡ 0
+      → IsUnheard (server_state setting v n) (v.servers n).own cell
+  unheard_now sound = all_servers (λ n (s : Server). (cell : Cell) → stage_at (state_in setting.servers s.log) cell ≡ 0
+      → IsUnheard (state_in setting.servers s.log) s.own cell) good.unheard sound.unheard
+
+  -- what is not live yet by what is chosen is not by a server's own state
+  born_now : IsSoundOwn setting top v k server → (cell : Cell) → stage_at (state_after setting.servers top) cell ≡ 0 → (n : ℕ)
+      → chain_in (store_of v n).chains cell ≡ []
+  born_now sound cell none n =
+      let within = all_servers (λ m (s : Server). IsPrefix s.log.applied top) step.before step.within n in
+      let le = (below_at setting top step.plain (v.servers n).log.applied top within (front_itself top)).stages cell in
+      (unheard_now sound n cell (omega arith)).bare.chain
 
   good_now : (own : Record) → IsThen setting (records ++ own ∷ []) v → KeepsFlags setting records top w v k server good step
       → IsSoundOwn setting top v k server → KeepsFronts
@@ -94,18 +116,22 @@ module _ (setting : Setting) (records : List Record) (top : List Command) (w v :
     been = been_now setting records top w v k server good step;
     came = λ n place cell o visit. came_then setting records own v then_is n place cell good.visits (good.came n place cell) o
         (sym (all_visited setting records top w v k server good step n place cell) ∙ visit);
-    born = λ cell none. all_servers (λ n (s : Server). chain_in s.own.store.chains cell ≡ []) (good.born cell none) (sound.born cell none);
-    unheard = all_servers (λ n (s : Server). (cell : Cell) → cell_link (state_in setting.servers s.log) cell ≡ None → IsUnheard s.own cell) good.unheard sound.unheard;
+    born = born_now sound;
+    unheard = unheard_now sound;
+    copied = all_servers (λ n (s : Server). (cell : Cell) (last : LastCopy) → last_copy s.own cell ≡ Some last
+        → live (state_in setting.servers s.log) cell ≡ true) good.copied sound.copied;
     rising = all_servers (λ n (s : Server). (cell : Cell) → IsRising nat_cmp (chain_in s.own.store.chains cell)) good.rising sound.rising;
     ever = ever_then setting records top w v k server good step sound.rising;
     counts = all_servers (λ n (s : Server). 1 ≤ s.own.pairs.next) good.counts sound.counts;
     filled = all_servers (λ n (s : Server). AreFilled s.own.store.chains) good.filled sound.filled;
-    marks = all_servers (λ n (s : Server). (s.life.running ≡ true) ⊎ (v.before_blank n ≡ None) → HaveMarks s.own.pairs.pending s.own.store)
+    marks = all_servers (λ n (s : Server). (s.life.running ≡ true) ⊎ (v.before_blank n ≡ None)
+        → HaveMarks (state_in setting.servers s.log) s.own.pairs.pending s.own.store)
         (λ n when. good.marks n (elim when [ inl runs ↦ inl runs | inr none ↦ inr (step.blanks n none) ])) sound.marks;
     both = keeps.both;
     alone = keeps.alone;
     revs = λ letter i. elim (sent letter i) [ inl old ↦ good.revs letter old | inr new ↦ new.rev ];
     letters = λ letter i. elim (sent letter i) [ inl old ↦ keeps.said letter old | inr new ↦ new.said ];
+    lives = λ letter i. elim (sent letter i) [ inl old ↦ good.lives letter old | inr new ↦ new.lives ];
     pages = λ letter i. elim (sent letter i) [ inl old ↦ good.pages letter old | inr new ↦ new.page ];
     started = started_now setting records top w v k server good step own then_is flags;
   }

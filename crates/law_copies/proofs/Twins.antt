@@ -1,10 +1,12 @@
 -- What each step of one of the two servers of a cell in Both keeps of the cell.
-use Rattle.std.proofs.Common.{◌≡◌, ◌≢◌, ℕ, ◌≤◌, List, [], ◌∷◌, true, Some, None, refl, ap, sym, ◌∙◌, subst, arith}
-use Rattle.std.specs.Prelude.{option_map}
+use Rattle.std.proofs.Common.{◌≡◌, ◌≢◌, ℕ, ◌≤◌, ◌+◌, List, [], ◌∷◌, true, Some, None, refl, ap, sym, ◌∙◌, subst, inl, inr, arith}
+use Rattle.std.specs.Prelude.{option_and_then, option_map}
+use Rattle.std.specs.Ordering.{nat_cmp}
 use Rattle.global_tables.specs.Link.{other_of}
 use Rattle.global_tables.specs.declared.link.LinkRow.{LinkRow}
 use Rattle.global_tables.specs.declared.link.LinkState.TheVariants.{Both}
 use Rattle.petal_base.specs.declared.cell.Cell.{Cell}
+use Rattle.petal_base.specs.declared.cell.Key.{Key}
 use Rattle.petal_base.specs.Cells.{cell_of}
 use Rattle.petal_table.specs.Table.{at}
 use Rattle.petal_msg.specs.Kinds.{about, Copied, Refused, subject_of}
@@ -14,43 +16,57 @@ use Rattle.petal_msg.specs.declared.copying.Copying.{Copying}
 use Rattle.petal_msg.specs.declared.copying.LastCopy.{LastCopy}
 use Rattle.petal_msg.specs.declared.letter.Actor.{Actor}
 use Rattle.petal_msg.specs.declared.letter.Actor.TheVariants as actor
+use Rattle.petal_msg.specs.declared.operation.Action.{Action}
+use Rattle.petal_msg.specs.declared.operation.Action.TheVariants as action
 use Rattle.petal_msg.specs.declared.operation.Ending.{Ending}
 use Rattle.petal_msg.specs.declared.operation.Ending.TheVariants as ending
 use Rattle.petal_msg.specs.declared.operation.Far.{Far}
 use Rattle.petal_msg.specs.declared.operation.Far.TheVariants as far
 use Rattle.petal_msg.specs.declared.operation.Pending.{Pending}
-use Rattle.petal_state.specs.CellState.{cell_link}
+use Rattle.petal_state.specs.CellState.{cell_link, row_lead, state_lead}
 use Rattle.petal_state.specs.Command.{is_alone}
 use Rattle.petal_rules.specs.Copies.{cell_holder}
 use Rattle.petal_rules.specs.Lists.{In}
 use Rattle.petal_rules.specs.Progress.{copying_on, has_proposed}
-use Rattle.petal_rules.specs.State.{in_both, is_lead, is_second, primary, secondary}
+use Rattle.petal_rules.specs.State.{in_both, is_lead, is_second, is_the, leads_link, secondary}
 use Rattle.petal_rules.specs.Store.{Store, cell_cmp, chain_in}
-use Rattle.petal_rules.specs.Server.{Own, Here, Post, Done, says}
-use Rattle.petal_rules.specs.Writes.{ended, follows, pending_on, puts, tells, with_last}
-use Rattle.petal_rules.proofs.Tests.{is_the_one, same_some, true_false}
+use Rattle.petal_rules.specs.Server.{Own, Here, Pairs, Post, Done, says}
+use Rattle.petal_rules.specs.Writes.{acts, ended, ends, follows, gives_back, is_clients, next_stage, pending_on, tells, with_last, without_pending}
+use Rattle.petal_rules.proofs.CellTables.{cell_same}
+use Rattle.petal_rules.proofs.Tests.{is_the_one, same_numbers, same_some, true_false}
 use Rattle.law_state.specs.Steady.{IsSteady}
-use Rattle.law_state.proofs.Alone.{lead_first, first_primary, second_secondary, so_both}
-use Rattle.law_steps.specs.Did.{Did, Ignores, Refuses, By_read, By_lead, By_second, By_holder, By_other}
+use Rattle.law_state.specs.Homes.{stage_at}
+use Rattle.law_state.proofs.Alone.{second_secondary, so_both}
+use Rattle.law_steps.specs.Did.{Did, Ignores, Refuses, By_read, By_lead, By_second, By_holder, By_other, By_filler, By_sweep}
+use Rattle.law_steps.specs.DidFiller.{DidFiller}
+use Rattle.law_steps.specs.DidSweep.{DidSweep}
+use Rattle.law_steps.specs.Operations.{progress}
 use Rattle.law_steps.specs.DidRead.{DidRead}
-use Rattle.law_steps.specs.DidLead.{DidLead, Asks_for, Repeats, Is_full, Opens, Marks, Puts, Gives_up, Unmarks, Closes, Opens_alone, Marks_alone, Puts_alone, Unmarks_alone, Closes_alone, Asks, A_slot, A_copy, A_trim, A_copied_entry, A_page, Of_the_log, Taken}
+use Rattle.law_steps.specs.DidLead.{DidLead, Asks_for, Repeats, Is_full, Opens, Marks, Puts, Gives_up, Unmarks, Closes, Opens_alone, Marks_alone, Puts_alone, Unmarks_alone, Closes_alone, Opens_fill, Opens_fill_alone, Has_fill, Has_no_room, Goes_on_dead, Asks, A_slot, A_copy, A_trim, A_copied_entry, A_page, An_entry_to_move, Of_the_log, Taken}
 use Rattle.law_steps.specs.DidSecond.{DidSecond, with_tickets, Sets_apart, Promises, Declines, Follows}
 use Rattle.law_steps.specs.DidHolder.{DidHolder, CopyStep, Asks_to_trim, Sends, Unmarks_copied, Closes_copy, TakenCopy, Copy_as_is, Copy_trimmed, Copy_synced, Asks_page, Turns_page, Begins_copy, Goes_on_copying, Finds_it_full, Tidies}
 use Rattle.law_steps.specs.DidOther.{DidOther, TrimStep, Is_trimmed, Drops_entry, Answers_page, Is_copied_to, Goes_on_trimming, Puts_entry, Has_entry, Has_no_slot}
 use Rattle.law_steps.specs.Ready.{IsReady}
 use Rattle.law_steps.proofs.CopyFrames.{CopyFrame, of_holder, of_other}
+use Rattle.law_steps.proofs.Filling.{Fills, Stood, Writes, did_come}
+use Rattle.law_steps.proofs.Leading.{lead_links, stage_live}
 use Rattle.law_steps.proofs.Letters.{one_post, posted}
-use Rattle.law_steps.proofs.Staged.{did_ready}
-use Rattle.law_steps.proofs.Subjects.{of_lead, of_read, of_second, told_own}
+use Rattle.law_steps.proofs.Staged.{did_ready, same_cell_or_apart}
+use Rattle.law_steps.proofs.Subjects.{of_filler, of_lead, of_read, of_second, of_sweep, told_own}
 use Rattle.law_steps.proofs.Taking.{taking}
-use Rattle.law_copies.specs.BothSteps.{LeadKeeps, SecondKeeps, SaysKnown}
-use Rattle.law_copies.specs.Pair.{HaveMarks, IsRecalled, Keeps, Known, Pair, PairOk, pair_of}
+use Rattle.law_copies.specs.BothSteps.{LacksFill, LeadKeeps, SecondKeeps, SaysKnown}
+use Rattle.law_copies.specs.Pair.{AreCopies, HaveMarks, IsRecalled, Keeps, Known, Pair, PairOk, pair_of}
+use Rattle.law_copies.specs.Pair as pair
+use Rattle.law_copies.specs.Steps.{IsBare}
+use Rattle.law_copies.specs.Visits.{AliveIn}
+use Rattle.law_copies.proofs.Apart.{away}
 use Rattle.law_copies.proofs.Chains.{chain_apart, copied_chains, drop_apart, page_chains}
 use Rattle.law_copies.proofs.Lead as lead
 use Rattle.law_copies.proofs.Marking.{job_marked}
 use Rattle.law_copies.proofs.Others.{IsOther, held_by}
 use Rattle.law_copies.proofs.Rising.{AreRising, did_rising}
 use Rattle.law_copies.proofs.Second as follow
+use Rattle.law_copies.proofs.Working.{IsLedHere, lead_beside, lead_cell, lead_leads, sweep_beside}
 
 -- what is said of copies, and a refusal, tell nothing of a pair
 copied_known : (pair : Pair) (said : Body) → subject_of said ≡ Copied → Known pair said
@@ -70,7 +86,7 @@ refused_known pair (body.Replicated number cell) e = cc
 refused_known pair _ e = tt
 
 module _ (heard : Body → Type 0) (here : Here) (own : Own) (steady : IsSteady here.state) (cell : Cell) (row : LinkRow)
-    (is_row : cell_link here.state cell ≡ Some row) (both_row : row.state ≡ Both) where
+    (is_row : cell_link here.state cell ≡ Some row) (alive : AliveIn here.state cell) (both_row : row.state ≡ Both) where
   cell_both : in_both here.state cell ≡ true
   cell_both = so_both here.state cell row is_row both_row
 
@@ -127,12 +143,20 @@ module _ (heard : Body → Type 0) (here : Here) (own : Own) (steady : IsSteady 
 
   read_says : (first second : Own) (done : Done) → DidRead heard here own done → Says first second done.posts
   read_says first second done d post i of =
-      let told = (of_read heard here own done d).says post i in
-      subst (Known (pair_of first second cell)) (sym told.is) tt
+      elim ((of_read heard here own done d).says post i) [
+        | inl data_of ↦ subst (Known (pair_of first second cell)) (sym data_of.is) tt
+        | inr nothing ↦ subst (Known (pair_of first second cell)) (sym nothing.is) tt
+      ]
 
   refusal_says : (first second : Own) (to : Actor) (said : Body) → subject_of said ≡ Refused → Says first second (says own to said).posts
   refusal_says first second to said is post i of =
       let e = (one_post to said post i).1 in refused_known (pair_of first second cell) post.body (ap subject_of e ∙ is)
+
+  filler_says : (first second : Own) (done : Done) → DidFiller heard here own done → Says first second done.posts
+  filler_says first second done d post i of = lead.filling_known (pair_of first second cell) post.body ((of_filler heard here own done d).says post i)
+
+  sweep_says : (first second : Own) (done : Done) → DidSweep here own done → Says first second done.posts
+  sweep_says first second done d post i of = absurd ((of_sweep heard here own done d).silent post i)
 
   none_says : (first second : Own) → Says first second []
   unfolding In
@@ -172,13 +196,15 @@ module _ (heard : Body → Type 0) (here : Here) (own : Own) (steady : IsSteady 
     second_says first second _ (Follows number key version bytes h s is) =
         told_says first second (follows here own number key bytes).own (cell_of key) number far.Replicated (second_apart (cell_of key) s)
 
-    module _ (second : Own) (ready : IsReady here.state here.me (has_proposed here.state own) own.pairs.pending) (marks : HaveMarks own.pairs.pending own.store)
+    module _ (second : Own) (ready : IsReady here.state here.me (has_proposed here.state own) own.pairs.pending)
+        (marks : HaveMarks here.state own.pairs.pending own.store)
         (idle : (q : Cell) (copy : Copying) → copying_on own q ≡ Some copy → pending_on own q ≡ None) (rising : AreRising own.store.chains)
+        (bare : (q : Cell) → stage_at here.state q ≡ 0 → IsBare own q)
         (ok : PairOk (pair_of own second cell)) (known : (said : Body) → heard said → (about said).cell ≡ Some cell → Known (pair_of own second cell) said) where
       kept_off : (new : Own) → chain_in new.store.chains cell ≡ chain_in own.store.chains cell
           → at cell_cmp new.pairs.pending cell ≡ at cell_cmp own.pairs.pending cell → own.pairs.next ≤ new.pairs.next
           → Keeps (pair_of own second cell) (pair_of new second cell)
-      kept_off = lead.off heard here own ready cell row is_row both_row second ok known
+      kept_off = lead.off heard here own ready cell row is_row alive both_row second ok known
 
       copied_off : (done : Done) → chain_in done.own.store.chains cell ≡ chain_in own.store.chains cell → CopyFrame own done
           → lead.IsKept own done.own done.posts second cell
@@ -189,7 +215,7 @@ module _ (heard : Body → Type 0) (here : Here) (own : Own) (steady : IsSteady 
 
       step_kept : (done : Done) → Did heard here own done → lead.IsKept own done.own done.posts second cell
       step_kept _ Ignores = record { keeps = kept_off own refl refl (omega arith); says = none_says own second }
-      step_kept _ (Refuses to said is why because) = record { keeps = kept_off own refl refl (omega arith); says = refusal_says own second to said is }
+      step_kept _ (Refuses to said is why because) = record { keeps = kept_off own refl refl (omega arith); says = refusal_says own second to said is.refused }
       step_kept _ (By_read done d) =
           let same = (of_read heard here own done d).same in
           let next : done.own.pairs.next ≡ own.pairs.next = ap (λ (o : Own). o.pairs.next) same in
@@ -197,7 +223,7 @@ module _ (heard : Body → Type 0) (here : Here) (own : Own) (steady : IsSteady 
             keeps = kept_off done.own (ap (λ (o : Own). chain_in o.store.chains cell) same) (ap (λ (o : Own). at cell_cmp o.pairs.pending cell) same) (omega arith);
             says = read_says done.own second done d;
           }
-      step_kept _ (By_lead done d) = lead.lead_keeps heard here own ready cell row is_row both_row second ok known done d
+      step_kept _ (By_lead done d) = lead.lead_keeps heard here own ready cell row is_row alive both_row second ok known done d
       step_kept _ (By_second done d) =
           let frame = of_second heard here own done d in
           let next = frame.next in
@@ -207,14 +233,48 @@ module _ (heard : Body → Type 0) (here : Here) (own : Own) (steady : IsSteady 
           }
       step_kept _ (By_holder done d) = copied_off done (holder_chain done d) (of_holder heard here own done d)
       step_kept _ (By_other done d) = copied_off done (other_chain done d) (of_other heard here own done d)
+      step_kept _ (By_filler done d) =
+          let frame = of_filler heard here own done d in
+          let next = ap (λ (p : Pairs). p.next) frame.pairs in
+          record {
+            keeps = kept_off done.own (ap (λ (t : Store). chain_in t.chains cell) frame.store)
+                (ap (λ (p : Pairs). at cell_cmp p.pending cell) frame.pairs) (omega arith);
+            says = filler_says done.own second done d;
+          }
+      step_kept _ (By_sweep done d) =
+          let next = ap (λ (p : Pairs). p.next) (of_sweep heard here own done d).pairs in
+          let rest = (sweep_beside heard here own done d cell alive (bare cell)).rest in
+          record { keeps = kept_off done.own rest.chain rest.pending (omega arith); says = sweep_says done.own second done d }
 
       -- an operation that is pending then rests, and its block is marked
       still_recalled : (done : Done) → Did heard here own done → (op : Pending) → at cell_cmp done.own.pairs.pending cell ≡ Some op
           → IsRecalled op done.own.store cell
-      still_recalled done did op is = record {
-        rests = ((did_ready heard here own ready done did).staged cell op is).stage cell_both;
-        marks = (job_marked heard here own steady ready marks idle done did).marks cell op is;
-      }
+      still_recalled done did op is =
+          let staged = (did_ready heard here own ready done did).staged cell op is in
+          let on = stage_live here.state cell staged.born alive in
+          record {
+            rests = staged.stage on cell_both;
+            marks = (job_marked heard here own steady ready marks idle done did).marks cell op on is;
+          }
+
+      -- of an entry that moves the second server has nothing still, and of a new one it has nothing, since the first one has not
+      still_lacks : (done : Done) → Did heard here own done → LacksFill own second cell → LacksFill done.own second cell
+      still_lacks done did old op there fill le = elim (did_come heard here own done did cell op there) [
+        | Stood was ↦
+            let same = was.same in
+            let number = same.number in
+            ap (λ (k : Key). at nat_cmp (chain_in second.store.chains cell) k.epoch) (sym same.key)
+            ∙ old was.was was.is (ap is_clients same.kind ∙ fill) (omega arith)
+        | Writes is ↦ true_false (ap is_clients is) fill
+        | Fills opened ↦ (
+            let even = first_even (ap (at cell_cmp own.pairs.pending) (sym opened.cell_is) ∙ opened.new.none) in
+            ap (λ (k : Key). at nat_cmp (chain_in second.store.chains cell) k.epoch) opened.key
+            ∙ ap (λ c. at nat_cmp c opened.moving.key.epoch) (sym even ∙ ap (chain_in own.store.chains) (sym opened.cell_is)) ∙ opened.new.lacks)
+      ]
+        where
+          first_even : at cell_cmp own.pairs.pending cell ≡ None → chain_in own.store.chains cell ≡ chain_in second.store.chains cell
+          first_even none = subst (AreCopies (chain_in own.store.chains cell) (chain_in second.store.chains cell)
+              (pair.far (pair_of own second cell))) none ok.copies
 
       pub lead_step : (done : Done) → Did heard here own done → LeadKeeps own done.own done.posts second cell
       lead_step done did =
@@ -222,6 +282,7 @@ module _ (heard : Body → Type 0) (here : Here) (own : Own) (steady : IsSteady 
           record {
             keeps = kept.keeps;
             recalled = still_recalled done did;
+            lacks = still_lacks done did;
             says = kept.says;
             rising = λ rises. did_rising heard here own rising done did cell;
           }
@@ -229,49 +290,64 @@ module _ (heard : Body → Type 0) (here : Here) (own : Own) (steady : IsSteady 
   -- ### The second server
 
   module _ (follows_it : row.secondary ≡ here.me) where
+    -- it doesn't lead the cell's link
+    leads_not : leads_link here.state here.me cell ≡ true → ⊥
+    leads_not leads =
+        let first : row.primary ≡ here.me = same_numbers row.primary here.me
+        (sym (ap (λ o. is_the (option_and_then (row_lead here.state) o) here.me) is_row ∙ ap
+        (λ x. is_the (state_lead here.state row.primary x) here.me) both_row)
+        ∙ leads) in
+        (steady.linked cell row is_row).apart (first ∙ sym follows_it)
+
+    led_not : IsLedHere heard here own cell → ⊥
+    led_not led = leads_not (led.leads (stage_live here.state cell led.born alive))
+
     -- it leads other cells
     lead_apart : (q : Cell) → is_lead here.state here.me q ≡ true → cell ≢ q
-    lead_apart q l e =
-        let both : in_both here.state q ≡ true = ap (in_both here.state) (sym e) ∙ cell_both in
-        let one = first_primary here.state steady q here.me (lead_first here.state steady here.me q l both) in
-        let there : primary here.state q ≡ Some row.primary = ap (option_map (λ (r : LinkRow). r.primary)) (ap (cell_link here.state) (sym e) ∙ is_row) in
-        (steady.linked cell row is_row).apart (same_some (sym there ∙ one) ∙ sym follows_it)
+    lead_apart q l e = leads_not (subst (λ (c : Cell). leads_link here.state here.me c ≡ true) (sym e) (lead_links here.state here.me q l).1)
 
     module _ (first : Own) (ready : IsReady here.state here.me (has_proposed here.state own) own.pairs.pending) (rising : AreRising own.store.chains)
+        (bare : (q : Cell) → stage_at here.state q ≡ 0 → IsBare own q)
         (ok : PairOk (pair_of first own cell)) (known : (said : Body) → heard said → (about said).cell ≡ Some cell → Known (pair_of first own cell) said) where
       op_apart : (op : Pending) → pending_on own op.cell ≡ Some op → cell ≢ op.cell
-      op_apart op is = lead_apart op.cell (ready.staged op.cell op is).lead
+      op_apart op is e =
+          let staged = ready.staged op.cell op is in
+          led_not (subst (IsLedHere heard here own) (sym e) (record { born = staged.born; leads = staged.leads }))
 
       taken_apart : (now : Own) (op : Pending) → Taken own now op → cell ≢ op.cell
-      taken_apart now op taken = let t = taking own now op taken in lead_apart op.cell (ready.staged op.cell t.old t.was).lead
-
-      put_chain : (now : Own) (op : Pending) → cell_of op.key ≡ op.cell → cell ≢ op.cell → chain_in (puts now op).own.store.chains cell ≡ chain_in now.store.chains cell
-      put_chain now op keyed ne = chain_apart now.store.chains (cell_of op.key) _ cell (λ e. ne (e ∙ keyed))
-
-      taken_chain : (now : Own) (op : Pending) → Taken own now op → chain_in now.store.chains cell ≡ chain_in own.store.chains cell
-      taken_chain now op taken = ap (λ (s : Store). chain_in s.chains cell) (taking own now op taken).store
+      taken_apart now op taken e =
+          let t = taking own now op taken in
+          let staged = ready.staged op.cell t.old t.was in
+          led_not (subst (IsLedHere heard here own) (sym e) (record { born = staged.born; leads = staged.leads }))
 
       lead_chain : (done : Done) → DidLead heard here own done → chain_in done.own.store.chains cell ≡ chain_in own.store.chains cell
-      lead_chain _ (Asks_for posts h) = refl
-      lead_chain _ (Repeats want last h l is e) = refl
-      lead_chain _ (Is_full want new no_room) = refl
-      lead_chain _ (Gives_up op h is reserved put) = refl
-      lead_chain _ (Opens want new both) = refl
-      lead_chain _ (Marks op h is both stage) = refl
-      lead_chain _ (Puts op is both stage) = put_chain own op (ready.staged op.cell op is).keyed (op_apart op is)
-      lead_chain _ (Unmarks op h is both stage) = refl
-      lead_chain _ (Closes op is both stage) = refl
-      lead_chain _ (Opens_alone want new on) = refl
-      lead_chain _ (Marks_alone now op taken on fresh) = taken_chain now op taken
-      lead_chain _ (Puts_alone now op taken on stale put) =
-          let t = taking own now op taken in
-          put_chain now op (ap (λ (o : Pending). cell_of o.key) t.is ∙ (ready.staged op.cell t.old t.was).keyed) (taken_apart now op taken) ∙ taken_chain now op taken
-      lead_chain _ (Unmarks_alone now op taken on stale put busy) = taken_chain now op taken
-      lead_chain _ (Closes_alone now op taken on stale put free) = taken_chain now op taken
+      lead_chain done d =
+          (lead_beside heard here own ready done d cell
+          (away (IsLedHere heard here own) cell led_not (lead_cell heard here own done d) (lead_leads heard here own ready done d))).rest.chain
 
       ended_says : (second : Own) (client seq : ℕ) (how : Ending) → Says first second (record { to = actor.Client client; body = ended seq how } ∷ [])
       ended_says second client seq how post i of =
           subst (Known (pair_of first second cell)) (sym (one_post (actor.Client client) (ended seq how) post i).1) (lead.ended_known (pair_of first second cell) seq how)
+
+      ending_says : (second base : Own) (op : Pending) (how : Ending) → Says first second (ends here base op op.kind how).posts
+      ending_says second base op how post i of = lead.ends_known here base op op.kind how post i (pair_of first second cell)
+
+      taken_keyed : (now : Own) (op : Pending) → Taken own now op → cell_of op.key ≡ op.cell
+      taken_keyed now op taken =
+          let t = taking own now op taken in ap (λ (o : Pending). cell_of o.key) t.is ∙ (ready.staged op.cell t.old t.was).keyed
+
+      -- whatever an operation does next on another cell
+      dead_says : (second now : Own) (op : Pending) → cell_of op.key ≡ op.cell → cell ≢ op.cell → (next : Action)
+          → Says first second (acts here now op next).posts
+      dead_says second now op keyed ne action.Reserve =
+          apart_says first second op.cell _ (body.Reserve op.op op.cell) ne (λ post i. posted _ _ post i) refl
+      dead_says second now op keyed ne (action.Mark kind) = none_says first second
+      dead_says second now op keyed ne action.Put = none_says first second
+      dead_says second now op keyed ne action.Replicate =
+          apart_says first second (cell_of op.key) _ (body.Replicate op.op op.key op.version op.bytes) (λ e. ne (e ∙ keyed)) (λ post i. posted _ _ post i) refl
+      dead_says second now op keyed ne (action.Unmark kind) = none_says first second
+      dead_says second now op keyed ne action.Answer = ending_says second (without_pending now op.cell) op ending.Written
+      dead_says second now op keyed ne action.Drop = none_says first second
 
       asks_say : (second : Own) (post : Post) → Asks here own post → (about post.body).cell ≡ Some cell → Known (pair_of first second cell) post.body
       asks_say second _ (A_slot op to is stage e) of = absurd (op_apart op is (sym (same_some of)))
@@ -279,24 +355,36 @@ module _ (heard : Body → Type 0) (here : Here) (own : Own) (steady : IsSteady 
       asks_say second _ (A_trim q copy to is fresh e) of = tt
       asks_say second _ (A_copied_entry q copy entry to is trimmed got e) of = tt
       asks_say second _ (A_page other to there e fresh) of = tt
+      asks_say second _ (An_entry_to_move post next) of =
+          lead.filling_known (pair_of first second cell) post.body (ap (λ (p : Post). subject_of p.body) next.is)
       asks_say second post (Of_the_log _ e) of = lead.logged_known (pair_of first second cell) post.body e
 
       lead_says : (second : Own) (done : Done) → DidLead heard here own done → Says first second done.posts
       lead_says second _ (Asks_for posts h) = λ post i of. asks_say second post (h post i) of
       lead_says second _ (Repeats want last h l is e) = ended_says second want.client want.seq last.ending
       lead_says second _ (Is_full want new no_room) = ended_says second want.client want.seq ending.Full
-      lead_says second _ (Gives_up op h is reserved put) = ended_says second op.client op.seq ending.Full
+      lead_says second _ (Gives_up op h is reserved put) = ending_says second (gives_back (without_pending own op.cell)) op ending.Full
       lead_says second _ (Opens want new both) =
           apart_says first second want.cell _ (body.Reserve own.pairs.next want.cell) (lead_apart want.cell new.lead) (λ post i. posted _ _ post i) refl
       lead_says second _ (Marks op h is both stage) = none_says first second
       lead_says second _ (Puts op is both stage) = none_says first second
       lead_says second _ (Unmarks op h is both stage) = none_says first second
-      lead_says second _ (Closes op is both stage) = ended_says second op.client op.seq ending.Written
+      lead_says second _ (Closes op is both stage) = ending_says second (without_pending own op.cell) op ending.Written
       lead_says second _ (Opens_alone want new on) = none_says first second
       lead_says second _ (Marks_alone now op taken on fresh) = none_says first second
       lead_says second _ (Puts_alone now op taken on stale put) = none_says first second
       lead_says second _ (Unmarks_alone now op taken on stale put busy) = none_says first second
-      lead_says second _ (Closes_alone now op taken on stale put free) = ended_says second op.client op.seq ending.Written
+      lead_says second _ (Closes_alone now op taken on stale put free) = ending_says second (without_pending now op.cell) op ending.Written
+      lead_says second _ (Opens_fill moving new room both) =
+          apart_says first second (cell_of moving.key) _ (body.Reserve own.pairs.next (cell_of moving.key)) (lead_apart (cell_of moving.key) new.lead)
+          (λ post i. posted _ _ post i) refl
+      lead_says second _ (Opens_fill_alone moving new room on) = none_says first second
+      lead_says second _ (Has_fill moving there) = λ post i of.
+          subst (Known (pair_of first second cell)) (sym (posted _ (body.Filled moving.key) post i)) tt
+      lead_says second _ (Has_no_room moving new no_room) = λ post i of.
+          subst (Known (pair_of first second cell)) (sym (posted _ (body.FillFull moving.key) post i)) tt
+      lead_says second _ (Goes_on_dead now op taken dead) =
+          dead_says second now op (taken_keyed now op taken) (taken_apart now op taken) (next_stage here.state here.me op)
 
       follow_off : (new : Own) → chain_in new.store.chains cell ≡ chain_in own.store.chains cell → at cell_cmp new.pairs.last cell ≡ at cell_cmp own.pairs.last cell
           → Keeps (pair_of first own cell) (pair_of first new cell)
@@ -311,7 +399,7 @@ module _ (heard : Body → Type 0) (here : Here) (own : Own) (steady : IsSteady 
 
       step_follows : (done : Done) → Did heard here own done → follow.IsSecondKept first own done.own done.posts cell
       step_follows _ Ignores = record { keeps = follow_off own refl refl; says = none_says first own }
-      step_follows _ (Refuses to said is why because) = record { keeps = follow_off own refl refl; says = refusal_says first own to said is }
+      step_follows _ (Refuses to said is why because) = record { keeps = follow_off own refl refl; says = refusal_says first own to said is.refused }
       step_follows _ (By_read done d) =
           let same = (of_read heard here own done d).same in
           record {
@@ -325,8 +413,66 @@ module _ (heard : Body → Type 0) (here : Here) (own : Own) (steady : IsSteady 
       step_follows _ (By_second done d) = follow.second_keeps heard here first own cell ok known done d
       step_follows _ (By_holder done d) = copies_off done (holder_chain done d) (of_holder heard here own done d)
       step_follows _ (By_other done d) = copies_off done (other_chain done d) (of_other heard here own done d)
+      step_follows _ (By_filler done d) =
+          let frame = of_filler heard here own done d in
+          record {
+            keeps = follow_off done.own (ap (λ (t : Store). chain_in t.chains cell) frame.store) (ap (λ (p : Pairs). at cell_cmp p.last cell) frame.pairs);
+            says = filler_says first done.own done d;
+          }
+      step_follows _ (By_sweep done d) =
+          let rest = (sweep_beside heard here own done d cell alive (bare cell)).rest in
+          record { keeps = follow_off done.own rest.chain rest.followed; says = sweep_says first done.own done d }
+
+      -- ### What it has nothing of
+
+      abbrev Lacks : Own → Type 0
+      Lacks new = pair.far (pair_of first own cell) ≤ pair.far (pair_of first new cell) → LacksFill first own cell → LacksFill first new cell
+
+      -- where the chain stays
+      chain_lacks : (new : Own) → chain_in new.store.chains cell ≡ chain_in own.store.chains cell → Lacks new
+      chain_lacks new chain up old op there fill le = ap (λ c. at nat_cmp c op.key.epoch) chain ∙ old op there fill (omega arith)
+
+      -- and where it puts its copy, it has followed the operation
+      follows_lacks : (number : ℕ) (key : Key) (version : ℕ) (bytes : List ℕ) → heard (body.Replicate number key version bytes)
+          → at cell_cmp own.pairs.last (cell_of key) ≡ Some (record { op = number; far = far.Reserved }) → Lacks (follows here own number key bytes).own
+      follows_lacks number key version bytes h is = elim (same_cell_or_apart cell (cell_of key)) [
+        | inr ne ↦ chain_lacks (follows here own number key bytes).own (chain_apart own.store.chains (cell_of key) _ cell ne)
+        | inl e ↦ λ up old op there fill le.
+            let last = ap (at cell_cmp own.pairs.last) e ∙ is in
+            let putting = follow.asked number key bytes (pair_of first own cell) last (known (body.Replicate number key version bytes) h (ap Some (sym e))) in
+            let same : op ≡ putting.op = same_some (sym there ∙ putting.is) in
+            let number_is : op.op ≡ number = ap (λ (o : Pending). o.op) same ∙ putting.number_is in
+            let past : pair.far (pair_of first (follows here own number key bytes).own cell) ≡ number + number + 1 =
+            ap progress (ap (at cell_cmp (follows here own number key bytes).own.pairs.last) e
+            ∙ cell_same own.pairs.last (cell_of key) (record { op = number; far = far.Replicated })) in
+            absurd (omega arith)
+      ]
+
+      second_lacks : (done : Done) → DidSecond heard here own done → Lacks done.own
+      second_lacks _ (Sets_apart number q tickets h s le) =
+          chain_lacks (tells here (with_last (with_tickets own tickets) q number far.Reserved) q number far.Reserved).own refl
+      second_lacks _ (Promises number q how s is) =
+          chain_lacks (tells here own q number how).own (ap (λ (o : Own). chain_in o.store.chains cell) (told_own here own q number how))
+      second_lacks _ (Declines number q h s no_room) = chain_lacks own refl
+      second_lacks _ (Follows number key version bytes h s is) = follows_lacks number key version bytes h is
+
+      step_lacks : (done : Done) → Did heard here own done → Lacks done.own
+      step_lacks _ Ignores = chain_lacks own refl
+      step_lacks _ (Refuses to said is why because) = chain_lacks own refl
+      step_lacks _ (By_read done d) = chain_lacks done.own (ap (λ (o : Own). chain_in o.store.chains cell) (of_read heard here own done d).same)
+      step_lacks _ (By_lead done d) = chain_lacks done.own (lead_chain done d)
+      step_lacks _ (By_second done d) = second_lacks done d
+      step_lacks _ (By_holder done d) = chain_lacks done.own (holder_chain done d)
+      step_lacks _ (By_other done d) = chain_lacks done.own (other_chain done d)
+      step_lacks _ (By_filler done d) = chain_lacks done.own (ap (λ (t : Store). chain_in t.chains cell) (of_filler heard here own done d).store)
+      step_lacks _ (By_sweep done d) = chain_lacks done.own (sweep_beside heard here own done d cell alive (bare cell)).rest.chain
 
       pub second_step : (done : Done) → Did heard here own done → SecondKeeps own done.own done.posts first cell
       second_step done did =
           let kept = step_follows done did in
-          record { keeps = kept.keeps; says = kept.says; rising = λ rises. did_rising heard here own rising done did cell }
+          record {
+            keeps = kept.keeps;
+            lacks = step_lacks done did kept.keeps.grows.onward;
+            says = kept.says;
+            rising = λ rises. did_rising heard here own rising done did cell;
+          }

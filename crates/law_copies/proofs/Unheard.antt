@@ -1,5 +1,6 @@
 -- What a job leaves of a cell without a link, and that the number of the next operation only grows.
-use Rattle.std.proofs.Common.{◌≡◌, ◌≤◌, ℕ, true, false, length, Option, Some, None, refl, sym, ap, ◌∙◌, inl, inr, arith}
+use Rattle.std.proofs.Common.{◌≡◌, ◌≤◌, ℕ, true, false, Option, Some, None, refl, sym, ap, ◌∙◌, inl, inr, arith}
+use Rattle.std.specs.Prelude.{unwrap_or}
 use Rattle.std.specs.Ordering.{eq_by_cmp}
 use Rattle.busy_marks.specs.Marks.{above}
 use Rattle.global_tables.specs.Link.{link_at}
@@ -9,26 +10,24 @@ use Rattle.petal_msg.specs.declared.body.Body.{Body}
 use Rattle.petal_msg.specs.declared.copying.Copying.{Copying}
 use Rattle.petal_msg.specs.declared.copying.LastCopy.{LastCopy}
 use Rattle.petal_msg.specs.declared.copying.LinkId.{LinkId}
-use Rattle.petal_state.specs.CellState.{cell_link}
+use Rattle.petal_msg.specs.declared.copying.Progress.{Progress}
+use Rattle.petal_table.specs.Table.{Table, at}
+use Rattle.petal_state.specs.CellState.{cell_link, owner}
 use Rattle.petal_rules.specs.Copies.{begins_copy, with_copied}
-use Rattle.petal_rules.specs.Progress.{progress_on, without_copying, with_last_copy}
-use Rattle.petal_rules.specs.Server.{Own, Copies, Here, Done}
+use Rattle.petal_rules.specs.Progress.{no_progress, progress_on, without_copying, with_last_copy}
+use Rattle.petal_rules.specs.Server.{Own, Copies, Pairs, Here, Done}
 use Rattle.petal_rules.specs.State.{State, id_of, link_cmp, link_named}
-use Rattle.petal_rules.proofs.Tests.{by_bool, by_test, none_some}
+use Rattle.petal_rules.proofs.Tests.{by_bool, by_test, none_some, some_or_none}
 use Rattle.law_log.proofs.Flags.{progress_beside, same_id}
 use Rattle.law_state.specs.Tables.{IsPlainState}
-use Rattle.law_state.proofs.Making.{map_past}
-use Rattle.law_state.proofs.Places.{get_within}
 use Rattle.law_state.proofs.Steady.{linked}
-use Rattle.law_steps.specs.Did.{Did, Ignores, Refuses, By_read, By_lead, By_second, By_holder, By_other}
-use Rattle.law_steps.specs.DidLead.{DidLead, Asks_for, Repeats, Is_full, Opens, Marks, Puts, Gives_up, Unmarks, Closes, Opens_alone, Marks_alone, Puts_alone, Unmarks_alone, Closes_alone}
+use Rattle.law_steps.specs.Did.{Did, Ignores, Refuses, By_read, By_lead, By_second, By_holder, By_other, By_filler, By_sweep}
 use Rattle.law_steps.specs.DidHolder.{DidHolder, CopyStep, Asks_to_trim, Sends, Unmarks_copied, Closes_copy, TakenCopy, Copy_as_is, Copy_trimmed, Copy_synced, Asks_page, Turns_page, Begins_copy, Goes_on_copying, Finds_it_full, Tidies, first_copy}
 use Rattle.law_steps.specs.DidOther.{DidOther, TrimStep, Is_trimmed, Drops_entry, Answers_page, Is_copied_to, Goes_on_trimming, Puts_entry, Has_entry, Has_no_slot, first_last}
 use Rattle.law_steps.proofs.CopyFrames.{of_holder, of_other}
 use Rattle.law_steps.proofs.Resting.{row_named}
-use Rattle.law_steps.proofs.Subjects.{of_lead, of_read, of_second}
-use Rattle.law_steps.proofs.Taking.{taking}
-use Rattle.law_copies.proofs.Places.{at_most_or_above}
+use Rattle.law_steps.proofs.Subjects.{of_filler, of_lead, of_read, of_second, of_sweep}
+use Rattle.law_copies.proofs.HolderJobs.{lead_counts}
 use Rattle.law_copies.proofs.Standing.{named_id}
 
 -- ### Links
@@ -36,11 +35,9 @@ use Rattle.law_copies.proofs.Standing.{named_id}
 -- where a cell has no link its map has none
 map_unlinked : (servers : ℕ) (state : State) → IsPlainState servers state → (cell : Cell) → cell_link state cell ≡ None → (link : ℕ)
     → link_at state.links cell.map link ≡ None
-map_unlinked servers state plain cell none link = elim (at_most_or_above (length state.disks.rows) cell.map) [
-  | inl past ↦ plain.unlinked cell.map link (map_past state.maps cell.map (let e = plain.count in omega arith))
-  | inr within ↦ (
-      let there = get_within state.disks.rows cell.map within in
-      none_some none (linked servers state plain cell there.0 there.1).1)
+map_unlinked servers state plain cell none link = elim (some_or_none (owner state cell.map)) [
+  | inl owned ↦ none_some none (linked servers state plain cell (λ gone. none_some gone owned.1)).1
+  | inr gone ↦ plain.unlinked cell.map link gone
 ]
 
 -- a link of its map is none that is found by its name
@@ -113,31 +110,20 @@ module _ (heard : Body → Type 0) (here : Here) (own : Own) (row : LinkRow)
   did_pages _ (By_second done d) = table_same done.own (of_second heard here own done d).copies
   did_pages _ (By_holder done d) = holder_pages done d
   did_pages _ (By_other done d) = other_pages done d
+  did_pages _ (By_filler done d) =
+      ap (λ (t : Table LinkId Progress). (unwrap_or (at link_cmp t (id_of row)) no_progress)) (of_filler heard here own done d).progress
+  did_pages _ (By_sweep done d) = table_same done.own (of_sweep heard here own done d).copies
 
 -- ### The number of the next operation
 
 module _ (heard : Body → Type 0) (here : Here) (own : Own) where
-  lead_next : (done : Done) → DidLead heard here own done → own.pairs.next ≤ done.own.pairs.next
-  lead_next _ (Asks_for posts h) = omega arith
-  lead_next _ (Repeats want last h lead is e) = omega arith
-  lead_next _ (Is_full want new no_room) = omega arith
-  lead_next _ (Gives_up op h is reserved put) = omega arith
-  lead_next _ (Opens want new both) = omega arith
-  lead_next _ (Marks op h is both stage) = omega arith
-  lead_next _ (Puts op is both stage) = omega arith
-  lead_next _ (Unmarks op h is both stage) = omega arith
-  lead_next _ (Closes op is both stage) = omega arith
-  lead_next _ (Opens_alone want new on) = omega arith
-  lead_next _ (Marks_alone now op taken on fresh) = let e = (taking own now op taken).next in omega arith
-  lead_next _ (Puts_alone now op taken on stale put) = let e = (taking own now op taken).next in omega arith
-  lead_next _ (Unmarks_alone now op taken on stale put busy) = let e = (taking own now op taken).next in omega arith
-  lead_next _ (Closes_alone now op taken on stale put free) = let e = (taking own now op taken).next in omega arith
-
   pub did_next : (done : Done) → Did heard here own done → own.pairs.next ≤ done.own.pairs.next
   did_next _ Ignores = omega arith
   did_next _ (Refuses to said is why because) = omega arith
   did_next _ (By_read done d) = let e = ap (λ (o : Own). o.pairs.next) (of_read heard here own done d).same in omega arith
-  did_next _ (By_lead done d) = lead_next done d
+  did_next _ (By_lead done d) = lead_counts heard here own done d
   did_next _ (By_second done d) = let e = (of_second heard here own done d).next in omega arith
   did_next _ (By_holder done d) = (of_holder heard here own done d).next
   did_next _ (By_other done d) = (of_other heard here own done d).next
+  did_next _ (By_filler done d) = let e = ap (λ (p : Pairs). p.next) (of_filler heard here own done d).pairs in omega arith
+  did_next _ (By_sweep done d) = let e = ap (λ (p : Pairs). p.next) (of_sweep heard here own done d).pairs in omega arith

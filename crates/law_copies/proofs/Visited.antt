@@ -14,7 +14,7 @@ use Rattle.petal_state.specs.CellState.{cell_link, serves}
 use Rattle.petal_state.specs.Command.{state_after}
 use Rattle.petal_rules.specs.Log.{state_in}
 use Rattle.petal_rules.specs.Server.{Own, Server}
-use Rattle.petal_rules.specs.State.{id_of, is_in}
+use Rattle.petal_rules.specs.State.{State, id_of, is_in}
 use Rattle.petal_rules.specs.Store.{Store, chain_in}
 use Rattle.petal_rules.specs.World.{Setting, World, blank_joins_in, server_state, start, with_store}
 use Rattle.petal_rules.proofs.Tests.{both_true, by_bool, number_itself, same_numbers, same_or_apart, some_or_none, true_false}
@@ -22,56 +22,78 @@ use Rattle.law_log.specs.Requested.{WasStarted}
 use Rattle.law_state.specs.Plain.{IsPlainLog}
 use Rattle.law_state.specs.Started.{is_flagged}
 use Rattle.law_steps.specs.Ready.{IsRising}
+use Rattle.law_steps.proofs.Fronts.{front_itself, front_on}
 use Rattle.law_steps.proofs.Records.{split_last}
 use Rattle.law_copies.specs.Good.{Good}
-use Rattle.law_copies.specs.Visits.{AreReached, HasBeen, HasReached, IsHere, IsLinked, Visits, is_at, place_by, place_on, store_by, visited}
-use Rattle.law_copies.proofs.Places.{linked_on, one_row, places_up}
+use Rattle.law_copies.specs.Visits.{AliveIn, AreReached, HasBeen, HasReached, IsHere, IsLinked, Visits, is_alive, is_at, place_by, place_on, store_by, visited}
+use Rattle.law_copies.proofs.Places.{one_row}
 
 -- ### Where a server is
 
--- the server is In as itself, at this place of the cell's link
+alive_so : (state : State) (cell : Cell) → AliveIn state cell → is_alive state cell ≡ true
+alive_so state cell alive = grind arith
+
+so_alive : (state : State) (cell : Cell) → is_alive state cell ≡ true → AliveIn state cell
+so_alive state cell e = grind arith
+
+-- the server is In as itself, at this place of the cell's link, and the cell is not dead
 pub record IsAt (setting : Setting) (n : ℕ) (server : Server) (place : ℕ) (cell : Cell) : Type 0 where
   pub row : LinkRow
   pub linked : IsLinked setting server.log.applied cell row
   pub seat : is_in (state_in setting.servers server.log) n server.life.inc ≡ true
+  pub alive : AliveIn (state_in setting.servers server.log) cell
   pub at : place ≡ place_by setting server.log.applied row
 
 module _ (setting : Setting) (n : ℕ) (server : Server) where
   pub is_at_so : (cell : Cell) (row : LinkRow) → IsLinked setting server.log.applied cell row
-      → is_in (state_in setting.servers server.log) n server.life.inc ≡ true → is_at setting n server (place_by setting server.log.applied row) cell ≡ true
-  is_at_so cell row is seat =
+      → is_in (state_in setting.servers server.log) n server.life.inc ≡ true → AliveIn (state_in setting.servers server.log) cell
+      → is_at setting n server (place_by setting server.log.applied row) cell ≡ true
+  is_at_so cell row is seat alive =
       let place = place_by setting server.log.applied row in
-      ap (λ b. b && option_map_or (nat_eq place) (place_on setting server cell) false) seat
+      ap (λ b. b && (is_alive (state_in setting.servers server.log) cell && option_map_or (nat_eq place) (place_on setting server cell) false)) seat
+      ∙ ap (λ b. b && option_map_or (nat_eq place) (place_on setting server cell) false) (alive_so (state_in setting.servers server.log) cell alive)
       ∙ ap (λ o. option_map_or (nat_eq place) (option_map (λ r. place_by setting server.log.applied r) o) false) is
       ∙ number_itself place
 
   pub at_by : (place : ℕ) (cell : Cell) → is_at setting n server place cell ≡ true → IsAt setting n server place cell
   at_by place cell e =
-      let two = both_true (is_in (state_in setting.servers server.log) n server.life.inc) (option_map_or (nat_eq place) (place_on setting server cell) false) e in
+      let there = option_map_or (nat_eq place) (place_on setting server cell) false in
+      let alive = is_alive (state_in setting.servers server.log) cell in
+      let two = both_true (is_in (state_in setting.servers server.log) n server.life.inc) (alive && there) e in
+      let last = both_true alive there two.1 in
       elim (some_or_none (cell_link (state_in setting.servers server.log) cell)) [
         | inl h ↦ record {
           row = h.0;
           linked = h.1;
           seat = two.0;
+          alive = so_alive (state_in setting.servers server.log) cell last.0;
           at = same_numbers place (place_by setting server.log.applied h.0)
-              (sym (ap (λ o. option_map_or (nat_eq place) (option_map (λ r. place_by setting server.log.applied r) o) false) h.1) ∙ two.1);
+              (sym (ap (λ o. option_map_or (nat_eq place) (option_map (λ r. place_by setting server.log.applied r) o) false) h.1) ∙ last.1);
         }
-        | inr none ↦ true_false two.1 (ap (λ o. option_map_or (nat_eq place) (option_map (λ r. place_by setting server.log.applied r) o) false) none)
+        | inr none ↦ true_false last.1 (ap (λ o. option_map_or (nat_eq place) (option_map (λ r. place_by setting server.log.applied r) o) false) none)
       ]
 
   -- the place at which it serves the link, or 0
+  abbrev place_served : Option LinkRow → ℕ
+  place_served o = option_map_or (λ row. if serves n row row.state then place_by setting server.log.applied row else 0) o 0
+
+  abbrev is_seated : Cell → Bool
+  is_seated cell = is_in (state_in setting.servers server.log) n server.life.inc && is_alive (state_in setting.servers server.log) cell
+
   abbrev pub served_at : Cell → ℕ
-  served_at cell =
-      if is_in (state_in setting.servers server.log) n server.life.inc
-      then option_map_or (λ row. if serves n row row.state then place_by setting server.log.applied row else 0) (cell_link (state_in setting.servers server.log) cell) 0
-      else 0
+  served_at cell = if is_seated cell then place_served (cell_link (state_in setting.servers server.log) cell) else 0
+
+  seated_so : (cell : Cell) → is_in (state_in setting.servers server.log) n server.life.inc ≡ true → AliveIn (state_in setting.servers server.log) cell
+      → is_seated cell ≡ true
+  seated_so cell seat alive =
+      ap (λ b. b && is_alive (state_in setting.servers server.log) cell) seat ∙ alive_so (state_in setting.servers server.log) cell alive
 
   pub served_so : (cell : Cell) (row : LinkRow) → IsLinked setting server.log.applied cell row
-      → is_in (state_in setting.servers server.log) n server.life.inc ≡ true → serves n row row.state ≡ true
-      → served_at cell ≡ place_by setting server.log.applied row
-  served_so cell row is seat serving =
-      ap (λ b. if b then option_map_or (λ r. if serves n r r.state then place_by setting server.log.applied r else 0) (cell_link (state_in setting.servers server.log) cell) 0 else 0) seat
-      ∙ ap (λ o. option_map_or (λ r. if serves n r r.state then place_by setting server.log.applied r else 0) o 0) is
+      → is_in (state_in setting.servers server.log) n server.life.inc ≡ true → AliveIn (state_in setting.servers server.log) cell
+      → serves n row row.state ≡ true → served_at cell ≡ place_by setting server.log.applied row
+  served_so cell row is seat alive serving =
+      ap (λ b. if b then place_served (cell_link (state_in setting.servers server.log) cell) else 0) (seated_so cell seat alive)
+      ∙ ap place_served is
       ∙ ap (λ b. if b then place_by setting server.log.applied row else 0) serving
 
   -- it serves the link there
@@ -79,23 +101,31 @@ module _ (setting : Setting) (n : ℕ) (server : Server) where
     pub row : LinkRow
     pub linked : IsLinked setting server.log.applied cell row
     pub seat : is_in (state_in setting.servers server.log) n server.life.inc ≡ true
+    pub alive : AliveIn (state_in setting.servers server.log) cell
     pub serving : serves n row row.state ≡ true
     pub at : place_by setting server.log.applied row ≡ place
 
   pub served_by : (cell : Cell) → (served_at cell ≡ 0) ⊎ ServesAt cell (served_at cell)
-  served_by cell = by_bool (is_in (state_in setting.servers server.log) n server.life.inc)
-      (λ seat. elim (some_or_none (cell_link (state_in setting.servers server.log) cell)) [
+  served_by cell = by_bool (is_seated cell)
+      (λ on.
+      let two = both_true (is_in (state_in setting.servers server.log) n server.life.inc) (is_alive (state_in setting.servers server.log) cell) on in
+      let alive = so_alive (state_in setting.servers server.log) cell two.1 in
+      let seated : served_at cell ≡ place_served (cell_link (state_in setting.servers server.log) cell) =
+      ap (λ b. if b then place_served (cell_link (state_in setting.servers server.log) cell) else 0) on in
+      elim (some_or_none (cell_link (state_in setting.servers server.log) cell)) [
         | inl h ↦ by_bool (serves n h.0 h.0.state)
-            (λ on. inr (record { row = h.0; linked = h.1; seat = seat; serving = on; at = sym (served_so cell h.0 h.1 seat on) }))
-            (λ off. inl (seated seat ∙ ap (λ o. option_map_or (λ r. if serves n r r.state then place_by setting server.log.applied r else 0) o 0) h.1
-            ∙ ap (λ b. if b then place_by setting server.log.applied h.0 else 0) off))
-        | inr none ↦ inl (seated seat ∙ ap (λ o. option_map_or (λ r. if serves n r r.state then place_by setting server.log.applied r else 0) o 0) none)
+            (λ serving. inr (record {
+              row = h.0;
+              linked = h.1;
+              seat = two.0;
+              alive = alive;
+              serving = serving;
+              at = sym (served_so cell h.0 h.1 two.0 alive serving);
+            }))
+            (λ off. inl (seated ∙ ap place_served h.1 ∙ ap (λ b. if b then place_by setting server.log.applied h.0 else 0) off))
+        | inr none ↦ inl (seated ∙ ap place_served none)
       ])
-      (λ out. inl (ap (λ b. if b then option_map_or (λ r. if serves n r r.state then place_by setting server.log.applied r else 0) (cell_link (state_in setting.servers server.log) cell) 0 else 0) out))
-    where
-      seated : is_in (state_in setting.servers server.log) n server.life.inc ≡ true
-          → served_at cell ≡ option_map_or (λ r. if serves n r r.state then place_by setting server.log.applied r else 0) (cell_link (state_in setting.servers server.log) cell) 0
-      seated seat = ap (λ b. if b then option_map_or (λ r. if serves n r r.state then place_by setting server.log.applied r else 0) (cell_link (state_in setting.servers server.log) cell) 0 else 0) seat
+      (λ out. inl (ap (λ b. if b then place_served (cell_link (state_in setting.servers server.log) cell) else 0) out))
 
 -- what a server is at a place: its own part as it is in this world, where it is there, and else what it was
 abbrev pub seen : Setting → Visits → World → Visits
@@ -135,10 +165,10 @@ module _ (setting : Setting) (records : List Record) (top : List Command) (w v :
 
   -- what the server is at a place where it is now
   pub visited_here : (cell : Cell) (row : LinkRow) → IsLinked setting front cell row → is_in (state_in setting.servers server.log) k server.life.inc ≡ true
-      → later k (place_by setting front row) cell ≡ Some server.own
-  visited_here cell row is seat =
+      → AliveIn (state_in setting.servers server.log) cell → later k (place_by setting front row) cell ≡ Some server.own
+  visited_here cell row is seat alive =
       ap (λ b. if b && is_at setting k server (place_by setting front row) cell then Some server.own else good.visits k (place_by setting front row) cell) (number_itself k)
-      ∙ ap (λ b. if b then Some server.own else good.visits k (place_by setting front row) cell) (is_at_so setting k server cell row is seat)
+      ∙ ap (λ b. if b then Some server.own else good.visits k (place_by setting front row) cell) (is_at_so setting k server cell row is seat alive)
 
   pub visited_apart : (n place : ℕ) (cell : Cell) → n ≢ k → later n place cell ≡ good.visits n place cell
   visited_apart n place cell ne = by_bool (n == k)
@@ -183,21 +213,26 @@ module _ (setting : Setting) (records : List Record) (top : List Command) (w v :
   seat_now : is_in (server_state setting v k) k (v.servers k).life.inc ≡ true → is_in (state_in setting.servers server.log) k server.life.inc ≡ true
   seat_now seat = subst (λ (s : Server). is_in (state_in setting.servers s.log) k s.life.inc ≡ true) step.here seat
 
+  alive_now : (cell : Cell) → AliveIn (server_state setting v k) cell → AliveIn (state_in setting.servers server.log) cell
+  alive_now cell alive = subst (λ (s : Server). AliveIn (state_in setting.servers s.log) cell) step.here alive
+
   pub here_now : (n : ℕ) (cell : Cell) (row : LinkRow) → IsLinked setting (v.servers n).log.applied cell row
-      → is_in (server_state setting v n) n (v.servers n).life.inc ≡ true → IsHere setting v later n cell row
+      → is_in (server_state setting v n) n (v.servers n).life.inc ≡ true → AliveIn (server_state setting v n) cell → IsHere setting v later n cell row
   here_now n cell row = elim (same_or_apart n k) [
-    | inl e ↦ subst (λ m. IsLinked setting (v.servers m).log.applied cell row → is_in (server_state setting v m) m (v.servers m).life.inc ≡ true → IsHere setting v later m cell row)
+    | inl e ↦ subst (λ m. IsLinked setting (v.servers m).log.applied cell row → is_in (server_state setting v m) m (v.servers m).life.inc ≡ true
+        → AliveIn (server_state setting v m) cell → IsHere setting v later m cell row)
         (sym e)
-        (λ is seat. record {
+        (λ is seat alive. record {
           own = server.own;
           is = ap (λ (s : Server). later k (place_by setting s.log.applied row) cell) step.here
-              ∙ visited_here cell row (subst (λ (s : Server). IsLinked setting s.log.applied cell row) step.here is) (seat_now seat);
+              ∙ visited_here cell row (subst (λ (s : Server). IsLinked setting s.log.applied cell row) step.here is) (seat_now seat) (alive_now cell alive);
           same = ap (λ (s : Server). s.own) (sym step.here);
         })
-    | inr ne ↦ (λ is seat.
+    | inr ne ↦ (λ is seat alive.
         let same = step.others n ne in
         let was = good.here n cell row (subst (λ (s : Server). IsLinked setting s.log.applied cell row) same is)
-        (subst (λ (s : Server). is_in (state_in setting.servers s.log) n s.life.inc ≡ true) same seat) in
+        (subst (λ (s : Server). is_in (state_in setting.servers s.log) n s.life.inc ≡ true) same seat)
+        (subst (λ (s : Server). AliveIn (state_in setting.servers s.log) cell) same alive) in
         record {
           own = was.own;
           is = ap (λ (s : Server). later n (place_by setting s.log.applied row) cell) same ∙ visited_apart n _ cell ne ∙ was.is;
@@ -206,39 +241,32 @@ module _ (setting : Setting) (records : List Record) (top : List Command) (w v :
   ]
 
   has_been : (n place : ℕ) (cell : Cell) → HasBeen setting w n place cell → HasBeen setting v n place cell
-  has_been n place cell was = elim (same_or_apart n k) [
-    | inl e ↦ subst (λ m. HasBeen setting v m place cell) (sym e) (here (subst (λ m. HasBeen setting w m place cell) e was))
-    | inr ne ↦ (
-        let same = sym (step.others n ne) in
-        record {
-          row = was.row;
-          linked = subst (λ (s : Server). IsLinked setting s.log.applied cell was.row) same was.linked;
-          past = subst (λ (s : Server). place ≤ place_by setting s.log.applied was.row) same was.past;
-        })
-  ]
-    where
-      here : HasBeen setting w k place cell → HasBeen setting v k place cell
-      here was =
-          let on = linked_on setting top step.plain (w.servers k).log.applied front cell was.row step.onward step.within was.linked in
-          let up = places_up setting top step.plain (w.servers k).log.applied front cell was.row on.0 step.onward step.within was.linked on.1 in
-          let past = was.past in
-          record {
-            row = on.0;
-            linked = subst (λ (s : Server). IsLinked setting s.log.applied cell on.0) (sym step.here) on.1;
-            past = subst (λ (s : Server). place ≤ place_by setting s.log.applied on.0) (sym step.here) (omega arith);
-          }
+  has_been n place cell was = record {
+    front = was.front;
+    within = elim (same_or_apart n k) [
+      | inl e ↦ subst (λ m. IsPrefix was.front (v.servers m).log.applied) (sym e)
+          (subst (λ (s : Server). IsPrefix was.front s.log.applied) (sym step.here)
+          (front_on was.front (w.servers k).log.applied front (subst (λ m. IsPrefix was.front (w.servers m).log.applied) e was.within) step.onward))
+      | inr ne ↦ subst (λ (s : Server). IsPrefix was.front s.log.applied) (sym (step.others n ne)) was.within
+    ];
+    row = was.row;
+    linked = was.linked;
+    alive = was.alive;
+    at = was.at;
+  }
 
   pub been_now : (n place : ℕ) (cell : Cell) (own : Own) → later n place cell ≡ Some own → HasBeen setting v n place cell
   been_now n place cell own e = elim (visited_by n place cell) [
     | inl same ↦ has_been n place cell (good.been n place cell own (sym same ∙ e))
-    | inr now ↦
-        let at = now.there.at in
-        subst (λ m. HasBeen setting v m place cell) (sym now.who)
-        (record {
-          row = now.there.row;
-          linked = subst (λ (s : Server). IsLinked setting s.log.applied cell now.there.row) (sym step.here) now.there.linked;
-          past = subst (λ (s : Server). place ≤ place_by setting s.log.applied now.there.row) (sym step.here) (omega arith);
-        })
+    | inr now ↦ record {
+      front = front;
+      within = subst (λ m. IsPrefix front (v.servers m).log.applied) (sym now.who)
+          (subst (λ (s : Server). IsPrefix front s.log.applied) (sym step.here) (front_itself front));
+      row = now.there.row;
+      linked = now.there.linked;
+      alive = now.there.alive;
+      at = sym now.there.at;
+    }
   ]
 
   -- each server's visits then: its own part as it is, where it is at the place, and else what they were
@@ -251,7 +279,7 @@ module _ (setting : Setting) (records : List Record) (top : List Command) (w v :
         ∙ by_bool (is_at setting n (w.servers n) place cell)
         (λ on.
         let at = at_by setting n (w.servers n) place cell on in
-        let h = good.here n cell at.row at.linked at.seat in
+        let h = good.here n cell at.row at.linked at.seat at.alive in
         ap (λ p. good.visits n p cell) at.at ∙ h.is ∙ ap Some h.same
         ∙ sym (ap (λ b. if b then Some (w.servers n).own else good.visits n place cell) on))
         (λ off. sym (ap (λ b. if b then Some (w.servers n).own else good.visits n place cell) off))
@@ -281,7 +309,7 @@ module _ (setting : Setting) (records : List Record) (top : List Command) (w v :
             let one : there.row ≡ row = one_row setting top step.plain f front cell row there.row prefix step.within is there.linked at in
             let serves_it : serves k there.row there.row.state ≡ true =
             subst (λ m. serves m there.row there.row.state ≡ true) now.who (subst (λ (r : LinkRow). serves n r r.state ≡ true) (sym one) serving) in
-            let same = served_so setting k server cell there.row there.linked there.seat serves_it in
+            let same = served_so setting k server cell there.row there.linked there.seat there.alive serves_it in
             omega arith)
       ]
 
@@ -292,6 +320,7 @@ module _ (setting : Setting) (records : List Record) (top : List Command) (w v :
           prefix = r.prefix;
           row = r.row;
           linked = r.linked;
+          alive = r.alive;
           at = r.at;
           server = r.server;
           serving = r.serving;
@@ -303,6 +332,7 @@ module _ (setting : Setting) (records : List Record) (top : List Command) (w v :
           prefix = r.prefix;
           row = r.row;
           linked = r.linked;
+          alive = r.alive;
           at = r.at;
           server = r.server;
           serving = r.serving;
@@ -325,11 +355,12 @@ module _ (setting : Setting) (records : List Record) (top : List Command) (w v :
                 prefix = step.within;
                 row = s.row;
                 linked = s.linked;
+                alive = s.alive;
                 at = s.at;
                 server = k;
                 serving = s.serving;
                 own = server.own;
-                visited = ap (λ place. later k place cell) (sym s.at) ∙ visited_here cell s.row s.linked s.seat;
+                visited = ap (λ place. later k place cell) (sym s.at) ∙ visited_here cell s.row s.linked s.seat s.alive;
               }))
         ]
       ]
@@ -382,18 +413,19 @@ module _ (setting : Setting) (records : List Record) (top : List Command) (w v :
 
   -- the server forgets no ballot for the Caught of a link that it holds alone, while it stays at the link's place
   abbrev pub KeepsFlags : Type 0
-  KeepsFlags = (cell : Cell) (row : LinkRow) (own : Own) (whole : Bool) → IsLinked setting front cell row → row.state ≡ Only k whole
+  KeepsFlags = (cell : Cell) (row : LinkRow) (own : Own) (whole : Bool) → IsLinked setting front cell row
+      → AliveIn (state_in setting.servers server.log) cell → row.state ≡ Only k whole
       → is_in (state_in setting.servers server.log) k server.life.inc ≡ true
       → good.visits k (place_by setting front row) cell ≡ Some own → is_flagged own (id_of row) ≡ true → is_flagged server.own (id_of row) ≡ true
 
   module _ (own : Record) (then_is : IsThen setting (records ++ own ∷ []) v) (flags : KeepsFlags) where
     pub started_now : (holder inc : ℕ) (whole : Bool) (f : List Command) (cell : Cell) (row : LinkRow) → IsPrefix f top → IsLinked setting f cell row
-        → row.state ≡ Only holder whole → is_in (state_after setting.servers f) holder inc ≡ true
+        → AliveIn (state_after setting.servers f) cell → row.state ≡ Only holder whole → is_in (state_after setting.servers f) holder inc ≡ true
         → WasStarted setting (records ++ own ∷ []) holder inc f (id_of row)
         → (o : Own) × (later holder (place_by setting f row) cell ≡ Some o) × (is_flagged o (id_of row) ≡ true)
-    started_now holder inc whole f cell row prefix is alone seat was = elim (split_last records own was.before was.later was.is) [
+    started_now holder inc whole f cell row prefix is alive alone seat was = elim (split_last records own was.before was.later was.is) [
       | inl all ↦ now (subst (λ rs. IsThen setting rs v) (sym all) then_is)
-      | inr more ↦ still (good.started holder inc whole f cell row prefix is alone seat
+      | inr more ↦ still (good.started holder inc whole f cell row prefix is alive alone seat
           (record { before = was.before; later = more.0; is = more.1; lives = was.lives; at = was.at; minded = was.minded }))
     ]
       where
@@ -406,7 +438,8 @@ module _ (setting : Setting) (records : List Record) (top : List Command) (w v :
             sym (ap (λ (s : Server). is_flagged s.own (id_of row)) (e holder)) ∙ was.minded in
             let h = here_now holder cell row (subst (λ g. IsLinked setting g cell row) (sym at) is)
             (subst (λ i. is_in (server_state setting v holder) holder i ≡ true) (sym lives)
-            (subst (λ g. is_in (state_after setting.servers g) holder inc ≡ true) (sym at) seat)) in
+            (subst (λ g. is_in (state_after setting.servers g) holder inc ≡ true) (sym at) seat))
+            (subst (λ g. AliveIn (state_after setting.servers g) cell) (sym at) alive) in
             (h.own, ap (λ g. later holder (place_by setting g row) cell) (sym at) ∙ h.is, ap (λ (o : Own). is_flagged o (id_of row)) h.same ∙ minded)
 
         still : (o : Own) × (good.visits holder (place_by setting f row) cell ≡ Some o) × (is_flagged o (id_of row) ≡ true)
@@ -419,6 +452,7 @@ module _ (setting : Setting) (records : List Record) (top : List Command) (w v :
               let before : good.visits k (place_by setting front there.row) cell ≡ Some h.0 =
               ap (λ place. good.visits k place cell) (sym there.at) ∙ subst (λ m. good.visits m (place_by setting f row) cell ≡ Some h.0) is_now.who h.1 in
               let mine : there.row.state ≡ Only k whole = ap (λ (r : LinkRow). r.state) one ∙ alone ∙ ap (λ n. Only n whole) is_now.who in
-              let flagged = flags cell there.row h.0 whole there.linked mine there.seat before (ap (λ (r : LinkRow). is_flagged h.0 (id_of r)) one ∙ h.2) in
+              let flagged = flags cell there.row h.0 whole there.linked there.alive mine there.seat before
+              (ap (λ (r : LinkRow). is_flagged h.0 (id_of r)) one ∙ h.2) in
               (server.own, is_now.is, ap (λ (r : LinkRow). is_flagged server.own (id_of r)) (sym one) ∙ flagged))
         ]

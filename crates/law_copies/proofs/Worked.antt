@@ -1,5 +1,5 @@
 -- What a job of a server that is In as itself keeps at the places of its own entries.
-use Rattle.std.proofs.Common.{◌≡◌, ◌≢◌, ◌≤◌, ◌<◌, ◌⊎◌, ℕ, List, [], Bool, true, false, Option, Some, None, is_some, refl, sym, ap, ◌∙◌, subst, inl, inr}
+use Rattle.std.proofs.Common.{◌≡◌, ◌≢◌, ◌≤◌, ◌<◌, ◌+◌, ◌⊎◌, ℕ, List, [], Bool, true, false, Option, Some, None, is_some, refl, sym, ap, ◌∙◌, subst, inl, inr}
 use Rattle.std.specs.Ordering.{nat_cmp}
 use Rattle.global_tables.specs.Link.{has_server, other_of}
 use Rattle.global_tables.specs.declared.link.LinkRow.{LinkRow}
@@ -10,29 +10,34 @@ use Rattle.petal_table.specs.Table.{at}
 use Rattle.petal_msg.specs.Kinds.{about, subject_of}
 use Rattle.petal_msg.specs.declared.body.Body.{Body}
 use Rattle.petal_msg.specs.declared.body.Body.TheVariants as body
+use Rattle.petal_msg.specs.declared.copying.LastCopy.{LastCopy}
 use Rattle.petal_history.specs.Claims.{IsMarked, IsToBeCopied}
 use Rattle.petal_history.specs.declared.record.Record.{Record}
 use Rattle.petal_state.specs.CellState.{cell_link}
 use Rattle.petal_state.specs.Command.{is_alone, state_after}
 use Rattle.petal_rules.specs.Lists.{In}
 use Rattle.petal_rules.specs.Log.{state_in}
-use Rattle.petal_rules.specs.Server.{Own, Post, Server, Done}
-use Rattle.petal_rules.specs.State.{holder_of, id_of, is_in, is_whole}
+use Rattle.petal_rules.specs.Progress.{last_copy}
+use Rattle.petal_rules.specs.Server.{Own, Pairs, Post, Server, Done}
+use Rattle.petal_rules.specs.State.{holder_of, id_of, is_in, is_whole, live}
 use Rattle.petal_rules.specs.Store.{Store, cell_cmp, chain_in}
 use Rattle.petal_rules.specs.World.{Setting, World, blank_joins_in, chosen_log, server_state}
-use Rattle.petal_rules.proofs.Tests.{same_numbers, same_or_apart, same_some}
+use Rattle.petal_rules.proofs.Tests.{none_some, same_numbers, same_or_apart, same_some, some_or_none}
+use Rattle.petal_table.proofs.Rows.{at-empty}
 use Rattle.law_state.specs.Firm.{Firm}
+use Rattle.law_state.specs.Homes.{stage_at}
 use Rattle.law_state.specs.Started.{is_flagged}
 use Rattle.law_state.proofs.Leaves.{other_between}
-use Rattle.law_state.proofs.Roles.{secondary_is_one}
+use Rattle.law_state.proofs.Roles.{primary_is_one, secondary_is_one}
 use Rattle.law_steps.specs.Happens.{Handled, is_between, own_place}
 use Rattle.law_steps.specs.Ready.{IsRising, Rests}
-use Rattle.law_copies.specs.BothSteps.{LeadKeeps, SecondKeeps}
+use Rattle.law_copies.specs.BothSteps.{LacksFill, LeadKeeps, SecondKeeps}
 use Rattle.law_copies.specs.Copied.{AreAlike, AreCopying, IsCovered, IsLeft, IsOfLink, IsPage, IsTold, Is_marked_here, Is_to_be_copied, NotCopied, links_of}
 use Rattle.law_copies.specs.Good.{AreBeside, AreTwins, Good, IsUnheard, StaysLeft, pair_at}
-use Rattle.law_copies.specs.Pair.{HaveMarks, IsRecalled, Known, PairOk, pair_of}
+use Rattle.law_copies.specs.Pair.{HaveMarks, IsRecalled, Known, PairOk, far, pair_of}
 use Rattle.law_copies.specs.Steps.{AreFilled, HolderKeeps, IsFollowing, IsHolding, IsLeftBy, IsNotOf, KeepsCell, OtherKeeps}
-use Rattle.law_copies.specs.Visits.{HasFilled, IsLinked, Visits, half, place_by, store_by, with_stores}
+use Rattle.law_copies.specs.Visits.{AliveIn, HasFilled, IsLinked, Visits, half, place_by, store_by, with_stores}
+use Rattle.law_copies.proofs.NewPlaces.{half_store}
 use Rattle.law_copies.proofs.Framed.{LeavesStore, alike_same, marks_back, store_same}
 use Rattle.law_copies.proofs.Later.{holder_is_one, unseen_beyond}
 use Rattle.law_copies.proofs.Moves.{known_later}
@@ -44,11 +49,13 @@ use Rattle.law_copies.proofs.Visited.{IsStep, counted, counted_up, later, none_b
 
 -- what a job, or a ballot that is started, keeps by itself
 pub record IsKeeping (setting : Setting) (w : World) (k : ℕ) (done : Done) : Type 0 where
-  pub lead : (cell : Cell) (row : LinkRow) (second : Own) → cell_link (server_state setting w k) cell ≡ Some row → row.state ≡ Both → row.primary ≡ k
+  pub lead : (cell : Cell) (row : LinkRow) (second : Own) → cell_link (server_state setting w k) cell ≡ Some row
+      → AliveIn (server_state setting w k) cell → row.state ≡ Both → row.primary ≡ k
       → PairOk (pair_of (w.servers k).own second cell)
       → ((said : Body) → Handled w k said → (about said).cell ≡ Some cell → Known (pair_of (w.servers k).own second cell) said)
       → LeadKeeps (w.servers k).own done.own done.posts second cell
-  pub second : (cell : Cell) (row : LinkRow) (first : Own) → cell_link (server_state setting w k) cell ≡ Some row → row.state ≡ Both → row.secondary ≡ k
+  pub second : (cell : Cell) (row : LinkRow) (first : Own) → cell_link (server_state setting w k) cell ≡ Some row
+      → AliveIn (server_state setting w k) cell → row.state ≡ Both → row.secondary ≡ k
       → PairOk (pair_of first (w.servers k).own cell)
       → ((said : Body) → Handled w k said → (about said).cell ≡ Some cell → Known (pair_of first (w.servers k).own cell) said)
       → SecondKeeps (w.servers k).own done.own done.posts first cell
@@ -58,10 +65,15 @@ pub record IsKeeping (setting : Setting) (w : World) (k : ℕ) (done : Done) : T
   pub other : (cell : Cell) (row : LinkRow) (holder : Option Own)
       → IsFollowing (Handled w k) (own_place setting w k) (links_of (server_state setting w k) cell.map) row cell holder (w.servers k).own
       → OtherKeeps (links_of (server_state setting w k) cell.map) row cell holder (w.servers k).own done
-  pub unlinked : (cell : Cell) → cell_link (server_state setting w k) cell ≡ None → KeepsCell cell (w.servers k).own done.own
-  pub lost : (cell : Cell) (row : LinkRow) → cell_link (server_state setting w k) cell ≡ Some row → row.state ≡ Lost → KeepsCell cell (w.servers k).own done.own
+  pub unlinked : (cell : Cell) → cell_link (server_state setting w k) cell ≡ None → AliveIn (server_state setting w k) cell
+      → KeepsCell cell (w.servers k).own done.own
+  pub lost : (cell : Cell) (row : LinkRow) → cell_link (server_state setting w k) cell ≡ Some row → AliveIn (server_state setting w k) cell
+      → row.state ≡ Lost → KeepsCell cell (w.servers k).own done.own
   pub silent : (cell : Cell) → IsNotOf (own_place setting w k) cell → (post : Post) → In post done.posts → (about post.body).cell ≡ Some cell
       → is_between (subject_of post.body) ≡ false
+  pub lives : (post : Post) → In post done.posts → is_between (subject_of post.body) ≡ true → (cell : Cell) → (about post.body).cell ≡ Some cell
+      → live (server_state setting w k) cell ≡ true
+  pub copied : (cell : Cell) (last : LastCopy) → last_copy done.own cell ≡ Some last → live (server_state setting w k) cell ≡ true
   pub paged : (cell : Cell) (row : LinkRow) → cell_link (server_state setting w k) cell ≡ Some row → (post : Post) → In post done.posts
       → (after block : Option ℕ) → post.body ≡ body.Hello row.map row.link after block → (n : ℕ) × (holder_of k row ≡ Some n)
   pub pages : (post : Post) → In post done.posts → (map link block : ℕ) (after : Option ℕ) → post.body ≡ body.Hello map link after (Some block)
@@ -69,8 +81,9 @@ pub record IsKeeping (setting : Setting) (w : World) (k : ℕ) (done : Done) : T
   pub rising : (cell : Cell) → IsRising nat_cmp (chain_in done.own.store.chains cell)
   pub filled : AreFilled done.own.store.chains
   pub counts : (w.servers k).own.pairs.next ≤ done.own.pairs.next
-  pub marks : HaveMarks done.own.pairs.pending done.own.store
-  pub unheard : (cell : Cell) → cell_link (server_state setting w k) cell ≡ None → IsUnheard (w.servers k).own cell → IsUnheard done.own cell
+  pub marks : HaveMarks (server_state setting w k) done.own.pairs.pending done.own.store
+  pub unheard : (cell : Cell) → stage_at (server_state setting w k) cell ≡ 0 → IsUnheard (server_state setting w k) (w.servers k).own cell
+      → IsUnheard (server_state setting w k) done.own cell
 
 -- a job of a server that runs, and is In as itself: its step applies no entry, and leaves what the job does; by the stores that count
 pub record IsJob (setting : Setting) (w : World) (stores : ℕ → Store) (v : World) (k : ℕ) (server : Server) (done : Done) : Type 0 where
@@ -133,18 +146,24 @@ module _ (setting : Setting) (records : List Record) (w : World) (stores : ℕ �
   pub visit_apart : (n place : ℕ) (cell : Cell) → n ≢ k → visits n place cell ≡ good.visits n place cell
   visit_apart = visited_apart setting records top (with_stores w stores) v k server good job.step
 
-  pub visit_now : (cell : Cell) (row : LinkRow) → IsLinked setting front cell row → visits k (place_by setting front row) cell ≡ Some done.own
-  visit_now cell row is =
+  pub visit_now : (cell : Cell) (row : LinkRow) → IsLinked setting front cell row → AliveIn (server_state setting w k) cell
+      → visits k (place_by setting front row) cell ≡ Some done.own
+  visit_now cell row is alive =
       ap (λ f. visits k (place_by setting f row) cell) (sym job.applied)
       ∙ visited_here setting records top (with_stores w stores) v k server good job.step cell row (subst (λ f. IsLinked setting f cell row) (sym job.applied) is) seat_now
+      (subst (λ f. AliveIn (state_after setting.servers f) cell) (sym job.applied) alive)
       ∙ ap Some job.own_is
     where
       seat_now : is_in (state_in setting.servers server.log) k server.life.inc ≡ true
       seat_now = (λ i. is_in (state_after setting.servers (job.applied i)) k (job.inc i)) ∙ job.works.seat
 
-  module _ (cell : Cell) (row : LinkRow) (is : IsLinked setting front cell row) where
+  module _ (cell : Cell) (row : LinkRow) (is : IsLinked setting front cell row) (alive : AliveIn (server_state setting w k) cell) where
     abbrev place : ℕ
     place = place_by setting front row
+
+    -- the cell is not dead by what is chosen, either
+    abbrev IsAliveLast : Type 0
+    IsAliveLast = AliveIn (state_after setting.servers top) cell
 
     -- ### In Both
 
@@ -165,53 +184,92 @@ module _ (setting : Setting) (records : List Record) (w : World) (stores : ℕ �
     beside_now n ne = λ i. half (sym (visit_apart n place cell ne) i) (sym (store_apart n ne) i)
 
     own_half : done.own ≡ half (visits k place cell) (news k)
-    own_half = λ i. half (sym (visit_now cell row is) i) (sym store_now i)
+    own_half = λ i. half (sym (visit_now cell row is alive) i) (sym store_now i)
 
-    both_first : row.state ≡ Both → row.primary ≡ k → BothNow
-    both_first both leads =
+    -- the server's visit was its own part
+    was_here : good.visits k place cell ≡ Some own
+    was_here = seated.here_visit setting records w stores k good job.firm job.rests job.works cell row is alive
+
+    -- what the second server had nothing of, by the stores that count
+    was_lacking : (n m : ℕ) (lead : Own) → good.visits n place cell ≡ Some lead → AreTwins olds good.visits place cell n m
+        → pair_at olds good.visits place cell n m ≡ pair_of lead (beside m) cell → LacksFill lead (beside m) cell
+    was_lacking n m lead visit twins same op there fill le =
+        ap (λ (a : Store). at nat_cmp (chain_in a.chains cell) op.key.epoch) (half_store (good.visits m place cell) (olds m))
+        ∙ twins.lacks lead op visit there fill (subst (λ p. far p ≤ op.op + op.op) (sym same) le)
+
+    both_first : IsAliveLast → row.state ≡ Both → row.primary ≡ k → BothNow
+    both_first lives both leads =
         let m = row.secondary in
         let ne : m ≢ k = λ f. apart (leads ∙ sym f) in
-        let keeps = job.keeping.lead cell row (beside m) is both leads (seated.first_ok setting records w stores k good job.firm job.rests job.works cell row is both leads)
-        (seated.first_known setting records w stores k good job.firm job.rests job.works cell row is both leads) in
-        let old_at = seated.first_at setting records w stores k good job.firm job.rests job.works cell row is both leads in
+        let keeps = job.keeping.lead cell row (beside m) is alive both leads
+        (seated.first_ok setting records w stores k good job.firm job.rests job.works cell row is alive lives both leads)
+        (seated.first_known setting records w stores k good job.firm job.rests job.works cell row is alive lives both leads) in
+        let old_at = seated.first_at setting records w stores k good job.firm job.rests job.works cell row is alive lives both leads in
+        let old_twins = seated.twins_here setting records w stores k good job.firm job.rests job.works cell row is alive lives both
+        (primary_is_one row k leads) in
         let new_at : pair_of done.own (beside m) cell ≡ pair_at news visits place cell row.primary m =
         (λ i. pair_of (own_half i) (beside_now m ne i) cell) ∙ (λ i. pair_at news visits place cell (sym leads i) m) in
+        let mine : (o : Own) → visits row.primary place cell ≡ Some o → done.own ≡ o =
+        λ o visit. same_some (sym (visit_now cell row is alive) ∙ ap (λ n. visits n place cell) (sym leads) ∙ visit) in
         record {
           twins = record {
             pair = subst PairOk new_at keeps.keeps.ok;
-            recalled = λ o op visit there.
-                let same : done.own ≡ o = same_some (sym (visit_now cell row is) ∙ ap (λ n. visits n place cell) (sym leads) ∙ visit) in
-                subst (λ s. IsRecalled op s cell) (sym (ap news leads ∙ store_now))
-                (keeps.recalled op (ap (λ (x : Own). at cell_cmp x.pairs.pending cell) same ∙ there));
+            recalled = λ o op visit there. subst (λ s. IsRecalled op s cell) (sym (ap news leads ∙ store_now))
+                (keeps.recalled op (ap (λ (x : Own). at cell_cmp x.pairs.pending cell) (mine o visit) ∙ there));
+            lacks = λ o op visit there fill le.
+                ap (λ (a : Store). at nat_cmp (chain_in a.chains cell) op.key.epoch)
+                (store_apart m ne ∙ sym (half_store (good.visits m place cell) (olds m)))
+                ∙ keeps.lacks
+                (was_lacking row.primary m own (ap (λ n. good.visits n place cell) leads ∙ was_here) old_twins old_at) op
+                (ap (λ (x : Own). at cell_cmp x.pairs.pending cell) (mine o visit) ∙ there) fill (subst (λ p. far p ≤ op.op + op.op) (sym new_at) le);
           };
           known = λ said h. subst (λ p. Known p said) new_at
               (known_later (pair_of own (beside m) cell) (pair_of done.own (beside m) cell) keeps.keeps.grows said (subst (λ p. Known p said) old_at h));
           says = λ post i of. subst (λ p. Known p post.body) new_at (keeps.says post i of);
         }
 
-    both_second : row.state ≡ Both → row.secondary ≡ k → BothNow
-    both_second both follows =
+    both_second : IsAliveLast → row.state ≡ Both → row.secondary ≡ k → BothNow
+    both_second lives both follows =
         let n = row.primary in
         let ne : n ≢ k = λ f. apart (f ∙ sym follows) in
-        let keeps = job.keeping.second cell row (beside n) is both follows (seated.second_ok setting records w stores k good job.firm job.rests job.works cell row is both follows)
-        (seated.second_known setting records w stores k good job.firm job.rests job.works cell row is both follows) in
-        let old_at = seated.second_at setting records w stores k good job.firm job.rests job.works cell row is both follows in
+        let keeps = job.keeping.second cell row (beside n) is alive both follows
+        (seated.second_ok setting records w stores k good job.firm job.rests job.works cell row is alive lives both follows)
+        (seated.second_known setting records w stores k good job.firm job.rests job.works cell row is alive lives both follows) in
+        let old_at = seated.second_at setting records w stores k good job.firm job.rests job.works cell row is alive lives both follows in
         let new_at : pair_of (beside n) done.own cell ≡ pair_at news visits place cell n row.secondary =
         (λ i. pair_of (beside_now n ne i) (own_half i) cell) ∙ (λ i. pair_at news visits place cell n (sym follows i)) in
-        let twins = seated.twins_here setting records w stores k good job.firm job.rests job.works cell row is both (secondary_is_one row k follows) in
+        let twins = seated.twins_here setting records w stores k good job.firm job.rests job.works cell row is alive lives both
+        (secondary_is_one row k follows) in
         record {
           twins = record {
             pair = subst PairOk new_at keeps.keeps.ok;
             recalled = λ o op visit there. subst (λ s. IsRecalled op s cell) (sym (store_apart n ne))
                 (twins.recalled o op (sym (visit_apart n place cell ne) ∙ visit) there);
+            lacks = λ o op visit there fill le.
+                let was = sym (visit_apart n place cell ne) ∙ visit in
+                let memory : (half (good.visits n place cell) (olds n)).pairs ≡ o.pairs = ap (λ x. (half x (olds n)).pairs) was in
+                ap (λ (a : Store). at nat_cmp (chain_in a.chains cell) op.key.epoch) (ap news follows ∙ store_now)
+                ∙ keeps.lacks (second_lacking n twins old_at follows) op (ap (λ (p : Pairs). at cell_cmp p.pending cell) memory ∙ there) fill
+                (subst (λ p. far p ≤ op.op + op.op) (sym new_at) le);
           };
           known = λ said h. subst (λ p. Known p said) new_at
               (known_later (pair_of (beside n) own cell) (pair_of (beside n) done.own cell) keeps.keeps.grows said (subst (λ p. Known p said) old_at h));
           says = λ post i of. subst (λ p. Known p post.body) new_at (keeps.says post i of);
         }
+      where
+        -- what this server lacks as the second one
+        second_lacking : (n : ℕ) → AreTwins olds good.visits place cell n row.secondary
+            → pair_at olds good.visits place cell n row.secondary ≡ pair_of (beside n) own cell → row.secondary ≡ k → LacksFill (beside n) own cell
+        second_lacking n twins same follows op there fill le = elim (some_or_none (good.visits n place cell)) [
+          | inl h ↦
+              ap (λ (a : Store). at nat_cmp (chain_in a.chains cell) op.key.epoch) (sym (ap olds follows ∙ store_was))
+              ∙ twins.lacks h.0 op h.1 (sym (ap (λ x. at cell_cmp (half x (olds n)).pairs.pending cell) h.1) ∙ there) fill
+              (subst (λ p. far p ≤ op.op + op.op) (sym same) le)
+          | inr none ↦ none_some (ap (λ x. at cell_cmp (half x (olds n)).pairs.pending cell) none ∙ at-empty cell_cmp cell) there
+        ]
 
-    pub both_now : row.state ≡ Both → has_server k row ≡ true → BothNow
-    both_now both has = elim (other_between row k has) [ inl p ↦ both_second both p.1 | inr p ↦ both_first both p.0 ]
+    pub both_now : IsAliveLast → row.state ≡ Both → has_server k row ≡ true → BothNow
+    both_now lives both has = elim (other_between row k has) [ inl p ↦ both_second lives both p.1 | inr p ↦ both_first lives both p.0 ]
 
     -- ### Alone
 
@@ -224,22 +282,20 @@ module _ (setting : Setting) (records : List Record) (w : World) (stores : ℕ �
       pub told : (said : Body) → (about said).cell ≡ Some cell → IsTold row (good.visits holder place cell) (good.visits other place cell) said
           → IsTold row (visits holder place cell) (visits other place cell) said
       pub says : (post : Post) → In post done.posts → (about post.body).cell ≡ Some cell → IsTold row (visits holder place cell) (visits other place cell) post.body
-      pub beside : good.reached cell ≤ place → AreBeside news visits place row cell holder other
-      pub stays : (o : Own) → visits holder place cell ≡ Some o → ((p : ℕ) → place < p → visits other p cell ≡ None)
+      pub beside : IsAliveLast → good.reached cell ≤ place → AreBeside news visits place row cell holder other
+      pub stays : IsAliveLast → (o : Own) → visits holder place cell ≡ Some o → ((p : ℕ) → place < p → visits other p cell ≡ None)
           → StaysLeft row cell o (news holder)
-      pub unfilled : is_whole row.state ≡ true → (chain_in (news other).chains cell ≡ []) ⊎ HasFilled setting top visits front cell holder other
-      pub page : (after block : Option ℕ) → IsPage cell (olds other) (good.visits other place cell) after block
+      pub unfilled : IsAliveLast → is_whole row.state ≡ true → (chain_in (news other).chains cell ≡ []) ⊎ HasFilled setting top visits front cell holder other
+      pub page : IsAliveLast → (after block : Option ℕ) → IsPage cell (olds other) (good.visits other place cell) after block
           → IsPage cell (news other) (visits other place cell) after block
       pub pages : (post : Post) → In post done.posts → (after block : Option ℕ) → post.body ≡ body.Hello row.map row.link after block
           → IsPage cell (news other) (visits other place cell) after block
+      pub met : (post : Post) → In post done.posts → (after block : Option ℕ) → post.body ≡ body.Hello row.map row.link after block
+          → is_some (visits other place cell) ≡ true
       pub some : is_some (good.visits other place cell) ≡ true → is_some (visits other place cell) ≡ true
 
-    -- the server's visit was its own part
-    was_here : good.visits k place cell ≡ Some own
-    was_here = seated.here_visit setting records w stores k good job.firm job.rests job.works cell row is
-
     is_now : visits k place cell ≡ Some done.own
-    is_now = visit_now cell row is
+    is_now = visit_now cell row is alive
 
     module _ (whole : Bool) (alone : row.state ≡ Only k whole) where
       abbrev o : ℕ
@@ -255,18 +311,19 @@ module _ (setting : Setting) (records : List Record) (w : World) (stores : ℕ �
       o_visit = visit_apart o place cell o_apart
 
       pub keeps_holder : HolderKeeps (Handled w k) links row cell own vo done
-      keeps_holder = job.keeping.holder cell row vo (seated.holding setting records w stores k good job.firm job.rests job.works cell row is whole alone)
+      keeps_holder = job.keeping.holder cell row vo (seated.holding setting records w stores k good job.firm job.rests job.works cell row is alive whole alone)
 
       -- the two visits then
       then_holder : (P : Option Own → Option Own → Type 0) → P (Some done.own) vo → P (visits k place cell) (visits o place cell)
       then_holder P h = subst (λ x. P x (visits o place cell)) (sym is_now) (subst (P (Some done.own)) (sym o_visit) h)
 
-      holder_beside : good.reached cell ≤ place → AreBeside news visits place row cell k o
-      holder_beside last =
-          let old = (seated.alone_here setting records w stores k good job.firm job.rests job.works cell row is k whole alone).beside last in
+      holder_beside : IsAliveLast → good.reached cell ≤ place → AreBeside news visits place row cell k o
+      holder_beside lives last =
+          let old = (seated.alone_here setting records w stores k good job.firm job.rests job.works cell row is alive k whole alone).beside lives last in
           let was = subst (λ x. AreAlike row cell (olds k) (olds o) x) was_here old.alike in
           let alike = keeps_holder.alike (olds o) old.still
-          (seated.pages_here setting records w stores k good job.firm job.rests job.works cell row is whole alone last) (good.ever o (blank_joins_in setting front o) cell)
+          (seated.pages_here setting records w stores k good job.firm job.rests job.works cell row is alive whole alone lives last)
+          (good.ever o (blank_joins_in setting front o) cell)
           (subst (λ a. AreAlike row cell a (olds o) (Some own)) store_was was) in
           record {
             alike = subst (λ x. AreAlike row cell (news k) (news o) x) (sym is_now)
@@ -288,12 +345,12 @@ module _ (setting : Setting) (records : List Record) (w : World) (stores : ℕ �
         told = λ said of h. then_holder (λ x y. IsTold row x y said) (keeps_holder.told said of (subst (λ x. IsTold row x vo said) was_here h));
         says = λ post i of. then_holder (λ x y. IsTold row x y post.body) (keeps_holder.says post i of);
         beside = holder_beside;
-        stays = λ by e beyond. (
+        stays = λ lives by e beyond. (
           (λ marked. subst (λ a. IsMarked a cell) (sym store_now) (subst (λ (x : Own). IsMarked x.store cell) (same_some (sym e ∙ is_now)) marked)),
           (λ all copied. subst (λ a. IsToBeCopied row a cell) (sym store_now)
               (subst (λ (x : Own). IsToBeCopied row x.store cell) (same_some (sym e ∙ is_now)) all)),
         );
-        unfilled = λ all. inr (record {
+        unfilled = λ lives all. inr (record {
           more = front;
           within = job.firm.servers k;
           row = row;
@@ -302,9 +359,10 @@ module _ (setting : Setting) (records : List Record) (w : World) (stores : ℕ �
           own = done.own;
           visited = is_now;
         });
-        page = λ after block page. subst (λ x. IsPage cell (news o) x after block) (sym o_visit)
+        page = λ lives after block page. subst (λ x. IsPage cell (news o) x after block) (sym o_visit)
             (subst (λ b. IsPage cell b vo after block) (sym (store_apart o o_apart)) page);
         pages = λ post i after block e. no_page post i after block e;
+        met = λ post i after block e. no_page post i after block e;
         some = λ there. ap is_some o_visit ∙ there;
       }
 
@@ -323,45 +381,46 @@ module _ (setting : Setting) (records : List Record) (w : World) (stores : ℕ �
           (holder_is_one (server_state setting w k) (seated.steady setting records w stores k good job.firm job.rests job.works) h cell row is alone) (λ e. h_apart (sym e))
 
       pub keeps_other : OtherKeeps links row cell vh own done
-      keeps_other = job.keeping.other cell row vh (seated.following setting records w stores k good job.firm job.rests job.works cell row is h whole alone other has back)
+      keeps_other = job.keeping.other cell row vh
+          (seated.following setting records w stores k good job.firm job.rests job.works cell row is alive h whole alone other has back)
 
       then_other : (P : Option Own → Option Own → Type 0) → P vh (Some done.own) → P (visits h place cell) (visits k place cell)
       then_other P x = subst (λ a. P a (visits k place cell)) (sym h_visit) (subst (P vh) (sym is_now) x)
 
       -- the block that the holder had left to copy is so still
-      pub left_still : (m : IsLeftBy row vh cell) → IsMarked (olds h) cell
+      pub left_still : IsAliveLast → (m : IsLeftBy row vh cell) → IsMarked (olds h) cell
           ⊎ (IsToBeCopied row (olds h) cell × NotCopied (Some m.by) row cell.block)
-      left_still m =
-          let stays = (seated.alone_here setting records w stores k good job.firm job.rests job.works cell row is h whole alone).stays m.by m.met
+      left_still lives m =
+          let stays = (seated.alone_here setting records w stores k good job.firm job.rests job.works cell row is alive h whole alone).stays lives m.by m.met
           (λ p lt. ap (λ n. good.visits n p cell) other ∙ unseen_beyond setting records w stores job.firm good k cell row is p lt) in
           elim m.left [ inl marked ↦ inl (stays.0 marked) | inr all ↦ inr (stays.1 all.0 all.1, all.1) ]
 
       -- and then the holder has not started its ballot
       pub not_caught : {B : Type 0} → IsLeftBy row vh cell → (by : Own) → vh ≡ Some by → is_flagged by (id_of row) ≡ true → B
       not_caught m by e flagged =
-          let caught = (seated.alone_here setting records w stores k good job.firm job.rests job.works cell row is h whole alone).copying.caught by e flagged in
+          let caught = (seated.alone_here setting records w stores k good job.firm job.rests job.works cell row is alive h whole alone).copying.caught by e flagged in
           elim (subst (λ (x : Own). IsLeft x row cell) (same_some (sym m.met ∙ e)) m.left) [
             | inl marked ↦ absurd (caught.unmarked marked)
             | inr all ↦ absurd (caught.copied all.0 all.1)
           ]
 
       -- the copies are covered by that
-      left_covers : (m : IsLeftBy row vh cell) → IsCovered row cell (news h) (news k) vh
-      left_covers m = elim (left_still m) [
+      left_covers : IsAliveLast → (m : IsLeftBy row vh cell) → IsCovered row cell (news h) (news k) vh
+      left_covers lives m = elim (left_still lives m) [
         | inl marked ↦ Is_marked_here (subst (λ a. IsMarked a cell) (sym (store_apart h h_apart)) marked)
         | inr all ↦ Is_to_be_copied (subst (λ a. IsToBeCopied row a cell) (sym (store_apart h h_apart)) all.0)
             (subst (λ x. NotCopied x row cell.block) (sym m.met) all.1)
       ]
 
-      other_alike : good.reached cell ≤ place → AreAlike row cell (news h) (news k) vh
-      other_alike last = elim keeps_other.changes [
+      other_alike : IsAliveLast → good.reached cell ≤ place → AreAlike row cell (news h) (news k) vh
+      other_alike lives last = elim keeps_other.changes [
         | inl chain ↦
             alike_same row cell (olds h) own.store (news h) (news k) vh (leaves_apart h cell h_apart)
             (subst (λ b. LeavesStore own.store b cell) (sym store_now) (record { chain = chain; marks = keeps_other.marks }))
             (subst (λ a. AreAlike row cell (olds h) a vh) (ap olds other ∙ store_was)
-            ((seated.alone_here setting records w stores k good job.firm job.rests job.works cell row is h whole alone).beside last).alike)
+            ((seated.alone_here setting records w stores k good job.firm job.rests job.works cell row is alive h whole alone).beside lives last).alike)
         | inr m ↦ record {
-          covered = left_covers m;
+          covered = left_covers lives m;
           caught = λ by e flagged. not_caught m by e flagged;
         }
       ]
@@ -397,20 +456,20 @@ module _ (setting : Setting) (records : List Record) (w : World) (stores : ℕ �
         copying = then_other (λ x y. AreCopying links row cell x y) keeps_other.copying;
         told = λ said of t. then_other (λ x y. IsTold row x y said) (keeps_other.told said of (subst (λ y. IsTold row vh y said) was_here t));
         says = λ post i of. then_other (λ x y. IsTold row x y post.body) (keeps_other.says post i of);
-        beside = λ last. record {
-          alike = subst (AreAlike row cell (news h) (news k)) (sym h_visit) (other_alike last);
+        beside = λ lives last. record {
+          alike = subst (AreAlike row cell (news h) (news k)) (sym h_visit) (other_alike lives last);
           still = λ by e. ap (λ (x : Own). chain_in x.store.chains cell) (same_some (sym e ∙ is_now)) ∙ ap (λ (a : Store). chain_in a.chains cell) (sym store_now);
         };
-        stays = λ by e beyond.
-            let stays = (seated.alone_here setting records w stores k good job.firm job.rests job.works cell row is h whole alone).stays by
+        stays = λ lives by e beyond.
+            let stays = (seated.alone_here setting records w stores k good job.firm job.rests job.works cell row is alive h whole alone).stays lives by
             (sym h_visit ∙ e) (λ p lt. ap (λ n. good.visits n p cell) other ∙ nones k p cell (beyond p lt)) in (
               (λ marked. subst (λ a. IsMarked a cell) (sym (store_apart h h_apart)) (stays.0 marked)),
               (λ all copied. subst (λ a. IsToBeCopied row a cell) (sym (store_apart h h_apart)) (stays.1 all copied)),
             );
-        unfilled = λ all. unfilled_now
+        unfilled = λ lives all. unfilled_now
             (subst (λ n. (chain_in (olds n).chains cell ≡ []) ⊎ HasFilled setting top good.visits front cell h n) other
-            ((seated.alone_here setting records w stores k good job.firm job.rests job.works cell row is h whole alone).unfilled all));
-        page = λ after block page. record {
+            ((seated.alone_here setting records w stores k good job.firm job.rests job.works cell row is alive h whole alone).unfilled lives all));
+        page = λ lives after block page. record {
           met = ap is_some is_now;
           least = λ ahead upto marked. page.least ahead upto
               (subst (λ a. IsMarked a cell) (sym store_was)
@@ -418,6 +477,7 @@ module _ (setting : Setting) (records : List Record) (w : World) (stores : ℕ �
         };
         pages = λ post i after block e. subst (λ x. IsPage cell (news k) x after block) (sym is_now)
             (subst (λ b. IsPage cell b (Some done.own) after block) (sym store_now) (keeps_other.pages post i after block e));
+        met = λ post i after block e. ap is_some is_now;
         some = λ there. ap is_some is_now;
       }
 

@@ -1,14 +1,21 @@
 -- The cell that a job works on, if there is one, and why; each other cell it leaves as it is.
-use Rattle.std.proofs.Common.{◌≡◌, ◌≢◌, ◌+◌, ℕ, true, false, Option, Some, None, refl, ap, ◌∙◌}
+use Rattle.std.proofs.Common.{◌≡◌, ◌≢◌, ◌≤◌, ◌<◌, ◌+◌, ℕ, true, false, Option, Some, None, refl, sym, ap, ◌∙◌, inl, inr, arith}
+use Rattle.std.proofs.lemmas.Bool.Decides.{nat_tests}
 use Rattle.busy_marks.specs.declared.marks.MarkKind.{MarkKind}
 use Rattle.busy_marks.specs.declared.marks.MarkKind.TheVariants.{Busy, Stale}
 use Rattle.global_tables.specs.declared.link.LinkRow.{LinkRow}
 use Rattle.petal_base.specs.declared.cell.Cell.{Cell}
+use Rattle.petal_base.specs.declared.cell.Key.{Key}
 use Rattle.petal_base.specs.Cells.{cell_of, key_at}
 use Rattle.petal_msg.specs.declared.body.Body.{Body}
 use Rattle.petal_msg.specs.declared.copying.Copying.{Copying}
 use Rattle.petal_msg.specs.declared.copying.LastCopy.{LastCopy}
+use Rattle.petal_msg.specs.declared.dead.Dead.{Dead}
+use Rattle.petal_msg.specs.declared.dead.Dead.TheVariants as dead
 use Rattle.petal_msg.specs.declared.operation.Ending.TheVariants as ending
+use Rattle.petal_msg.specs.declared.operation.Action.{Action}
+use Rattle.petal_msg.specs.declared.operation.Action.TheVariants as action
+use Rattle.petal_msg.specs.declared.operation.Ending.{Ending}
 use Rattle.petal_msg.specs.declared.operation.Far.{Far}
 use Rattle.petal_msg.specs.declared.operation.Far.TheVariants as far
 use Rattle.petal_msg.specs.declared.operation.Pending.{Pending}
@@ -16,16 +23,27 @@ use Rattle.petal_state.specs.CellState.{cell_link}
 use Rattle.petal_rules.specs.Copies.{begins_copy, cell_at, cell_holder, with_page}
 use Rattle.petal_rules.specs.Progress.{has_proposed, progress_on, with_last_copy, without_copying}
 use Rattle.petal_rules.specs.Server.{Own, Here, Done}
-use Rattle.petal_rules.specs.State.{is_lead, is_second}
-use Rattle.petal_rules.specs.Store.{Stored, chain_in, version_of, with_entry, with_mark_on, with_ticket, without_mark_on}
-use Rattle.petal_rules.specs.Writes.{Wanted, finishes, marks, operation, opened, puts, tells, unmarks, with_mark_at, with_paired, with_pending, with_reserved, without_pending}
+use Rattle.petal_rules.specs.Fills.{fill_operation}
+use Rattle.petal_rules.specs.State.{is_lead, is_second, leads_link, live}
+use Rattle.petal_rules.specs.Store.{Stored, chain_in, version_of, with_entry, with_mark_on, with_ticket, without_entry, without_mark_on}
+use Rattle.petal_rules.specs.Sweeping.{without_dead}
+use Rattle.petal_rules.specs.Writes.{acts, ends, gives_back, marks, next_stage, operation, opened, puts, tells, unmarks, with_mark_at, with_opened, with_paired, with_pending, with_reserved, without_pending, pending_on}
+use Rattle.petal_rules.proofs.Tests.{by_test, same_or_apart, true_false}
+use Rattle.law_state.specs.Homes.{stage_at}
 use Rattle.law_steps.specs.Ready.{IsReady}
-use Rattle.law_steps.specs.DidLead.{DidLead, Asks_for, Repeats, Is_full, Opens, Marks, Puts, Gives_up, Unmarks, Closes, Opens_alone, Marks_alone, Puts_alone, Unmarks_alone, Closes_alone, Taken}
+use Rattle.law_steps.specs.DidLead.{DidLead, Asks_for, Repeats, Is_full, Opens, Marks, Puts, Gives_up, Unmarks, Closes, Opens_alone, Marks_alone, Puts_alone, Unmarks_alone, Closes_alone, Opens_fill, Opens_fill_alone, Has_fill, Has_no_room, Goes_on_dead, Taken}
 use Rattle.law_steps.specs.DidSecond.{DidSecond, Sets_apart, Promises, Declines, Follows, with_tickets}
 use Rattle.law_steps.specs.DidHolder.{DidHolder, CopyStep, Asks_to_trim, Sends, Unmarks_copied, Closes_copy, TakenCopy, Copy_as_is, Copy_trimmed, Copy_synced, Asks_page, Turns_page, Begins_copy, Goes_on_copying, Finds_it_full, Tidies, first_copy}
 use Rattle.law_steps.specs.DidOther.{DidOther, first_last, TrimStep, Is_trimmed, Drops_entry, Answers_page, Is_copied_to, Goes_on_trimming, Puts_entry, Has_entry, Has_no_slot}
+use Rattle.law_steps.specs.DidFiller.{DidFiller}
+use Rattle.law_steps.specs.DidSweep.{DidSweep, Sweeps, cell_swept}
+use Rattle.law_steps.proofs.Leading.{lead_links, live_stage, stage_live}
+use Rattle.law_steps.proofs.Staged.{same_cell_or_apart}
+use Rattle.law_steps.proofs.Subjects.{of_ending, of_filler}
 use Rattle.law_steps.proofs.Taking.{taking}
-use Rattle.law_copies.specs.Steps.{KeepsCell}
+use Rattle.law_copies.specs.Steps.{IsBare, KeepsCell}
+use Rattle.law_copies.proofs.Chains.{drop_none}
+use Rattle.law_copies.proofs.Marks.{unmark_none}
 use Rattle.law_copies.proofs.Frames.{copied_alike, copied_beside, copying_beside, dropped_beside, ended_beside, entry_beside, followed_beside, keeps_alike, keeps_itself, keeps_on, last_beside, marked_beside, pending_beside, unmarked_beside}
 
 -- the cell is another one
@@ -37,6 +55,9 @@ Away q (Some cell) = q ≢ cell
 abbrev pub IsSo : (Cell → Type 0) → Option Cell → Type 0
 IsSo P None = Unit {0}
 IsSo P (Some cell) = P cell
+
+pub above_none : (n : ℕ) → n ≢ 0 → 1 ≤ n
+above_none n ne = grind (arith, nat_tests)
 
 -- the cell of a page's block
 abbrev pub page_cell : LinkRow → Option ℕ → Option Cell
@@ -61,28 +82,57 @@ module _ (heard : Body → Type 0) (here : Here) (own : Own) where
   lead_cell _ (Puts_alone now op taken alone stale put) = Some op.cell
   lead_cell _ (Unmarks_alone now op taken alone stale put busy) = Some op.cell
   lead_cell _ (Closes_alone now op taken alone stale put free) = Some op.cell
+  lead_cell _ (Opens_fill moving new room both) = Some (cell_of moving.key)
+  lead_cell _ (Opens_fill_alone moving new room alone) = Some (cell_of moving.key)
+  lead_cell _ (Has_fill moving there) = None
+  lead_cell _ (Has_no_room moving new no_room) = None
+  lead_cell _ (Goes_on_dead now op taken off) = Some op.cell
+
+  -- the cell has been live, and while it is, the server leads its link
+  pub record IsLedHere (cell : Cell) : Type 0 where
+    pub born : 1 ≤ stage_at here.state cell
+    pub leads : live here.state cell ≡ true → leads_link here.state here.me cell ≡ true
+
+  led_here : (cell : Cell) → is_lead here.state here.me cell ≡ true → IsLedHere cell
+  led_here cell lead =
+      let led = lead_links here.state here.me cell lead in
+      record { born = (live_stage here.state cell led.0).0; leads = λ on. led.1 }
+
+  -- of one that is not dead the server leads the link
+  pub led_alive : (cell : Cell) → stage_at here.state cell < 4 → IsLedHere cell → leads_link here.state here.me cell ≡ true
+  led_alive cell alive led = led.leads (stage_live here.state cell led.born alive)
 
   module _ (ready : IsReady here.state here.me (has_proposed here.state own) own.pairs.pending) where
-    taken_leads : (now : Own) (op : Pending) → Taken own now op → is_lead here.state here.me op.cell ≡ true
-    taken_leads now op taken = let k = taking own now op taken in (ready.staged op.cell k.old k.was).lead
+    op_leads : (op : Pending) → pending_on own op.cell ≡ Some op → IsLedHere op.cell
+    op_leads op is = let staged = ready.staged op.cell op is in record { born = staged.born; leads = staged.leads }
+
+    taken_leads : (now : Own) (op : Pending) → Taken own now op → IsLedHere op.cell
+    taken_leads now op taken =
+        let k = taking own now op taken in
+        let staged = ready.staged op.cell k.old k.was in
+        record { born = staged.born; leads = staged.leads }
 
     -- the server leads it
-    pub lead_leads : (done : Done) (d : DidLead heard here own done)
-        → IsSo (λ cell. is_lead here.state here.me cell ≡ true) (lead_cell done d)
+    pub lead_leads : (done : Done) (d : DidLead heard here own done) → IsSo IsLedHere (lead_cell done d)
     lead_leads _ (Asks_for posts h) = tt
     lead_leads _ (Repeats want last h lead is e) = tt
     lead_leads _ (Is_full want new no_room) = tt
-    lead_leads _ (Gives_up op h is reserved put) = (ready.staged op.cell op is).lead
-    lead_leads _ (Opens want new both) = new.lead
-    lead_leads _ (Marks op h is both stage) = (ready.staged op.cell op is).lead
-    lead_leads _ (Puts op is both stage) = (ready.staged op.cell op is).lead
-    lead_leads _ (Unmarks op h is both stage) = (ready.staged op.cell op is).lead
-    lead_leads _ (Closes op is both stage) = (ready.staged op.cell op is).lead
-    lead_leads _ (Opens_alone want new alone) = new.lead
+    lead_leads _ (Gives_up op h is reserved put) = op_leads op is
+    lead_leads _ (Opens want new both) = led_here want.cell new.lead
+    lead_leads _ (Marks op h is both stage) = op_leads op is
+    lead_leads _ (Puts op is both stage) = op_leads op is
+    lead_leads _ (Unmarks op h is both stage) = op_leads op is
+    lead_leads _ (Closes op is both stage) = op_leads op is
+    lead_leads _ (Opens_alone want new alone) = led_here want.cell new.lead
     lead_leads _ (Marks_alone now op taken alone fresh) = taken_leads now op taken
     lead_leads _ (Puts_alone now op taken alone stale put) = taken_leads now op taken
     lead_leads _ (Unmarks_alone now op taken alone stale put busy) = taken_leads now op taken
     lead_leads _ (Closes_alone now op taken alone stale put free) = taken_leads now op taken
+    lead_leads _ (Opens_fill moving new room both) = led_here (cell_of moving.key) new.lead
+    lead_leads _ (Opens_fill_alone moving new room alone) = led_here (cell_of moving.key) new.lead
+    lead_leads _ (Has_fill moving there) = tt
+    lead_leads _ (Has_no_room moving new no_room) = tt
+    lead_leads _ (Goes_on_dead now op taken off) = taken_leads now op taken
 
     taken_beside : (now : Own) (op : Pending) (q : Cell) → q ≢ op.cell → Taken own now op → KeepsCell q own now
     taken_beside now op q ne taken =
@@ -132,20 +182,49 @@ module _ (heard : Body → Type 0) (here : Here) (own : Own) where
         let k = taking own now op taken in
         ap (λ (o : Pending). cell_of o.key) k.is ∙ (ready.staged op.cell k.old k.was).keyed
 
-    opened_beside : (want : Wanted) (q : Cell) → q ≢ want.cell → KeepsCell q own (opened here own want)
-    opened_beside want q ne =
-        let op = operation here own.pairs.next want in
-        keeps_on q own (with_pending own op) _ (pending_beside own want.cell q ne op refl)
+    opened_beside : (op : Pending) (q : Cell) → q ≢ op.cell → KeepsCell q own (with_opened own op)
+    opened_beside op q ne =
+        keeps_on q own (with_pending own op) _ (pending_beside own op.cell q ne op refl)
         (keeps_alike q (with_pending own op) _
         (record { pending = refl; followed = refl; copying = refl; last = refl; chains = refl; marks = refl }))
 
-    -- an operation ends, and its request is finished
-    finished_beside : (now : Own) (op : Pending) (q : Cell) → q ≢ op.cell
-        → KeepsCell q now (finishes (without_pending now op.cell) op.client op.seq ending.Written).own
-    finished_beside now op q ne =
+    -- an operation ends: its request is finished, or the old lead is told
+    ending_beside : (now : Own) (op : Pending) (how : Ending) (q : Cell) → KeepsCell q now (ends here now op op.kind how).own
+    ending_beside now op how q =
+        let f = of_ending here now op op.kind how in
+        keeps_alike q now _ (record {
+          pending = f.pending;
+          followed = f.last;
+          copying = λ i. (f.copies i).pending;
+          last = λ i. (f.copies i).last;
+          chains = λ i. (f.store i).chains;
+          marks = λ i. (f.store i).marks;
+        })
+
+    closed_beside : (now : Own) (op : Pending) (q : Cell) → q ≢ op.cell
+        → KeepsCell q now (ends here (without_pending now op.cell) op op.kind ending.Written).own
+    closed_beside now op q ne =
+        keeps_on q now (without_pending now op.cell) _ (ended_beside now op.cell q ne)
+        (ending_beside (without_pending now op.cell) op ending.Written q)
+
+    given_beside : (now : Own) (op : Pending) (q : Cell) → q ≢ op.cell → KeepsCell q now (gives_back (without_pending now op.cell))
+    given_beside now op q ne =
         keeps_on q now (without_pending now op.cell) _ (ended_beside now op.cell q ne)
         (keeps_alike q (without_pending now op.cell) _
         (record { pending = refl; followed = refl; copying = refl; last = refl; chains = refl; marks = refl }))
+
+    -- whatever it does next
+    acts_beside : (now : Own) (op : Pending) (q : Cell) → q ≢ op.cell → cell_of op.key ≡ op.cell → (next : Action)
+        → KeepsCell q now (acts here now op next).own
+    acts_beside now op q ne key action.Reserve = keeps_itself q now
+    acts_beside now op q ne key (action.Mark kind) = marks_beside now op q ne kind
+    acts_beside now op q ne key action.Put = puts_beside now op q ne key
+    acts_beside now op q ne key action.Replicate = keeps_itself q now
+    acts_beside now op q ne key (action.Unmark kind) = unmarks_beside now op q ne kind
+    acts_beside now op q ne key action.Answer = closed_beside now op q ne
+    acts_beside now op q ne key action.Drop =
+        by_test (λ (o : Own). KeepsCell q now o) op.stage.put (without_pending now op.cell) (gives_back (without_pending now op.cell))
+        (λ put. ended_beside now op.cell q ne) (λ fresh. given_beside now op q ne)
 
     -- and leaves each other one
     pub lead_beside : (done : Done) (d : DidLead heard here own done) (q : Cell) → Away q (lead_cell done d) → KeepsCell q own done.own
@@ -154,10 +233,9 @@ module _ (heard : Body → Type 0) (here : Here) (own : Own) where
     lead_beside _ (Is_full want new no_room) q ne =
         keeps_alike q own _ (record { pending = refl; followed = refl; copying = refl; last = refl; chains = refl; marks = refl })
     lead_beside _ (Gives_up op h is reserved put) q ne =
-        keeps_on q own (without_pending own op.cell) _ (ended_beside own op.cell q ne)
-        (keeps_alike q (without_pending own op.cell) _
-        (record { pending = refl; followed = refl; copying = refl; last = refl; chains = refl; marks = refl }))
-    lead_beside _ (Opens want new both) q ne = opened_beside want q ne
+        keeps_on q own (gives_back (without_pending own op.cell)) _ (given_beside own op q ne)
+        (ending_beside (gives_back (without_pending own op.cell)) op ending.Full q)
+    lead_beside _ (Opens want new both) q ne = opened_beside (operation here own.pairs.next want) q ne
     lead_beside _ (Marks op h is both stage) q ne =
         keeps_on q own (with_pending own (with_reserved op)) _ (pending_beside own op.cell q ne (with_reserved op) refl)
         (marks_beside (with_pending own (with_reserved op)) (with_reserved op) q ne Busy)
@@ -165,9 +243,9 @@ module _ (heard : Body → Type 0) (here : Here) (own : Own) where
     lead_beside _ (Unmarks op h is both stage) q ne =
         keeps_on q own (with_pending own (with_paired op)) _ (pending_beside own op.cell q ne (with_paired op) refl)
         (unmarks_beside (with_pending own (with_paired op)) (with_paired op) q ne Busy)
-    lead_beside _ (Closes op is both stage) q ne = finished_beside own op q ne
+    lead_beside _ (Closes op is both stage) q ne = closed_beside own op q ne
     lead_beside _ (Opens_alone want new alone) q ne =
-        keeps_on q own (opened here own want) _ (opened_beside want q ne)
+        keeps_on q own (opened here own want) _ (opened_beside (operation here own.pairs.next want) q ne)
         (marks_beside (opened here own want) (operation here own.pairs.next want) q ne Stale)
     lead_beside _ (Marks_alone now op taken alone fresh) q ne = keeps_on q own now _ (taken_beside now op q ne taken)
         (marks_beside now op q ne Stale)
@@ -176,7 +254,15 @@ module _ (heard : Body → Type 0) (here : Here) (own : Own) where
     lead_beside _ (Unmarks_alone now op taken alone stale put busy) q ne =
         keeps_on q own now _ (taken_beside now op q ne taken) (unmarks_beside now op q ne Busy)
     lead_beside _ (Closes_alone now op taken alone stale put free) q ne = keeps_on q own now _ (taken_beside now op q ne taken)
-        (finished_beside now op q ne)
+        (closed_beside now op q ne)
+    lead_beside _ (Opens_fill moving new room both) q ne = opened_beside (fill_operation here own.pairs.next moving) q ne
+    lead_beside _ (Opens_fill_alone moving new room alone) q ne =
+        let op = fill_operation here own.pairs.next moving in
+        keeps_on q own (with_opened own op) _ (opened_beside op q ne) (marks_beside (with_opened own op) op q ne Stale)
+    lead_beside _ (Has_fill moving there) q ne = keeps_itself q own
+    lead_beside _ (Has_no_room moving new no_room) q ne = keeps_itself q own
+    lead_beside _ (Goes_on_dead now op taken off) q ne =
+        keeps_on q own now _ (taken_beside now op q ne taken) (acts_beside now op q ne (taken_key now op taken) (next_stage here.state here.me op))
 
   -- ### Second servers
 
@@ -319,3 +405,65 @@ module _ (heard : Body → Type 0) (here : Here) (own : Own) where
       (last_beside put (cell_of entry.key) q ne (record last { index = last.index + 1 })))
   other_beside _ (Has_entry entry holder last of_copy lt) q ne = keeps_itself q own
   other_beside _ (Has_no_slot entry holder last of_copy at full) q ne = keeps_itself q own
+
+  -- ### Fillers and sweeps
+
+  pub filler_beside : (done : Done) → DidFiller heard here own done → (q : Cell) → KeepsCell q own done.own
+  filler_beside done d q =
+      let f = of_filler heard here own done d in
+      keeps_alike q own done.own (record {
+        pending = λ i. (f.pairs i).pending;
+        followed = λ i. (f.pairs i).last;
+        copying = f.pending;
+        last = f.last;
+        chains = λ i. (f.store i).chains;
+        marks = λ i. (f.store i).marks;
+      })
+
+  -- where nothing is of the cell, nothing is taken away
+  dropped_none : (key : Key) (q : Cell) → IsBare own q → KeepsCell q own (record own { store = without_entry own.store key })
+  dropped_none key q bare = record {
+    rest = record {
+      chain = drop_none own.store key q bare.chain ∙ sym bare.chain;
+      pending = refl;
+      copying = refl;
+      last = refl;
+      followed = refl;
+    };
+    marks = λ kind. refl;
+  }
+
+  unmarked_none : (kind : MarkKind) (cell q : Cell) → IsBare own q → KeepsCell q own (record own { store = without_mark_on own.store kind cell })
+  unmarked_none kind cell q bare = record {
+    rest = record { chain = refl; pending = refl; copying = refl; last = refl; followed = refl };
+    marks = λ other. unmark_none own.store kind other cell q (bare.marks other) ∙ sym (bare.marks other);
+  }
+
+  swept_beside : (what : Dead) (q : Cell) → q ≢ cell_swept what → KeepsCell q own (record own { store = without_dead own.store what })
+  swept_beside (dead.Key key) q ne = dropped_beside own (cell_of key) q ne key refl
+  swept_beside (dead.Mark kind cell) q ne = unmarked_beside own cell q ne kind
+
+  -- a live cell keeps what it has
+  pub live_beside : (done : Done) → DidSweep here own done → (q : Cell) → live here.state q ≡ true → KeepsCell q own done.own
+  live_beside _ (Sweeps what seated next off) q on = swept_beside what q (λ e. true_false (ap (live here.state) (sym e) ∙ on) off)
+
+  -- and so does one that is not dead, and of which nothing is here before it is live
+  pub sweep_beside : (done : Done) → DidSweep here own done → (q : Cell) → stage_at here.state q < 4 → (stage_at here.state q ≡ 0 → IsBare own q)
+      → KeepsCell q own done.own
+  sweep_beside _ (Sweeps what seated next off) q alive bare = by what off
+    where
+      unborn : (cell : Cell) → q ≡ cell → live here.state cell ≡ false → stage_at here.state q ≡ 0
+      unborn cell e off = elim (same_or_apart (stage_at here.state q) 0) [
+        | inl zero ↦ zero
+        | inr ne ↦ true_false (stage_live here.state q (above_none (stage_at here.state q) ne) alive) (ap (live here.state) e ∙ off)
+      ]
+
+      by : (what : Dead) → live here.state (cell_swept what) ≡ false → KeepsCell q own (record own { store = without_dead own.store what })
+      by (dead.Key key) off = elim (same_cell_or_apart q (cell_of key)) [
+        | inl e ↦ dropped_none key q (bare (unborn (cell_of key) e off))
+        | inr ne ↦ swept_beside (dead.Key key) q ne
+      ]
+      by (dead.Mark kind cell) off = elim (same_cell_or_apart q cell) [
+        | inl e ↦ unmarked_none kind cell q (bare (unborn cell e off))
+        | inr ne ↦ swept_beside (dead.Mark kind cell) q ne
+      ]

@@ -23,7 +23,7 @@ use Rattle.petal_rules.specs.Writes.{pending_on}
 use Rattle.law_state.specs.Started.{is_flagged}
 use Rattle.law_steps.specs.Ready.{IsRising}
 use Rattle.petal_state.specs.CellState.{cell_link}
-use Rattle.petal_rules.specs.State.{State, id_of}
+use Rattle.petal_rules.specs.State.{State, id_of, live}
 
 -- ### What is left to copy
 
@@ -194,8 +194,9 @@ pub record AreAlike (row : LinkRow) (cell : Cell) (holder other : Store) (visit 
   pub covered : IsCovered row cell holder other visit
   pub caught : (own : Own) → visit ≡ Some own → is_flagged own (id_of row) ≡ true → chain_in holder.chains cell ≡ chain_in other.chains cell
 
--- a page tells of a block of its link: the cell is of the link of this number
+-- a page tells of a live block of its link: the cell is of the link of this number
 pub record IsOfLink (state : State) (cell : Cell) (link : ℕ) : Type 0 where
+  pub lives : live state cell ≡ true
   pub row : LinkRow
   pub is : cell_link state cell ≡ Some row
   pub link_is : row.link ≡ link

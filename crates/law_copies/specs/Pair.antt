@@ -1,5 +1,6 @@
 -- One cell as its two servers have it, and what is kept of it.
 use Rattle.std.specs.Prelude.{◌≡◌, ℕ, ◌+◌, ◌≤◌, ◌<◌, ◌⊎◌, Bool, true, false, List, Option, Some, None}
+use Rattle.std.specs.Ordering.{nat_cmp}
 use Rattle.busy_marks.specs.declared.marks.MarkKind.TheVariants.{Busy, Stale}
 use Rattle.petal_base.specs.declared.cell.Cell.{Cell}
 use Rattle.petal_base.specs.declared.cell.Key.{Key}
@@ -8,9 +9,10 @@ use Rattle.petal_msg.specs.declared.body.Body.{Body}
 use Rattle.petal_msg.specs.declared.body.Body.TheVariants as body
 use Rattle.petal_msg.specs.declared.operation.LastOp.{LastOp}
 use Rattle.petal_msg.specs.declared.operation.Pending.{Pending}
-use Rattle.petal_rules.specs.State.{State, primary, secondary}
+use Rattle.petal_rules.specs.State.{State, live, primary, secondary}
 use Rattle.petal_rules.specs.Store.{Chain, Store, cell_cmp, chain_in, is_marked}
 use Rattle.petal_rules.specs.Server.{Own}
+use Rattle.petal_rules.specs.Writes.{is_clients}
 use Rattle.petal_rules.specs.World.{World}
 use Rattle.petal_history.specs.Claims.{one_put_ahead}
 use Rattle.law_steps.specs.Operations.{AtRest, progress}
@@ -110,14 +112,16 @@ owns_of w n = (w.servers n).own
 
 -- ### Marks
 
--- an operation whose stage says that its block is marked finds it so
+-- an operation whose stage says that its block is marked finds it so; and one for an entry that moves finds nothing of its epoch, until it
+-- has put
 pub record HasMarks (op : Pending) (store : Store) (cell : Cell) : Type 0 where
   pub busy : op.stage.busy ≡ true → is_marked store Busy cell ≡ true
   pub stale : op.stage.stale ≡ true → is_marked store Stale cell ≡ true
+  pub lacks : is_clients op.kind ≡ false → op.stage.put ≡ false → at nat_cmp (chain_in store.chains cell) op.key.epoch ≡ None
 
--- each operation of a table does
-abbrev pub HaveMarks : Table Cell Pending → Store → Type 0
-HaveMarks pending store = (cell : Cell) (op : Pending) → at cell_cmp pending cell ≡ Some op → HasMarks op store cell
+-- each operation of a table does that is of a cell which is live by this state: what is left of dead ones is swept
+abbrev pub HaveMarks : State → Table Cell Pending → Store → Type 0
+HaveMarks state pending store = (cell : Cell) (op : Pending) → live state cell ≡ true → at cell_cmp pending cell ≡ Some op → HasMarks op store cell
 
 -- an operation that a server remembers rests, and its block is still marked as its stage says
 pub record IsRecalled (op : Pending) (store : Store) (cell : Cell) : Type 0 where

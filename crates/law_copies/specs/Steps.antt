@@ -1,26 +1,29 @@
 -- What a job of a server leaves of a cell whose link one server holds alone: at the holder, at the other server of the link, and at a
 -- server that the link is not of.
-use Rattle.std.specs.Prelude.{◌≡◌, ◌≢◌, ◌⊎◌, ℕ, Bool, true, false, [], Option, Some, None, is_some}
+use Rattle.std.specs.Prelude.{◌≡◌, ◌≢◌, ◌<◌, ◌⊎◌, ℕ, Bool, true, false, [], Option, Some, None, is_some}
 use Rattle.std.specs.Ordering.{nat_cmp}
 use Rattle.busy_marks.specs.declared.marks.MarkKind.{MarkKind}
 use Rattle.global_tables.specs.Link.{has_server}
 use Rattle.global_tables.specs.declared.link.LinkRow.{LinkRow}
 use Rattle.global_tables.specs.declared.link.LinkState.TheVariants.{Only}
 use Rattle.petal_base.specs.declared.cell.Cell.{Cell}
-use Rattle.petal_msg.specs.Kinds.{about}
+use Rattle.petal_msg.specs.Kinds.{about, subject_of}
 use Rattle.petal_msg.specs.declared.body.Body.{Body}
 use Rattle.petal_msg.specs.declared.body.Body.TheVariants as body
+use Rattle.petal_msg.specs.declared.copying.LastCopy.{LastCopy}
 use Rattle.petal_state.specs.CellState.{cell_link}
 use Rattle.petal_table.specs.Table.{Table, at}
 use Rattle.petal_history.specs.Claims.{IsMarked}
 use Rattle.petal_rules.specs.Lists.{In}
 use Rattle.petal_rules.specs.Progress.{copying_on, has_proposed, last_copy}
 use Rattle.petal_rules.specs.Server.{Own, Here, Post, Done}
-use Rattle.petal_rules.specs.State.{holder_of, id_of}
+use Rattle.petal_rules.specs.State.{holder_of, id_of, live}
 use Rattle.petal_rules.specs.Store.{Chain, Store, cell_cmp, chain_in, is_marked}
 use Rattle.petal_rules.specs.Writes.{last_on, pending_on}
+use Rattle.law_state.specs.Homes.{stage_at}
 use Rattle.law_state.specs.Started.{is_flagged}
 use Rattle.law_state.specs.Steady.{IsSteady}
+use Rattle.law_steps.specs.Happens.{is_between}
 use Rattle.law_steps.specs.Ready.{IsReady, IsRising}
 use Rattle.law_steps.specs.Resting.{AreResting}
 use Rattle.law_copies.specs.Copied.{AreAlike, AreCopying, IsLeft, IsOfLink, IsPage, IsTold, links_of}
@@ -30,14 +33,23 @@ use Rattle.law_copies.specs.Pair.{HaveMarks}
 abbrev pub AreFilled : Table Cell Chain → Type 0
 AreFilled chains = (cell : Cell) → at cell_cmp chains cell ≢ Some []
 
+-- a server has nothing of the cell
+pub record IsBare (own : Own) (cell : Cell) : Type 0 where
+  pub chain : chain_in own.store.chains cell ≡ []
+  pub marks : (kind : MarkKind) → is_marked own.store kind cell ≡ false
+
 -- what a server has before a job, by its own state
 pub record IsFit (heard : Body → Type 0) (here : Here) (own : Own) : Type 0 where
   pub steady : IsSteady here.state
   pub ready : IsReady here.state here.me (has_proposed here.state own) own.pairs.pending
   pub resting : AreResting here.state here.me own
-  pub marks : HaveMarks own.pairs.pending own.store
+  pub marks : HaveMarks here.state own.pairs.pending own.store
   pub rising : (q : Cell) → IsRising nat_cmp (chain_in own.store.chains q)
   pub filled : AreFilled own.store.chains
+  -- of cells that are not live yet; and what is told of, or was copied here, is of live ones
+  pub bare : (q : Cell) → stage_at here.state q ≡ 0 → IsBare own q
+  pub lives : (said : Body) → heard said → is_between (subject_of said) ≡ true → (q : Cell) → (about said).cell ≡ Some q → live here.state q ≡ true
+  pub copied : (q : Cell) (last : LastCopy) → last_copy own q ≡ Some last → live here.state q ≡ true
   -- a page tells of a block of its own link
   pub pages : (q : Cell) (link : ℕ) (after : Option ℕ) → heard (body.Hello q.map link after (Some q.block)) → IsOfLink here.state q link
 
@@ -47,6 +59,7 @@ pub record IsFit (heard : Body → Type 0) (here : Here) (own : Own) : Type 0 wh
 pub record IsHolding (heard : Body → Type 0) (here : Here) (links : ℕ) (row : LinkRow) (cell : Cell) (own : Own) (other : Option Own) : Type 0 where
   pub fit : IsFit heard here own
   pub is : cell_link here.state cell ≡ Some row
+  pub alive : stage_at here.state cell < 4
   pub links_are : links_of here.state cell.map ≡ links
   pub whole : Bool
   pub held : row.state ≡ Only here.me whole
@@ -96,6 +109,7 @@ pub record BallotKeeps (links : ℕ) (row : LinkRow) (cell : Cell) (own : Own) (
 pub record IsFollowing (heard : Body → Type 0) (here : Here) (links : ℕ) (row : LinkRow) (cell : Cell) (holder : Option Own) (own : Own) : Type 0 where
   pub fit : IsFit heard here own
   pub is : cell_link here.state cell ≡ Some row
+  pub alive : stage_at here.state cell < 4
   pub by : ℕ
   pub held : holder_of here.me row ≡ Some by
   pub old : AreCopying links row cell holder (Some own)

@@ -1,6 +1,6 @@
 -- What servers were at the places of a link. What two servers of a link tell each other belongs to one place of it; so a server's
 -- own part is kept here as it last was at each place, and is there while the other server is still at that place.
-use Rattle.std.specs.Prelude.{◌≡◌, ◌≤◌, ◌⊎◌, ◌==◌, ◌&&◌, ℕ, Bool, true, false, List, ◌++◌, if◌then◌else◌, nat_eq, Option, Some, None, option_map}
+use Rattle.std.specs.Prelude.{◌≡◌, ◌≤◌, ◌<◌, ◌⊎◌, ◌==◌, ◌&&◌, ℕ, Bool, true, false, List, [], ◌++◌, if◌then◌else◌, nat_eq, nat_lt, Option, Some, None, option_map}
 use Rattle.std.specs.Option.{option_map_or}
 use Rattle.global_tables.specs.declared.link.LinkRow.{LinkRow}
 use Rattle.petal_base.specs.declared.cell.Cell.{Cell}
@@ -12,15 +12,23 @@ use Rattle.petal_state.specs.Place.{places_from}
 use Rattle.petal_state.specs.State.{start}
 use Rattle.petal_rules.specs.Log.{state_in}
 use Rattle.petal_rules.specs.Server.{Own, Pairs, Server, no_copies, no_pairs}
-use Rattle.petal_rules.specs.State.{is_in}
+use Rattle.petal_rules.specs.State.{State, is_in}
 use Rattle.petal_rules.specs.Store.{Store}
 use Rattle.petal_rules.specs.World.{Setting, World, blank_joins_in, with_store}
 use Rattle.petal_rules.specs.World.{start as start_world}
 use Rattle.petal_history.specs.Legal.{world_after}
 use Rattle.petal_history.specs.declared.record.Record.{Record}
+use Rattle.law_state.specs.Homes.{stage_at}
 
--- of each server and each place of a cell's link, the server's own part as it last was while the server was there and was In as
--- itself
+-- the cell is not dead by this state
+abbrev pub AliveIn : State → Cell → Type 0
+AliveIn state cell = stage_at state cell < 4
+
+abbrev pub is_alive : State → Cell → Bool
+is_alive state cell = nat_lt (stage_at state cell) 4
+
+-- of each server and each place of a cell's link, the server's own part as it last was while the server was there and was In as itself, and
+-- the cell was not dead by its own entries: what is left of a dead cell is dropped, and nobody speaks of it any more
 abbrev pub Visits : Type 0
 Visits = (server place : ℕ) → Cell → Option Own
 
@@ -42,17 +50,18 @@ IsLinked setting front cell row = cell_link (state_after setting.servers front) 
 
 -- what a server has in memory of a place: nothing, where it was not there; with this store
 abbrev pub half : Option Own → Store → Own
-half None store = record { pairs = no_pairs; copies = no_copies; store = store }
-half (Some own) store = record { pairs = own.pairs; copies = own.copies; store = store }
+half None store = record { pairs = no_pairs; copies = no_copies; filled = []; store = store }
+half (Some own) store = record { pairs = own.pairs; copies = own.copies; filled = own.filled; store = store }
 
 -- the place of the cell's link by the server's own entries
 abbrev pub place_on : Setting → Server → Cell → Option ℕ
 place_on setting server cell = option_map (λ row. place_by setting server.log.applied row) (cell_link (state_in setting.servers server.log) cell)
 
--- the server is at this place, and In as itself
+-- the server is at this place, and In as itself, and the cell is not dead
 abbrev pub is_at : Setting → ℕ → Server → (place : ℕ) → Cell → Bool
 is_at setting n server place cell =
-    is_in (state_in setting.servers server.log) n server.life.inc && option_map_or (nat_eq place) (place_on setting server cell) false
+    is_in (state_in setting.servers server.log) n server.life.inc
+    && (is_alive (state_in setting.servers server.log) cell && option_map_or (nat_eq place) (place_on setting server cell) false)
 
 -- the visits once a server is so
 abbrev pub visited : Setting → Visits → (k : ℕ) → Server → Visits
@@ -76,11 +85,14 @@ pub record IsHere (setting : Setting) (w : World) (visits : Visits) (n : ℕ) (c
   pub is : visits n (place_by setting (w.servers n).log.applied row) cell ≡ Some own
   pub same : own ≡ (w.servers n).own
 
--- a server has been at no place that is not in its own entries
+-- a server has been only at places of its own entries, with the cell not dead there
 pub record HasBeen (setting : Setting) (w : World) (n place : ℕ) (cell : Cell) : Type 0 where
+  pub front : List Command
+  pub within : IsPrefix front (w.servers n).log.applied
   pub row : LinkRow
-  pub linked : IsLinked setting (w.servers n).log.applied cell row
-  pub past : place ≤ place_by setting (w.servers n).log.applied row
+  pub linked : IsLinked setting front cell row
+  pub alive : AliveIn (state_after setting.servers front) cell
+  pub at : place_by setting front row ≡ place
 
 -- no server of the cell's link has been at a later place than this one at which it served the link
 abbrev pub IsLast : (reached : Cell → ℕ) → Setting → List Command → Cell → LinkRow → Type 0
@@ -92,6 +104,7 @@ pub record HasReached (setting : Setting) (top : List Command) (visits : Visits)
   pub prefix : IsPrefix front top
   pub row : LinkRow
   pub linked : IsLinked setting front cell row
+  pub alive : AliveIn (state_after setting.servers front) cell
   pub at : place_by setting front row ≡ place
   pub server : ℕ
   pub serving : serves server row row.state ≡ true

@@ -1,11 +1,15 @@
--- Every step keeps that no server has an entry of an epoch that it doesn't know of, nor a letter of its revision tells of one.
-use Rattle.std.proofs.Common.{◌≡◌, ◌≤◌, ◌++◌, ◌==◌, ℕ, false, List, [], ◌∷◌, Option, Some, None, length, refl, sym, ap, ◌∙◌, subst, inl, inr, arith}
+-- Every step keeps that no server has an entry of an epoch that it doesn't know of, or of a cell that is not live yet, nor a letter of its
+-- revision tells of one.
+use Rattle.std.proofs.Common.{◌≡◌, ◌≢◌, ◌≤◌, ◌++◌, ◌==◌, ℕ, false, true, List, [], ◌∷◌, Option, Some, None, length, refl, sym, ap, ◌∙◌, subst, inl, inr, arith}
 use Rattle.std.specs.List.{range_with_len}
-use Rattle.std.specs.Prelude.{filter, not}
+use Rattle.std.specs.Ordering.{nat_cmp}
+use Rattle.std.specs.Prelude.{filter, not, slice_get}
 use Rattle.petal_base.specs.declared.cell.Cell.{Cell}
+use Rattle.petal_base.specs.Cells.{cell_of}
 use Rattle.petal_base.specs.declared.cell.Key.{Key}
 use Rattle.petal_command.specs.declared.command.Command.{Command}
 use Rattle.petal_table.specs.Table.{Table, at}
+use Rattle.petal_table.proofs.Rows.{at-empty}
 use Rattle.petal_msg.specs.Kinds.{subject_of}
 use Rattle.petal_msg.specs.declared.body.Body.{Body}
 use Rattle.petal_msg.specs.declared.body.Body.TheVariants as body
@@ -20,66 +24,89 @@ use Rattle.petal_rules.specs.Crossing.{crossed}
 use Rattle.petal_rules.specs.Jobs.{Acted, down_posts}
 use Rattle.petal_rules.specs.Lists.{In}
 use Rattle.petal_rules.specs.Log.{Log}
-use Rattle.petal_rules.specs.Server.{Post, Sender, Server, Done, letters_of, sender}
+use Rattle.petal_rules.specs.Server.{Own, Pairs, Post, Sender, Server, Done, letters_of, sender}
 use Rattle.petal_rules.specs.State.{State}
-use Rattle.petal_rules.specs.Store.{Chain, Store, cell_cmp}
+use Rattle.petal_rules.specs.Store.{Chain, Store, cell_cmp, chain_in}
+use Rattle.petal_rules.specs.Writes.{is_clients}
 use Rattle.petal_rules.specs.World.{Setting, World, blank_joins_in, chosen_log, chosen_state, kept, server_state, setting_of, stamped, start}
 use Rattle.petal_rules.specs.declared.step.Step.{Step}
 use Rattle.petal_rules.proofs.ListLemmas.{in-append}
 use Rattle.petal_rules.proofs.Settled.{settling}
-use Rattle.petal_rules.proofs.Tests.{all_put, by_test, none_some, same_some}
+use Rattle.petal_rules.proofs.Tests.{all_put, by_bool, by_test, none_some, same_some, true_false}
 use Rattle.petal_history.specs.Claims.{IsPrefix}
 use Rattle.petal_history.specs.Legal.{IsLegal}
 use Rattle.petal_history.specs.Sound.{IsSound}
 use Rattle.petal_history.specs.declared.record.Record.{Record}
-use Rattle.law_state.specs.Epochs.{epoch_at}
+use Rattle.law_state.specs.Homes.{epoch_at, stage_at}
 use Rattle.law_state.specs.Firm.{Firm}
-use Rattle.law_state.proofs.Reports.{log_epochs}
-use Rattle.law_state.proofs.Steady.{log_rev}
+use Rattle.law_state.specs.Plain.{IsPlainLog}
+use Rattle.law_state.proofs.Steady.{log_below, log_rev}
 use Rattle.law_log.proofs.Histories.{history_grows}
 use Rattle.law_log.proofs.Proposing.{said_to_all}
-use Rattle.law_steps.specs.Happens.{Handled, Happens, Serves, Blanks, Turns, Worked, By_job, By_ballot, By_entry, Serving, Goes, Ends, Stays, Wakes, Fails, is_between, own_place, without_rev}
+use Rattle.law_steps.specs.Happens.{Handled, Happens, Serves, Blanks, Turns, Worked, By_job, By_ballot, By_entry, Serving, Goes, Ends, Stays, Wakes, Fails, own_place, without_rev}
+use Rattle.law_steps.specs.DidLead.{IsNextFill}
+use Rattle.law_steps.proofs.Coming.{next_comes, stage_facts}
+use Rattle.law_steps.proofs.Filling.{Fills, Stood, Writes, did_come}
 use Rattle.law_steps.proofs.Firms.{always_firm}
 use Rattle.law_steps.proofs.Fronts.{below_itself, front_on, one_front}
-use Rattle.law_steps.proofs.Histories.{last_happens, own_plain}
+use Rattle.law_steps.proofs.Histories.{last_happens, own_plain, proposed_pairs}
 use Rattle.law_steps.proofs.Letters.{said}
 use Rattle.law_steps.proofs.Sending.{turned_asks}
 use Rattle.law_stores.proofs.Jobs.{ballot_store}
 use Rattle.law_stores.proofs.Ways.{At, along, before_part}
-use Rattle.law_copies.proofs.Mute.{asked_mute, logged_mute}
 use Rattle.law_copies.proofs.Sent.{none_in}
-use Rattle.law_epochs.specs.Early.{HaveEarlyEntries}
-use Rattle.law_epochs.proofs.Present.{firm}
+use Rattle.law_epochs.specs.Early.{AreEarly, HaveEarlyEntries}
+use Rattle.law_epochs.proofs.Keys.{at_key}
+use Rattle.law_epochs.proofs.Present.{firm, opened_by, was_opened}
 use Rattle.law_epochs.proofs.Puts.{did_kept}
-use Rattle.law_epochs.proofs.Reports.{asking, grows, resting}
-use Rattle.law_epochs.proofs.Sends.{did_said}
-use Rattle.law_epochs.proofs.Within.{AreWithin, IsWithin, OfKey, none_within, of_key_on, of_no_key}
+use Rattle.law_epochs.proofs.Reports.{grows, resting}
+use Rattle.law_epochs.proofs.Sends.{IsMoverOwn, did_said, mover_store}
+use Rattle.law_state.proofs.Twins.{twins_epoch}
+use Rattle.law_epochs.proofs.Within.{AreWithin, IsWithin, OfKey, asked_none, is_of_entries, logged_none, none_within, of_key_on, of_no_key}
 
--- the epoch of each cell's disk by these entries
-abbrev pub epochs_by : Setting → List Command → Cell → ℕ
-epochs_by setting log cell = epoch_at (state_after setting.servers log) cell
+-- by these entries the epoch is one that the cell's disk has, or has had, and the cell is live, or has been
+pub record IsKnownBy (servers : ℕ) (log : List Command) (cell : Cell) (epoch : ℕ) : Type 0 where
+  pub within : epoch ≤ epoch_at (state_after servers log) cell
+  pub born : 1 ≤ stage_at (state_after servers log) cell
 
--- the key is of an epoch that its cell's disk has, or has had, by as many of the chosen entries
+-- so it is by more of them
+known_more : (servers : ℕ) (front whole : List Command) → IsPlainLog servers whole → IsPrefix front whole → (cell : Cell) (epoch : ℕ)
+    → IsKnownBy servers front cell epoch → IsKnownBy servers whole cell epoch
+known_more servers front whole plain prefix cell epoch k =
+    let below = log_below servers front whole plain prefix in
+    let epochs = below.epochs cell in
+    let stages = below.stages cell in
+    let within = k.within in
+    let born = k.born in
+    record { within = omega arith; born = omega arith }
+
+-- the key is known by as many of the chosen entries
 pub record IsKnown (setting : Setting) (w : World) (rev : ℕ) (key : Key) : Type 0 where
   pub front : List Command
   pub lies : IsPrefix front (chosen_log setting w)
   pub long : length front ≡ rev
-  pub early : IsWithin (epochs_by setting front) key
+  pub early : IsWithin (IsKnownBy setting.servers front) key
 
--- so are the entries of stores, and the keys that letters tell of, by the letters' revisions
+-- so are the entries of stores and the entries for which operations were opened, by what the server has applied; and the keys that letters tell
+-- of, by the letters' revisions
 pub record AllEarly (setting : Setting) (w : World) : Type 0 where
-  pub entries : HaveEarlyEntries setting.servers w
+  pub now : (n : ℕ) → AreWithin (IsKnownBy setting.servers (w.servers n).log.applied) (w.servers n).own.store.chains
+  pub before : (n : ℕ) (b : BeforeBlank) → w.before_blank n ≡ Some b → AreWithin (IsKnownBy setting.servers (w.servers n).log.applied) b.store.chains
+  pub fills : (n : ℕ) (cell : Cell) (op : Pending) → at cell_cmp (w.servers n).own.pairs.pending cell ≡ Some op → is_clients op.kind ≡ false
+      → IsWithin (IsKnownBy setting.servers (w.servers n).log.applied) op.key
   pub letters : (letter : Letter) → In letter w.sent → OfKey (IsKnown setting w letter.rev) letter.body
 
 pub start_early : (setting : Setting) → AllEarly setting (start setting)
 unfolding In
 start_early setting = record {
-  entries = record { now = λ n. none_within (epochs_by setting []); before = λ n before is. none_some refl is };
+  now = λ n. none_within (IsKnownBy setting.servers []);
+  before = λ n before is. none_some refl is;
+  fills = λ n cell op is. none_some (at-empty cell_cmp cell) is;
   letters = λ letter i. absurd i;
 }
 
 -- the store that counts is the one from before a blank, or the one now
-kept_by : (P : Store → Type 0) (joins : ℕ) (o : Option BeforeBlank) (store : Store) → ((b : BeforeBlank) → o ≡ Some b → P b.store) → P store
+pub kept_by : (P : Store → Type 0) (joins : ℕ) (o : Option BeforeBlank) (store : Store) → ((b : BeforeBlank) → o ≡ Some b → P b.store) → P store
     → P (kept_store joins o store)
 kept_by P joins None store before now = now
 kept_by P joins (Some b) store before now = by_test P (b.joins == joins) b.store store (λ same. before b refl) (λ other. now)
@@ -89,8 +116,8 @@ posted_so : (P : Body → Type 0) (who : Sender) (stamp : ℕ) (posts : List Pos
     → (letter : Letter) → In letter (stamped stamp (letters_of who 0 posts)) → P letter.body
 posted_so P who stamp posts so letter i = let s = said who stamp 0 posts letter i in subst P (sym s.body) (so s.post s.there)
 
-downs_mute : (n inc servers : ℕ) (post : Post) → In post (down_posts n inc servers) → is_between (subject_of post.body) ≡ false
-downs_mute n inc servers post i = ap (λ (b : Body). is_between (subject_of b))
+downs_mute : (n inc servers : ℕ) (post : Post) → In post (down_posts n inc servers) → is_of_entries (subject_of post.body) ≡ false
+downs_mute n inc servers post i = ap (λ (b : Body). is_of_entries (subject_of b))
     (said_to_all (body.Down n inc) (filter (λ k. not (k == n)) (range_with_len 0 servers)) post i)
 
 -- ### A step
@@ -122,22 +149,25 @@ module _ (script : Script) (sound : IsSound script) (front : List Record) (own :
   Own_log n = (w.servers n).log.applied
 
   -- by the server's own entries
-  abbrev bound : ℕ → Cell → ℕ
-  bound n = epochs_by setting (Own_log n)
+  abbrev bound : ℕ → Cell → ℕ → Type 0
+  bound n = IsKnownBy setting.servers (Own_log n)
 
   known_on : (rev : ℕ) (key : Key) → IsKnown setting w rev key → IsKnown setting v rev key
   known_on rev key k = record { front = k.front; lies = front_on k.front _ _ k.lies chosen_on; long = k.long; early = k.early }
 
-  -- what a server has pending is of an epoch that it knows
+  -- what a server has pending is known to it: a write was asked for at an epoch of then, and an entry that moves was heard of
+  write_within : (n : ℕ) (cell : Cell) (op : Pending) → at cell_cmp (w.servers n).own.pairs.pending cell ≡ Some op → is_clients op.kind ≡ true
+      → IsWithin (bound n) op.key
+  write_within n cell op is clients =
+      let o = was_opened script sound front part n cell op is clients in
+      let on = opened_by script sound front part n cell op is clients in
+      let epoch = o.timely.epoch in
+      let keyed = (((resting script sound front part).pending n).staged cell op is).keyed in
+      known_more script.servers o.opened (Own_log n) (own_plain setting w knows n) on (cell_of op.key) op.key.epoch
+      (subst (λ (q : Cell). IsKnownBy script.servers o.opened q op.key.epoch) (sym keyed) (record { within = omega arith; born = o.timely.born }))
+
   pending_within : (n : ℕ) (cell : Cell) (op : Pending) → at cell_cmp (w.servers n).own.pairs.pending cell ≡ Some op → IsWithin (bound n) op.key
-  pending_within n cell op is =
-      let asks = (asking script sound front part).asks.known in
-      let p = asks.pending n cell op is in
-      let on : IsPrefix p.known.sent.at.front (Own_log n) = subst (IsPrefix p.known.sent.at.front) (asks.come n cell op is) p.opened in
-      let le = log_epochs script.servers p.known.sent.at.front (Own_log n) cell (own_plain setting w knows n) on in
-      let e = p.known.sent.epoch in
-      let keyed = ap (bound n) (((resting script sound front part).pending n).staged cell op is).keyed in
-      omega arith
+  pending_within n cell op is = by_bool (is_clients op.kind) (write_within n cell op is) (old.fills n cell op is)
 
   -- and so is what it hears at its own revision
   told_within : (n : ℕ) (what : Body) → Handled w n what → OfKey (IsWithin (bound n)) what
@@ -145,10 +175,25 @@ module _ (script : Script) (sound : IsSound script) (front : List Record) (own :
       subst (OfKey (IsWithin (bound n))) h.is
       (of_key_on (IsKnown setting w h.letter.rev) (IsWithin (bound n)) (λ key k.
       let same : k.front ≡ Own_log n = one_front k.front (Own_log n) (chosen_log setting w) k.lies (knows.servers n) (k.long ∙ h.at) in
-      subst (λ log. IsWithin (epochs_by setting log) key) same k.early) h.letter.body (old.letters h.letter h.sent))
+      subst (λ log. IsWithin (IsKnownBy setting.servers log) key) same k.early) h.letter.body (old.letters h.letter h.sent))
 
   now_within : (n : ℕ) → AreWithin (bound n) (w.servers n).own.store.chains
-  now_within n = old.entries.now n
+  now_within n = old.now n
+
+  -- an entry that a server moves is of an epoch that the new map's disk has too: it is the same disk; and the region is on its way
+  moves_within : (n : ℕ) (own : Own) (post : Post) → IsMoverOwn (Handled w n) (own_place setting w n) (w.servers n).own own
+      → IsNextFill (own_place setting w n) own post → OfKey (IsWithin (bound n)) post.body
+  moves_within n own post mover f =
+      let same : own.store ≡ (w.servers n).own.store = mover_store (Handled w n) (own_place setting w n) (w.servers n).own own mover in
+      let log = Own_log n in
+      let plain = own_plain setting w knows n in
+      let stored = ap (λ (s : Store). at nat_cmp (chain_in s.chains (cell_of f.key)) f.key.epoch) (sym same) ∙ f.stored in
+      let old_known = old.now n (cell_of f.key) f.key.epoch f.entry stored in
+      let epochs = twins_epoch script.servers log plain (cell_of f.key) f.cell f.goes_to in
+      let comes = next_comes script.servers log plain (own_place setting w n) refl own post f in
+      let within = old_known.within in
+      let one = (stage_facts script.servers log plain f.cell).comes comes in
+      subst (λ (p : Post). OfKey (IsWithin (bound n)) p.body) (sym f.is) (record { within = omega arith; born = omega arith })
 
   -- ### Stores
 
@@ -183,32 +228,68 @@ module _ (script : Script) (sound : IsSound script) (front : List Record) (own :
 
   before_within : (state : State) (u : World) → Happens setting state w u → Before u
   before_within state _ (Serves n stamp what acted lt within unblanked serving) = λ k b is.
-      old.entries.before k b (ap (λ (f : ℕ → Option BeforeBlank). f k) (sym unblanked) ∙ is)
+      old.before k b (ap (λ (f : ℕ → Option BeforeBlank). f k) (sym unblanked) ∙ is)
   before_within state _ (Blanks n stamp lt within asleep) =
       let counts : AreWithin (bound n) (kept setting w n).chains =
       kept_by (λ (s : Store). AreWithin (bound n) s.chains) (blank_joins_in setting (chosen_log setting w) n) (w.before_blank n) (w.servers n).own.store
-      (old.entries.before n) (now_within n) in
+      (old.before n) (now_within n) in
       all_put w.before_blank n (Some (record { joins = blank_joins_in setting (chosen_log setting w) n; store = kept setting w n }))
-      (λ k (o : Option BeforeBlank). (b : BeforeBlank) → o ≡ Some b → AreWithin (bound k) b.store.chains) old.entries.before
+      (λ k (o : Option BeforeBlank). (b : BeforeBlank) → o ≡ Some b → AreWithin (bound k) b.store.chains) old.before
       (λ b is. subst (λ (x : BeforeBlank). AreWithin (bound n) x.store.chains) (same_some is) counts)
-  before_within state _ (Turns c stamp in_call reacted lt within turned onward) = old.entries.before
+  before_within state _ (Turns c stamp in_call reacted lt within turned onward) = old.before
+
+  -- ### Entries for which operations were opened
+
+  abbrev AreFills : (n : ℕ) → Table Cell Pending → Type 0
+  AreFills n pending = (cell : Cell) (op : Pending) → at cell_cmp pending cell ≡ Some op → is_clients op.kind ≡ false → IsWithin (bound n) op.key
+
+  same_fills : (n : ℕ) (pending : Table Cell Pending) → pending ≡ (w.servers n).own.pairs.pending → AreFills n pending
+  same_fills n pending same = subst (AreFills n) (sym same) (old.fills n)
+
+  worked_fills : (n : ℕ) (log : Log) (done : Done) → Worked setting w n log done → AreFills n done.own.pairs.pending
+  worked_fills n _ _ (By_job log done same did seat) = λ cell op is fills.
+      elim (did_come (Handled w n) (own_place setting w n) (w.servers n).own done did cell op is) [
+        | Stood was ↦ subst (IsWithin (bound n)) was.same.key (old.fills n cell was.was was.is (ap is_clients was.same.kind ∙ fills))
+        | Writes write ↦ true_false (ap is_clients write) fills
+        | Fills opened ↦ subst (IsWithin (bound n)) (sym opened.key) (told_within n _ opened.asked)
+      ]
+  worked_fills n _ _ (By_ballot log started posts same starts says) =
+      same_fills n _ (ap (λ (p : Pairs). p.pending) (proposed_pairs (server_state setting w n) (w.servers n).own started))
+  worked_fills n _ _ (By_entry log entry more onward) =
+      let here = own_place setting w n in
+      same_fills n _ (ap (λ (p : Pairs). p.pending) (settling here entry (crossed here.state entry (w.servers n).own)).pairs)
+
+  serves_fills : (n : ℕ) (what : Step) (acted : Acted) → Serving setting w n what acted → AreFills n acted.server.own.pairs.pending
+  serves_fills n what _ (Goes log done queue runs worked queued works) = worked_fills n log done worked
+  serves_fills n what _ (Ends log done runs worked) = worked_fills n log done worked
+  serves_fills n what _ (Stays who posts from shown) = old.fills n
+  serves_fills n what _ (Wakes booted asleep) = λ cell op is. none_some (at-empty cell_cmp cell) is
+  serves_fills n what _ (Fails booted asleep) = old.fills n
+
+  fills_within : (state : State) (u : World) → Happens setting state w u → (n : ℕ) → AreFills n (u.servers n).own.pairs.pending
+  fills_within state _ (Serves n stamp what acted lt within unblanked serving) =
+      all_put w.servers n acted.server (λ k (x : Server). AreFills k x.own.pairs.pending) old.fills (serves_fills n what acted serving)
+  fills_within state _ (Blanks n stamp lt within asleep) =
+      all_put w.servers n (blanked (w.servers n)) (λ k (x : Server). AreFills k x.own.pairs.pending) old.fills (old.fills n)
+  fills_within state _ (Turns c stamp in_call reacted lt within turned onward) = old.fills
 
   -- ### Letters
 
-  mute : (rev : ℕ) (said : Body) → is_between (subject_of said) ≡ false → OfKey (IsKnown setting v rev) said
+  mute : (rev : ℕ) (said : Body) → is_of_entries (subject_of said) ≡ false → OfKey (IsKnown setting v rev) said
   mute rev said e = of_no_key (IsKnown setting v rev) said e
 
-  mute_letters : (who : Sender) (stamp : ℕ) (posts : List Post) → ((post : Post) → In post posts → is_between (subject_of post.body) ≡ false)
+  mute_letters : (who : Sender) (stamp : ℕ) (posts : List Post) → ((post : Post) → In post posts → is_of_entries (subject_of post.body) ≡ false)
       → (letter : Letter) → In letter (stamped stamp (letters_of who 0 posts)) → OfKey (IsKnown setting v letter.rev) letter.body
   mute_letters who stamp posts quiet letter i =
-      mute letter.rev letter.body (posted_so (λ b. is_between (subject_of b) ≡ false) who stamp posts quiet letter i)
+      mute letter.rev letter.body (posted_so (λ b. is_of_entries (subject_of b) ≡ false) who stamp posts quiet letter i)
 
   worked_said : (n : ℕ) (log : Log) (done : Done) → Worked setting w n log done → (post : Post) → In post done.posts
       → OfKey (IsWithin (bound n)) post.body
   worked_said n _ _ (By_job log done same did seat) =
-      did_said (bound n) (Handled w n) (own_place setting w n) (w.servers n).own (now_within n) (pending_within n) (told_within n) done did
+      did_said (bound n) (Handled w n) (own_place setting w n) (w.servers n).own (now_within n) (pending_within n) (told_within n)
+      (moves_within n) done did
   worked_said n _ _ (By_ballot log started posts same starts says) = λ post i.
-      of_no_key (IsWithin (bound n)) post.body (logged_mute (subject_of post.body) (says post i))
+      of_no_key (IsWithin (bound n)) post.body (logged_none (subject_of post.body) (says post i))
   worked_said n _ _ (By_entry log entry more onward) = λ post i. none_in post i
 
   -- a server says of its own revision what it knows
@@ -224,7 +305,7 @@ module _ (script : Script) (sound : IsSound script) (front : List Record) (own :
       (own_known n letter.rev (sym (log_rev setting.servers (Own_log n)) ∙ sym s.rev)) s.post.body (worked_said n log done worked s.post s.there))
   serves_said n stamp what _ (Ends log done runs worked) = mute_letters (without_rev (own_place setting w n)) stamp _ (downs_mute n (w.servers n).life.inc _)
   serves_said n stamp what _ (Stays who posts from shown) =
-      mute_letters who stamp posts (λ post i. ap is_between (shown post i))
+      mute_letters who stamp posts (λ post i. ap is_of_entries (shown post i))
   serves_said n stamp what _ (Wakes booted asleep) = mute_letters _ stamp _ (downs_mute n (w.servers n).life.inc _)
   serves_said n stamp what _ (Fails booted asleep) = mute_letters (sender (own_place setting w n)) stamp [] (λ post i. none_in post i)
 
@@ -242,28 +323,35 @@ module _ (script : Script) (sound : IsSound script) (front : List Record) (own :
   letters_said state _ (Turns c stamp in_call reacted lt within turned onward) letter i =
       elim (in-append letter (stamped stamp (letters_of (client_sender c reacted.client) 0 reacted.posts)) w.sent i) [
         | inl new ↦ mute_letters (client_sender c reacted.client) stamp reacted.posts
-            (λ post j. asked_mute (subject_of post.body) (turned_asks _ _ _ _ _ _ _ turned post j)) letter new
+            (λ post j. asked_none (subject_of post.body) (turned_asks _ _ _ _ _ _ _ turned post j)) letter new
         | inr before ↦ was_said letter before
       ]
 
   -- ### The world after the step
 
-  grown : (n : ℕ) (cell : Cell) → bound n cell ≤ epochs_by setting (v.servers n).log.applied cell
-  grown n cell = log_epochs script.servers (Own_log n) (v.servers n).log.applied cell (own_plain setting v knows_now n)
+  grown : (n : ℕ) (cell : Cell) (epoch : ℕ) → bound n cell epoch → IsKnownBy setting.servers (v.servers n).log.applied cell epoch
+  grown n = known_more script.servers (Own_log n) (v.servers n).log.applied (own_plain setting v knows_now n)
       (grows script sound (front ++ own ∷ []) legal front (own ∷ []) refl n)
 
-  raised : (n : ℕ) (chains : Table Cell Chain) → AreWithin (bound n) chains → AreWithin (epochs_by setting (v.servers n).log.applied) chains
-  raised n chains early cell epoch entry is = let le = early cell epoch entry is in let up = grown n cell in omega arith
+  -- also by what the server had applied before the step
+  pub now_then : (n : ℕ) → AreWithin (bound n) (v.servers n).own.store.chains
+  now_then =
+      let state = chosen_state setting v in
+      stores_within state v (last_happens script front own (always_firm script (front ++ own ∷ []) sound legal) legal state (below_itself state))
+
+  pub before_then : (n : ℕ) (b : BeforeBlank) → v.before_blank n ≡ Some b → AreWithin (bound n) b.store.chains
+  before_then =
+      let state = chosen_state setting v in
+      before_within state v (last_happens script front own (always_firm script (front ++ own ∷ []) sound legal) legal state (below_itself state))
 
   pub early_next : AllEarly setting v
   early_next =
       let state = chosen_state setting v in
       let happened = last_happens script front own (always_firm script (front ++ own ∷ []) sound legal) legal state (below_itself state) in
       record {
-        entries = record {
-          now = λ n. raised n (v.servers n).own.store.chains (stores_within state v happened n);
-          before = λ n b is. raised n b.store.chains (before_within state v happened n b is);
-        };
+        now = λ n cell epoch entry is. grown n cell epoch (stores_within state v happened n cell epoch entry is);
+        before = λ n b is cell epoch entry there. grown n cell epoch (before_within state v happened n b is cell epoch entry there);
+        fills = λ n cell op is fills. grown n (cell_of op.key) op.key.epoch (fills_within state v happened n cell op is fills);
         letters = letters_said state v happened;
       }
 
@@ -271,3 +359,27 @@ pub all_early : (script : Script) (records : List Record) → IsSound script →
 all_early script records sound legal =
     along script (AllEarly (setting_of script)) (λ front own part old. early_next script sound front own part old) [] records legal
     (start_early (setting_of script))
+
+-- ### As it is told above
+
+-- a chain that is not empty has an entry
+early_so : (servers : ℕ) (log : List Command) (store : Store) → AreWithin (IsKnownBy servers log) store.chains → AreEarly servers log store
+early_so servers log store all = record {
+  known = λ cell epoch entry is. (all cell epoch entry is).within;
+  lived = λ cell some. by cell (chain_in store.chains cell) refl some;
+}
+  where
+    by : (cell : Cell) (chain : Chain) → chain_in store.chains cell ≡ chain → chain_in store.chains cell ≢ [] → 1 ≤ stage_at (state_after servers log) cell
+    by cell [] is some = absurd (some is)
+    by cell (row ∷ rows) is some =
+        let there = at_key (chain_in store.chains cell) 0 row (ap (λ (c : Chain). slice_get c 0) is) in
+        (all cell row.0 there.0 there.1).born
+
+pub early_entries : (script : Script) (records : List Record) → IsSound script → IsLegal script records
+    → HaveEarlyEntries script.servers (At script records)
+early_entries script records sound legal =
+    let all = all_early script records sound legal in
+    record {
+      now = λ n. early_so script.servers _ _ (all.now n);
+      before = λ n b is. early_so script.servers _ _ (all.before n b is);
+    }

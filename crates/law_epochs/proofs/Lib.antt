@@ -1,6 +1,7 @@
 pub mod Keys
 pub mod Parts
-pub mod Opened
+pub mod Timely
+pub mod Seats
 pub mod Reports
 pub mod Present
 pub mod There

@@ -1,25 +1,33 @@
--- Each job leaves the entries of a server within a bound, where what is pending is, and what letters tell of.
+-- What is so of each entry of a server, of what it has pending and of what letters tell, is so of its entries after each job.
 use Rattle.std.proofs.Common.{◌≡◌, ℕ, Some, refl, ap, sym, subst}
 use Rattle.petal_base.specs.declared.cell.Cell.{Cell}
 use Rattle.petal_table.specs.Table.{at}
 use Rattle.petal_msg.specs.declared.body.Body.{Body}
 use Rattle.petal_msg.specs.declared.copying.Copying.{Copying}
 use Rattle.petal_msg.specs.declared.copying.LastCopy.{LastCopy}
+use Rattle.petal_msg.specs.declared.dead.Dead.TheVariants as dead
+use Rattle.petal_msg.specs.declared.operation.Action.{Action}
+use Rattle.petal_msg.specs.declared.operation.Action.TheVariants as action
+use Rattle.petal_msg.specs.declared.operation.Ending.{Ending}
+use Rattle.petal_msg.specs.declared.operation.Ending.TheVariants.{Written, Full}
+use Rattle.petal_msg.specs.declared.operation.OpKind.{OpKind}
 use Rattle.petal_msg.specs.declared.operation.Pending.{Pending}
 use Rattle.petal_rules.specs.Server.{Own, Here, Done}
 use Rattle.petal_rules.specs.Store.{Store, cell_cmp}
-use Rattle.petal_rules.specs.Writes.{tells}
-use Rattle.law_steps.specs.DidLead.{DidLead, Asks_for, Repeats, Is_full, Opens, Marks, Puts, Gives_up, Unmarks, Closes, Opens_alone, Marks_alone, Puts_alone, Unmarks_alone, Closes_alone, Taken}
+use Rattle.petal_rules.specs.Writes.{acts, ends, gives_back, next_stage, tells, without_pending}
+use Rattle.petal_rules.proofs.Tests.{by_test}
+use Rattle.law_steps.specs.DidLead.{DidLead, Asks_for, Repeats, Is_full, Opens, Marks, Puts, Gives_up, Unmarks, Closes, Opens_alone, Marks_alone, Puts_alone, Unmarks_alone, Closes_alone, Opens_fill, Opens_fill_alone, Has_fill, Has_no_room, Goes_on_dead, Taken}
 use Rattle.law_steps.specs.DidSecond.{DidSecond, Sets_apart, Promises, Declines, Follows}
 use Rattle.law_steps.specs.DidHolder.{DidHolder, CopyStep, Asks_to_trim, Sends, Unmarks_copied, Closes_copy, TakenCopy, Copy_as_is, Copy_trimmed, Copy_synced, Asks_page, Turns_page, Begins_copy, Goes_on_copying, Finds_it_full, Tidies}
 use Rattle.law_steps.specs.DidOther.{DidOther, TrimStep, Is_trimmed, Drops_entry, Answers_page, Is_copied_to, Goes_on_trimming, Puts_entry, Has_entry, Has_no_slot}
-use Rattle.law_steps.specs.Did.{Did, Ignores, Refuses, By_read, By_lead, By_second, By_holder, By_other}
-use Rattle.law_steps.proofs.Subjects.{of_read, told_own}
+use Rattle.law_steps.specs.Did.{Did, Ignores, Refuses, By_read, By_lead, By_second, By_holder, By_other, By_filler, By_sweep}
+use Rattle.law_steps.specs.DidSweep.{DidSweep, Sweeps}
+use Rattle.law_steps.proofs.Subjects.{of_ending, of_filler, of_read, told_own}
 use Rattle.law_steps.proofs.Taking.{taking}
 use Rattle.law_copies.proofs.Chains.{copied_chains, page_chains}
 use Rattle.law_epochs.proofs.Within.{AreWithin, IsWithin, OfKey, drop_within, put_within}
 
-module _ (bound : Cell → ℕ) (heard : Body → Type 0) (here : Here) (own : Own) (all : AreWithin bound own.store.chains)
+module _ (bound : Cell → ℕ → Type 0) (heard : Body → Type 0) (here : Here) (own : Own) (all : AreWithin bound own.store.chains)
     (pending : (cell : Cell) (op : Pending) → at cell_cmp own.pairs.pending cell ≡ Some op → IsWithin bound op.key)
     (told : (said : Body) → heard said → OfKey (IsWithin bound) said) where
   abbrev Kept : Own → Type 0
@@ -35,22 +43,41 @@ module _ (bound : Cell → ℕ) (heard : Body → Type 0) (here : Here) (own : O
   taken_key now op taken =
       let k = taking own now op taken in subst (IsWithin bound) (ap (λ (o : Pending). o.key) (sym k.is)) (pending op.cell k.old k.was)
 
+  ends_kept : (now : Own) (op : Pending) (of : OpKind) (how : Ending) → Kept now → Kept (ends here now op of how).own
+  ends_kept now op of how kept = subst (AreWithin bound) (sym (ap (λ (s : Store). s.chains) (of_ending here now op of how).store)) kept
+
+  acts_kept : (now : Own) (op : Pending) → Taken own now op → (next : Action) → Kept (acts here now op next).own
+  acts_kept now op taken action.Reserve = taken_kept now op taken
+  acts_kept now op taken (action.Mark which) = taken_kept now op taken
+  acts_kept now op taken action.Put = put_within bound now.store.chains op.key _ (taken_kept now op taken) (taken_key now op taken)
+  acts_kept now op taken action.Replicate = taken_kept now op taken
+  acts_kept now op taken (action.Unmark which) = taken_kept now op taken
+  acts_kept now op taken action.Answer = ends_kept (without_pending now op.cell) op op.kind Written (taken_kept now op taken)
+  acts_kept now op taken action.Drop =
+      by_test Kept op.stage.put (without_pending now op.cell) (gives_back (without_pending now op.cell)) (λ put. taken_kept now op taken)
+      (λ fresh. taken_kept now op taken)
+
   lead_kept : (done : Done) → DidLead heard here own done → Kept done.own
   lead_kept _ (Asks_for posts h) = all
   lead_kept _ (Repeats want last h lead is e) = all
   lead_kept _ (Is_full want new no_room) = all
-  lead_kept _ (Gives_up op h is reserved put) = all
+  lead_kept _ (Gives_up op h is reserved put) = ends_kept (gives_back (without_pending own op.cell)) op op.kind Full all
   lead_kept _ (Opens want new both) = all
   lead_kept _ (Marks op h is both stage) = all
   lead_kept _ (Puts op is both stage) = put_within bound own.store.chains op.key _ all (pending op.cell op is)
   lead_kept _ (Unmarks op h is both stage) = all
-  lead_kept _ (Closes op is both stage) = all
+  lead_kept _ (Closes op is both stage) = ends_kept (without_pending own op.cell) op op.kind Written all
   lead_kept _ (Opens_alone want new on) = all
   lead_kept _ (Marks_alone now op taken on fresh) = taken_kept now op taken
   lead_kept _ (Puts_alone now op taken on stale put) =
       put_within bound now.store.chains op.key _ (taken_kept now op taken) (taken_key now op taken)
   lead_kept _ (Unmarks_alone now op taken on stale put busy) = taken_kept now op taken
-  lead_kept _ (Closes_alone now op taken on stale put free) = taken_kept now op taken
+  lead_kept _ (Closes_alone now op taken on stale put free) = ends_kept (without_pending now op.cell) op op.kind Written (taken_kept now op taken)
+  lead_kept _ (Opens_fill moving new room both) = all
+  lead_kept _ (Opens_fill_alone moving new room alone) = all
+  lead_kept _ (Has_fill moving filled) = all
+  lead_kept _ (Has_no_room moving new no_room) = all
+  lead_kept _ (Goes_on_dead now op taken off) = acts_kept now op taken (next_stage here.state here.me op)
 
   second_kept : (done : Done) → DidSecond heard here own done → Kept done.own
   second_kept _ (Sets_apart number cell tickets h s le) = all
@@ -92,6 +119,10 @@ module _ (bound : Cell → ℕ) (heard : Body → Type 0) (here : Here) (own : O
   other_kept _ (Has_entry entry holder last of_copy lt) = all
   other_kept _ (Has_no_slot entry holder last of_copy at full) = all
 
+  sweep_kept : (done : Done) → DidSweep here own done → Kept done.own
+  sweep_kept _ (Sweeps (dead.Key key) seat next off) = drop_within bound own.store key all
+  sweep_kept _ (Sweeps (dead.Mark kind cell) seat next off) = all
+
   pub did_kept : (done : Done) → Did heard here own done → Kept done.own
   did_kept _ Ignores = all
   did_kept _ (Refuses to said is why held) = all
@@ -100,3 +131,5 @@ module _ (bound : Cell → ℕ) (heard : Body → Type 0) (here : Here) (own : O
   did_kept _ (By_second done d) = second_kept done d
   did_kept _ (By_holder done d) = holder_kept done d
   did_kept _ (By_other done d) = other_kept done d
+  did_kept _ (By_filler done d) = same done.own (ap (λ (s : Store). s.chains) (of_filler heard here own done d).store)
+  did_kept _ (By_sweep done d) = sweep_kept done d

@@ -1,5 +1,5 @@
--- What a second server can still put is of the present epoch. Where its link was touched behind its own entries, that was by a Leave, behind
--- which the epoch rises only once the second server has reported; and it has applied no more than its own entries.
+-- A client's write that a second server can still put is in time. Where its link was touched after its own entries, that was by a Leave, after
+-- which the era rises only once the second server has reported; and it has applied no more than its own entries.
 use Rattle.std.proofs.Common.{◌≡◌, ◌≤◌, ◌+◌, ◌++◌, ℕ, true, List, [], ◌∷◌, Some, length, length-append, refl, sym, ap, ◌∙◌, subst, inl, inr, arith, append_assoc}
 use Rattle.std.specs.Prelude.{fold}
 use Rattle.std.proofs.lemmas.Grind.{fold-append}
@@ -17,13 +17,14 @@ use Rattle.petal_state.specs.State.{is_up_as, start}
 use Rattle.petal_rules.specs.Server.{Pairs}
 use Rattle.petal_rules.specs.State.{State, is_in}
 use Rattle.petal_rules.specs.Store.{cell_cmp}
+use Rattle.petal_rules.specs.Writes.{is_clients}
 use Rattle.petal_rules.specs.World.{Setting, World, chosen_log, server_state, setting_of}
 use Rattle.petal_rules.proofs.Tests.{same_or_apart}
 use Rattle.petal_history.specs.Claims.{IsPrefix}
 use Rattle.petal_history.specs.Legal.{IsLegal}
 use Rattle.petal_history.specs.Sound.{IsSound}
 use Rattle.petal_history.specs.declared.record.Record.{Record}
-use Rattle.law_state.specs.Epochs.{epoch_at}
+use Rattle.law_state.specs.Epochs.{era_at}
 use Rattle.law_state.specs.Firm.{Firm}
 use Rattle.law_state.specs.Places.{By_leave, By_join, By_caught, IsTouchedBy}
 use Rattle.law_state.proofs.Reports.{log_epochs, log_left}
@@ -36,10 +37,12 @@ use Rattle.law_stores.proofs.Counts.{stands_in}
 use Rattle.law_stores.proofs.Ways.{At}
 use Rattle.law_copies.specs.Visits.{IsLinked, WasThere, place_by}
 use Rattle.law_copies.proofs.Places.{at_most_or_above, place_of_later, place_touched}
+use Rattle.law_epochs.specs.Timely.{IsTimely}
 use Rattle.law_epochs.proofs.Parts.{IsFirst, first_touch}
 use Rattle.law_epochs.proofs.Present.{chosen_plain, firm}
 use Rattle.law_epochs.proofs.Reports.{grows}
-use Rattle.law_epochs.proofs.There.{epoch_there}
+use Rattle.law_epochs.proofs.There.{timely_known}
+use Rattle.law_epochs.proofs.Timely.{on_time}
 
 module _ (script : Script) (sound : IsSound script) (records : List Record) (legal : IsLegal script records) (m : ℕ) where
   abbrev setting : Setting
@@ -66,26 +69,26 @@ module _ (script : Script) (sound : IsSound script) (records : List Record) (leg
   own_chosen : IsPrefix own chosen
   own_chosen = known.servers m
 
-  -- behind a Leave that the server, which runs, doesn't know of yet the epoch doesn't rise
+  -- after a Leave that the server, which runs, doesn't know of yet the era doesn't rise
   module _ (runs : (w.servers m).life.running ≡ true) (seat : is_in (server_state setting w m) m inc ≡ true) (mid : List Command) (onward : IsPrefix own mid)
       (other other_inc : ℕ) (stands : IsPrefix (mid ++ Leave other other_inc ∷ []) chosen) (up : is_up_as (By mid) other other_inc ≡ true) where
-    abbrev behind : List Command
-    behind = mid ++ Leave other other_inc ∷ []
+    abbrev left : List Command
+    left = mid ++ Leave other other_inc ∷ []
 
-    pub still_behind : (cell : Cell) → epoch_at (By chosen) cell ≡ epoch_at (By mid) cell
-    still_behind cell =
-        let mid_chosen = front_on mid behind chosen (front_more mid (Leave other other_inc)) stands in
+    pub still_timely : (cell : Cell) (op : Pending) → IsTimely script.servers mid cell op → IsTimely script.servers chosen cell op
+    still_timely cell op timely =
+        let mid_chosen = front_on mid left chosen (front_more mid (Leave other other_inc)) stands in
         let le = log_epochs script.servers mid chosen cell known.plain mid_chosen in
-        elim (same_or_apart (epoch_at (By chosen) cell) (epoch_at (By mid) cell)) [
-          | inl same ↦ same
+        elim (same_or_apart (era_at (By chosen) cell) (era_at (By mid) cell)) [
+          | inl same ↦ on_time script.servers mid chosen cell known.plain mid_chosen op timely same
           | inr ne ↦ (
-              let own_behind = front_on own mid behind onward (front_more mid (Leave other other_inc)) in
+              let own_left = front_on own mid left onward (front_more mid (Leave other other_inc)) in
               let reported = log_left script.servers mid chosen m inc other other_inc cell known.plain stands up
-              (runs_at setting w known own behind own_behind stands m runs seat) (runs_now setting w known m runs seat) (omega arith) in
+              (runs_at setting w known own left own_left stands m runs seat) (runs_now setting w known m runs seat) timely.born timely.stays (omega arith) in
               let made = report_was_made script records sound legal reported.until m inc reported.fence reported.stands in
               let known_of : IsPrefix reported.until own =
-              subst (λ log. IsPrefix log own) made.at (grows script sound records legal made.before (made.own ∷ made.later) made.is m) in
-              let one = front_long behind reported.until reported.behind in
+              subst (λ log. IsPrefix log own) {x = ((At script made.before).servers m).log.applied} made.at (grows script sound records legal made.before (made.own ∷ made.later) made.is m) in
+              let one = front_long left reported.until reported.behind in
               let two = front_long reported.until own known_of in
               let three = front_long own mid onward in
               absurd (omega (arith, length-append mid (Leave other other_inc ∷ []))))
@@ -94,14 +97,14 @@ module _ (script : Script) (sound : IsSound script) (records : List Record) (leg
   module _ (n : ℕ) (cell : Cell) (pairs : Pairs) (op : Pending) (row : LinkRow) (runs : (w.servers m).life.running ≡ true)
       (seat : is_in (server_state setting w m) m inc ≡ true) (linked : IsLinked setting own cell row) (both : row.state ≡ Both)
       (was : WasThere setting records n (place_by setting own row) cell pairs) (is : at cell_cmp pairs.pending cell ≡ Some op)
-      (front : List Command) (now : LinkRow) (lies : IsPrefix front chosen) (linked_now : IsLinked setting front cell now)
+      (clients : is_clients op.kind ≡ true) (front : List Command) (now : LinkRow) (lies : IsPrefix front chosen) (linked_now : IsLinked setting front cell now)
       (at_place : place_by setting front now ≡ place_by setting own row) (le : op.rev ≤ length front) where
     -- at a front at the place that is no shorter
-    epoch_by : (log : List Command) → IsPrefix own log → IsPrefix log chosen → place_by setting log row ≡ place_by setting own row → length front ≤ length log
-        → epoch_at (By log) cell ≡ op.key.epoch
-    epoch_by log onward log_chosen same long =
-        let there = (same_place script.servers own log cell row (chosen_plain script sound records legal log log_chosen) onward linked same).same in
-        epoch_there script sound records legal n (place_by setting own row) cell pairs op was is log row log_chosen there same (omega arith)
+    timely_by : (log : List Command) → IsPrefix log chosen → place_by setting log row ≡ place_by setting own row → length front ≤ length log
+        → IsTimely script.servers log cell op
+    timely_by log log_chosen same long =
+        timely_known script sound records legal n (place_by setting own row) cell pairs op was is clients own log row own_chosen linked log_chosen same
+        (omega arith)
 
     module _ (more : 1 ≤ places_from (By own) own_chosen.later row) where
       first : IsFirst (By own) own_chosen.later row
@@ -129,45 +132,50 @@ module _ (script : Script) (sound : IsSound script) (records : List Record) (leg
       same_mid : place_by setting mid row ≡ place_by setting own row
       same_mid = let e = places_on row (start script.servers) own first.before in let none = first.quiet in omega arith
 
-      linked_mid : IsLinked setting mid cell row
-      linked_mid = (same_place script.servers own mid cell row (chosen_plain script sound records legal mid mid_chosen) onward linked same_mid).same
-
       on_mid : touches (By mid) first.entry row ≡ true
       on_mid = ap (λ s. touches s first.entry row) mid_is ∙ first.on
-
-      touched : IsTouchedBy cell row (By mid) first.entry
-      touched = log_touched script.servers mid first.entry cell row (chosen_plain script sound records legal mid mid_chosen)
-          (known.plain first.entry (stands_in mid chosen first.entry stands)) linked_mid on_mid
 
       -- the front that is given is at the place, and so it is no longer
       not_longer : length front ≤ length mid
       not_longer = elim (at_most_or_above (length front) (length mid)) [
         | inl at_most ↦ at_most
         | inr above ↦ (
-            let behind = mid ++ first.entry ∷ [] in
-            let on = front_within behind front chosen stands lies (omega (arith, length-append mid (first.entry ∷ []))) in
-            let up = places_grow script.servers behind front row on in
+            let after_it = mid ++ first.entry ∷ [] in
+            let on = front_within after_it front chosen stands lies (omega (arith, length-append mid (first.entry ∷ []))) in
+            let up = places_grow script.servers after_it front row on in
             let next = place_touched setting mid first.entry row on_mid in
             let one_row = place_of_later setting chosen known.plain own front front cell row now
-            (front_on own behind front (front_on own mid behind onward (front_more mid first.entry)) on) lies linked linked_now in
+            (front_on own after_it front (front_on own mid after_it onward (front_more mid first.entry)) on) lies linked linked_now in
             let same = same_mid in
             absurd (omega arith))
       ]
 
-      epoch_behind : epoch_at (By chosen) cell ≡ op.key.epoch
-      epoch_behind = by touched
+      timely_mid : IsTimely script.servers mid cell op
+      timely_mid = timely_by mid mid_chosen same_mid not_longer
+
+      linked_mid : IsLinked setting mid cell row
+      linked_mid = elim (same_place script.servers own mid cell row (chosen_plain script sound records legal mid mid_chosen) onward linked same_mid) [
+        | inl stays ↦ stays.same
+        | inr died ↦ let two = timely_mid.stays in let four = died.1 in absurd (omega arith)
+      ]
+
+      touched : IsTouchedBy cell row (By mid) first.entry
+      touched = log_touched script.servers mid first.entry cell row (chosen_plain script sound records legal mid mid_chosen)
+          (known.plain first.entry (stands_in mid chosen first.entry stands)) linked_mid on_mid
+
+      timely_since : IsTimely script.servers chosen cell op
+      timely_since = by touched
         where
-          by : IsTouchedBy cell row (By mid) first.entry → epoch_at (By chosen) cell ≡ op.key.epoch
-          by (By_leave left there seats) =
-              still_behind runs seat mid onward left.server left.inc (subst (λ c. IsPrefix (mid ++ c ∷ []) chosen) left.is stands) left.up cell
-              ∙ epoch_by mid onward mid_chosen same_mid not_longer
+          by : IsTouchedBy cell row (By mid) first.entry → IsTimely script.servers chosen cell op
+          by (By_leave gone there seats) =
+              still_timely runs seat mid onward gone.server gone.inc (subst (λ c. IsPrefix (mid ++ c ∷ []) chosen) gone.is stands) gone.up cell op timely_mid
           by (By_join joined there apart seats) = absurd (apart both)
           by (By_caught acts stays) = alone_not_both row acts.holder acts.alone both
 
-    pub epoch_now : epoch_at (By chosen) cell ≡ op.key.epoch
-    epoch_now =
+    pub timely_now : IsTimely script.servers chosen cell op
+    timely_now =
         let e = places_of_both script.servers own chosen row own_chosen in
         elim (same_or_apart (place_by setting chosen row) (place_by setting own row)) [
-          | inl same ↦ epoch_by chosen own_chosen (front_itself chosen) same (front_long front chosen lies)
-          | inr ne ↦ epoch_behind (omega arith)
+          | inl same ↦ timely_by chosen (front_itself chosen) same (front_long front chosen lies)
+          | inr ne ↦ timely_since (omega arith)
         ]

@@ -1,8 +1,10 @@
--- What each job sends of entries is within a bound, where the server's own entries are, and what is pending.
-use Rattle.std.proofs.Common.{◌≡◌, ℕ, false, List, Some, ap, sym, ◌∙◌, subst}
+-- What is so of each entry of a server, of what it has pending and of what it moves is so of the keys that it tells of in each job.
+use Rattle.std.proofs.Common.{◌≡◌, ◌⊎◌, ℕ, false, List, Some, refl, ap, sym, ◌∙◌, subst, inl, inr}
 use Rattle.std.specs.Prelude.{filter, slice_get}
 use Rattle.busy_marks.specs.Marks.{above}
 use Rattle.petal_base.specs.declared.cell.Cell.{Cell}
+use Rattle.global_tables.specs.declared.link.LinkRow.{LinkRow}
+use Rattle.petal_base.specs.declared.cell.Key.{Key}
 use Rattle.petal_base.specs.Cells.{cell_of, key_at}
 use Rattle.petal_table.specs.Table.{at}
 use Rattle.petal_msg.specs.Kinds.{subject_of}
@@ -10,33 +12,54 @@ use Rattle.petal_msg.specs.declared.body.Body.{Body}
 use Rattle.petal_msg.specs.declared.body.Body.TheVariants as body
 use Rattle.petal_msg.specs.declared.copying.Copying.{Copying}
 use Rattle.petal_msg.specs.declared.copying.LastCopy.{LastCopy}
+use Rattle.petal_msg.specs.declared.operation.Action.{Action}
+use Rattle.petal_msg.specs.declared.operation.Action.TheVariants as action
 use Rattle.petal_msg.specs.declared.operation.Ending.{Ending}
 use Rattle.petal_msg.specs.declared.operation.Ending.TheVariants as ending
 use Rattle.petal_msg.specs.declared.operation.Far.{Far}
 use Rattle.petal_msg.specs.declared.operation.Far.TheVariants as far
+use Rattle.petal_msg.specs.declared.operation.OpKind.{OpKind}
+use Rattle.petal_msg.specs.declared.operation.OpKind.TheVariants as kind
 use Rattle.petal_msg.specs.declared.operation.Pending.{Pending}
 use Rattle.petal_rules.specs.Copies.{begins_copy, least, marked_blocks, page_wanted}
 use Rattle.petal_rules.specs.Lists.{In}
 use Rattle.petal_rules.specs.Server.{Own, Here, Post, Done}
 use Rattle.petal_rules.specs.Store.{Stored, cell_cmp, chain_in, epochs_of}
-use Rattle.petal_rules.specs.Writes.{ended, follows, tells, with_last}
-use Rattle.law_steps.specs.DidLead.{DidLead, Asks_for, Repeats, Is_full, Opens, Marks, Puts, Gives_up, Unmarks, Closes, Opens_alone, Marks_alone, Puts_alone, Unmarks_alone, Closes_alone, Asks, A_slot, A_copy, A_trim, A_copied_entry, A_page, Of_the_log}
+use Rattle.petal_rules.specs.Writes.{acts, ended, ends, follows, gives_back, moved_as, next_stage, tells, with_last, without_pending}
+use Rattle.law_steps.specs.DidLead.{DidLead, Asks_for, Repeats, Is_full, Opens, Marks, Puts, Gives_up, Unmarks, Closes, Opens_alone, Marks_alone, Puts_alone, Unmarks_alone, Closes_alone, Opens_fill, Opens_fill_alone, Has_fill, Has_no_room, Goes_on_dead, IsNextFill, Taken, Asks, A_slot, A_copy, A_trim, A_copied_entry, A_page, An_entry_to_move, Of_the_log}
+use Rattle.law_steps.specs.DidFiller.{IsNextKey, Is_filled, Is_out_of_slots, filled_to}
 use Rattle.law_steps.specs.DidSecond.{DidSecond, with_tickets, Sets_apart, Promises, Declines, Follows}
 use Rattle.law_steps.specs.DidHolder.{DidHolder, CopyStep, Asks_to_trim, Sends, Unmarks_copied, Closes_copy, Asks_page, Turns_page, Begins_copy, Goes_on_copying, Finds_it_full, Tidies}
 use Rattle.law_steps.specs.DidOther.{DidOther, TrimStep, Is_trimmed, Drops_entry, Answers_page, Is_copied_to, Goes_on_trimming, Puts_entry, Has_entry, Has_no_slot}
-use Rattle.law_steps.specs.Did.{Did, Ignores, Refuses, By_read, By_lead, By_second, By_holder, By_other}
-use Rattle.law_steps.specs.Happens.{is_between}
+use Rattle.law_steps.specs.Did.{Did, Ignores, Refuses, By_read, By_lead, By_second, By_holder, By_other, By_filler, By_sweep}
 use Rattle.law_steps.proofs.Letters.{one_post, posted}
-use Rattle.law_steps.proofs.Subjects.{of_read}
-use Rattle.law_copies.proofs.Mute.{logged_mute}
+use Rattle.law_steps.proofs.Subjects.{of_read, of_sweep}
+use Rattle.law_steps.proofs.Taking.{taking}
 use Rattle.law_copies.proofs.Sent.{none_in}
 use Rattle.law_epochs.proofs.Keys.{at_key}
 use Rattle.law_epochs.proofs.Puts.{copy_kept}
-use Rattle.law_epochs.proofs.Within.{AreWithin, IsWithin, OfKey, of_no_key}
+use Rattle.law_epochs.proofs.Within.{AreWithin, IsWithin, OfKey, is_of_entries, logged_none, of_no_key}
 
-module _ (bound : Cell → ℕ) (heard : Body → Type 0) (here : Here) (own : Own) (all : AreWithin bound own.store.chains)
+-- the own by which a server sends the next entry of a link: as it is, or once it was told of the next key
+pub record IsToldNext (heard : Body → Type 0) (here : Here) (own now : Own) : Type 0 where
+  pub key : Key
+  pub row : LinkRow
+  pub told : heard (body.Filled key)
+  pub next : IsNextKey here own key row
+  pub is : now ≡ filled_to own row key
+
+abbrev pub IsMoverOwn : (heard : Body → Type 0) → Here → (own now : Own) → Type 0
+IsMoverOwn heard here own now = (now ≡ own) ⊎ IsToldNext heard here own now
+
+-- with the store that it had
+pub mover_store : (heard : Body → Type 0) (here : Here) (own now : Own) → IsMoverOwn heard here own now → now.store ≡ own.store
+mover_store heard here own now (inl same) = ap (λ (o : Own). o.store) same
+mover_store heard here own now (inr told) = ap (λ (o : Own). o.store) told.is
+
+module _ (bound : Cell → ℕ → Type 0) (heard : Body → Type 0) (here : Here) (own : Own) (all : AreWithin bound own.store.chains)
     (pending : (cell : Cell) (op : Pending) → at cell_cmp own.pairs.pending cell ≡ Some op → IsWithin bound op.key)
-    (told : (said : Body) → heard said → OfKey (IsWithin bound) said) where
+    (told : (said : Body) → heard said → OfKey (IsWithin bound) said)
+    (moves : (now : Own) (post : Post) → IsMoverOwn heard here own now → IsNextFill here now post → OfKey (IsWithin bound) post.body) where
   abbrev E : Body → Type 0
   E said = OfKey (IsWithin bound) said
 
@@ -46,7 +69,7 @@ module _ (bound : Cell → ℕ) (heard : Body → Type 0) (here : Here) (own : O
   as_said : (post : Post) (what : Body) → post.body ≡ what → E what → E post.body
   as_said post what is e = subst E (sym is) e
 
-  mute : (post : Post) → is_between (subject_of post.body) ≡ false → E post.body
+  mute : (post : Post) → is_of_entries (subject_of post.body) ≡ false → E post.body
   mute post e = of_no_key (IsWithin bound) post.body e
 
   -- an entry of one's own
@@ -61,29 +84,57 @@ module _ (bound : Cell → ℕ) (heard : Body → Type 0) (here : Here) (own : O
   asks_said _ (A_trim cell copy to is fresh so) = tt
   asks_said _ (A_copied_entry cell copy row to is trimmed spot so) = entry_said own all cell copy.index row spot
   asks_said _ (A_page row to on so fresh) = tt
-  asks_said post (Of_the_log _ logged) = mute post (logged_mute (subject_of post.body) logged)
+  asks_said post (An_entry_to_move _ next) = moves own post (inl refl) next
+  asks_said post (Of_the_log _ logged) = mute post (logged_none (subject_of post.body) logged)
 
   ended_said : (seq : ℕ) (how : Ending) → E (ended seq how)
   ended_said seq ending.Written = tt
   ended_said seq ending.Full = tt
+
+  moved_said : (op : Pending) (how : Ending) → E (moved_as op.key how)
+  moved_said op ending.Written = tt
+  moved_said op ending.Full = tt
+
+  -- what ends an operation tells of no entry
+  ends_said : (now : Own) (op : Pending) (of : OpKind) (how : Ending) → AreSaid (ends here now op of how).posts
+  ends_said now op kind.Write how post i = as_said post _ (one_post _ _ post i).1 (ended_said op.seq how)
+  ends_said now op kind.Fill how post i = as_said post _ (posted _ _ post i) (moved_said op how)
+  ends_said now op kind.Copy how post i = none_in post i
+
+  taken_key : (now : Own) (op : Pending) → Taken own now op → IsWithin bound op.key
+  taken_key now op taken =
+      let k = taking own now op taken in subst (IsWithin bound) (ap (λ (o : Pending). o.key) (sym k.is)) (pending op.cell k.old k.was)
+
+  acts_said : (now : Own) (op : Pending) → Taken own now op → (next : Action) → AreSaid (acts here now op next).posts
+  acts_said now op taken action.Reserve post i = as_said post _ (posted _ _ post i) tt
+  acts_said now op taken (action.Mark which) post i = none_in post i
+  acts_said now op taken action.Put post i = none_in post i
+  acts_said now op taken action.Replicate post i = as_said post _ (posted _ _ post i) (taken_key now op taken)
+  acts_said now op taken (action.Unmark which) post i = none_in post i
+  acts_said now op taken action.Answer post i = ends_said (without_pending now op.cell) op op.kind ending.Written post i
+  acts_said now op taken action.Drop post i = none_in post i
 
   lead_said : (done : Done) → DidLead heard here own done → AreSaid done.posts
   lead_said _ (Asks_for posts h) post i = asks_said post (h post i)
   lead_said _ (Repeats want last h lead is e) post i =
       as_said post _ (one_post _ _ post i).1 (ended_said want.seq last.ending)
   lead_said _ (Is_full want new no_room) post i = as_said post _ (one_post _ _ post i).1 (ended_said want.seq ending.Full)
-  lead_said _ (Gives_up op h is reserved put) post i = as_said post _ (one_post _ _ post i).1 (ended_said op.seq ending.Full)
+  lead_said _ (Gives_up op h is reserved put) post i = ends_said (gives_back (without_pending own op.cell)) op op.kind ending.Full post i
   lead_said _ (Opens want new both) post i = as_said post _ (posted _ (body.Reserve own.pairs.next want.cell) post i) tt
   lead_said _ (Marks op h is both stage) post i = none_in post i
   lead_said _ (Puts op is both stage) post i = none_in post i
   lead_said _ (Unmarks op h is both stage) post i = none_in post i
-  lead_said _ (Closes op is both stage) post i = as_said post _ (one_post _ _ post i).1 (ended_said op.seq ending.Written)
+  lead_said _ (Closes op is both stage) post i = ends_said (without_pending own op.cell) op op.kind ending.Written post i
   lead_said _ (Opens_alone want new alone) post i = none_in post i
   lead_said _ (Marks_alone now op taken alone fresh) post i = none_in post i
   lead_said _ (Puts_alone now op taken alone stale put) post i = none_in post i
   lead_said _ (Unmarks_alone now op taken alone stale put busy) post i = none_in post i
-  lead_said _ (Closes_alone now op taken alone stale put free) post i =
-      as_said post _ (one_post _ _ post i).1 (ended_said op.seq ending.Written)
+  lead_said _ (Closes_alone now op taken alone stale put free) post i = ends_said (without_pending now op.cell) op op.kind ending.Written post i
+  lead_said _ (Opens_fill moving new room both) post i = as_said post _ (posted _ _ post i) tt
+  lead_said _ (Opens_fill_alone moving new room alone) post i = none_in post i
+  lead_said _ (Has_fill moving filled) post i = as_said post _ (posted _ _ post i) tt
+  lead_said _ (Has_no_room moving new no_room) post i = as_said post _ (posted _ _ post i) tt
+  lead_said _ (Goes_on_dead now op taken off) post i = acts_said now op taken (next_stage here.state here.me op) post i
 
   tells_said : (new : Own) (cell : Cell) (number : ℕ) (how : Far) → AreSaid (tells here new cell number how).posts
   tells_said new cell number far.Reserved post i = as_said post _ (posted _ (body.Reserved number cell) post i) tt
@@ -135,10 +186,15 @@ module _ (bound : Cell → ℕ) (heard : Body → Type 0) (here : Here) (own : O
   pub did_said : (done : Done) → Did heard here own done → AreSaid done.posts
   did_said _ Ignores post i = none_in post i
   did_said _ (Refuses to what is why kept) post i =
-      mute post (ap (λ (b : Body). is_between (subject_of b)) (one_post _ _ post i).1 ∙ ap is_between is)
-  did_said _ (By_read done d) post i =
-      let r = (of_read heard here own done d).says post i in mute post (ap (λ (b : Body). is_between (subject_of b)) r.is)
+      mute post (ap (λ (b : Body). is_of_entries (subject_of b)) (one_post _ _ post i).1 ∙ ap is_of_entries is.refused)
+  did_said _ (By_read done d) post i = elim ((of_read heard here own done d).says post i) [
+    | inl data_of ↦ mute post (ap (λ (b : Body). is_of_entries (subject_of b)) data_of.is)
+    | inr nothing ↦ mute post (ap (λ (b : Body). is_of_entries (subject_of b)) nothing.is)
+  ]
   did_said _ (By_lead done d) post i = lead_said done d post i
   did_said _ (By_second done d) post i = second_said done d post i
   did_said _ (By_holder done d) post i = holder_said done d post i
   did_said _ (By_other done d) post i = other_said done d post i
+  did_said _ (By_filler _ (Is_filled key row posts h next fills)) post i = moves (filled_to own row key) post (inr (record { key = key; row = row; told = h; next = next; is = refl })) (fills post i)
+  did_said _ (By_filler _ (Is_out_of_slots key row h next)) post i = none_in post i
+  did_said _ (By_sweep done d) post i = absurd ((of_sweep heard here own done d).silent post i)

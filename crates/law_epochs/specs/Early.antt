@@ -1,5 +1,5 @@
 -- Which epochs the entries of a store are of.
-use Rattle.std.specs.Prelude.{◌≡◌, ◌≤◌, ℕ, List, Some}
+use Rattle.std.specs.Prelude.{◌≡◌, ◌≢◌, ◌≤◌, ℕ, List, [], Some}
 use Rattle.std.specs.Ordering.{nat_cmp}
 use Rattle.petal_base.specs.declared.cell.Cell.{Cell}
 use Rattle.petal_command.specs.declared.command.Command.{Command}
@@ -8,12 +8,14 @@ use Rattle.petal_state.specs.Command.{state_after}
 use Rattle.petal_rules.specs.Blanked.{BeforeBlank}
 use Rattle.petal_rules.specs.Store.{Store, Stored, chain_in}
 use Rattle.petal_rules.specs.World.{World}
-use Rattle.law_state.specs.Epochs.{epoch_at}
+use Rattle.law_state.specs.Homes.{epoch_at, stage_at}
 
--- each entry is of an epoch that its cell's disk has, or has had, by these entries of the log
-abbrev pub AreEarly : (servers : ℕ) → (front : List Command) → Store → Type 0
-AreEarly servers front store =
-    (cell : Cell) (epoch : ℕ) (entry : Stored) → at nat_cmp (chain_in store.chains cell) epoch ≡ Some entry → epoch ≤ epoch_at (state_after servers front) cell
+-- each entry is of an epoch that its cell's disk has, or has had, by these entries of the log; and each cell with an entry is live by them, or
+-- has been
+pub record AreEarly (servers : ℕ) (front : List Command) (store : Store) : Type 0 where
+  pub known : (cell : Cell) (epoch : ℕ) (entry : Stored) → at nat_cmp (chain_in store.chains cell) epoch ≡ Some entry
+      → epoch ≤ epoch_at (state_after servers front) cell
+  pub lived : (cell : Cell) → chain_in store.chains cell ≢ [] → 1 ≤ stage_at (state_after servers front) cell
 
 -- so are those of each server's store, and of the one from before its device was made blank, by what the server has applied
 pub record HaveEarlyEntries (servers : ℕ) (w : World) : Type 0 where

@@ -3,7 +3,7 @@ use Rattle.std.proofs.Common.{◌≡◌, ◌<◌, ◌≤◌, ◌+◌, ◌⊎◌,
 use Rattle.std.specs.Prelude.{slice_get}
 use Rattle.std.proofs.lemmas.Bool.Decides.{nat_tests}
 use Rattle.petal_command.specs.declared.command.Command.{Command}
-use Rattle.petal_command.specs.declared.command.Command.TheVariants.{Join, Leave, Caught, Drained}
+use Rattle.petal_command.specs.declared.command.Command.TheVariants.{Join, Leave, Caught, Drained, Moved}
 use Rattle.petal_paxos.specs.Chosen.{IsChosenBy, chosen_at}
 use Rattle.petal_paxos.specs.Schedule.{run, begin, IsChosen}
 use Rattle.petal_paxos.specs.Schedule as schedule
@@ -23,9 +23,9 @@ use Rattle.law_state.specs.Firm.{Firm}
 use Rattle.law_state.specs.Plain.{IsPlainLog}
 use Rattle.law_state.proofs.Disks.{who_is_out}
 use Rattle.law_state.proofs.Incarnations.{who_is_in}
-use Rattle.law_log.specs.Logged.{Catches, Drains, IsBacked, IsCalledAnywhere, IsJoinAt, IsSaidBy, Logged, Minded, Returns, Waits, WasMinded}
+use Rattle.law_log.specs.Logged.{Catches, Drains, IsBacked, IsCalledAnywhere, IsJoinAt, IsSaidBy, Logged, Minded, Moves, Returns, Waits, WasMinded}
 use Rattle.law_log.specs.Requested.{HasBegun, HasStopped, IsCalledFor, IsCaughtAt, IsReportAt, WasWanted}
-use Rattle.law_log.proofs.Facts.{IsFair, told_chosen, chosen_wanted, chosen_once, told_wanted, leave_stopped, no_join, no_report, not_called, uncaught, wanted_plain}
+use Rattle.law_log.proofs.Facts.{IsFair, told_chosen, chosen_wanted, chosen_once, told_wanted, leave_stopped, no_join, no_moved, no_report, not_called, uncaught, wanted_plain}
 use Rattle.law_log.proofs.Lists.{at_among, at_next, next_at, one_front, parted}
 use Rattle.law_log.proofs.Worlds.{IsGrown}
 
@@ -88,7 +88,7 @@ module _ {Was : Minded} (setting : Setting) (w : World) (fair : IsFair setting) 
         record { later = front.0; is = front.1 };
   }
 
-  -- a chosen command is called for, or it acts behind the entries before it as a Caught, a Join or a report
+  -- a chosen command is called for, or it acts behind the entries before it as a Caught, a Join, a report or a Moved
   called_at : (i : ℕ) (c : Command) → slice_get (chosen_log setting w) i ≡ Some c
       → IsCalledAnywhere setting w c
       ⊎ ((front : List Command) × IsPrefix front (chosen_log setting w) × (length front ≡ i) × Returns setting.servers w.servers front c
@@ -145,6 +145,11 @@ module _ {Was : Minded} (setting : Setting) (w : World) (fair : IsFair setting) 
   report_was front server inc fence prefix =
       (returns_at front (Drained server inc fence) (λ called. no_report setting w server inc fence called.0) prefix).1
 
+  -- of a Moved a server had nothing left there
+  pub moved_was : (front : List Command) (of region link : ℕ) → IsPrefix (front ++ Moved of region link ∷ []) (chosen_log setting w)
+      → (server : ℕ) × (inc : ℕ) × Was server inc front (Moves of region link)
+  moved_was front of region link prefix = (returns_at front (Moved of region link) (λ called. no_moved setting w of region link called.0) prefix).1
+
   -- each chosen command stands behind a front
   stands_at : (c : Command) → Among c (chosen_log setting w) → (front : List Command) × IsPrefix (front ++ c ∷ []) (chosen_log setting w)
   stands_at c i =
@@ -159,6 +164,7 @@ module _ {Was : Minded} (setting : Setting) (w : World) (fair : IsFair setting) 
       → IsCalledFor setting w c ⊎ WasWanted setting w c
   wanted_or_join (Caught of link holder inc other other_inc) front stands h = inr (record { front = front; stands = stands; is = h })
   wanted_or_join (Drained server inc fence) front stands h = inr (record { front = front; stands = stands; is = h })
+  wanted_or_join (Moved of region link) front stands h = inr (record { front = front; stands = stands; is = h })
   wanted_or_join (Join server inc blank) front stands h = inl (inr (h.later, h.begun))
   wanted_or_join _ front stands h = absurd h
 

@@ -1,5 +1,5 @@
 -- Each step of a client keeps what is kept of a world.
-use Rattle.std.proofs.Common.{◌≡◌, ◌<◌, ◌≤◌, ◌+◌, ◌-◌, ◌⊎◌, inl, inr, ℕ, zero, suc, ◌==◌, ◌&&◌, List, [], ◌∷◌, ◌++◌, length, drop, Option, Some, None, refl, sym, ap, ◌∙◌, subst, arith}
+use Rattle.std.proofs.Common.{◌≡◌, ◌<◌, ◌≤◌, ◌+◌, ◌-◌, ◌⊎◌, inl, inr, ℕ, Bool, true, false, zero, suc, ◌==◌, ◌&&◌, List, [], ◌∷◌, ◌++◌, length, drop, Option, Some, None, refl, sym, ap, ◌∙◌, subst, arith}
 use Rattle.std.specs.Prelude.{slice_get, ⊤, nat_le, not, map, if◌then◌else◌}
 use Rattle.std.proofs.lemmas.Bool.Decides.{nat_tests}
 use Rattle.petal_base.specs.declared.cell.Cell.{Cell}
@@ -16,11 +16,12 @@ use Rattle.script_lines.specs.declared.answer.Answer.TheVariants as answer
 use Rattle.script_lines.specs.declared.request.Line.{Line}
 use Rattle.script_lines.specs.declared.request.Request.{Request}
 use Rattle.script_lines.specs.declared.request.Request.TheVariants as request
+use Rattle.petal_state.specs.CellState.{cell_asked}
 use Rattle.petal_state.specs.Settled.{is_settled}
 use Rattle.petal_state.specs.State.{latest}
 use Rattle.petal_state.specs.Command.{after}
 use Rattle.petal_state.specs.declared.answer.DiskView.{DiskView}
-use Rattle.petal_rules.specs.Clients.{Client, Asked, Reaction, Learning, rests, in_turn, readers, cell_on, epoch_for, write_posts, read_posts_at, read_posts, posts_for, command_of, refusal, witness_where, or_command, to_propose, post_in_turn, sends_or_proposes, goes_out, goes_out_where, asking, asks_and_sends, called, replies, is_read, is_write, first_round, Sight, with_sight, stays_open, rounds, settles, sees_for, sees, sees_from, answers, hears, hears_of, verdict_for, answered_where, witnessed, is_witness, judged_by, judged, takes_entry, next_entries, takes_all, then_goes_out, takes_entries, hears_any, heard, ticked}
+use Rattle.petal_rules.specs.Clients.{Client, Asked, Reaction, Learning, Turn, rests, in_turn, readers, epoch_for, write_posts, read_posts_at, read_posts, posts_for, command_of, refusal, witness_where, or_command, to_propose, post_in_turn, sends_or_proposes, goes_out, goes_out_where, goes_the_old_way, way_now, asking, asks_and_sends, called, replies, is_read, is_write, first_round, Sight, with_sight, stays_open, rounds, settles, sees_for, sees, sees_from, answers, hears, hears_of, verdict_for, answered_where, witnessed, is_witness, judged_by, judged, takes_entry, next_entries, takes_all, then_goes_out, takes_entries, hears_any, heard, ticked}
 use Rattle.petal_rules.specs.Lists.{In as Among}
 use Rattle.petal_rules.specs.Posts.{Post}
 use Rattle.petal_rules.specs.State.{State, lead, servers_of}
@@ -72,21 +73,24 @@ read_other : (state : State) (cell : Cell) (epoch : Option ℕ) (client seq turn
 read_other state cell None client seq turn post i = no_posts post i
 read_other state cell (Some epoch) client seq turn post i = posted_other (in_turn (readers state cell) turn) (body.Read client seq cell epoch) tt post i
 
-reads_other : (state : State) (o : Option DiskView) (snap : Option (List ℕ)) (client seq : ℕ) (at : ℕ × ℕ) (post : Post)
+reads_other : (state : State) (o : Option DiskView) (snap : Option (List ℕ)) (client seq : ℕ) (at : Turn) (post : Post)
     → Among post (read_posts state o snap client seq at) → IsOther post.body
 reads_other state None snap client seq at post i = no_posts post i
-reads_other state (Some disk) snap client seq at post i = read_other state (cell_on disk at.0) (epoch_for state disk snap) client seq at.1 post i
+reads_other state (Some disk) snap client seq at post i =
+    read_other state (cell_asked state disk at.block at.old_way) (epoch_for state disk snap) client seq at.turn post i
 
 writes_other : (state : State) (o : Option DiskView) (client seq block : ℕ) (bytes : List ℕ) (post : Post)
     → Among post (write_posts state o client seq block bytes) → IsOther post.body
 writes_other state None client seq block bytes post i = no_posts post i
 writes_other state (Some disk) client seq block bytes post i =
-    posted_other (lead state (cell_on disk block)) (body.Write client seq (cell_on disk block) disk.epoch bytes) tt post i
+    posted_other (lead state (cell_asked state disk block false)) (body.Write client seq (cell_asked state disk block false) disk.epoch bytes) tt post i
 
-request_other : (state : State) (client seq turn : ℕ) (asked : Request) (post : Post) → Among post (posts_for state client seq turn asked) → IsOther post.body
-request_other state client seq turn (request.Write name block pattern) post i = writes_other state _ client seq block _ post i
-request_other state client seq turn (request.Read name snap block) post i = reads_other state _ snap client seq (block, turn) post i
-request_other state client seq turn _ post i = no_posts post i
+request_other : (state : State) (client seq turn : ℕ) (old_way : Bool) (asked : Request) (post : Post)
+    → Among post (posts_for state client seq turn old_way asked) → IsOther post.body
+request_other state client seq turn old_way (request.Write name block pattern) post i = writes_other state _ client seq block _ post i
+request_other state client seq turn old_way (request.Read name snap block) post i =
+    reads_other state _ snap client seq (record { block = block; turn = turn; old_way = old_way }) post i
+request_other state client seq turn old_way _ post i = no_posts post i
 
 length_one : (xs : List Command) (x : Command) → length (xs ++ x ∷ []) ≡ length xs + 1
 length_one [] x = omega arith
@@ -125,7 +129,7 @@ module _ (Told : ℕ → Command → Type 0) (lines : List Line) (me : ℕ) (sta
   open_now called asked other e o = subst (IsOpen lines me called) (same_some e) o
 
   own_command : (called : ℕ) (asked : Asked) (c : Command) → IsOpen lines me called asked → to_propose state me asked ≡ Some c → IsOf lines me called c
-  own_command called asked c o e = by (command_of me asked.seq asked.request) refl (refusal state asked.request) e
+  own_command called asked c o e = by (command_of me asked.seq asked.request) refl (refusal state asked.told asked.request) e
     where
       by : (first : Option Command) → command_of me asked.seq asked.request ≡ first → (cause : Option Answer)
           → or_command first (witness_where cause me asked) ≡ Some c → IsOf lines me called c
@@ -154,9 +158,10 @@ module _ (Told : ℕ → Command → Type 0) (lines : List Line) (me : ℕ) (sta
         later = omega arith;
         fine = record {
           applied = applied;
-          asked = λ other e. open_now client.seq (record asked { turn = asked.turn + 1; rev = state.rev }) other e (open_as client.seq asked _ refl refl o);
+          asked = λ other e. open_now client.seq (record asked { turn = asked.turn + 1; rev = state.rev; old_way = way_now state asked }) other e
+              (open_as client.seq asked _ refl refl o);
         };
-        posts = λ post i. other_clients _ post.body (request_other state me asked.seq asked.turn asked.request post i);
+        posts = λ post i. other_clients _ post.body (request_other state me asked.seq asked.turn (way_now state asked) asked.request post i);
       }
       by (Some c) is = record {
         later = omega arith;
@@ -195,6 +200,8 @@ module _ (Told : ℕ → Command → Type 0) (lines : List Line) (me : ℕ) (sta
         turn = 0;
         rev = state.rev;
         witnesses = 0;
+        told = false;
+        old_way = false;
         round = first_round line.request;
         seen = [];
       }) f.applied
@@ -211,6 +218,12 @@ module _ (Told : ℕ → Command → Type 0) (lines : List Line) (me : ℕ) (sta
 
   again : (client : Client) (asked : Asked) → Fine client → client.asked ≡ Some asked → Reacts Told lines me client.seq (asks_and_sends state me client asked)
   again client asked f e = asks_too client client.seq _ (goes client asked f.applied (f.asked asked e))
+
+  -- it goes on by the old map
+  the_old_way : (client : Client) (asked : Asked) → Fine client → client.asked ≡ Some asked
+      → Reacts Told lines me client.seq (goes_the_old_way state me client asked)
+  the_old_way client asked f e =
+      goes client (record asked { told = true; old_way = true }) f.applied (open_as client.seq asked _ refl refl (f.asked asked e))
 
   -- a settle goes on, with its round as it is then
   staying : (client : Client) (asked other : Asked) → Fine client → IsOpen lines me client.seq asked → other.seq ≡ asked.seq → other.request ≡ asked.request
@@ -232,7 +245,7 @@ module _ (Told : ℕ → Command → Type 0) (lines : List Line) (me : ℕ) (sta
       → Reacts Told lines me client.seq (settles state client asked sight)
   settling client asked sight f o =
       by_test (Reacts Told lines me client.seq) sight.full _ _ (λ _. answering client asked answer.NoSpace f)
-      (λ _. by_test (Reacts Told lines me client.seq) (sight.round == asked.round) _ _ (λ _. round_on client asked (with_sight asked sight) f o refl refl)
+      (λ _. by_test (Reacts Told lines me client.seq) ((sight.round == asked.round) && nat_le sight.rev state.rev) _ _ (λ _. round_on client asked (with_sight asked sight) f o refl refl)
       (λ _. resting client f))
 
   seen_for : (client : Client) (asked : Asked) (sight : Sight) (what : Request) → Fine client → IsOpen lines me client.seq asked
@@ -269,6 +282,9 @@ module _ (Told : ℕ → Command → Type 0) (lines : List Line) (me : ℕ) (sta
       by_test (Reacts Told lines me client.seq) (replies asked rev (about (body.Held seq))) _ _ (λ _. again client asked f e) (λ _. resting client f)
   replied client asked f e rev (body.WrongRev seq) =
       by_test (Reacts Told lines me client.seq) (replies asked rev (about (body.WrongRev seq))) _ _ (λ _. again client asked f e) (λ _. resting client f)
+  replied client asked f e rev (body.NotHere seq) =
+      by_test (Reacts Told lines me client.seq) (replies asked rev (about (body.NotHere seq)) && is_read asked.request) _ _
+      (λ _. the_old_way client asked f e) (λ _. resting client f)
   replied client asked f e rev _ = resting client f
 
   replied_of : (client : Client) (asked : Option Asked) (letter : Letter) → Fine client → client.asked ≡ asked
@@ -305,7 +321,7 @@ module _ (Told : ℕ → Command → Type 0) (lines : List Line) (me : ℕ) (sta
       → Kept now (judged_by me entry now asked o)
   kept_by entry now asked (Some command) f e = kept_answer now asked (verdict_for asked.seq (latest now.state me)) f
   kept_by entry now asked None f e =
-      by_test (Kept now) (is_witness me asked.seq entry) _ _ (λ _. kept_witness now asked (refusal now.state asked.request) f e)
+      by_test (Kept now) (is_witness me asked.seq entry) _ _ (λ _. kept_witness now asked (refusal now.state asked.told asked.request) f e)
       (λ _. record { applied = refl; seq = refl; fine = f })
 
   kept_judged : (entry : Command) (now : Learning) (asked : Option Asked) → IsFine Told lines me now.client → now.client.asked ≡ asked

@@ -3,7 +3,7 @@ use Rattle.std.proofs.Common.{◌≡◌, ◌≤◌, ◌+◌, inl, inr, ℕ, Bool
 use Rattle.std.specs.Prelude.{slice_get, ◌==◌}
 use Rattle.petal_base.specs.Tuple.{is_tuple}
 use Rattle.petal_command.specs.declared.command.Command.{Command}
-use Rattle.petal_command.specs.declared.command.Command.TheVariants.{Join, Leave, Caught, Drained, MakeDisk, Snap, Witness}
+use Rattle.petal_command.specs.declared.command.Command.TheVariants.{Join, Leave, Caught, Drained, MakeDisk, Moved, Snap, StartMove, Witness}
 use Rattle.petal_command.specs.declared.pax.Pax.TheVariants.{Chosen}
 use Rattle.petal_paxos.specs.Schedule.{run, begin, IsChosen}
 use Rattle.petal_paxos.specs.Schedule as schedule
@@ -26,10 +26,11 @@ use Rattle.law_log.specs.Logged.{IsCalledAnywhere, Logged, MayWant, Minded, Retu
 use Rattle.law_log.specs.Requested.{HasStopped, IsCalledFor, IsOfLives, IsScripted}
 use Rattle.law_log.proofs.Lists.{among_at, at_among, kept_among}
 
--- what the laws need of a setting: ballots tell the servers apart, and each disk is made over a tuple of them
+-- what the laws need of a setting: ballots tell the servers apart, and each disk is made, and moved, over a tuple of them
 pub record IsFair (setting : Setting) : Type 0 where
   pub small : setting.servers ≤ 256
   pub spread : (line : Line) (name tuple : List ℕ) → Among line setting.lines → line.request ≡ request.Disk name tuple → is_tuple setting.servers tuple ≡ true
+  pub moved : (line : Line) (name tuple : List ℕ) → Among line setting.lines → line.request ≡ request.Move name tuple → is_tuple setting.servers tuple ≡ true
 
 -- ### What is told
 
@@ -65,15 +66,18 @@ line_of lines c i line e = kept_among (λ l. l.client == c) lines line (among_at
 
 made_plain : (servers client seq : ℕ) (asked : Request) (c : Command)
     → ((name tuple : List ℕ) → asked ≡ request.Disk name tuple → is_tuple servers tuple ≡ true)
+    → ((name tuple : List ℕ) → asked ≡ request.Move name tuple → is_tuple servers tuple ≡ true)
     → command_of client seq asked ≡ Some c → IsPlain servers c
-made_plain servers client seq (request.Disk name tuple) c spread e = subst (IsPlain servers) (same_some e) (spread name tuple refl)
-made_plain servers client seq (request.Snap name snap) c spread e = subst (IsPlain servers) (same_some e) tt
-made_plain servers client seq _ c spread e = none_some refl e
+made_plain servers client seq (request.Disk name tuple) c spread moved e = subst (IsPlain servers) (same_some e) (spread name tuple refl)
+made_plain servers client seq (request.Snap name snap) c spread moved e = subst (IsPlain servers) (same_some e) tt
+made_plain servers client seq (request.Move name tuple) c spread moved e = subst (IsPlain servers) (same_some e) (moved name tuple refl)
+made_plain servers client seq _ c spread moved e = none_some refl e
 
 pub scripted_plain : (setting : Setting) (w : World) → IsFair setting → (c : Command) → IsScripted setting w c → IsPlain setting.servers c
 scripted_plain setting w fair c s = elim s.so [
   | inl e ↦ made_plain setting.servers s.client (s.before + 1) s.line.request c
-      (λ name tuple is. fair.spread s.line name tuple (line_of setting.lines s.client s.before s.line s.is) is) e
+      (λ name tuple is. fair.spread s.line name tuple (line_of setting.lines s.client s.before s.line s.is) is)
+      (λ name tuple is. fair.moved s.line name tuple (line_of setting.lines s.client s.before s.line s.is) is) e
   | inr e ↦ subst (IsPlain setting.servers) (sym e.1) tt
 ]
 
@@ -90,6 +94,7 @@ returns_plain : (servers : ℕ) (actors : ℕ → Server) (front : List Command)
 returns_plain servers actors front (Caught of link holder inc other other_inc) h = tt
 returns_plain servers actors front (Join server inc blank) h = tt
 returns_plain servers actors front (Drained server inc fence) h = tt
+returns_plain servers actors front (Moved of region link) h = tt
 returns_plain servers actors front _ h = absurd h
 
 pub wanted_plain : {Was : Minded} (setting : Setting) (w : World) (p : schedule.World) → IsFair setting → (place : ℕ) (c : Command)
@@ -104,6 +109,8 @@ not_asked : {B : Type 0} (client seq server inc : ℕ) (asked : Request) → com
 not_asked client seq server inc (request.Disk name tuple) e =
     let f : MakeDisk client seq name tuple ≡ Leave server inc = same_some e in absurd cc
 not_asked client seq server inc (request.Snap name snap) e = let f : Snap client seq name snap ≡ Leave server inc = same_some e in absurd cc
+not_asked client seq server inc (request.Move name tuple) e =
+    let f : StartMove client seq name tuple ≡ Leave server inc = same_some e in absurd cc
 not_asked client seq server inc _ e = none_some refl e
 
 pub leave_stopped : (setting : Setting) (w : World) (server inc : ℕ) → IsCalledFor setting w (Leave server inc) → HasStopped w server inc
@@ -120,6 +127,8 @@ not_asked_caught client seq of link holder inc other other_inc (request.Disk nam
     let f : MakeDisk client seq name tuple ≡ Caught of link holder inc other other_inc = same_some e in absurd cc
 not_asked_caught client seq of link holder inc other other_inc (request.Snap name snap) e =
     let f : Snap client seq name snap ≡ Caught of link holder inc other other_inc = same_some e in absurd cc
+not_asked_caught client seq of link holder inc other other_inc (request.Move name tuple) e =
+    let f : StartMove client seq name tuple ≡ Caught of link holder inc other other_inc = same_some e in absurd cc
 not_asked_caught client seq of link holder inc other other_inc _ e = none_some refl e
 
 pub not_called : {B : Type 0} (setting : Setting) (w : World) (of link holder inc other other_inc : ℕ)
@@ -140,6 +149,8 @@ not_asked_report client seq server inc fence (request.Disk name tuple) e =
     let f : MakeDisk client seq name tuple ≡ Drained server inc fence = same_some e in absurd cc
 not_asked_report client seq server inc fence (request.Snap name snap) e =
     let f : Snap client seq name snap ≡ Drained server inc fence = same_some e in absurd cc
+not_asked_report client seq server inc fence (request.Move name tuple) e =
+    let f : StartMove client seq name tuple ≡ Drained server inc fence = same_some e in absurd cc
 not_asked_report client seq server inc fence _ e = none_some refl e
 
 pub no_report : {B : Type 0} (setting : Setting) (w : World) (server inc fence : ℕ) → IsCalledFor setting w (Drained server inc fence) → B
@@ -149,10 +160,28 @@ no_report setting w server inc fence (inl s) = elim s.so [
 ]
 no_report setting w server inc fence (inr h) = absurd h
 
+-- nor for a Moved
+not_asked_moved : {B : Type 0} (client seq of region link : ℕ) (asked : Request) → command_of client seq asked ≡ Some (Moved of region link) → B
+not_asked_moved client seq of region link (request.Disk name tuple) e =
+    let f : MakeDisk client seq name tuple ≡ Moved of region link = same_some e in absurd cc
+not_asked_moved client seq of region link (request.Snap name snap) e =
+    let f : Snap client seq name snap ≡ Moved of region link = same_some e in absurd cc
+not_asked_moved client seq of region link (request.Move name tuple) e =
+    let f : StartMove client seq name tuple ≡ Moved of region link = same_some e in absurd cc
+not_asked_moved client seq of region link _ e = none_some refl e
+
+pub no_moved : {B : Type 0} (setting : Setting) (w : World) (of region link : ℕ) → IsCalledFor setting w (Moved of region link) → B
+no_moved setting w of region link (inl s) = elim s.so [
+  | inl e ↦ not_asked_moved s.client (s.before + 1) of region link s.line.request e
+  | inr e ↦ (let f : Moved of region link ≡ Witness s.client (s.before + 1) e.0 = e.1 in absurd cc)
+]
+no_moved setting w of region link (inr h) = absurd h
+
 -- nor for a Join
 asked_no_join : (client seq : ℕ) (asked : Request) (c : Command) → command_of client seq asked ≡ Some c → is_join c ≡ false
 asked_no_join client seq (request.Disk name tuple) c e = ap is_join (sym (same_some e))
 asked_no_join client seq (request.Snap name snap) c e = ap is_join (sym (same_some e))
+asked_no_join client seq (request.Move name tuple) c e = ap is_join (sym (same_some e))
 asked_no_join client seq _ c e = none_some refl e
 
 pub scripted_anywhere : (setting : Setting) (w : World) (c : Command) → IsScripted setting w c → IsCalledAnywhere setting w c

@@ -18,7 +18,8 @@ use Rattle.petal_rules.specs.State.{id_of, link_cmp}
 use Rattle.petal_rules.proofs.Tests.{by_bool}
 use Rattle.law_state.specs.Started.{is_flagged}
 
-link_cmp_total : IsTotalOrder link_cmp
+-- names stand in a line
+pub link_cmp_total : IsTotalOrder link_cmp
 link_cmp_total = then_total (on_total (λ (l : LinkId). l.map) nat_cmp_total) (on_total (λ (l : LinkId). l.link) nat_cmp_total)
 
 tied : (r : Ordering) → is_eq r ≡ true → r ≡ Equal

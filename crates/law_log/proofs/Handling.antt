@@ -1,4 +1,4 @@
--- Each job of the pairs and of the copies is calm: it says nothing of the log, puts no letter into the queue, and forgets no
+-- Each job of the pairs, of the copies, of fills and of sweeps is calm: it says nothing of the log, puts no letter into the queue, and forgets no
 -- Caught for which a ballot was started.
 use Rattle.std.proofs.Common.{◌==◌, ◌++◌, not, [], ℕ, false, Option, Some, None, refl, ap, ◌∙◌, inl, inr}
 use Rattle.std.specs.Prelude.{is_some}
@@ -13,6 +13,7 @@ use Rattle.petal_msg.specs.declared.letter.Letter.{Letter}
 use Rattle.petal_table.specs.Table.{at}
 use Rattle.petal_rules.specs.Jobs.{handles, wrong_rev, at_other_rev, is_from_in, on_letter, stages, does, asked_by, copies_anew}
 use Rattle.petal_rules.specs.Copies.{copy_posts, page_posts}
+use Rattle.petal_rules.specs.Fills.{fill_posts}
 use Rattle.petal_rules.specs.Lists.{In as Among}
 use Rattle.petal_rules.specs.Progress.{copying_on}
 use Rattle.petal_rules.specs.Server.{Own, Copies, Here, Post, Done}
@@ -23,6 +24,7 @@ use Rattle.petal_rules.specs.declared.job.Job.TheVariants as job
 use Rattle.petal_rules.proofs.ListLemmas.{in-append}
 use Rattle.petal_rules.proofs.Tests.{by_test}
 use Rattle.law_log.proofs.Copying.{IsCalm, calm_silent, calm_copies, calm_mends, calm_hello_ask, calm_hello, calm_trims, calm_trim, calm_sync, calm_trimmed, calm_synced, calm_sync_full, other_copy_posts, other_page_posts}
+use Rattle.law_log.proofs.Filling.{calm_fill_full, calm_filled, calm_sweeps, keeps_fill, other_fill_posts, quiet_fill}
 use Rattle.law_log.proofs.Pairs.{IsOther, IsQuiet, quiet_goes, quiet_read, quiet_write, quiet_reserve, quiet_reserved, quiet_pair_full, quiet_replicate, quiet_replicated, quiet_says}
 use Rattle.law_log.proofs.Stores.{Keeps, kept, keeps_goes, keeps_read, keeps_write, keeps_reserve, keeps_reserved, keeps_pair_full, keeps_replicate, keeps_replicated}
 use Rattle.law_log.proofs.Turns.{no_posts}
@@ -42,7 +44,7 @@ calm_handles here own (body.Read client seq cell epoch) = calm_pair own _ (quiet
 calm_handles here own (body.Write client seq cell epoch bytes) = calm_pair own _ (quiet_write here own _) (keeps_write here own _)
 calm_handles here own (body.Reserve number cell) = calm_pair own _ (quiet_reserve here own number cell) (keeps_reserve here own number cell)
 calm_handles here own (body.Reserved number cell) = calm_pair own _ (quiet_reserved here own number cell) (keeps_reserved here own number cell)
-calm_handles here own (body.PairFull number cell) = calm_pair own _ (quiet_pair_full own number cell) (keeps_pair_full own number cell)
+calm_handles here own (body.PairFull number cell) = calm_pair own _ (quiet_pair_full here own number cell) (keeps_pair_full here own number cell)
 calm_handles here own (body.Replicate number key version bytes) =
     calm_pair own _ (quiet_replicate here own number key bytes) (keeps_replicate here own number key bytes)
 calm_handles here own (body.Replicated number cell) = calm_pair own _ (quiet_replicated here own number cell) (keeps_replicated here own number cell)
@@ -53,6 +55,9 @@ calm_handles here own (body.Trimmed number cell) = calm_trimmed here own number 
 calm_handles here own (body.Sync number key version index bytes) = calm_sync here own _
 calm_handles here own (body.Synced number cell index) = calm_synced here own number cell index
 calm_handles here own (body.SyncFull number cell) = calm_sync_full own number cell
+calm_handles here own (body.Fill key bytes) = calm_pair own _ (quiet_fill here own _) (keeps_fill here own _)
+calm_handles here own (body.Filled key) = calm_filled here own key
+calm_handles here own (body.FillFull key) = calm_fill_full here own key
 calm_handles here own _ = calm_silent own
 
 calm_wrong : (own : Own) (client : ℕ) (o : Option ℕ) → IsCalm own (wrong_rev own client o)
@@ -79,15 +84,19 @@ unfolding does
 calm_job here own (job.Letter letter) = calm_letter here own letter
 calm_job here own (job.Stage cell) = by_test (IsCalm own) (is_in here.state here.me here.inc) _ _ (λ e. calm_stages here own cell) (λ e. calm_silent own)
 calm_job here own (job.Mend link) = by_test (IsCalm own) (is_in here.state here.me here.inc) _ _ (λ e. calm_mends here own link) (λ e. calm_silent own)
+calm_job here own job.Sweep = by_test (IsCalm own) (is_in here.state here.me here.inc) _ _ (λ e. calm_sweeps here own) (λ e. calm_silent own)
 calm_job here own job.Apply = calm_silent own
 calm_job here own job.Start = calm_silent own
 
--- what a tick sends for copies
+-- what a tick sends for copies and fills
 pub other_copies_anew : (here : Here) (own : Own) (post : Post) → Among post (copies_anew here own) → IsOther post.body
 other_copies_anew here own post i =
-    by_test (λ posts. Among post posts → IsOther post.body) (is_in here.state here.me here.inc) (copy_posts here own ++ page_posts here own) []
-    (λ e j. elim (in-append post (copy_posts here own) (page_posts here own) j) [
-      | inl copy ↦ other_copy_posts here own post copy
-      | inr page ↦ other_page_posts here own post page
+    by_test (λ posts. Among post posts → IsOther post.body) (is_in here.state here.me here.inc) (copy_posts here own ++ page_posts here own ++ fill_posts here own) []
+    (λ e j. elim (in-append post (copy_posts here own ++ page_posts here own) (fill_posts here own) j) [
+      | inl former ↦ elim (in-append post (copy_posts here own) (page_posts here own) former) [
+        | inl copy ↦ other_copy_posts here own post copy
+        | inr page ↦ other_page_posts here own post page
+      ]
+      | inr fill ↦ other_fill_posts here own post fill
     ])
     (λ e j. no_posts post j) i

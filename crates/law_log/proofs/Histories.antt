@@ -2,7 +2,7 @@
 use Rattle.std.proofs.Common.{◌≡◌, ◌<◌, ◌≤◌, ◌++◌, ◌⊎◌, ℕ, Bool, true, false, List, [], ◌∷◌, refl, sym, ap, ◌∙◌, subst, append_assoc}
 use Rattle.std.specs.Prelude.{⊤, slice_get}
 use Rattle.petal_command.specs.declared.command.Command.{Command}
-use Rattle.petal_command.specs.declared.command.Command.TheVariants.{Join, Leave, Caught, Drained}
+use Rattle.petal_command.specs.declared.command.Command.TheVariants.{Join, Leave, Caught, Drained, Moved}
 use Rattle.petal_msg.specs.declared.body.Body.TheVariants as body
 use Rattle.petal_msg.specs.declared.letter.Letter.{Letter}
 use Rattle.petal_paxos.specs.Schedule.{run, begin}
@@ -19,15 +19,15 @@ use Rattle.petal_paxos.specs.Kept.{inc_of}
 use Rattle.petal_state.specs.Command.{may_join, state_after}
 use Rattle.petal_rules.specs.Server.{Server}
 use Rattle.law_state.specs.Firm.{Firm}
-use Rattle.law_log.specs.Logged.{Catches, Drains, IsBacked, IsCalledAnywhere, IsSaidBy, Logged, Minded, Waits}
-use Rattle.law_log.specs.Requested.{HasBegun, HasStopped, IsCalledFor, IsCaughtAt, IsReportAt, WasDraining, WasReturning, WasStarted, WasWanted}
-use Rattle.law_log.proofs.Chosen.{agrees, caught_at, caught_was, firm, called_for, join_at, join_chosen, join_waited, report_at, report_was, in_begun, leave_chosen, out_stopped, runs_in, has_schedule, grown_log}
+use Rattle.law_log.specs.Logged.{Catches, Drains, IsBacked, IsCalledAnywhere, IsSaidBy, Logged, Minded, Moves, Waits}
+use Rattle.law_log.specs.Requested.{HasBegun, HasStopped, IsCalledFor, IsCaughtAt, IsReportAt, WasDraining, WasMoving, WasReturning, WasStarted, WasWanted}
+use Rattle.law_log.proofs.Chosen.{agrees, caught_at, caught_was, firm, called_for, join_at, join_chosen, join_waited, moved_was, report_at, report_was, in_begun, leave_chosen, out_stopped, runs_in, has_schedule, grown_log}
 use Rattle.law_log.proofs.Facts.{IsFair, leave_stopped}
 use Rattle.law_log.proofs.Steps.{history_goes, start_logged}
 use Rattle.law_log.proofs.Worlds.{Remembers}
 
 sound_fair : (script : Script) → IsSound script → IsFair (setting_of script)
-sound_fair script sound = record { small = sound.told_apart; spread = sound.spread }
+sound_fair script sound = record { small = sound.told_apart; spread = sound.spread; moved = sound.moved }
 
 abbrev At : Script → List Record → World
 At script records = world_after (setting_of script) (start (setting_of script)) records
@@ -37,6 +37,7 @@ abbrev pub Past : Script → List Record → Minded
 Past script records server inc front (Catches id) = WasStarted (setting_of script) records server inc front id
 Past script records server inc front (Waits blank) = WasReturning (setting_of script) records server inc blank
 Past script records server inc front Drains = WasDraining (setting_of script) records server inc front
+Past script records server inc front (Moves of region link) = WasMoving (setting_of script) records front of region link
 
 pub logged : (script : Script) (records : List Record) → IsSound script → IsLegal script records
     → Logged (Past script records) (setting_of script) (At script records)
@@ -45,6 +46,22 @@ logged script records sound legal =
     (λ before own later is n. record {
       waits = λ runs. record { before = before; own = own; later = later; is = is; lives = refl; runs = runs; waits = refl };
       drains = λ runs drained. record { before = before; own = own; later = later; is = is; lives = refl; runs = runs; at = refl; drained = drained };
+      moves = λ runs row region moved. record {
+        server = n;
+        inc = ((At script before).servers n).life.inc;
+        before = before;
+        own = own;
+        later = later;
+        is = is;
+        lives = refl;
+        runs = runs;
+        at = refl;
+        seated = moved.seated;
+        row = row;
+        linked = moved.linked;
+        moves = moved.moves;
+        left = moved.left;
+      };
       catches = λ id minded. record {
         before = before ++ own ∷ [];
         later = later;
@@ -100,6 +117,13 @@ pub report_was_made : (script : Script) (records : List Record) → IsSound scri
     → WasDraining (setting_of script) records server inc front
 report_was_made script records sound legal front server inc fence prefix =
     report_was (setting_of script) (At script records) (sound_fair script sound) (logged script records sound legal) front server inc fence prefix
+
+-- a Moved that is chosen was wanted, on the way, of a server that had nothing left to move
+pub moved_was_wanted : (script : Script) (records : List Record) → IsSound script → IsLegal script records → (front : List Command)
+    (of region link : ℕ) → IsPrefix (front ++ Moved of region link ∷ []) (chosen_log (setting_of script) (At script records))
+    → WasMoving (setting_of script) records front of region link
+moved_was_wanted script records sound legal front of region link prefix =
+    (moved_was (setting_of script) (At script records) (sound_fair script sound) (logged script records sound legal) front of region link prefix).2
 
 -- a Join that is chosen acts there, and was wanted on the way
 pub chosen_join_acts : (script : Script) (records : List Record) → IsSound script → IsLegal script records → (front : List Command) (server inc : ℕ)
@@ -186,7 +210,8 @@ abbrev nothing_minded : Minded
 nothing_minded server inc front mind = ⊤
 
 nothing_remembered : (servers n : ℕ) (before later : Server) → Remembers nothing_minded servers n before later
-nothing_remembered servers n before later = record { waits = λ runs. tt; drains = λ runs drained. tt; catches = λ id minded. tt }
+nothing_remembered servers n before later =
+    record { waits = λ runs. tt; drains = λ runs drained. tt; moves = λ runs row region moved. tt; catches = λ id minded. tt }
 
 pub history_grows : (script : Script) (records : List Record) → IsSound script → IsLegal script records → Grows script records
 history_grows script records sound legal front back is =

@@ -10,9 +10,11 @@ pub mod Unbooted
 pub mod Pairs
 pub mod Flags
 pub mod Copying
+pub mod Filling
 pub mod Handling
 pub mod Catching
 pub mod Draining
+pub mod Moving
 pub mod Worlds
 pub mod Facts
 pub mod Servers

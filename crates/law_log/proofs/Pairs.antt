@@ -19,6 +19,8 @@ use Rattle.petal_msg.specs.declared.operation.Ending.TheVariants as ending
 use Rattle.petal_msg.specs.declared.operation.Far.{Far}
 use Rattle.petal_msg.specs.declared.operation.Far.TheVariants as far
 use Rattle.petal_msg.specs.declared.operation.LastOp.{LastOp}
+use Rattle.petal_msg.specs.declared.operation.OpKind.{OpKind}
+use Rattle.petal_msg.specs.declared.operation.OpKind.TheVariants as kind
 use Rattle.petal_msg.specs.declared.operation.Pending.{Pending}
 use Rattle.petal_msg.specs.declared.operation.Reply.{Reply}
 use Rattle.petal_msg.specs.declared.operation.Reply.TheVariants as reply
@@ -28,7 +30,7 @@ use Rattle.petal_rules.specs.Lists.{In as Among}
 use Rattle.petal_rules.specs.Reads.{on_read, reply_to, said}
 use Rattle.petal_rules.specs.Server.{Own, Here, Post, Done, post_to, silent, says, says_to}
 use Rattle.petal_rules.specs.State.{is_lead, is_second, readable}
-use Rattle.petal_rules.specs.Writes.{Wanted, Standing, Older, Again, Newer, acts, ended, finishes, goes_on_with, goes_on, pending_on, opens, opened, takes_newer, takes, is_pending_for, is_kept_back, is_under_way, on_write, is_reserving, is_replicating, hears_reserved, on_reserved, hears_pair_full, on_pair_full, hears_replicated, on_replicated, tells, reserves, hears_reserve, on_reserve, follows_once, hears_replicate, on_replicate, last_on}
+use Rattle.petal_rules.specs.Writes.{Wanted, Standing, Older, Again, Newer, acts, ended, ends, finishes, gives_back, moved_as, without_pending, goes_on_with, goes_on, pending_on, opens, opened, takes_newer, takes, is_pending_for, is_kept_back, is_under_way, on_write, is_reserving, is_replicating, hears_reserved, on_reserved, hears_pair_full, on_pair_full, hears_replicated, on_replicated, tells, reserves, hears_reserve, on_reserve, follows_once, hears_replicate, on_replicate, last_on}
 use Rattle.petal_rules.specs.declared.job.Job.TheVariants as job
 use Rattle.petal_rules.proofs.ListLemmas.{in-append}
 use Rattle.petal_rules.proofs.Tests.{only, by_test}
@@ -87,13 +89,23 @@ other_ending : (seq : ℕ) (what : Ending) → IsOther (ended seq what)
 other_ending seq ending.Written = tt
 other_ending seq ending.Full = tt
 
+pub other_moved : (key : Key) (what : Ending) → IsOther (moved_as key what)
+other_moved key ending.Written = tt
+other_moved key ending.Full = tt
+
+-- of a fill the old lead is told
+quiet_ends : (here : Here) (own : Own) (op : Pending) (what : OpKind) (how : Ending) → IsQuiet (ends here own op what how)
+quiet_ends here own op kind.Write how = quiet_ending own op.client op.seq how
+quiet_ends here own op kind.Fill how = quiet_says_to own _ _ (other_moved op.key how)
+quiet_ends here own op kind.Copy how = quiet_silent own
+
 quiet_act : (here : Here) (own : Own) (op : Pending) (what : Action) → IsQuiet (acts here own op what)
 quiet_act here own op action.Reserve = quiet_says_to own _ _ tt
 quiet_act here own op (action.Mark kind) = quiet_stage _ op.cell
 quiet_act here own op action.Put = quiet_stage _ op.cell
 quiet_act here own op action.Replicate = quiet_says_to own _ _ tt
 quiet_act here own op (action.Unmark kind) = quiet_stage _ op.cell
-quiet_act here own op action.Answer = quiet_ending _ op.client op.seq ending.Written
+quiet_act here own op action.Answer = quiet_ends here (without_pending own op.cell) op op.kind ending.Written
 quiet_act here own op action.Drop = quiet_silent _
 
 quiet_next : (here : Here) (own : Own) (op : Option Pending) → IsQuiet (goes_on_with here own op)
@@ -144,13 +156,15 @@ pub quiet_reserved : (here : Here) (own : Own) (number : ℕ) (cell : Cell) → 
 unfolding on_reserved
 quiet_reserved here own number cell = quiet_hears_reserved here own number (pending_on own cell)
 
-quiet_hears_full : (own : Own) (number : ℕ) (o : Option Pending) → IsQuiet (hears_pair_full own number o)
-quiet_hears_full own number None = quiet_silent own
-quiet_hears_full own number (Some op) = by_test IsQuiet (is_reserving op number && not op.stage.put) _ _ (λ e. quiet_ending _ op.client op.seq ending.Full) (λ e. quiet_silent own)
+quiet_hears_full : (here : Here) (own : Own) (number : ℕ) (o : Option Pending) → IsQuiet (hears_pair_full here own number o)
+quiet_hears_full here own number None = quiet_silent own
+quiet_hears_full here own number (Some op) =
+    by_test IsQuiet (is_reserving op number && not op.stage.put) _ _
+    (λ e. quiet_ends here (gives_back (without_pending own op.cell)) op op.kind ending.Full) (λ e. quiet_silent own)
 
-pub quiet_pair_full : (own : Own) (number : ℕ) (cell : Cell) → IsQuiet (on_pair_full own number cell)
+pub quiet_pair_full : (here : Here) (own : Own) (number : ℕ) (cell : Cell) → IsQuiet (on_pair_full here own number cell)
 unfolding on_pair_full
-quiet_pair_full own number cell = quiet_hears_full own number (pending_on own cell)
+quiet_pair_full here own number cell = quiet_hears_full here own number (pending_on own cell)
 
 quiet_hears_replicated : (here : Here) (own : Own) (number : ℕ) (o : Option Pending) → IsQuiet (hears_replicated here own number o)
 quiet_hears_replicated here own number None = quiet_silent own

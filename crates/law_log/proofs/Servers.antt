@@ -27,6 +27,8 @@ use Rattle.petal_rules.specs.Ballots.{ballot_posts, ask_posts, first_wanted, sta
 use Rattle.petal_rules.specs.Boots.{awake, blanked, boots, raised, stays, wakes}
 use Rattle.petal_rules.specs.Copies.{mend_jobs, waits_for_job}
 use Rattle.petal_rules.specs.Draining.{draining}
+use Rattle.petal_rules.specs.Fills.{moving}
+use Rattle.petal_rules.specs.Sweeping.{sweep_jobs}
 use Rattle.petal_rules.specs.Returns.{caught_links, own_join, proposed, returning}
 use Rattle.petal_state.specs.Command.{after, may_join}
 use Rattle.petal_state.specs.Place.{touches}
@@ -61,10 +63,12 @@ use Rattle.law_log.proofs.Boots.{fail_turn, no_proposer, wake_turn}
 use Rattle.law_log.proofs.Catching.{caught_among, caught_may, caught_minded, kept_proposed}
 use Rattle.law_log.proofs.Copying.{IsCalm, IsKept, kept_itself}
 use Rattle.law_log.proofs.Draining.{IsReport, report_among}
+use Rattle.law_log.proofs.Filling.{no_sweep}
 use Rattle.law_log.proofs.Handling.{calm_job, other_copies_anew}
 use Rattle.law_log.proofs.Jobs.{Outcome, applied_next, fine_wanted, one_longer, start_wants, started}
 use Rattle.law_log.proofs.Jobs.{job_done as log_job_done}
 use Rattle.law_log.proofs.Lists.{got}
+use Rattle.law_log.proofs.Moving.{IsMove, move_among}
 use Rattle.law_log.proofs.Pairs.{other_backed, other_anew}
 use Rattle.law_log.proofs.Proposing.{all_backed, first_among, said_to_all}
 use Rattle.law_log.proofs.Turns.{HasTurn, still, no_posts, stop_turn, turn_more}
@@ -193,10 +197,16 @@ no_mend (row ∷ rows) letter (inr h) = no_mend rows letter h
 -- nor among the jobs of a tick
 tick_only : (here : Here) (server : Server) (letter : Letter) → Among (job.Letter letter) (tick_jobs here server) → ⊥
 tick_only here server letter h =
-    elim (in-append (job.Letter letter) (start_jobs server.log.phase (wanted_by here server)) (if seated here.state here.me here.inc then mend_jobs here server.own else []) h) [
+    elim (in-append (job.Letter letter) (start_jobs server.log.phase (wanted_by here server))
+    (if seated here.state here.me here.inc then mend_jobs here server.own ++ sweep_jobs here server.own else []) h) [
       | inl start ↦ start_only server.log.phase (wanted_by here server) letter start
-      | inr mend ↦ by_test (λ (xs : List Job). Among (job.Letter letter) xs → ⊥) (seated here.state here.me here.inc) (mend_jobs here server.own) []
-          (λ e i. no_mend (filter (λ row. waits_for_job here server.own row row.state) here.state.links) letter i) (λ e i. no_jobs letter i) mend
+      | inr other ↦ by_test (λ (xs : List Job). Among (job.Letter letter) xs → ⊥) (seated here.state here.me here.inc)
+          (mend_jobs here server.own ++ sweep_jobs here server.own) []
+          (λ e i. elim (in-append (job.Letter letter) (mend_jobs here server.own) (sweep_jobs here server.own) i) [
+            | inl mend ↦ no_mend (filter (λ row. waits_for_job here server.own row row.state) here.state.links) letter mend
+            | inr sweep ↦ no_sweep here server.own letter sweep
+          ])
+          (λ e i. no_jobs letter i) other
     ]
 
 -- no letter is among the stages that follow an entry up
@@ -562,13 +572,37 @@ module _ {Was : Minded} (setting : Setting) (fair : IsFair setting) (w : World) 
       reached_next setting w l n,
     )
 
+    -- a Moved is behind the entries that it has applied
+    good_moved : Remembers Was setting.servers n (w.servers n) starts_to → (c : Command) → IsMove here (w.servers n).own c
+        → Good starts_to (next_place (w.servers n).log) c
+    good_moved remembers c move =
+        let found = own_plain.found move.row move.there in (
+          inr (record {
+            front = (w.servers n).log.applied;
+            told = applied_told;
+            is = subst (Returns setting.servers (put_at w.servers n starts_to) (w.servers n).log.applied) (sym move.is)
+                (record { server = n; inc = here.inc; seated = move.seated; row = move.row; linked = found; moves = move.moves });
+            was = subst (WasMinded Was (w.servers n).log.applied) (sym move.is) (
+              n,
+              here.inc,
+              remembers.moves runs move.row move.region
+                  (record { seated = move.seated; linked = found; moves = move.moves; left = move.left }),
+            );
+          }),
+          reached_next setting w l n,
+        )
+
     -- what it wants by its own part
     good_own : Remembers Was setting.servers n (w.servers n) starts_to → (c : Command) → started_for ≡ Some c → Among c (own_wants here (w.servers n).own)
         → Good starts_to (next_place (w.servers n).log) c
-    good_own remembers c first_is h = elim (in-append c (returning here (w.servers n).own) (draining here (w.servers n).own) h) [
-      | inl returns ↦ good_return remembers c first_is returns
-      | inr drains ↦ good_report remembers c (report_among here (w.servers n).own c drains)
-    ]
+    good_own remembers c first_is h =
+        elim (in-append c (returning here (w.servers n).own ++ draining here (w.servers n).own) (moving here (w.servers n).own) h) [
+          | inl former ↦ elim (in-append c (returning here (w.servers n).own) (draining here (w.servers n).own) former) [
+            | inl returns ↦ good_return remembers c first_is returns
+            | inr drains ↦ good_report remembers c (report_among here (w.servers n).own c drains)
+          ]
+          | inr moves ↦ good_moved remembers c (move_among here (w.servers n).own c moves)
+        ]
 
     start_outcome : Remembers Was setting.servers n (w.servers n) starts_to
         → AnyOutcome starts_to (starts (voter_of here) (w.servers n).log (wanted_by here (w.servers n)))
@@ -602,6 +636,7 @@ module _ {Was : Minded} (setting : Setting) (fair : IsFair setting) (w : World) 
   does_job runs (job.Letter letter) rest is remembers = either runs (job.Letter letter) rest is
   does_job runs (job.Stage cell) rest is remembers = either runs (job.Stage cell) rest is
   does_job runs (job.Mend link) rest is remembers = either runs (job.Mend link) rest is
+  does_job runs job.Sweep rest is remembers = either runs job.Sweep rest is
   does_job runs job.Start rest is remembers = starts_one runs job.Start rest is remembers
 
   life_kept : Runs → (first : Job) (rest : List Job) → (job_done here (w.servers n) first rest).server.life.running ≡ true
@@ -609,6 +644,7 @@ module _ {Was : Minded} (setting : Setting) (fair : IsFair setting) (w : World) 
   life_kept runs (job.Letter letter) rest = by_test (λ (acted : Acted). acted.server.life.running ≡ true) (is_log_job (job.Letter letter)) _ _ (λ e. runs) (λ e. runs)
   life_kept runs (job.Stage cell) rest = runs
   life_kept runs (job.Mend link) rest = runs
+  life_kept runs job.Sweep rest = runs
   life_kept runs job.Start rest = runs
 
   works_on : Runs → (jobs : List Job) → (w.servers n).queue ≡ jobs → Remembers Was setting.servers n (w.servers n) (works here (w.servers n) jobs).server
@@ -627,7 +663,7 @@ module _ {Was : Minded} (setting : Setting) (fair : IsFair setting) (w : World) 
       by_test (λ (acted : Acted). Remembers Was setting.servers n (w.servers n) (stopped acted.server) → GoesBy (stops here acted.server))
       (is_overfull (job_done here (w.servers n) first rest).server) _ _
       (λ full kept. stops_now runs)
-      (λ room kept. let did = does_job runs first rest is (record { waits = kept.waits; drains = kept.drains; catches = kept.catches }) in
+      (λ room kept. let did = does_job runs first rest is (record { waits = kept.waits; drains = kept.drains; moves = kept.moves; catches = kept.catches }) in
       stops_after (job_done here (w.servers n) first rest).server did.posts (life_kept runs first rest) did.by) remembers
 
   -- ### A boot

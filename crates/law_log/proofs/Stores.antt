@@ -6,14 +6,18 @@ use Rattle.petal_base.specs.declared.cell.Key.{Key}
 use Rattle.petal_base.specs.Cells.{cell_of}
 use Rattle.petal_msg.specs.declared.operation.Action.{Action}
 use Rattle.petal_msg.specs.declared.operation.Action.TheVariants as action
+use Rattle.petal_msg.specs.declared.operation.Ending.{Ending}
+use Rattle.petal_msg.specs.declared.operation.Ending.TheVariants as ending
 use Rattle.petal_msg.specs.declared.operation.Far.{Far}
 use Rattle.petal_msg.specs.declared.operation.Far.TheVariants as far
 use Rattle.petal_msg.specs.declared.operation.LastOp.{LastOp}
+use Rattle.petal_msg.specs.declared.operation.OpKind.{OpKind}
+use Rattle.petal_msg.specs.declared.operation.OpKind.TheVariants as kind
 use Rattle.petal_msg.specs.declared.operation.Pending.{Pending}
 use Rattle.petal_rules.specs.Reads.{on_read}
 use Rattle.petal_rules.specs.Server.{Own, Copies, Here, Done}
 use Rattle.petal_rules.specs.State.{is_lead, is_second, readable}
-use Rattle.petal_rules.specs.Writes.{Wanted, Standing, Older, Again, Newer, acts, goes_on_with, goes_on, gives_up, pending_on, opens, opened, takes_newer, takes, is_pending_for, is_kept_back, is_under_way, on_write, is_reserving, is_replicating, hears_reserved, on_reserved, hears_pair_full, on_pair_full, hears_replicated, on_replicated, tells, reserves, hears_reserve, on_reserve, follows_once, hears_replicate, on_replicate, last_on}
+use Rattle.petal_rules.specs.Writes.{Wanted, Standing, Older, Again, Newer, acts, ends, goes_on_with, goes_on, gives_back, gives_up, without_pending, pending_on, opens, opened, takes_newer, takes, is_pending_for, is_kept_back, is_under_way, on_write, is_reserving, is_replicating, hears_reserved, on_reserved, hears_pair_full, on_pair_full, hears_replicated, on_replicated, tells, reserves, hears_reserve, on_reserve, follows_once, hears_replicate, on_replicate, last_on}
 use Rattle.petal_rules.proofs.Tests.{by_test}
 
 -- the copies
@@ -27,13 +31,18 @@ Keeps is done = kept done.own ≡ is
 keeps_up : (own : Own) (op : Pending) → kept (gives_up own op) ≡ kept own
 keeps_up own op = by_test (λ (left : Own). kept left ≡ kept own) op.stage.put _ _ (λ e. refl) (λ e. refl)
 
+keeps_ends : (here : Here) (own : Own) (op : Pending) (what : OpKind) (how : Ending) → Keeps (kept own) (ends here own op what how)
+keeps_ends here own op kind.Write how = refl
+keeps_ends here own op kind.Fill how = refl
+keeps_ends here own op kind.Copy how = refl
+
 keeps_act : (here : Here) (own : Own) (op : Pending) (what : Action) → Keeps (kept own) (acts here own op what)
 keeps_act here own op action.Reserve = refl
 keeps_act here own op (action.Mark kind) = refl
 keeps_act here own op action.Put = refl
 keeps_act here own op action.Replicate = refl
 keeps_act here own op (action.Unmark kind) = refl
-keeps_act here own op action.Answer = refl
+keeps_act here own op action.Answer = keeps_ends here (without_pending own op.cell) op op.kind ending.Written
 keeps_act here own op action.Drop = keeps_up own op
 
 keeps_next : (here : Here) (own : Own) (op : Option Pending) → Keeps (kept own) (goes_on_with here own op)
@@ -77,14 +86,15 @@ pub keeps_reserved : (here : Here) (own : Own) (number : ℕ) (cell : Cell) → 
 unfolding on_reserved
 keeps_reserved here own number cell = keeps_hears_reserved here own number (pending_on own cell)
 
-keeps_hears_full : (own : Own) (number : ℕ) (o : Option Pending) → Keeps (kept own) (hears_pair_full own number o)
-keeps_hears_full own number None = refl
-keeps_hears_full own number (Some op) =
-    by_test (Keeps (kept own)) (is_reserving op number && not op.stage.put) _ _ (λ e. refl) (λ e. refl)
+keeps_hears_full : (here : Here) (own : Own) (number : ℕ) (o : Option Pending) → Keeps (kept own) (hears_pair_full here own number o)
+keeps_hears_full here own number None = refl
+keeps_hears_full here own number (Some op) =
+    by_test (Keeps (kept own)) (is_reserving op number && not op.stage.put) _ _
+    (λ e. keeps_ends here (gives_back (without_pending own op.cell)) op op.kind ending.Full) (λ e. refl)
 
-pub keeps_pair_full : (own : Own) (number : ℕ) (cell : Cell) → Keeps (kept own) (on_pair_full own number cell)
+pub keeps_pair_full : (here : Here) (own : Own) (number : ℕ) (cell : Cell) → Keeps (kept own) (on_pair_full here own number cell)
 unfolding on_pair_full
-keeps_pair_full own number cell = keeps_hears_full own number (pending_on own cell)
+keeps_pair_full here own number cell = keeps_hears_full here own number (pending_on own cell)
 
 keeps_hears_replicated : (here : Here) (own : Own) (number : ℕ) (o : Option Pending) → Keeps (kept own) (hears_replicated here own number o)
 keeps_hears_replicated here own number None = refl

@@ -25,6 +25,7 @@ job_inc here server (job.Letter letter) rest =
     by_test (λ (a : Acted). a.server.life.inc ≡ server.life.inc) (is_log_job (job.Letter letter)) _ _ (λ t. refl) (λ t. refl)
 job_inc here server (job.Stage cell) rest = refl
 job_inc here server (job.Mend link) rest = refl
+job_inc here server job.Sweep rest = refl
 job_inc here server job.Apply rest = refl
 job_inc here server job.Start rest = refl
 

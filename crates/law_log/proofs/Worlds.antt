@@ -1,8 +1,10 @@
 -- What is kept of a world is kept by what one server does.
-use Rattle.std.proofs.Common.{◌≡◌, ◌<◌, ◌≤◌, ◌+◌, ◌⊎◌, inl, inr, ℕ, true, false, List, [], ◌∷◌, ◌++◌, length, refl, sym, ap, ◌∙◌, subst, arith}
+use Rattle.std.proofs.Common.{◌≡◌, ◌<◌, ◌≤◌, ◌+◌, ◌⊎◌, inl, inr, ℕ, true, false, List, [], ◌∷◌, ◌++◌, length, Some, None, refl, sym, ap, ◌∙◌, subst, arith}
+use Rattle.global_tables.specs.Link.{link_at}
+use Rattle.global_tables.specs.declared.link.LinkRow.{LinkRow}
 use Rattle.petal_command.specs.declared.ballot.Ballot.{Ballot}
 use Rattle.petal_command.specs.declared.command.Command.{Command}
-use Rattle.petal_command.specs.declared.command.Command.TheVariants.{Join, Leave, Caught, Drained}
+use Rattle.petal_command.specs.declared.command.Command.TheVariants.{Join, Leave, Caught, Drained, Moved}
 use Rattle.petal_command.specs.declared.pax.Pax.{Pax}
 use Rattle.petal_msg.specs.declared.letter.Actor.{Actor}
 use Rattle.petal_msg.specs.declared.letter.Actor.TheVariants as actor
@@ -16,14 +18,16 @@ use Rattle.petal_rules.specs.Lists.{In as Among, put_at}
 use Rattle.petal_msg.specs.declared.copying.LinkId.{LinkId}
 use Rattle.petal_state.specs.Command.{state_after}
 use Rattle.petal_rules.specs.Draining.{has_held_write}
+use Rattle.petal_rules.specs.Fills.{fill_of, region_to_move}
 use Rattle.petal_rules.specs.Posts.{Post, Sender, letters_of}
-use Rattle.petal_rules.specs.Server.{Life, Server}
+use Rattle.petal_rules.specs.Server.{Life, Own, Server}
+use Rattle.petal_rules.specs.State.{State, is_in}
 use Rattle.petal_rules.specs.declared.step.Step.{Step}
 use Rattle.petal_rules.specs.World.{Setting, World, devices, stamped, acts}
 use Rattle.petal_rules.specs.declared.job.Job.TheVariants as job
 use Rattle.petal_rules.proofs.ListLemmas.{in-append, in_later}
 use Rattle.petal_rules.proofs.Tests.{all_put_apart}
-use Rattle.law_log.specs.Logged.{Catches, IsCalledAnywhere, IsSeenAt, IsBusyAs, IsBacked, IsSaidBy, IsLogged, Logged, MayWant, Minded, Drains, Returns, Waits}
+use Rattle.law_log.specs.Logged.{Catches, IsCalledAnywhere, IsSeenAt, IsBusyAs, IsBacked, IsSaidBy, IsLogged, Logged, MayWant, Minded, Drains, Moves, Returns, Waits}
 use Rattle.law_log.specs.Requested.{HasStopped, IsCalledFor, IsOfLives, IsScripted}
 use Rattle.law_state.specs.Started.{HasFlag, is_flagged}
 use Rattle.law_log.proofs.Turns.{Turns, HasTurn, seen_apart, busy_same, told_more, reached_more, backed_more, run_on, wanted_on}
@@ -108,6 +112,7 @@ returns_more servers actors later keeps front (Caught of link holder inc other o
   started = started_by (actors holder) (later holder) (keeps holder) inc (length front) (record { map = of; link = link }) h.started;
 }
 returns_more servers actors later keeps front (Drained server inc fence) h = h
+returns_more servers actors later keeps front (Moved of region link) h = h
 returns_more servers actors later keeps front _ h = absurd h
 
 pub may_more : {Was : Minded} (setting : Setting) (w v : World) (actors later : ℕ → Server) (p q : schedule.World)
@@ -127,12 +132,22 @@ may_more setting w v actors later p q more keeps letters place c h = (
   reached_more p q letters place h.1,
 )
 
+-- a server that is In as itself is to move the region of a link, and has nothing left of it
+pub record HasMoved (state : State) (server inc : ℕ) (own : Own) (row : LinkRow) (region : ℕ) : Type 0 where
+  pub seated : is_in state server inc ≡ true
+  pub linked : link_at state.links row.map row.link ≡ Some row
+  pub moves : region_to_move state server row ≡ Some region
+  pub left : fill_of state server row own ≡ None
+
 -- of a step of the server it is remembered whether its store waited to be filled before, that nothing was under way before that the active
--- fence held, and each ballot for a Caught that it has in mind after
+-- fence held, of which links it had moved all, and each ballot for a Caught that it has in mind after
 pub record Remembers (Was : Minded) (servers n : ℕ) (before later : Server) : Type 0 where
   pub waits : before.life.running ≡ true → Was n before.life.inc before.log.applied (Waits before.own.store.fresh)
   pub drains : before.life.running ≡ true → has_held_write (state_after servers before.log.applied) before.own ≡ false
       → Was n before.life.inc before.log.applied Drains
+  pub moves : before.life.running ≡ true → (row : LinkRow) (region : ℕ)
+      → HasMoved (state_after servers before.log.applied) n before.life.inc before.own row region
+      → Was n before.life.inc before.log.applied (Moves row.map region row.link)
   pub catches : (id : LinkId) → is_flagged later.own id ≡ true → Was n later.life.inc later.log.applied (Catches id)
 
 abbrev pub AllRemember : Minded → (servers : ℕ) → (before later : World) → Type 0

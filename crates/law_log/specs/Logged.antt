@@ -2,7 +2,7 @@
 use Rattle.std.specs.Prelude.{ℕ, ◌+◌, ◌≡◌, ◌↔◌, ◌⊎◌, ◌<◌, ◌≤◌, ⊤, Bool, true, false, List, length, slice_get, Some}
 use Rattle.petal_command.specs.declared.ballot.Ballot.{Ballot}
 use Rattle.petal_command.specs.declared.command.Command.{Command}
-use Rattle.petal_command.specs.declared.command.Command.TheVariants.{Caught, Drained, Join, Leave}
+use Rattle.petal_command.specs.declared.command.Command.TheVariants.{Caught, Drained, Join, Leave, Moved}
 use Rattle.petal_command.specs.declared.pax.Pax.{Pax}
 use Rattle.petal_command.specs.declared.pax.Pax.TheVariants.{Prepare, Accept}
 use Rattle.petal_msg.specs.declared.body.Body.{Body}
@@ -25,7 +25,7 @@ use Rattle.petal_rules.specs.Server.{Server}
 use Rattle.petal_rules.specs.World.{Setting, World, lines_of}
 use Rattle.petal_rules.specs.declared.job.Job.TheVariants as job
 use Rattle.petal_state.specs.Command.{may_join, state_after}
-use Rattle.law_log.specs.Requested.{IsCaughtAt, IsCalledFor, IsReportAt}
+use Rattle.law_log.specs.Requested.{IsCaughtAt, IsCalledFor, IsMovedAt, IsReportAt}
 
 -- ### A schedule
 
@@ -40,21 +40,24 @@ pub record IsToldBefore (p : schedule.World) (place : ℕ) (front : List Command
   pub told : (i : ℕ) (command : Command) → slice_get front i ≡ Some command → IsTold p (i + 1) command
 
 -- what is remembered of a server that started a ballot: that it had the Caught of this link in mind then, whether its store waited to be
--- filled before, or that before it had no client's write under way on a cell of which the active fence held the writes
+-- filled before, that before it had no client's write under way on a cell of which the active fence held the writes, or that it was to move
+-- the region of a link and had nothing left of it
 pub data Mind : Type 0 where
   Catches : LinkId → Mind
   Waits : Bool → Mind
   Drains : Mind
+  Moves : (of region link : ℕ) → Mind
 
 -- it was so of the server as this incarnation and with these entries applied
 abbrev pub Minded : Type 1
 Minded = (server inc : ℕ) (front : List Command) → Mind → Type 0
 
--- it was so behind these entries of the Caught's holder, or of the Join's or the report's server
+-- it was so behind these entries of the Caught's holder, of the Join's or the report's server, or of one that moved
 abbrev pub WasMinded : Minded → (front : List Command) → Command → Type 0
 WasMinded Was front (Caught of link holder inc other other_inc) = Was holder inc front (Catches (record { map = of; link = link }))
 WasMinded Was front (Join server inc blank) = Was server inc front (Waits blank)
 WasMinded Was front (Drained server inc fence) = Was server inc front Drains
+WasMinded Was front (Moved of region link) = (server : ℕ) × (inc : ℕ) × Was server inc front (Moves of region link)
 WasMinded Was front _ = ⊤
 
 -- behind these entries the Join acts, of an incarnation behind the first that has begun
@@ -63,11 +66,12 @@ pub record IsJoinAt (servers : ℕ) (actors : ℕ → Server) (front : List Comm
   pub later : 1 < inc
   pub begun : inc ≤ (actors server).life.inc
 
--- the command acts behind these entries, as a Caught, a Join or a report to the active fence
+-- the command acts behind these entries, as a Caught, a Join, a report to the active fence or a Moved
 abbrev pub Returns : (servers : ℕ) → (actors : ℕ → Server) → (front : List Command) → Command → Type 0
 Returns servers actors front (Caught of link holder inc other other_inc) = IsCaughtAt servers actors front of link holder inc other other_inc
 Returns servers actors front (Join server inc blank) = IsJoinAt servers actors front server inc
 Returns servers actors front (Drained server inc fence) = IsReportAt servers front server inc fence
+Returns servers actors front (Moved of region link) = IsMovedAt servers front of region link
 Returns servers actors front _ = ⊥
 
 -- it does so behind what was told for the places before this one
@@ -85,7 +89,7 @@ is_join _ = false
 abbrev pub IsCalledAnywhere : Setting → World → Command → Type 0
 IsCalledAnywhere setting w command = IsCalledFor setting w command × (is_join command ≡ false)
 
--- what may be wanted for a place: what is called for anywhere, or what acts there as a Caught, a Join or a report
+-- what may be wanted for a place: what is called for anywhere, or what acts there as a Caught, a Join, a report or a Moved
 abbrev pub MayWant : Minded → Setting → World → (actors : ℕ → Server) → schedule.World → ℕ → Command → Type 0
 MayWant Was setting w actors p place command =
     (IsCalledAnywhere setting w command ⊎ IsReturnFor Was setting.servers actors p place command) × IsReached p place

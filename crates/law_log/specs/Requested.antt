@@ -1,12 +1,13 @@
 -- Which commands a run proposes: those of requests that clients have called, Leaves of incarnations that have stopped, Joins of
--- incarnations that have begun, and at its place each Caught, of the holder that found nothing left to copy, and each report to the active
--- fence, of a server that had drained.
-use Rattle.std.specs.Prelude.{◌≡◌, ◌≢◌, ◌⊎◌, ◌+◌, ◌<◌, ◌≤◌, ◌++◌, ℕ, Bool, List, [], ◌∷◌, true, false, length, slice_get, Some}
+-- incarnations that have begun, and at its place each Caught, of the holder that found nothing left to copy, each report to the active
+-- fence, of a server that had drained, and each Moved, of a lead that had nothing left to move.
+use Rattle.std.specs.Prelude.{◌≡◌, ◌≢◌, ◌⊎◌, ◌+◌, ◌<◌, ◌≤◌, ◌++◌, ℕ, Bool, List, [], ◌∷◌, true, false, length, slice_get, Some, None}
 use Rattle.global_tables.specs.Link.{link_at}
 use Rattle.global_tables.specs.View.{head}
 use Rattle.global_tables.specs.declared.fence.Fence.{Fence}
+use Rattle.global_tables.specs.declared.link.LinkRow.{LinkRow}
 use Rattle.petal_command.specs.declared.command.Command.{Command}
-use Rattle.petal_command.specs.declared.command.Command.TheVariants.{Join, Leave, Caught, Drained, Witness}
+use Rattle.petal_command.specs.declared.command.Command.TheVariants.{Join, Leave, Caught, Drained, Moved, Witness}
 use Rattle.script_lines.specs.declared.request.Line.{Line}
 use Rattle.petal_msg.specs.declared.copying.LinkId.{LinkId}
 use Rattle.petal_history.specs.Claims.{IsPrefix}
@@ -19,6 +20,7 @@ use Rattle.petal_rules.specs.declared.step.Step.TheVariants.{Boot}
 use Rattle.petal_rules.specs.declared.step.WorkEnd.{WorkEnd}
 use Rattle.petal_rules.specs.Clients.{command_of}
 use Rattle.petal_rules.specs.Draining.{awaits, has_held_write}
+use Rattle.petal_rules.specs.Fills.{fill_of, region_to_move}
 use Rattle.petal_rules.specs.Server.{Server}
 use Rattle.petal_rules.specs.State.{is_in}
 use Rattle.petal_rules.specs.World.{Setting, World, chosen_log, lines_of, start}
@@ -90,12 +92,42 @@ pub record WasDraining (setting : Setting) (records : List Record) (server inc :
   pub at : ((world_after setting (start setting) before).servers server).log.applied ≡ front
   pub drained : has_held_write (state_after setting.servers front) ((world_after setting (start setting) before).servers server).own ≡ false
 
+-- ### Moves
+
+-- behind these entries the Moved counts: a server that is In is to move the region of the link
+pub record IsMovedAt (servers : ℕ) (front : List Command) (of region link : ℕ) : Type 0 where
+  pub server : ℕ
+  pub inc : ℕ
+  pub seated : is_in (state_after servers front) server inc ≡ true
+  pub row : LinkRow
+  pub linked : link_at (state_after servers front).links of link ≡ Some row
+  pub moves : region_to_move (state_after servers front) server row ≡ Some region
+
+-- on the way such a server ran as the incarnation by which it was In, with these entries applied, and nothing was left of the link's blocks of
+-- the region; and then it took one step more
+pub record WasMoving (setting : Setting) (records : List Record) (front : List Command) (of region link : ℕ) : Type 0 where
+  pub server : ℕ
+  pub inc : ℕ
+  pub before : List Record
+  pub own : Record
+  pub later : List Record
+  pub is : records ≡ before ++ own ∷ later
+  pub lives : ((world_after setting (start setting) before).servers server).life.inc ≡ inc
+  pub runs : ((world_after setting (start setting) before).servers server).life.running ≡ true
+  pub at : ((world_after setting (start setting) before).servers server).log.applied ≡ front
+  pub seated : is_in (state_after setting.servers front) server inc ≡ true
+  pub row : LinkRow
+  pub linked : link_at (state_after setting.servers front).links of link ≡ Some row
+  pub moves : region_to_move (state_after setting.servers front) server row ≡ Some region
+  pub left : fill_of (state_after setting.servers front) server row ((world_after setting (start setting) before).servers server).own ≡ None
+
 -- ### What servers want of themselves
 
--- the command is a Caught, or a report to a fence, that counts behind these entries
+-- the command is a Caught, a report to a fence, or a Moved, that counts behind these entries
 abbrev pub IsWantedAt : (servers : ℕ) → (actors : ℕ → Server) → (front : List Command) → Command → Type 0
 IsWantedAt servers actors front (Caught of link holder inc other other_inc) = IsCaughtAt servers actors front of link holder inc other other_inc
 IsWantedAt servers actors front (Drained server inc fence) = IsReportAt servers front server inc fence
+IsWantedAt servers actors front (Moved of region link) = IsMovedAt servers front of region link
 IsWantedAt servers actors front _ = ⊥
 
 -- the command stands in the chosen log as such a one behind the entries before it

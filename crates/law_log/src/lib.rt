@@ -1,7 +1,7 @@
 //! The law of the agreed log: over every legal history of a sound script there is one log of chosen commands, which only
 //! grows. What a state device knows to be chosen stands in it at its place, what servers and clients have applied stands at
 //! its front, and its commands are those of the script's requests, Leaves of servers that have stopped, Joins of those that booted, Caughts
-//! of links of which nothing was left to copy, and reports to fences.
+//! of links of which nothing was left to copy, reports to fences, and Moveds of links of which nothing was left to move.
 //!
 //! To the layers above it promises this of each history. It takes a history for a schedule of agreement, whose law it does
 //! not prove again, and knows nothing of what a command does.
@@ -9,7 +9,7 @@
 
 ghost use Rattle.std.specs.Prelude.{◌≡◌, ◌<◌, ◌≤◌, ◌⊎◌, ◌++◌, ◌∷◌, [], ℕ, Bool, List, slice_get, true, false};
 ghost use Rattle.petal_command.specs.declared.command.Command.{Command};
-ghost use Rattle.petal_command.specs.declared.command.Command.TheVariants.{Join, Leave, Caught, Drained};
+ghost use Rattle.petal_command.specs.declared.command.Command.TheVariants.{Join, Leave, Caught, Drained, Moved};
 ghost use Rattle.petal_msg.specs.declared.body.Body.TheVariants as body;
 ghost use Rattle.petal_msg.specs.declared.letter.Letter.{Letter};
 ghost use Rattle.script_lines.specs.declared.script.Script.{Script};
@@ -24,7 +24,7 @@ ghost use Rattle.petal_history.specs.Legal.{IsLegal, world_after};
 ghost use Rattle.petal_history.specs.Sound.{IsSound};
 ghost use Rattle.petal_history.specs.declared.record.Record.{Record};
 ghost use Rattle.law_state.specs.Firm.{Firm};
-ghost use Rattle.law_log.specs.Requested.{HasBegun, HasStopped, IsCalledFor, IsCaughtAt, IsReportAt, NoneBoots, WasDraining, WasReturning, WasStarted, WasWanted};
+ghost use Rattle.law_log.specs.Requested.{HasBegun, HasStopped, IsCalledFor, IsCaughtAt, IsReportAt, NoneBoots, WasDraining, WasMoving, WasReturning, WasStarted, WasWanted};
 
 /// What a state device knows to be chosen stands in the chosen log at its place, and what is applied stands at its front.
 pub fn every_history_agrees()
@@ -38,7 +38,7 @@ pub fn the_chosen_log_grows()
 {}
 
 /// Each chosen command is that of a line that its client has called, a Witness of it, the Leave of an incarnation that has
-/// stopped, the Join of one that has begun, a Caught, or a report to a fence. A Caught acts behind the entries before it, and its holder, where
+/// stopped, the Join of one that has begun, a Caught, a report to a fence, or a Moved. A Caught acts behind the entries before it, and its holder, where
 /// it is still of that incarnation and has applied no more than those, has in mind that it started the ballot.
 pub fn chosen_commands_are_the_scripts()
     ensures called { (script : Script) (records : List Record) (command : Command) → IsSound script → IsLegal script records → In command (chosen_log (setting_of script) (world_after (setting_of script) (start (setting_of script)) records)) → IsCalledFor (setting_of script) (world_after (setting_of script) (start (setting_of script)) records) command ⊎ WasWanted (setting_of script) (world_after (setting_of script) (start (setting_of script)) records) command }
@@ -56,6 +56,12 @@ pub fn a_chosen_caught_was_started()
 pub fn a_chosen_report_was_made()
     ensures counts { (script : Script) (records : List Record) → IsSound script → IsLegal script records → (front : List Command) (server inc fence : ℕ) → IsPrefix (front ++ Drained server inc fence ∷ []) (chosen_log (setting_of script) (world_after (setting_of script) (start (setting_of script)) records)) → IsReportAt script.servers front server inc fence }
     ensures made { (script : Script) (records : List Record) → IsSound script → IsLegal script records → (front : List Command) (server inc fence : ℕ) → IsPrefix (front ++ Drained server inc fence ∷ []) (chosen_log (setting_of script) (world_after (setting_of script) (start (setting_of script)) records)) → WasDraining (setting_of script) records server inc front }
+{}
+
+/// A Moved that is chosen was wanted: behind the entries before it some server was to move the region of the link. And on the way that server,
+/// with no entries applied but those, had nothing left of the link's blocks of the region.
+pub fn a_chosen_moved_was_wanted()
+    ensures { (script : Script) (records : List Record) → IsSound script → IsLegal script records → (front : List Command) (of region link : ℕ) → IsPrefix (front ++ Moved of region link ∷ []) (chosen_log (setting_of script) (world_after (setting_of script) (start (setting_of script)) records)) → WasMoving (setting_of script) records front of region link }
 {}
 
 /// A server whose Join is chosen ran on the way as the incarnation that the Join names, and its store waited to be filled or not, as the Join

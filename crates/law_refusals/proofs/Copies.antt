@@ -1,12 +1,14 @@
--- A server remembers that its last copy found no slot since a letter told it so, which the link's other server sent when it had none.
-use Rattle.std.proofs.Common.{◌≡◌, ◌<◌, ◌+◌, ℕ, Bool, List, [], ◌∷◌, ◌++◌, length, Option, Some, None, true, false, refl, sym, ap, ◌∙◌, subst, ◌⊎◌, inl, inr, append_assoc}
+-- A server remembers that a slot was wanting since a letter told it so: of its last copy, by the link's other server, which had none; or of an
+-- entry that it is to move, by the new map's lead, which had none, or whose second server had none.
+use Rattle.std.proofs.Common.{◌≡◌, ◌<◌, ℕ, Bool, List, [], ◌∷◌, ◌++◌, length, Option, Some, None, true, false, refl, sym, ap, ◌∙◌, subst, ◌⊎◌, inl, inr, append_assoc}
 use Rattle.busy_marks.specs.Marks.{above}
 use Rattle.global_tables.specs.declared.link.LinkRow.{LinkRow}
 use Rattle.petal_base.specs.declared.cell.Cell.{Cell}
 use Rattle.petal_base.specs.Cells.{cell_of}
+use Rattle.petal_base.specs.declared.cell.Key.{Key}
 use Rattle.petal_command.specs.declared.command.Command.{Command}
 use Rattle.petal_command.specs.declared.command.Command.TheVariants.{Caught}
-use Rattle.petal_msg.specs.Kinds.{Copied, Paired, Refused, Subject, subject_of}
+use Rattle.petal_msg.specs.Kinds.{Copied, Filling, Paired, Refused, Subject, subject_of}
 use Rattle.petal_msg.specs.declared.body.Body.{Body}
 use Rattle.petal_msg.specs.declared.body.Body.TheVariants as body
 use Rattle.petal_msg.specs.declared.copying.Copying.{Copying}
@@ -35,7 +37,8 @@ use Rattle.petal_rules.proofs.Tests.{all_put, by_test, true_false}
 use Rattle.petal_history.specs.Legal.{Follows, IsLegal, stepped, world_after}
 use Rattle.petal_history.specs.declared.record.Record.{Record}
 use Rattle.law_state.specs.Firm.{Firm}
-use Rattle.law_steps.specs.Did.{Did, Ignores, Refuses, By_read, By_lead, By_second, By_holder, By_other}
+use Rattle.law_steps.specs.Did.{Did, Ignores, Refuses, By_read, By_lead, By_second, By_holder, By_other, By_filler, By_sweep}
+use Rattle.law_steps.specs.DidFiller.{DidFiller, IsNextKey, Is_filled, Is_out_of_slots}
 use Rattle.law_steps.specs.DidHolder.{DidHolder, CopyStep, Asks_to_trim, Sends, Unmarks_copied, Closes_copy, TakenCopy, Copy_as_is, Copy_trimmed, Copy_synced, Asks_page, Turns_page, Begins_copy, Goes_on_copying, Finds_it_full, Tidies}
 use Rattle.law_steps.specs.DidOther.{DidOther, TrimStep, IsOfCopy, Is_trimmed, Drops_entry, Answers_page, Is_copied_to, Goes_on_trimming, Puts_entry, Has_entry, Has_no_slot}
 use Rattle.law_steps.specs.Happens.{Handled, By_job, By_ballot, By_entry, Serving, Goes, Ends, Stays, Wakes, Fails, own_place}
@@ -43,10 +46,11 @@ use Rattle.law_steps.specs.Ready.{AreFirm, Rests}
 use Rattle.law_steps.proofs.Histories.{own_steady, rests_next, start_rests, world_more}
 use Rattle.law_steps.proofs.Letters.{one_post, posted}
 use Rattle.law_steps.proofs.Serving.{server_serves}
-use Rattle.law_steps.proofs.Subjects.{of_lead, of_read, of_second}
-use Rattle.law_refusals.specs.Full.{HasEndedFull, WasTold}
+use Rattle.law_steps.proofs.Subjects.{of_filler, of_lead, of_read, of_second, of_sweep}
+use Rattle.law_refusals.specs.Full.{HasEndedFull, HasFilledFull, HasFoundNone, By_copy, By_fill, WasDeclined, WasTold}
 use Rattle.law_refusals.proofs.Along.{IsNext, along}
 use Rattle.law_refusals.proofs.Leads.{asks_quiet, is_no_leads, lead_quiet}
+use Rattle.law_refusals.proofs.Refused.{fill_now}
 use Rattle.law_refusals.proofs.Sent.{is_aside, step_sent}
 
 -- ### What is remembered
@@ -62,6 +66,16 @@ record HearsFull (heard : Body → Type 0) (own : Own) : Type 0 where
   copying : copying_on own cell ≡ Some copy
   trimmed : copy.trimmed ≡ true
   left : copy.index < length (chain_in own.store.chains cell)
+
+-- or the next entry of a link that the server is to move
+record HearsFillFull (heard : Body → Type 0) (here : Here) (own : Own) : Type 0 where
+  key : Key
+  row : LinkRow
+  said : heard (body.FillFull key)
+  next : IsNextKey here own key row
+
+abbrev HearsNone : (heard : Body → Type 0) → Here → Own → Type 0
+HearsNone heard here own = HearsFull heard own ⊎ HearsFillFull heard here own
 
 copied_full : (row : Option LinkRow) (own : Own) (block : ℕ) → full_of (with_copied row own block) ≡ full_of own
 copied_full None own block = refl
@@ -101,7 +115,7 @@ ballot_full state own None = refl
 
 module _ (heard : Body → Type 0) (here : Here) (own : Own) where
   abbrev F : Done → Type 0
-  F done = full_of done.own ≡ true → (full_of own ≡ true) ⊎ HearsFull heard own
+  F done = full_of done.own ≡ true → (full_of own ≡ true) ⊎ HearsNone heard here own
 
   holder_full : (done : Done) → DidHolder heard here own done → F done
   holder_full _ (Asks_page id row other held fresh) e = inl e
@@ -110,7 +124,7 @@ module _ (heard : Body → Type 0) (here : Here) (own : Own) where
   holder_full done (Goes_on_copying cell now copy _ taken step) e =
       inl (sym (taken_full heard own cell now copy taken) ∙ step_full here now cell copy done step e)
   holder_full _ (Finds_it_full cell copy h is trimmed lt) e =
-      inr (record { cell = cell; copy = copy; said = h; copying = is; trimmed = trimmed; left = lt })
+      inr (inl (record { cell = cell; copy = copy; said = h; copying = is; trimmed = trimmed; left = lt }))
   holder_full _ (Tidies id row block kind is both idle left) e = inl e
 
   other_full : (done : Done) → DidOther heard here own done → full_of done.own ≡ full_of own
@@ -121,6 +135,10 @@ module _ (heard : Body → Type 0) (here : Here) (own : Own) where
   other_full _ (Has_entry entry holder last of_copy lt) = refl
   other_full _ (Has_no_slot entry holder last of_copy so full) = refl
 
+  filler_full : (done : Done) → DidFiller heard here own done → F done
+  filler_full _ (Is_filled key row posts h next fills) e = true_false e refl
+  filler_full _ (Is_out_of_slots key row h next) e = inr (inr (record { key = key; row = row; said = h; next = next }))
+
   did_full : (done : Done) → Did heard here own done → F done
   did_full _ Ignores e = inl e
   did_full _ (Refuses to said is busy held) e = inl e
@@ -129,6 +147,8 @@ module _ (heard : Body → Type 0) (here : Here) (own : Own) where
   did_full _ (By_second done d) e = inl (sym (ap (λ (c : Copies). c.full) (of_second heard here own done d).copies) ∙ e)
   did_full _ (By_holder done d) e = holder_full done d e
   did_full _ (By_other done d) e = inl (sym (other_full done d) ∙ e)
+  did_full _ (By_filler done d) e = filler_full done d e
+  did_full _ (By_sweep done d) e = inl (sym (ap (λ (c : Copies). c.full) (of_sweep heard here own done d).copies) ∙ e)
 
   -- ### Who says that it has no slot
 
@@ -217,14 +237,19 @@ module _ (heard : Body → Type 0) (here : Here) (own : Own) where
   unfolding In
   did_decline _ Ignores post i number cell says = absurd i
   did_decline _ (Refuses to said is busy held) post i number cell says =
-      let f : Copied ≡ Refused = sym (ap subject_of (sym (one_post to said post i).1 ∙ says)) ∙ is in absurd cc
-  did_decline _ (By_read done d) post i number cell says =
-      unsaid post.body number cell (ap is_no_leads ((of_read heard here own done d).says post i).is) says
+      let f : Copied ≡ Refused = sym (ap subject_of (sym (one_post to said post i).1 ∙ says)) ∙ is.refused in absurd cc
+  did_decline _ (By_read done d) post i number cell says = elim ((of_read heard here own done d).says post i) [
+    | inl data_said ↦ absurd (let f : body.Data data_said.seq data_said.bytes ≡ body.SyncFull number cell = sym data_said.is ∙ says in cc)
+    | inr nothing ↦ absurd (let f : body.NotHere nothing.seq ≡ body.SyncFull number cell = sym nothing.is ∙ says in cc)
+  ]
   did_decline _ (By_lead done d) post i number cell says = unsaid post.body number cell (lead_quiet heard here own done d post i) says
   did_decline _ (By_second done d) post i number cell says =
       unsaid post.body number cell (paired_quiet post.body ((of_second heard here own done d).says post i)) says
   did_decline _ (By_holder done d) post i number cell says = unsaid post.body number cell (holder_quiet done d post i) says
   did_decline _ (By_other done d) post i number cell says = other_declines done d post i number cell says
+  did_decline _ (By_filler done d) post i number cell says =
+      let f : Copied ≡ Filling = sym (ap subject_of says) ∙ (of_filler heard here own done d).says post i in absurd cc
+  did_decline _ (By_sweep done d) post i number cell says = absurd ((of_sweep heard here own done d).silent post i)
 
 -- ### A step
 
@@ -235,22 +260,22 @@ record WasFull (w : World) (n inc : ℕ) : Type 0 where
   full : full_of (w.servers n).own ≡ true
 
 -- or it hears of it in this step
-record IsTold (w : World) (who : Actor) (what : Step) (n inc : ℕ) : Type 0 where
+record IsTold (setting : Setting) (w : World) (who : Actor) (what : Step) (n inc : ℕ) : Type 0 where
   is : who ≡ actor.Server n
   works : what ≡ Work work_end.Done
   runs : (w.servers n).life.running ≡ true
   lives : (w.servers n).life.inc ≡ inc
-  told : HearsFull (Handled w n) (w.servers n).own
+  told : HearsNone (Handled w n) (own_place setting w n) (w.servers n).own
 
-abbrev HasCause : World → Actor → Step → (n : ℕ) → Server → Type 0
-HasCause w who what n server =
-    server.life.running ≡ true → full_of server.own ≡ true → WasFull w n server.life.inc ⊎ IsTold w who what n server.life.inc
+abbrev HasCause : Setting → World → Actor → Step → (n : ℕ) → Server → Type 0
+HasCause setting w who what n server =
+    server.life.running ≡ true → full_of server.own ≡ true → WasFull w n server.life.inc ⊎ IsTold setting w who what n server.life.inc
 
 module _ (setting : Setting) (w : World) where
-  still : (who : Actor) (what : Step) (n : ℕ) → HasCause w who what n (w.servers n)
+  still : (who : Actor) (what : Step) (n : ℕ) → HasCause setting w who what n (w.servers n)
   still who what n runs full = inl (record { runs = runs; lives = refl; full = full })
 
-  serves_cause : (n : ℕ) (what : Step) (acted : Acted) → Serving setting w n what acted → HasCause w (actor.Server n) what n acted.server
+  serves_cause : (n : ℕ) (what : Step) (acted : Acted) → Serving setting w n what acted → HasCause setting w (actor.Server n) what n acted.server
   serves_cause n what _ (Goes _ _ queue runs (By_job log done same did seat) queued (inl works)) on full =
       elim (did_full (Handled w n) (own_place setting w n) (w.servers n).own done did full) [
         | inl was ↦ still (actor.Server n) what n runs was
@@ -270,12 +295,12 @@ module _ (setting : Setting) (w : World) where
   serves_cause n what _ (Fails booted asleep) on full = true_false on asleep
 
   step_cause : Firm setting w → Rests setting w → (who : Actor) (what : Step) (stamp : ℕ) → MayActor who what setting w
-      → Firm setting (step who what setting w stamp).world → (n : ℕ) → HasCause w who what n ((step who what setting w stamp).world.servers n)
+      → Firm setting (step who what setting w stamp).world → (n : ℕ) → HasCause setting w who what n ((step who what setting w stamp).world.servers n)
   unfolding step
   step_cause firm rests (actor.Server m) Blank stamp may later =
-      all_put w.servers m _ (HasCause w (actor.Server m) Blank) (still (actor.Server m) Blank) (λ on full. true_false on may.1.rests)
+      all_put w.servers m _ (HasCause setting w (actor.Server m) Blank) (still (actor.Server m) Blank) (λ on full. true_false on may.1.rests)
   step_cause firm rests (actor.Server m) what stamp may later =
-      all_put w.servers m _ (HasCause w (actor.Server m) what) (still (actor.Server m) what)
+      all_put w.servers m _ (HasCause setting w (actor.Server m) what) (still (actor.Server m) what)
       (serves_cause m what _ (server_serves setting w rests firm m (own_steady setting w firm m) stamp what refl may.1 later))
   step_cause firm rests (actor.Client c) what stamp may later = still (actor.Client c) what
 
@@ -307,9 +332,10 @@ module _ (setting : Setting) where
   record Kept (records : List Record) : Type 0 where
     rests : Rests setting (W records)
     ended : (n : ℕ) → ((W records).servers n).life.running ≡ true → full_of ((W records).servers n).own ≡ true
-        → HasEndedFull setting records n ((W records).servers n).life.inc
+        → HasFoundNone setting records n ((W records).servers n).life.inc
     letters : (letter : Letter) (number : ℕ) (cell : Cell) → In letter (W records).sent → letter.body ≡ body.SyncFull number cell
         → Tells records letter number cell
+    fills : (letter : Letter) (key : Key) → In letter (W records).sent → letter.body ≡ body.FillFull key → WasDeclined setting records letter key
 
   behind_more : (records front behind : List Record) (own next : Record) → records ≡ front ++ own ∷ behind
       → records ++ next ∷ [] ≡ front ++ own ∷ (behind ++ next ∷ [])
@@ -334,6 +360,39 @@ module _ (setting : Setting) where
     told = h.told;
   }
 
+  filled_more : (records : List Record) (next : Record) (n inc : ℕ) → HasFilledFull setting records n inc
+      → HasFilledFull setting (records ++ next ∷ []) n inc
+  filled_more records next n inc h = record {
+    front = h.front;
+    own = h.own;
+    behind = h.behind ++ next ∷ [];
+    lies = behind_more records h.front h.behind h.own next h.lies;
+    who = h.who;
+    works = h.works;
+    runs = h.runs;
+    lives = h.lives;
+    key = h.key;
+    row = h.row;
+    next = h.next;
+    heard = h.heard;
+    told = h.told;
+  }
+
+  none_more : (records : List Record) (next : Record) (n inc : ℕ) → HasFoundNone setting records n inc → HasFoundNone setting (records ++ next ∷ []) n inc
+  none_more records next n inc (By_copy h) = By_copy (ended_more records next n inc h)
+  none_more records next n inc (By_fill h) = By_fill (filled_more records next n inc h)
+
+  declined_more : (records : List Record) (next : Record) (letter : Letter) (key : Key) → WasDeclined setting records letter key
+      → WasDeclined setting (records ++ next ∷ []) letter key
+  declined_more records next letter key h = record {
+    front = h.front;
+    own = h.own;
+    behind = h.behind ++ next ∷ [];
+    lies = behind_more records h.front h.behind h.own next h.lies;
+    sent = h.sent;
+    reason = h.reason;
+  }
+
   tells_more : (records : List Record) (next : Record) (letter : Letter) (number : ℕ) (cell : Cell) → Tells records letter number cell
       → Tells (records ++ next ∷ []) letter number cell
   tells_more records next letter number cell t = record {
@@ -356,9 +415,9 @@ module _ (setting : Setting) where
     abbrev follows : Follows setting w own
     follows = on.follows
 
-    heard_now : (n inc : ℕ) → IsTold w own.actor own.step n inc → HasEndedFull setting (done ++ own ∷ []) n inc
-    heard_now n inc t =
-        let h = t.told in
+    copy_now : (n inc : ℕ) → IsTold setting w own.actor own.step n inc → HearsFull (Handled w n) (w.servers n).own
+        → HasEndedFull setting (done ++ own ∷ []) n inc
+    copy_now n inc t h =
         let tells = kept.letters h.said.letter h.copy.op h.cell h.said.sent h.said.is in
         record {
           front = done;
@@ -378,12 +437,36 @@ module _ (setting : Setting) where
           told = subst (λ k. WasTold setting done h.said.letter k h.copy.op h.cell) (one_server (sym tells.to ∙ h.said.own)) tells.told;
         }
 
+    fill_heard : (n inc : ℕ) → IsTold setting w own.actor own.step n inc → HearsFillFull (Handled w n) (own_place setting w n) (w.servers n).own
+        → HasFilledFull setting (done ++ own ∷ []) n inc
+    fill_heard n inc t h = record {
+      front = done;
+      own = own;
+      behind = [];
+      lies = refl;
+      who = t.is;
+      works = t.works;
+      runs = t.runs;
+      lives = t.lives;
+      key = h.key;
+      row = h.row;
+      next = h.next;
+      heard = h.said;
+      told = kept.fills h.said.letter h.key h.said.sent h.said.is;
+    }
+
+    heard_now : (n inc : ℕ) → IsTold setting w own.actor own.step n inc → HasFoundNone setting (done ++ own ∷ []) n inc
+    heard_now n inc t = elim t.told [
+      | inl h ↦ By_copy (copy_now n inc t h)
+      | inr h ↦ By_fill (fill_heard n inc t h)
+    ]
+
     ended_next : (n : ℕ) → ((stepped setting w own).world.servers n).life.running ≡ true → full_of ((stepped setting w own).world.servers n).own ≡ true
-        → HasEndedFull setting (done ++ own ∷ []) n ((stepped setting w own).world.servers n).life.inc
+        → HasFoundNone setting (done ++ own ∷ []) n ((stepped setting w own).world.servers n).life.inc
     ended_next n runs full =
         elim (step_cause setting w on.firm kept.rests own.actor own.step own.stamp follows.may.may on.later n runs full) [
-          | inl was ↦ subst (HasEndedFull setting (done ++ own ∷ []) n) was.lives
-              (ended_more done own n (w.servers n).life.inc (kept.ended n was.runs was.full))
+          | inl was ↦ subst (HasFoundNone setting (done ++ own ∷ []) n) was.lives
+              (none_more done own n (w.servers n).life.inc (kept.ended n was.runs was.full))
           | inr told ↦ heard_now n _ told
         ]
 
@@ -424,6 +507,21 @@ module _ (setting : Setting) where
           ]
         ]
 
+    fill_sent : (letter : Letter) (key : Key) → In letter (stepped setting w own).letters → letter.body ≡ body.FillFull key
+        → WasDeclined setting (done ++ own ∷ []) letter key
+    fill_sent letter key h says =
+        elim (step_sent setting w on.firm kept.rests own.actor own.step own.stamp follows.may.may on.later letter h) [
+          | inr aside ↦ true_false aside (ap (λ b. is_aside (subject_of b)) says)
+          | inl s ↦ record {
+            front = done;
+            own = own;
+            behind = [];
+            lies = refl;
+            sent = subst (In letter) (sym follows.sent) h;
+            reason = fill_now setting w kept.rests own.actor own.step letter s key says;
+          }
+        ]
+
     kept_next : Kept (done ++ own ∷ [])
     kept_next =
         let e = sym (world_more setting (start setting) done own) in
@@ -431,7 +529,7 @@ module _ (setting : Setting) where
           rests = subst (Rests setting) e (rests_next setting w own kept.rests on.firm follows on.later);
           ended = subst
               (λ (v : World). (n : ℕ) → (v.servers n).life.running ≡ true → full_of (v.servers n).own ≡ true
-              → HasEndedFull setting (done ++ own ∷ []) n (v.servers n).life.inc) e ended_next;
+              → HasFoundNone setting (done ++ own ∷ []) n (v.servers n).life.inc) e ended_next;
           letters = subst
               (λ (v : World). (letter : Letter) (number : ℕ) (cell : Cell) → In letter v.sent → letter.body ≡ body.SyncFull number cell
               → Tells (done ++ own ∷ []) letter number cell) e
@@ -440,12 +538,20 @@ module _ (setting : Setting) where
                 | inl new ↦ sent_now letter number cell new says
                 | inr old ↦ tells_more done own letter number cell (kept.letters letter number cell old says)
               ]);
+          fills = subst
+              (λ (v : World). (letter : Letter) (key : Key) → In letter v.sent → letter.body ≡ body.FillFull key
+              → WasDeclined setting (done ++ own ∷ []) letter key) e
+              (λ letter key h says.
+              elim (in-append letter _ w.sent (subst (In letter) (step_letters own.actor own.step w own.stamp) h)) [
+                | inl new ↦ fill_sent letter key new says
+                | inr old ↦ declined_more done own letter key (kept.fills letter key old says)
+              ]);
         }
 
 pub ended_full : (script : Script) (records : List Record) → AreFirm (setting_of script) (start (setting_of script)) records → IsLegal script records
     → (n : ℕ) → ((world_after (setting_of script) (start (setting_of script)) records).servers n).life.running ≡ true
     → ((world_after (setting_of script) (start (setting_of script)) records).servers n).own.copies.full ≡ true
-    → HasEndedFull (setting_of script) records n ((world_after (setting_of script) (start (setting_of script)) records).servers n).life.inc
+    → HasFoundNone (setting_of script) records n ((world_after (setting_of script) (start (setting_of script)) records).servers n).life.inc
 unfolding In
 ended_full script records firm legal =
     let setting = setting_of script in
@@ -453,4 +559,5 @@ ended_full script records firm legal =
       rests = start_rests script;
       ended = λ n runs full. true_false full refl;
       letters = λ letter number cell h says. absurd h;
+      fills = λ letter key h says. absurd h;
     }) records firm legal).ended

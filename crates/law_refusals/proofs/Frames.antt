@@ -1,5 +1,5 @@
 -- What a server's step has to show so that each refusal has its reason.
-use Rattle.std.proofs.Common.{◌≡◌, ◌≤◌, ◌<◌, ℕ, true, length, Some, sym, ◌∙◌, subst, ◌⊎◌, inl, inr, arith}
+use Rattle.std.proofs.Common.{◌≡◌, ◌≤◌, ◌<◌, ℕ, true, length, Some, ap, sym, ◌∙◌, subst, ◌⊎◌, inl, inr, arith}
 use Rattle.std.specs.Ordering.{nat_cmp}
 use Rattle.petal_base.specs.declared.cell.Cell.{Cell}
 use Rattle.petal_table.specs.Table.{at}
@@ -11,6 +11,7 @@ use Rattle.petal_msg.specs.declared.operation.Finished.{Finished}
 use Rattle.petal_msg.specs.declared.operation.Pending.{Pending}
 use Rattle.petal_rules.specs.Lists.{In}
 use Rattle.petal_rules.specs.Store.{cell_cmp}
+use Rattle.petal_rules.specs.Writes.{is_clients}
 use Rattle.petal_rules.specs.State.{first, is_in}
 use Rattle.petal_rules.specs.Server.{Server}
 use Rattle.petal_rules.specs.Jobs.{Acted}
@@ -102,11 +103,11 @@ still_declined R S setting w v more grows on letter number cell d =
     record {
       by = still_numbered setting w v grows on letter number cell k;
       to = d.to;
-      refused = λ op same is number_is. elim ((on k.server).pending cell op (omega (arith, same)) is) [
+      refused = λ op same is number_is clients. elim ((on k.server).pending cell op (omega (arith, same)) is) [
         | inl there ↦
             let was = there.was in
             subst (S op.client) there.same.seq (subst (λ c. S c was.seq) there.same.client
-            (more was.client was.seq (d.refused was (omega (arith, same)) there.is (there.same.number ∙ number_is))))
+            (more was.client was.seq (d.refused was (omega (arith, same)) there.is (there.same.number ∙ number_is) (ap is_clients there.same.kind ∙ clients))))
         | inr new ↦ let old = k.given (omega (arith, same)) in absurd (omega (arith, number_is))
       ];
     }

@@ -3,50 +3,62 @@ use Rattle.std.proofs.Common.{◌≡◌, ◌≢◌, ◌≤◌, ◌<◌, ◌+◌,
 use Rattle.std.specs.Ordering.{nat_cmp}
 use Rattle.busy_marks.specs.declared.marks.MarkKind.TheVariants.{Stale}
 use Rattle.petal_base.specs.declared.cell.Cell.{Cell}
+use Rattle.petal_base.specs.declared.cell.Key.{Key}
 use Rattle.petal_base.specs.Cells.{cell_of}
 use Rattle.petal_table.specs.Table.{Table, at, put}
 use Rattle.petal_table.proofs.Rows.{at_same, at_apart}
-use Rattle.petal_msg.specs.Kinds.{Answered, Copied, Paired, Refused, is_logged, subject_of}
+use Rattle.petal_msg.specs.Kinds.{Answered, Copied, Filling, Paired, Refused, is_logged, subject_of}
 use Rattle.petal_msg.specs.declared.body.Body.{Body}
 use Rattle.petal_msg.specs.declared.body.Body.TheVariants as body
 use Rattle.petal_msg.specs.declared.letter.Actor.TheVariants as actor
 use Rattle.petal_msg.specs.declared.letter.Letter.{Letter}
+use Rattle.petal_msg.specs.declared.operation.Action.{Action}
+use Rattle.petal_msg.specs.declared.operation.Action.TheVariants as action
 use Rattle.petal_msg.specs.declared.operation.Ending.{Ending}
 use Rattle.petal_msg.specs.declared.operation.Ending.TheVariants as ending
 use Rattle.petal_msg.specs.declared.operation.Far.{Far}
 use Rattle.petal_msg.specs.declared.operation.Far.TheVariants as far
 use Rattle.petal_msg.specs.declared.operation.Finished.{Finished}
+use Rattle.petal_msg.specs.declared.operation.OpKind.{OpKind}
+use Rattle.petal_msg.specs.declared.operation.OpKind.TheVariants as kind
 use Rattle.petal_msg.specs.declared.operation.Pending.{Pending}
+use Rattle.petal_rules.specs.Fills.{fill_operation}
 use Rattle.petal_rules.specs.Lists.{In}
 use Rattle.petal_state.specs.Command.{state_after}
-use Rattle.petal_rules.specs.State.{first, second, in_both, is_in, is_second}
+use Rattle.petal_rules.specs.State.{first, second, in_both, is_in, is_second, leads_link, live}
 use Rattle.petal_rules.specs.Store.{cell_cmp}
-use Rattle.petal_rules.specs.Server.{Own, Here, Post, Done, post_to}
-use Rattle.petal_rules.specs.Writes.{operation, opened, ended, pending_on, tells, with_mark_at}
+use Rattle.petal_rules.specs.Server.{Own, Here, Pairs, Post, Done, post_to}
+use Rattle.petal_rules.specs.Writes.{acts, ends, gives_back, is_clients, moved_as, next_stage, old_lead, operation, opened, ended, pending_on, tells, with_mark_at, with_opened, without_pending}
 use Rattle.petal_rules.specs.World.{Setting, World, chosen_log, server_state}
 use Rattle.petal_rules.specs.declared.step.Step.TheVariants.{Work}
 use Rattle.petal_rules.specs.declared.step.WorkEnd.TheVariants as work_end
 use Rattle.petal_rules.proofs.CellTables.{cell_same, cell_apart}
-use Rattle.petal_rules.proofs.Tests.{none_some, same_or_apart, same_some, true_false, is_the_one}
+use Rattle.petal_rules.proofs.Tests.{by_bool, by_test, none_some, same_or_apart, same_some, true_false, is_the_one}
 use Rattle.law_state.specs.Steady.{IsSteady}
 use Rattle.law_state.specs.Firm.{Firm}
 use Rattle.law_state.proofs.Ages.{in_once}
-use Rattle.law_state.proofs.Alone.{lead_first, second_both}
+use Rattle.law_state.proofs.Alone.{both_row, lead_first, second_both}
+use Rattle.law_state.proofs.Cells.{both_first, both_leads}
 use Rattle.law_steps.specs.DidRead.{DidRead}
-use Rattle.law_steps.specs.DidLead.{DidLead, Asks_for, Repeats, Is_full, Gives_up, Opens, Marks, Puts, Unmarks, Closes, Opens_alone, Marks_alone, Puts_alone, Unmarks_alone, Closes_alone, Asks, A_slot, A_copy, A_trim, A_copied_entry, A_page, Of_the_log}
+use Rattle.law_steps.specs.DidLead.{DidLead, Asks_for, Repeats, Is_full, Gives_up, Opens, Marks, Puts, Unmarks, Closes, Opens_alone, Marks_alone, Puts_alone, Unmarks_alone, Closes_alone, Opens_fill, Opens_fill_alone, Has_fill, Has_no_room, Goes_on_dead, Taken, Asks, A_slot, A_copy, A_trim, A_copied_entry, A_page, An_entry_to_move, Of_the_log}
 use Rattle.law_steps.specs.DidSecond.{DidSecond, Sets_apart, Promises, Declines, Follows, FoundNoSlot}
-use Rattle.law_steps.specs.Did.{Did, Ignores, Refuses, IsRefusal, By_read, By_lead, By_second, By_holder, By_other}
+use Rattle.law_steps.specs.Did.{Did, Ignores, Refuses, By_read, By_lead, By_second, By_holder, By_other, By_filler, By_sweep}
 use Rattle.law_steps.specs.Happens.{Handled, IsSeated, own_place}
 use Rattle.law_steps.specs.Ready.{Rests}
 use Rattle.law_steps.proofs.Histories.{own_steady}
 use Rattle.law_steps.proofs.Letters.{one_post, posted}
-use Rattle.law_steps.proofs.Restages.{Restages, Was, was_same, stood, was_before, marked, has_put, unmarked, marked_alone, put_alone, unmarked_alone}
+use Rattle.law_steps.proofs.Restages.{Restages, Was, was_same, stood, was_before, marked, has_put, unmarked, marked_alone, put_alone, unmarked_alone, was_acted}
 use Rattle.law_steps.proofs.Staged.{same_cell_or_apart}
 use Rattle.law_steps.proofs.CopyFrames.{CopyFrame, of_holder, of_other}
-use Rattle.law_steps.proofs.Subjects.{of_read, of_second, told_own}
-use Rattle.law_steps.proofs.Taking.{taking}
+use Rattle.law_steps.proofs.Leading.{dead_second}
+use Rattle.law_steps.proofs.Subjects.{of_filler, of_read, of_second, of_sweep, told_own}
+use Rattle.law_steps.proofs.Taking.{IsTaken, taking}
 use Rattle.law_refusals.specs.Reasons.{HadNoSlot, At_the_lead, At_the_second, IsNumbered, Refusals}
 use Rattle.law_steps.proofs.Fronts.{one_front}
+
+nobody : (what : Body) (post : Post) → In post (post_to None what) → ⊥
+unfolding In
+nobody what post i = i
 
 -- what tells of a want of slots, or asks for one
 abbrev is_slot : Body → Bool
@@ -59,11 +71,21 @@ is_of_slots (body.PairFull number cell) = true
 is_of_slots (body.Reserve number cell) = true
 is_of_slots _ = false
 
-refusal_not_full : (said : Body) → IsRefusal said → is_of_slots said ≡ false
+refusal_not_full : (said : Body) → subject_of said ≡ Refused → is_of_slots said ≡ false
 refusal_not_full (body.Full seq) h = let f : Answered ≡ Refused = h in absurd cc
 refusal_not_full (body.PairFull number cell) h = let f : Paired ≡ Refused = h in absurd cc
 refusal_not_full (body.Reserve number cell) h = let f : Paired ≡ Refused = h in absurd cc
 refusal_not_full _ h = refl
+
+filling_not_full : (said : Body) → subject_of said ≡ Filling → is_of_slots said ≡ false
+filling_not_full (body.Full seq) h = let f : Answered ≡ Filling = h in absurd cc
+filling_not_full (body.PairFull number cell) h = let f : Paired ≡ Filling = h in absurd cc
+filling_not_full (body.Reserve number cell) h = let f : Paired ≡ Filling = h in absurd cc
+filling_not_full _ h = refl
+
+moved_not_full : (key : Key) (how : Ending) → is_of_slots (moved_as key how) ≡ false
+moved_not_full key ending.Written = refl
+moved_not_full key ending.Full = refl
 
 pub logged_not_full : (said : Body) → is_logged (subject_of said) ≡ true → is_of_slots said ≡ false
 logged_not_full (body.Full seq) e = true_false e refl
@@ -100,7 +122,7 @@ pub record TellsNone (S : ℕ → ℕ → Type 0) (setting : Setting) (w : World
   pub revision : letter.rev ≡ length (w.servers n).log.applied
   pub asked : IsNumbered setting w letter number cell
   pub to : post.to ≡ actor.Server asked.server
-  pub refused : (op : Pending) → at cell_cmp (w.servers asked.server).own.pairs.pending cell ≡ Some op → op.op ≡ number → S op.client op.seq
+  pub refused : (op : Pending) → at cell_cmp (w.servers asked.server).own.pairs.pending cell ≡ Some op → op.op ≡ number → is_clients op.kind ≡ true → S op.client op.seq
 
 -- what a job has to show: of what it remembers, of what is pending, and of what it sends
 pub record JobRefuses (S : ℕ → ℕ → Type 0) (setting : Setting) (w : World) (n : ℕ) (new : Own) (posts : List Post) : Type 0 where
@@ -234,8 +256,9 @@ module _ (R S : ℕ → ℕ → Type 0) (scene : Scene R S) where
   one_server e = cc
 
   -- an operation that the second server has no slot for: its letter has the server's revision, so it is of this incarnation
-  declined_op : (op : Pending) → hears (body.PairFull op.op op.cell) → at cell_cmp own.pairs.pending op.cell ≡ Some op → S op.client op.seq
-  declined_op op h is =
+  declined_op : (op : Pending) → hears (body.PairFull op.op op.cell) → at cell_cmp own.pairs.pending op.cell ≡ Some op → is_clients op.kind ≡ true
+      → S op.client op.seq
+  declined_op op h is clients =
       let d = refusals.declined h.letter op.op op.cell h.sent h.is in
       let k = d.by in
       let mine : k.server ≡ n = one_server (sym d.to ∙ h.own) in
@@ -246,7 +269,7 @@ module _ (R S : ℕ → ℕ → Type 0) (scene : Scene R S) where
       (subst (λ log. is_in (state_after scene.setting.servers log) k.server k.inc ≡ true) same k.seated) in
       let inc_is : here.inc ≡ k.inc = in_once here.state n here.inc k.inc (pending_seat op.cell op is) seated in
       more op.client op.seq (d.refused op (subst (λ i. (w.servers i).life.inc ≡ k.inc) (sym mine) inc_is)
-      (subst (λ i. at cell_cmp (w.servers i).own.pairs.pending op.cell ≡ Some op) (sym mine) is) refl)
+      (subst (λ i. at cell_cmp (w.servers i).own.pairs.pending op.cell ≡ Some op) (sym mine) is) refl clients)
 
   full_cell : {a b : ℕ} {c d : Cell} → body.PairFull a c ≡ body.PairFull b d → (a ≡ b) × (c ≡ d)
   full_cell {a} {b} {c} {d} e = (cc, cc)
@@ -258,6 +281,18 @@ module _ (R S : ℕ → ℕ → Type 0) (scene : Scene R S) where
   speaks : (posts : List Post) → ((post : Post) → In post posts → is_of_slots post.body ≡ false) → J own posts
   speaks posts unsaid = still S scene.setting w n posts own refl (omega arith) refl unsaid
 
+  -- a cell with a second server is live
+  in_live : (cell : Cell) (to : ℕ) → second here.state cell ≡ Some to → live here.state cell ≡ true
+  in_live cell to e = by_bool (live here.state cell) (λ on. on) (λ off. none_some (dead_second here.state cell off) e)
+
+  -- and its first server leads its link
+  first_of : (cell : Cell) → leads_link here.state n cell ≡ true → live here.state cell ≡ true → in_both here.state cell ≡ true
+      → first here.state cell ≡ Some n
+  first_of cell leads lives both =
+      let row = both_row here.state cell both in
+      let lead = sym (both_leads here.state cell row.row row.is row.both) ∙ is_the_one _ n leads in
+      both_first here.state cell row.row row.is lives row.both ∙ lead
+
   -- what is asked of other servers: slots for operations that are pending
   asks_slot : (number : ℕ) (cell : Cell) (post : Post) → Asks here own post → post.body ≡ body.Reserve number cell
       → AsksFor scene.setting w n own number cell
@@ -268,13 +303,14 @@ module _ (R S : ℕ → ℕ → Type 0) (scene : Scene R S) where
       subst (λ (c : Cell). AsksFor scene.setting w n own number c) same.1
       (subst (λ k. AsksFor scene.setting w n own k op.cell) same.0 (record {
         seated = pending_seat op.cell op is;
-        leads = lead_first here.state steady n op.cell staged.lead both;
+        leads = first_of op.cell (staged.leads (in_live op.cell to e)) (in_live op.cell to e) both;
         given = refusals.numbered n op.cell op is;
       }))
   asks_slot number cell _ (A_copy op to is stage e) says = true_false (ap is_of_slots says) refl
   asks_slot number cell _ (A_trim at_cell copy to is fresh e) says = true_false (ap is_of_slots says) refl
   asks_slot number cell _ (A_copied_entry at_cell copy row to is trimmed there e) says = true_false (ap is_of_slots says) refl
   asks_slot number cell _ (A_page row to i other fresh) says = true_false (ap is_of_slots says) refl
+  asks_slot number cell post (An_entry_to_move _ next) says = true_false (ap is_of_slots says) (ap (λ (p : Post). is_of_slots p.body) next.is)
   asks_slot number cell _ (Of_the_log post e) says = true_false (ap is_of_slots says) (logged_not_full post.body e)
 
   -- and nobody is told that there is none
@@ -285,6 +321,8 @@ module _ (R S : ℕ → ℕ → Type 0) (scene : Scene R S) where
   asks_not_full _ (A_trim at_cell copy to is fresh e) what says other full = true_false full (ap is_of_slots (sym says))
   asks_not_full _ (A_copied_entry at_cell copy row to is trimmed there e) what says other full = true_false full (ap is_of_slots (sym says))
   asks_not_full _ (A_page row to i apart fresh) what says other full = true_false full (ap is_of_slots (sym says))
+  asks_not_full post (An_entry_to_move _ next) what says other full =
+      true_false full (ap is_of_slots (sym says) ∙ ap (λ (p : Post). is_of_slots p.body) next.is)
   asks_not_full _ (Of_the_log post e) what says other full = true_false full (ap is_of_slots (sym says) ∙ logged_not_full post.body e)
 
   pub asks_refuses : (posts : List Post) → ((post : Post) → In post posts → Asks here own post) → J own posts
@@ -296,6 +334,13 @@ module _ (R S : ℕ → ℕ → Type 0) (scene : Scene R S) where
     reserves = λ post number cell i says. asks_slot number cell post (asks post i) says;
     declined = λ post number cell i says. absurd (asks_not_full post (asks post i) (body.PairFull number cell) says refl refl);
   }
+
+  -- a job that leaves the server's pairs
+  kept_pairs : (done : Done) → done.own.pairs ≡ own.pairs → ((post : Post) → In post done.posts → is_of_slots post.body ≡ false) → J done.own done.posts
+  kept_pairs done same unsaid =
+      still S scene.setting w n done.posts done.own (ap (λ (p : Pairs). p.finished) same)
+      (let e = ap (λ (p : Pairs). p.next) same in omega arith)
+      (ap (λ (p : Pairs). p.pending) same) unsaid
 
   talked : (done : Done) → done.own ≡ own → ((post : Post) → In post done.posts → is_of_slots post.body ≡ false) → J done.own done.posts
   talked done same unsaid =
@@ -338,6 +383,38 @@ module _ (R S : ℕ → ℕ → Type 0) (scene : Scene R S) where
     | inr ne ↦ inl (ap (λ u. at nat_cmp u c) (sym same) ∙ sym (at_apart t op.client _ c ne) ∙ there)
   ]
 
+  -- an operation ends as written, or another server is told how an entry came
+  written_refuses : (op : Pending) (left : Own) (of : OpKind) → left.pairs.finished ≡ own.pairs.finished → own.pairs.next ≤ left.pairs.next
+      → ((q : Cell) (o : Pending) → at cell_cmp left.pairs.pending q ≡ Some o → Was own q o)
+      → J (ends here left op of ending.Written).own (ends here left op of ending.Written).posts
+  unfolding In
+  written_refuses op left kind.Write finished next pending =
+      quiet S scene.setting w n _ (record { to = actor.Client op.client; body = body.Written op.seq } ∷ [])
+      (closes_finished left.pairs.finished op finished) next (λ q o there. inl (pending q o there))
+      (λ post i. ap is_of_slots (one_post (actor.Client op.client) (body.Written op.seq) post i).1)
+  written_refuses op left kind.Fill finished next pending =
+      quiet S scene.setting w n left _ (λ c last is how. inl (ap (λ t. at nat_cmp t c) (sym finished) ∙ is)) next (λ q o there. inl (pending q o there))
+      (λ post i. ap is_of_slots (posted (old_lead here.state op.cell) (body.Filled op.key) post i))
+  written_refuses op left kind.Copy finished next pending =
+      quiet S scene.setting w n left [] (λ c last is how. inl (ap (λ t. at nat_cmp t c) (sym finished) ∙ is)) next (λ q o there. inl (pending q o there))
+      (λ post i. absurd i)
+
+  -- or for want of a slot
+  declined_refuses : (op : Pending) (left : Own) (of : OpKind) → op.kind ≡ of → hears (body.PairFull op.op op.cell)
+      → at cell_cmp own.pairs.pending op.cell ≡ Some op → left.pairs.finished ≡ own.pairs.finished → own.pairs.next ≤ left.pairs.next
+      → ((q : Cell) (o : Pending) → at cell_cmp left.pairs.pending q ≡ Some o → Was own q o)
+      → J (ends here left op of ending.Full).own (ends here left op of ending.Full).posts
+  unfolding In
+  declined_refuses op left kind.Write e h is finished next pending =
+      fills op.client op.seq _ (declined_op op h is (ap is_clients e))
+      (ap (λ t. put nat_cmp t op.client (record { seq = op.seq; ending = ending.Full })) finished) next pending
+  declined_refuses op left kind.Fill e h is finished next pending =
+      quiet S scene.setting w n left _ (λ c last is how. inl (ap (λ t. at nat_cmp t c) (sym finished) ∙ is)) next (λ q o there. inl (pending q o there))
+      (λ post i. ap is_of_slots (posted (old_lead here.state op.cell) (body.FillFull op.key) post i))
+  declined_refuses op left kind.Copy e h is finished next pending =
+      quiet S scene.setting w n left [] (λ c last is how. inl (ap (λ t. at nat_cmp t c) (sym finished) ∙ is)) next (λ q o there. inl (pending q o there))
+      (λ post i. absurd i)
+
   -- an operation that is new is one of a server that is In as itself
   new_seat : (done : Done) → IsSeated here own done → (cell : Cell) (op : Pending) → pending_on own cell ≡ None
       → at cell_cmp done.own.pairs.pending cell ≡ Some op → is_in here.state n here.inc ≡ true
@@ -349,6 +426,40 @@ module _ (R S : ℕ → ℕ → Type 0) (scene : Scene R S) where
       → new.pairs.pending ≡ own.pairs.pending → ((post : Post) → In post posts → is_logged (subject_of post.body) ≡ true) → J new posts
   kept_refuses new posts finished next pending says =
       still S scene.setting w n posts new finished (omega arith) pending (λ post i. logged_not_full post.body (says post i))
+
+  -- on a cell that is not live an operation is dropped, or goes on by its stage; it asks nobody for a slot
+  dead_refuses : (now : Own) (op : Pending) → Taken own now op → live here.state op.cell ≡ false
+      → J (acts here now op (next_stage here.state here.me op)).own (acts here now op (next_stage here.state here.me op)).posts
+  unfolding In
+  dead_refuses now op taken off = by (next_stage here.state here.me op)
+    where
+      t : IsTaken own now op
+      t = taking own now op taken
+
+      no_second : (what : Body) (post : Post) → In post (post_to (second here.state op.cell) what) → ⊥
+      no_second what post i = nobody what post (subst (λ o. In post (post_to o what)) (dead_second here.state op.cell off) i)
+
+      moved : (next : Action) → (acts here now op next).own.pairs.finished ≡ now.pairs.finished → (acts here now op next).own.pairs.next ≡ now.pairs.next
+          → ((post : Post) → In post (acts here now op next).posts → is_of_slots post.body ≡ false)
+          → J (acts here now op next).own (acts here now op next).posts
+      moved next finished same unsaid = quiet S scene.setting w n _ _
+          (λ c last is how. inl (ap (λ f. at nat_cmp f c) (sym (finished ∙ t.finished)) ∙ is)) (let e = t.next in omega arith)
+          (λ q o there. inl (was_acted own now op taken here next q o there)) unsaid
+
+      by : (next : Action) → J (acts here now op next).own (acts here now op next).posts
+      by action.Reserve = moved action.Reserve refl refl (λ post i. absurd (no_second _ post i))
+      by (action.Mark which) = moved (action.Mark which) refl refl (λ post i. absurd i)
+      by action.Put = moved action.Put refl refl (λ post i. absurd i)
+      by action.Replicate = moved action.Replicate refl refl (λ post i. absurd (no_second _ post i))
+      by (action.Unmark which) = moved (action.Unmark which) refl refl (λ post i. absurd i)
+      by action.Answer = written_refuses op (without_pending now op.cell) op.kind t.finished (let e = t.next in omega arith)
+          (λ q o there. was_before own now op taken q o (stood now.pairs.pending op.cell q o there))
+      by action.Drop = moved action.Drop
+          (by_test (λ (left : Own). left.pairs.finished ≡ now.pairs.finished) op.stage.put (without_pending now op.cell)
+          (gives_back (without_pending now op.cell)) (λ put. refl) (λ fresh. refl))
+          (by_test (λ (left : Own). left.pairs.next ≡ now.pairs.next) op.stage.put (without_pending now op.cell)
+          (gives_back (without_pending now op.cell)) (λ put. refl) (λ fresh. refl))
+          (λ post i. absurd i)
 
   -- ### A job that may refuse
 
@@ -382,8 +493,8 @@ module _ (R S : ℕ → ℕ → Type 0) (scene : Scene R S) where
                 revision = h.at;
                 asked = asked;
                 to = (of post i).0;
-                refused = λ op is numbered.
-                    now op.client op.seq (At_the_second asked.server n cell op refl refl leads follows is refl refl
+                refused = λ op is numbered clients.
+                    now op.client op.seq (At_the_second asked.server n cell op refl refl leads follows is clients refl refl
                     (subst (λ j. hears (body.Reserve j cell)) (sym numbered) h) (subst (FoundNoSlot own cell) (sym numbered) no_room));
               }));
         }
@@ -415,7 +526,7 @@ module _ (R S : ℕ → ℕ → Type 0) (scene : Scene R S) where
         (At_the_lead n want.cell want.epoch want.bytes refl refl new.lead new.wanted new.newer new.none no_room)) refl (omega arith)
         (λ cell op is. was_same own cell op is)
     lead_refuses _ (Gives_up op h is reserved put) seat =
-        fills op.client op.seq _ (declined_op op h is) refl (omega arith)
+        declined_refuses op (gives_back (without_pending own op.cell)) op.kind refl h is refl (omega arith)
         (λ cell o there. was_same own cell o (stood own.pairs.pending op.cell cell o there))
     lead_refuses done (Opens want new both) seat =
         let op = operation here own.pairs.next want in
@@ -441,10 +552,8 @@ module _ (R S : ℕ → ℕ → Type 0) (scene : Scene R S) where
     lead_refuses _ (Puts op is both stage) seat = restages_refuses _ (has_put own op is)
     lead_refuses _ (Unmarks op h is both stage) seat = restages_refuses _ (unmarked own op is)
     lead_refuses _ (Closes op is both stage) seat =
-        quiet S scene.setting w n _ (record { to = actor.Client op.client; body = body.Written op.seq } ∷ [])
-        (closes_finished own.pairs.finished op refl) (omega arith)
-        (λ cell o there. inl (was_same own cell o (stood own.pairs.pending op.cell cell o there)))
-        (λ post i. ap is_of_slots (one_post (actor.Client op.client) (body.Written op.seq) post i).1)
+        written_refuses op (without_pending own op.cell) op.kind refl (omega arith)
+        (λ cell o there. was_same own cell o (stood own.pairs.pending op.cell cell o there))
     lead_refuses _ (Opens_alone want new alone) seat =
         let op = operation here own.pairs.next want in
         quiet S scene.setting w n _ [] (λ c last is how. inl is) (omega arith)
@@ -455,11 +564,36 @@ module _ (R S : ℕ → ℕ → Type 0) (scene : Scene R S) where
     lead_refuses _ (Unmarks_alone now op taken alone stale put busy) seat = restages_refuses _ (unmarked_alone own now op taken)
     lead_refuses _ (Closes_alone now op taken alone stale put free) seat =
         let t = taking own now op taken in
-        quiet S scene.setting w n _ (record { to = actor.Client op.client; body = body.Written op.seq } ∷ [])
-        (closes_finished now.pairs.finished op t.finished)
-        (let e = t.next in omega arith)
-        (λ cell o there. inl (was_before own now op taken cell o (stood now.pairs.pending op.cell cell o there)))
-        (λ post i. ap is_of_slots (one_post (actor.Client op.client) (body.Written op.seq) post i).1)
+        written_refuses op (without_pending now op.cell) op.kind t.finished (let e = t.next in omega arith)
+        (λ cell o there. was_before own now op taken cell o (stood now.pairs.pending op.cell cell o there))
+    lead_refuses done (Opens_fill moving new room both) seat =
+        let op = fill_operation here own.pairs.next moving in
+        let cell = cell_of moving.key in
+        record {
+          finished = λ c last is how. inl is;
+          next = omega arith;
+          pending = opens_pending own.pairs.pending cell op (λ q ne. refl) refl;
+          letters = λ post c seq i to says. absurd (let g : body.Reserve own.pairs.next cell ≡ body.Full seq = sym (posted _ _ post i) ∙ says in cc);
+          reserves = λ post number q i says.
+              let same = slot_cell (sym (posted (second here.state cell) (body.Reserve own.pairs.next cell) post i) ∙ says) in
+              subst (λ (c : Cell). AsksFor scene.setting w n (with_opened own op) number c) same.1
+              (subst (λ k. AsksFor scene.setting w n (with_opened own op) k cell) same.0 (record {
+                seated = new.seated;
+                leads = lead_first here.state steady n cell new.lead both;
+                given = omega arith;
+              }));
+          declined = λ post number q i says. absurd
+              (let g : body.Reserve own.pairs.next cell ≡ body.PairFull number q = sym (posted _ _ post i) ∙ says in cc);
+        }
+    lead_refuses _ (Opens_fill_alone moving new room alone) seat =
+        let op = fill_operation here own.pairs.next moving in
+        let cell = cell_of moving.key in
+        quiet S scene.setting w n _ [] (λ c last is how. inl is) (omega arith)
+        (opens_pending (put cell_cmp own.pairs.pending cell op) cell (with_mark_at op Stale true)
+        (λ q ne. cell_apart own.pairs.pending cell op q ne) refl) (λ post i. absurd i)
+    lead_refuses _ (Has_fill moving filled) seat = speaks _ (λ post i. ap is_of_slots (posted _ _ post i))
+    lead_refuses _ (Has_no_room moving new no_room) seat = speaks _ (λ post i. ap is_of_slots (posted _ _ post i))
+    lead_refuses _ (Goes_on_dead now op taken off) seat = dead_refuses now op taken off
 
     -- what a second server does leaves what is pending and finished
     quiet_second : {done : Done} → DidSecond hears here own done → ((post : Post) → In post done.posts → is_of_slots post.body ≡ false)
@@ -480,15 +614,23 @@ module _ (R S : ℕ → ℕ → Type 0) (scene : Scene R S) where
         (λ post i. tells_not_full here own (cell_of key) number far.Replicated post i)
 
     read_refuses : (done : Done) → DidRead hears here own done → J done.own done.posts
-    read_refuses done d = let frame = of_read hears here own done d in talked done frame.same
-        (λ post i. ap is_of_slots (frame.says post i).is)
+    read_refuses done d =
+        let frame = of_read hears here own done d in
+        talked done frame.same (λ post i. elim (frame.says post i) [
+          | inl data_said ↦ ap is_of_slots data_said.is
+          | inr nothing ↦ ap is_of_slots nothing.is
+        ])
 
     pub job_refuses : (done : Done) → Did hears here own done → IsSeated here own done → J done.own done.posts
     unfolding In
     job_refuses _ Ignores seat = speaks _ (λ post i. absurd i)
-    job_refuses _ (Refuses to what is busy held) seat = speaks _ (λ post i. ap is_of_slots (one_post to what post i).1 ∙ refusal_not_full what is)
+    job_refuses _ (Refuses to what is busy held) seat = speaks _ (λ post i. ap is_of_slots (one_post to what post i).1 ∙ refusal_not_full what is.refused)
     job_refuses _ (By_read done d) seat = read_refuses done d
     job_refuses _ (By_lead done d) seat = lead_refuses done d seat
     job_refuses _ (By_second done d) seat = second_refuses done d
     job_refuses _ (By_holder done d) seat = copied_refuses done (of_holder hears here own done d)
     job_refuses _ (By_other done d) seat = copied_refuses done (of_other hears here own done d)
+    job_refuses _ (By_filler done d) seat =
+        let frame = of_filler hears here own done d in kept_pairs done frame.pairs (λ post i. filling_not_full post.body (frame.says post i))
+    job_refuses _ (By_sweep done d) seat =
+        let frame = of_sweep hears here own done d in kept_pairs done frame.pairs (λ post i. absurd (frame.silent post i))

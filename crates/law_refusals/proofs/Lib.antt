@@ -3,6 +3,7 @@ pub mod Jobs
 pub mod Along
 pub mod Leads
 pub mod Sent
+pub mod Filled
 pub mod Refused
 pub mod Copies
 pub mod Refusing

@@ -1,6 +1,11 @@
 -- A server refuses a request in the step that found the reason: another operation pending on the block, or a copy under way; or a fence,
--- or a ballot of its own for the link's Caught, that holds the request back.
-use Rattle.std.proofs.Common.{◌≡◌, ℕ, Bool, List, [], ◌∷◌, ◌++◌, true, false, refl, sym, ap, ◌∙◌, subst, inl, inr}
+-- or a ballot of its own for the link's Caught, that holds the request back; or that the new map has nothing of what a read asked for.
+use Rattle.std.proofs.Common.{◌≡◌, ℕ, Bool, List, [], ◌∷◌, ◌++◌, true, false, Some, None, refl, sym, ap, ◌∙◌, subst, ◌⊎◌, inl, inr}
+use Rattle.petal_base.specs.Cells.{cell_of}
+use Rattle.petal_base.specs.declared.cell.Cell.{Cell}
+use Rattle.petal_base.specs.declared.cell.Key.{Key}
+use Rattle.petal_table.specs.Table.{at}
+use Rattle.petal_msg.specs.declared.operation.Pending.{Pending}
 use Rattle.petal_msg.specs.Kinds.{Subject, Refused, is_refused, subject_of}
 use Rattle.petal_msg.specs.declared.body.Body.{Body}
 use Rattle.petal_msg.specs.declared.body.Body.TheVariants as body
@@ -10,82 +15,184 @@ use Rattle.petal_msg.specs.declared.letter.Letter.{Letter}
 use Rattle.script_lines.specs.declared.script.Script.{Script}
 use Rattle.petal_rules.specs.Lists.{In}
 use Rattle.petal_rules.specs.Server.{Own, Here, Post, Done}
+use Rattle.petal_rules.specs.State.{coming}
+use Rattle.petal_rules.specs.Store.{cell_cmp, chain_in, entry_at}
 use Rattle.petal_rules.specs.World.{Setting, World, setting_of, start}
+use Rattle.petal_rules.specs.declared.step.Step.{Step}
+use Rattle.petal_rules.specs.declared.step.Step.TheVariants.{Work}
+use Rattle.petal_rules.specs.declared.step.WorkEnd.TheVariants as work_end
 use Rattle.petal_rules.proofs.Tests.{true_false}
 use Rattle.petal_history.specs.Legal.{IsLegal, world_after}
 use Rattle.petal_history.specs.declared.record.Record.{Record}
-use Rattle.law_steps.specs.Did.{Did, Ignores, Refuses, IsBusy, IsHeldBack, By_read, By_lead, By_second, By_holder, By_other}
+use Rattle.law_steps.specs.Did.{Did, Ignores, Refuses, IsBusy, IsHeldBack, By_read, By_lead, By_second, By_holder, By_other, By_filler, By_sweep, is_not_here}
+use Rattle.law_steps.specs.DidRead.{DidRead, IsReadable, Shows, Not_here}
 use Rattle.law_steps.specs.Happens.{Handled, own_place}
-use Rattle.law_steps.specs.Ready.{AreFirm}
+use Rattle.law_steps.specs.Ready.{AreFirm, Rests}
 use Rattle.law_steps.proofs.CopyFrames.{of_holder, of_other}
 use Rattle.law_steps.proofs.Histories.{firm_now, front_firm, front_legal, rests_after, start_rests}
 use Rattle.law_steps.proofs.Letters.{one_post}
-use Rattle.law_steps.proofs.Subjects.{of_read, of_second}
-use Rattle.law_refusals.specs.Reasons.{FoundBusy, FoundHeld}
+use Rattle.law_steps.proofs.Subjects.{of_filler, of_second, of_sweep}
+use Rattle.law_refusals.specs.Full.{HadNoFill, At_the_lead, At_the_second}
+use Rattle.law_refusals.specs.Reasons.{FoundBusy, FoundHeld, FoundNothing}
+use Rattle.law_refusals.proofs.Filled.{SaysNone, Has_none, Is_declined, asks_unfilled, did_none, is_fill_full}
 use Rattle.law_refusals.proofs.Leads.{lead_quiet, refused_no_leads}
-use Rattle.law_refusals.proofs.Sent.{is_aside, step_sent}
+use Rattle.law_refusals.proofs.Sent.{SentBy, is_aside, step_sent}
 
 abbrev is_refusal : Body → Bool
 is_refusal said = is_refused (subject_of said)
 
+-- the server may read the cell that a client's read asked for, which is coming, and has nothing of it
+record HasNothingOf (heard : Body → Type 0) (here : Here) (own : Own) (to : Actor) (seq : ℕ) : Type 0 where
+  client : ℕ
+  to_client : to ≡ actor.Client client
+  cell : Cell
+  epoch : ℕ
+  may : IsReadable heard here own client seq cell epoch
+  comes : coming here.state cell ≡ true
+  none : entry_at (chain_in own.store.chains cell) epoch ≡ None
+
 -- what was so where a server said so
-record HasGround (heard : Body → Type 0) (here : Here) (own : Own) (said : Body) : Type 0 where
+record HasGround (heard : Body → Type 0) (here : Here) (own : Own) (to : Actor) (said : Body) : Type 0 where
   busy : (seq : ℕ) → said ≡ body.BlockBusy seq → IsBusy heard here own seq
   held : (seq : ℕ) → said ≡ body.Held seq → IsHeldBack heard here own seq
+  nothing : (seq : ℕ) → said ≡ body.NotHere seq → HasNothingOf heard here own to seq
 
--- of all that a server may have done, a refusal alone says so
+one_number : {a b : ℕ} → body.NotHere a ≡ body.NotHere b → a ≡ b
+one_number e = cc
+
+-- of reads
+read_refuse : (heard : Body → Type 0) (here : Here) (own : Own) (done : Done) → DidRead heard here own done → (post : Post) → In post done.posts
+    → is_refusal post.body ≡ true → HasGround heard here own post.to post.body
+read_refuse heard here own _ (Shows client seq cell epoch may there) post i e = true_false e (ap is_refusal (one_post _ _ post i).1)
+read_refuse heard here own _ (Not_here client seq cell epoch may comes none) post i e =
+    let sent = one_post (actor.Client client) (body.NotHere seq) post i in
+    record {
+      busy = λ number so. absurd (let f : body.NotHere seq ≡ body.BlockBusy number = sym sent.1 ∙ so in cc);
+      held = λ number so. absurd (let f : body.NotHere seq ≡ body.Held number = sym sent.1 ∙ so in cc);
+      nothing = λ number so. subst (HasNothingOf heard here own post.to) (one_number (sym sent.1 ∙ so)) (record {
+        client = client;
+        to_client = sent.0;
+        cell = cell;
+        epoch = epoch;
+        may = may;
+        comes = comes;
+        none = none;
+      });
+    }
+
+-- of all that a server may have done, a refusal alone says so, or a read
 did_refuse : (heard : Body → Type 0) (here : Here) (own : Own) (done : Done) → Did heard here own done → (post : Post) → In post done.posts
-    → is_refusal post.body ≡ true → HasGround heard here own post.body
+    → is_refusal post.body ≡ true → HasGround heard here own post.to post.body
 unfolding In
 did_refuse heard here own _ Ignores post i e = absurd i
 did_refuse heard here own _ (Refuses to what is busy held) post i e =
     let same = sym (one_post to what post i).1 in
-    record { busy = λ seq so. busy seq (same ∙ so); held = λ seq so. held seq (same ∙ so) }
-did_refuse heard here own _ (By_read done d) post i e = true_false e (ap is_refusal ((of_read heard here own done d).says post i).is)
+    record {
+      busy = λ seq so. busy seq (same ∙ so);
+      held = λ seq so. held seq (same ∙ so);
+      nothing = λ seq so. true_false (ap is_not_here (same ∙ so)) is.other;
+    }
+did_refuse heard here own _ (By_read done d) post i e = read_refuse heard here own done d post i e
 did_refuse heard here own _ (By_lead done d) post i e = true_false (refused_no_leads post.body e) (lead_quiet heard here own done d post i)
 did_refuse heard here own _ (By_second done d) post i e = true_false e (ap is_refused ((of_second heard here own done d).says post i))
 did_refuse heard here own _ (By_holder done d) post i e = true_false e (ap is_refused ((of_holder heard here own done d).says post i))
 did_refuse heard here own _ (By_other done d) post i e = true_false e (ap is_refused ((of_other heard here own done d).says post i))
+did_refuse heard here own _ (By_filler done d) post i e = true_false e (ap is_refused ((of_filler heard here own done d).says post i))
+did_refuse heard here own _ (By_sweep done d) post i e = absurd ((of_sweep heard here own done d).silent post i)
 
 -- a server's step found it
-record FoundGround (setting : Setting) (w : World) (who : Actor) (said : Body) : Type 0 where
+record FoundGround (setting : Setting) (w : World) (who to : Actor) (said : Body) : Type 0 where
   server : ℕ
   is : who ≡ actor.Server server
-  ground : HasGround (Handled w server) (own_place setting w server) (w.servers server).own said
+  ground : HasGround (Handled w server) (own_place setting w server) (w.servers server).own to said
+
+-- the job that says that an entry found no slot
+pub fill_now : (setting : Setting) (w : World) → Rests setting w → (who : Actor) (what : Step) (letter : Letter) → SentBy setting w who what letter
+    → (key : Key) → letter.body ≡ body.FillFull key → HadNoFill setting w who what key
+fill_now setting w rests who what letter s key says = elim s.works [
+  | inr idle ↦ true_false (ap is_fill_full (sym s.body ∙ says))
+      (asks_unfilled (own_place setting w s.server) (w.servers s.server).own s.post (idle.asks s.post s.there))
+  | inl works ↦ by works (did_none (Handled w s.server) (own_place setting w s.server) (w.servers s.server).own keyed s.done s.did s.post s.there key
+      (sym s.body ∙ says))
+]
+  where
+    keyed : (cell : Cell) (op : Pending) → at cell_cmp (w.servers s.server).own.pairs.pending cell ≡ Some op → cell_of op.key ≡ cell
+    keyed cell op is = ((rests.pending s.server).staged cell op is).keyed
+
+    by : what ≡ Work work_end.Done → SaysNone (Handled w s.server) (own_place setting w s.server) (w.servers s.server).own keyed key
+        → HadNoFill setting w who what key
+    by works (Has_none moving is new full) = At_the_lead s.server moving s.is works is new full
+    by works (Is_declined op is fill of h) = At_the_second s.server op s.is works is fill of h
 
 aside_quiet : (subject : Subject) → is_refused subject ≡ true → is_aside subject ≡ false
 aside_quiet Refused e = refl
 aside_quiet _ e = true_false e refl
 
 module _ (script : Script) (front : List Record) (own : Record) (firm : AreFirm (setting_of script) (start (setting_of script)) (front ++ own ∷ []))
-    (legal : IsLegal script (front ++ own ∷ [])) (letter : Letter) (seq : ℕ) (h : In letter own.sent) where
-  abbrev w : World
-  w = world_after (setting_of script) (start (setting_of script)) front
+    (legal : IsLegal script (front ++ own ∷ [])) (letter : Letter) where
+  abbrev setting : Setting
+  setting = setting_of script
 
-  found : is_refusal letter.body ≡ true → FoundGround (setting_of script) w own.actor letter.body
-  found e =
-      let setting = setting_of script in
+  abbrev w : World
+  w = world_after setting (start setting) front
+
+  -- what the step sent
+  rests : Rests setting w
+  rests =
+      let parts = front_legal setting (start setting) front (own ∷ []) legal in
+      let firms = front_firm setting (start setting) front (own ∷ []) firm in
+      rests_after setting (start setting) front firms.0 (start_rests script) parts.0
+
+  sent_by : In letter own.sent → SentBy setting w own.actor own.step letter ⊎ (is_aside (subject_of letter.body) ≡ true)
+  sent_by h =
       let parts = front_legal setting (start setting) front (own ∷ []) legal in
       let firms = front_firm setting (start setting) front (own ∷ []) firm in
       let follows = parts.1.0 in
-      elim (step_sent setting w (firm_now setting w (own ∷ []) firms.1) (rests_after setting (start setting) front firms.0 (start_rests script) parts.0)
-      own.actor own.step own.stamp follows.may.may firms.1.2 letter (subst (In letter) follows.sent h)) [
-        | inl s ↦ record {
+      step_sent setting w (firm_now setting w (own ∷ []) firms.1) rests own.actor own.step own.stamp follows.may.may firms.1.2 letter
+      (subst (In letter) follows.sent h)
+
+  found : In letter own.sent → is_refusal letter.body ≡ true → FoundGround setting w own.actor letter.to letter.body
+  found h e = elim (sent_by h) [
+    | inl s ↦
+        let ground = did_refuse (Handled w s.server) (own_place setting w s.server) (w.servers s.server).own s.done s.did s.post s.there
+        (sym (ap is_refusal s.body) ∙ e) in
+        record {
           server = s.server;
           is = s.is;
-          ground = subst (HasGround (Handled w s.server) (own_place setting w s.server) (w.servers s.server).own) (sym s.body)
-              (did_refuse (Handled w s.server) (own_place setting w s.server) (w.servers s.server).own s.done s.did s.post s.there
-              (sym (ap is_refusal s.body) ∙ e));
+          ground = subst (λ (a : Actor). HasGround (Handled w s.server) (own_place setting w s.server) (w.servers s.server).own a letter.body) (sym s.to)
+              (subst (HasGround (Handled w s.server) (own_place setting w s.server) (w.servers s.server).own s.post.to) (sym s.body) ground);
         }
-        | inr aside ↦ true_false aside (aside_quiet (subject_of letter.body) e)
-      ]
+    | inr aside ↦ true_false aside (aside_quiet (subject_of letter.body) e)
+  ]
 
-  pub busy_reason : letter.body ≡ body.BlockBusy seq → FoundBusy (setting_of script) w own.actor seq
-  busy_reason says =
-      let f = found (ap is_refusal says) in
+  pub nothing_reason : (seq : ℕ) → In letter own.sent → letter.body ≡ body.NotHere seq → FoundNothing setting w own.actor letter.to seq
+  nothing_reason seq h says =
+      let f = found h (ap is_refusal says) in
+      let g = f.ground.nothing seq says in
+      record {
+        server = f.server;
+        is = f.is;
+        client = g.client;
+        to_client = g.to_client;
+        cell = g.cell;
+        epoch = g.epoch;
+        may = g.may;
+        comes = g.comes;
+        none = g.none;
+      }
+
+  pub fill_reason : (key : Key) → In letter own.sent → letter.body ≡ body.FillFull key → HadNoFill setting w own.actor own.step key
+  fill_reason key h says = elim (sent_by h) [
+    | inr aside ↦ true_false aside (ap (λ b. is_aside (subject_of b)) says)
+    | inl s ↦ fill_now setting w rests own.actor own.step letter s key says
+  ]
+
+  pub busy_reason : (seq : ℕ) → In letter own.sent → letter.body ≡ body.BlockBusy seq → FoundBusy setting w own.actor seq
+  busy_reason seq h says =
+      let f = found h (ap is_refusal says) in
       record { server = f.server; is = f.is; busy = f.ground.busy seq says }
 
-  pub held_reason : letter.body ≡ body.Held seq → FoundHeld (setting_of script) w own.actor seq
-  held_reason says =
-      let f = found (ap is_refusal says) in
+  pub held_reason : (seq : ℕ) → In letter own.sent → letter.body ≡ body.Held seq → FoundHeld setting w own.actor seq
+  held_reason seq h says =
+      let f = found h (ap is_refusal says) in
       record { server = f.server; is = f.is; held = f.ground.held seq says }

@@ -1,6 +1,6 @@
 -- Over every legal history, each answer that there was no space has a reason.
 use Rattle.std.proofs.Common.{◌≡◌, ◌≤◌, ◌<◌, arith, ℕ, List, [], ◌∷◌, ◌++◌, Bool, true, false, Option, Some, None, refl, sym, ap, ◌∙◌, subst, ◌⊎◌, inl, inr, append_assoc}
-use Rattle.std.specs.Prelude.{if◌then◌else◌, is_some, length, ◌==◌, map}
+use Rattle.std.specs.Prelude.{◌||◌, if◌then◌else◌, is_some, length, ◌==◌, map}
 use Rattle.std.specs.Ordering.{nat_cmp}
 use Rattle.petal_base.specs.declared.cell.Cell.{Cell}
 use Rattle.petal_command.specs.declared.command.Command.{Command}
@@ -22,12 +22,13 @@ use Rattle.script_lines.specs.declared.answer.Answer.TheVariants as answer
 use Rattle.script_lines.specs.declared.request.Request.{Request}
 use Rattle.script_lines.specs.declared.request.Request.TheVariants as request
 use Rattle.script_lines.specs.declared.script.Script.{Script}
+use Rattle.petal_state.specs.CellState.{cell_asked}
 use Rattle.petal_state.specs.Command.{state_after}
 use Rattle.petal_state.specs.State.{latest}
 use Rattle.petal_state.specs.declared.answer.DiskView.{DiskView}
 use Rattle.petal_rules.specs.Ballots.{post_of}
 use Rattle.petal_rules.specs.Boots.{awake, blanked, raised, stays, wakes}
-use Rattle.petal_rules.specs.Clients.{Asked, Reaction, Sight, client_sender, cell_on, epoch_for, readers, refusal, read_refusal, read_refusal_at, write_refusal, verdict_answer, verdict_for}
+use Rattle.petal_rules.specs.Clients.{Asked, Reaction, Sight, client_sender, epoch_for, is_unread, refusal, read_refusal, read_refusal_at, write_refusal, verdict_answer, verdict_for}
 use Rattle.petal_rules.specs.Crossing.{crossed, settled_by}
 use Rattle.petal_rules.specs.Jobs.{Acted, down_posts}
 use Rattle.petal_rules.specs.Lists.{In}
@@ -52,7 +53,7 @@ use Rattle.law_state.specs.Firm.{Firm}
 use Rattle.law_state.proofs.Steady.{log_rev}
 use Rattle.law_steps.specs.Happens.{Heard, IsIdle, Worked, By_job, By_ballot, By_entry, Serving, Goes as Serves_on, Ends as Stops_so, Stays, Wakes, Fails, own_place, without_rev, served, served_so, stopped_so, shown_so}
 use Rattle.law_steps.specs.Ready.{AreFirm, Rests}
-use Rattle.law_steps.specs.Turned.{Turned, Goes_on, Begins, Reads, Ends, Shown, Judges, IsReason, By_verdict, By_witness, IsSeenAs, Stops_it, Starts_it, Blanks_it, Has_no_space, Is_settled}
+use Rattle.law_steps.specs.Turned.{Turned, Goes_on, Is_told, Begins, Reads, Ends, Shown, Judges, IsReason, By_verdict, By_witness, IsSeenAs, Stops_it, Starts_it, Blanks_it, Has_no_space, Is_settled}
 use Rattle.law_steps.proofs.Histories.{front_firm, front_legal, own_steady, proposed_pairs, rests_next, start_rests, world_more}
 use Rattle.law_steps.proofs.Letters.{said}
 use Rattle.law_steps.proofs.Restages.{was_same}
@@ -62,7 +63,7 @@ use Rattle.law_steps.proofs.Turning.{client_turns, is_call}
 use Rattle.law_causes.proofs.Settled.{shown_full}
 use Rattle.law_refusals.specs.Reasons.{HadNoSlot, WasRefused, HasReason, Refusals}
 use Rattle.law_refusals.proofs.Along.{IsNext, along}
-use Rattle.law_refusals.specs.Full.{HasFullCopy}
+use Rattle.law_refusals.specs.Full.{HasFullServer}
 use Rattle.law_refusals.proofs.Copies.{ended_full}
 use Rattle.law_refusals.proofs.Frames.{GoesOn, StepRefuses, still_declined, still_numbered, still_on, step_refusals}
 use Rattle.law_refusals.proofs.Jobs.{JobRefuses, Scene, asks_refuses, is_of_slots, job_refuses, kept_refuses}
@@ -176,7 +177,7 @@ module _ (R S : ℕ → ℕ → Type 0) (setting : Setting) (w : World) (firm : 
                 given = k.given;
               };
               to = s.to ∙ t.to;
-              refused = λ op same is numbered. t.refused op is numbered;
+              refused = λ op same is numbered clients. t.refused op is numbered clients;
             };
       }
 
@@ -386,7 +387,7 @@ module _ (setting : Setting) where
       let same : one ≡ two = same_some e in
       (ap (λ (p : ℕ × Answer). p.0) same, ap (λ (p : ℕ × Answer). p.1) same)
 
-  -- the client heard of a glance of its settle that found a copy without a slot
+  -- the client heard of a glance of its settle that found a server without a slot
   record HeardSight (w : World) (c : ℕ) (asked : Asked) : Type 0 where
     settles : asked.request ≡ request.Settle
     rev : ℕ
@@ -421,27 +422,27 @@ module _ (setting : Setting) where
   unavailable_too true e = let g : answer.Unavailable ≡ answer.NoSpace = same_some e in cc
   unavailable_too false e = none_some refl e
 
-  refusal_spaced : (state : State) (asked : Request) → refusal state asked ≡ Some answer.NoSpace → ⊥
+  refusal_spaced : (state : State) (told : Bool) (asked : Request) → refusal state told asked ≡ Some answer.NoSpace → ⊥
   unfolding refusal
-  refusal_spaced state (request.Write name block pattern) e = by (find state name) e
+  refusal_spaced state told (request.Write name block pattern) e = by (find state name) e
     where
       by : (o : Option DiskView) → write_refusal state o block ≡ Some answer.NoSpace → ⊥
       by None f = let g : answer.NoDisk ≡ answer.NoSpace = same_some f in cc
-      by (Some disk) f = unavailable (is_some (lead state (cell_on disk block))) f
-  refusal_spaced state (request.Read name snap block) e = by (find state name) e
+      by (Some disk) f = unavailable (is_some (lead state (cell_asked state disk block false))) f
+  refusal_spaced state told (request.Read name snap block) e = by (find state name) e
     where
-      at : (cell : Cell) (o : Option ℕ) → read_refusal_at state cell o ≡ Some answer.NoSpace → ⊥
-      at cell None f = let g : answer.NoSnap ≡ answer.NoSpace = same_some f in cc
-      at cell (Some epoch) f = unavailable_too (length (readers state cell) == 0) f
+      at : (cell old : Cell) (o : Option ℕ) → read_refusal_at state cell old o ≡ Some answer.NoSpace → ⊥
+      at cell old None f = let g : answer.NoSnap ≡ answer.NoSpace = same_some f in cc
+      at cell old (Some epoch) f = unavailable_too (is_unread state cell || is_unread state old) f
 
-      by : (o : Option DiskView) → read_refusal state o snap block ≡ Some answer.NoSpace → ⊥
+      by : (o : Option DiskView) → read_refusal state o snap block told ≡ Some answer.NoSpace → ⊥
       by None f = let g : answer.NoDisk ≡ answer.NoSpace = same_some f in cc
-      by (Some disk) f = at (cell_on disk block) (epoch_for state disk snap) f
-  refusal_spaced state _ e = none_some refl e
+      by (Some disk) f = at (cell_asked state disk block false) (cell_asked state disk block told) (epoch_for state disk snap) f
+  refusal_spaced state told _ e = none_some refl e
 
   reason_spaced : (c : ℕ) (asked : Asked) (state : State) (entry : Command) → IsReason c asked answer.NoSpace state entry → ⊥
   reason_spaced c asked state entry (By_verdict command own so) = verdict_spaced (latest state c) asked.seq so
-  reason_spaced c asked state entry (By_witness none is so) = refusal_spaced state asked.request so
+  reason_spaced c asked state entry (By_witness none is so) = refusal_spaced state asked.told asked.request so
 
   runs_spaced : (running : Bool) → answer.NoSpace ≡ (if running then answer.Ok else answer.Failed) → ⊥
   runs_spaced true e = let g : answer.NoSpace ≡ answer.Ok = e in cc
@@ -460,6 +461,7 @@ module _ (setting : Setting) where
       → Turned (Heard w (actor.Client c)) setting.servers setting.lines c (w.clients c) in_call reacted → (number : ℕ)
       → reacted.answer ≡ Some (number, answer.NoSpace) → HeardFull w c number
   heard_full w c _ _ (Goes_on reacted seq stays only) number e = none_some only.unanswered e
+  heard_full w c _ _ (Is_told reacted asked h is reads seq stays only) number e = none_some only.unanswered e
   heard_full w c _ _ (Begins reacted line asked is free seq there called only) number e = none_some only.unanswered e
   heard_full w c _ _ (Reads asked bytes h is reads) number e = absurd (let g : answer.Data bytes ≡ answer.NoSpace = (answer_is e).1 in cc)
   heard_full w c _ _ (Ends asked ending.Written h is writes) number e = absurd (let g : answer.Ok ≡ answer.NoSpace = (answer_is e).1 in cc)
@@ -489,11 +491,11 @@ module _ (setting : Setting) where
       one_client : {i j : ℕ} → actor.Client i ≡ actor.Client j → i ≡ j
       one_client e = cc
 
-  -- what a letter that shows a copy without a slot comes of
+  -- what a letter that shows a want of slots comes of
   abbrev pub ShowsFull : List Record → Type 0
   ShowsFull records =
       (letter : Letter) (line round : ℕ) (running : Bool) (inc : ℕ) (full : Bool) → In letter (W records).sent
-      → letter.body ≡ body.Seen line round running inc full → full ≡ true → HasFullCopy setting records line
+      → letter.body ≡ body.Seen line round running inc full → full ≡ true → HasFullServer setting records line
 
   pub no_space : Kept [] → (front : List Record) (own : Record) → ShowsFull front → AreFirm setting (start setting) (front ++ own ∷ [])
       → IsLegalFrom setting (start setting) (front ++ own ∷ []) → (c number : ℕ)
@@ -510,7 +512,7 @@ module _ (setting : Setting) where
           | inl full ↦ inl (kept.refusals.letters full.letter c h.asked.seq full.sent full.own full.is)
           | inr seen ↦ inr (
             seen.settles,
-            subst (HasFullCopy setting front) h.line
+            subst (HasFullServer setting front) h.line
                 (shows seen.heard.letter h.asked.line seen.sight.round seen.sight.running seen.sight.inc seen.sight.full seen.heard.sent
                 seen.heard.is seen.full),
           )
@@ -535,7 +537,7 @@ start_kept script = record {
   refusals = start_refusals (WasRefused (setting_of script) []) script;
 }
 
--- a glance that showed a full copy, and the copy before it
+-- a glance that showed a want of slots, and what was so before it
 full_copy : (script : Script) (records : List Record) → AreFirm (setting_of script) (start (setting_of script)) records → IsSound script
     → IsLegal script records → ShowsFull (setting_of script) records
 full_copy script records firm sound legal letter line round running inc full h says so =
@@ -544,7 +546,7 @@ full_copy script records firm sound legal letter line round running inc full h s
     let at = found.at in
     record {
       found = found;
-      copied = ended_full script at.front
+      full = ended_full script at.front
           (front_firm setting (start setting) at.front (at.own ∷ at.behind) (subst (AreFirm setting (start setting)) at.is firm)).0
           (front_legal setting (start setting) at.front (at.own ∷ at.behind) (subst (IsLegal script) at.is legal)).0
           found.server found.runs found.full;

@@ -1,17 +1,24 @@
--- Why the copy that ended last at a server is remembered as full: the link's other server had no slot for one of its entries.
+-- Why a server remembers that a slot was wanting: the other server of a link that it holds alone had none for the next entry of a copy, or the
+-- lead of a disk's new map, or its second server, had none for an entry that this one was to move.
 use Rattle.std.specs.Prelude.{◌≡◌, ◌<◌, ◌++◌, ℕ, true, List, ◌∷◌, length, Some}
+use Rattle.global_tables.specs.declared.link.LinkRow.{LinkRow}
 use Rattle.petal_base.specs.declared.cell.Cell.{Cell}
+use Rattle.petal_base.specs.declared.cell.Key.{Key}
 use Rattle.petal_base.specs.Cells.{cell_of}
+use Rattle.petal_table.specs.Table.{at}
 use Rattle.petal_msg.specs.declared.body.Body.TheVariants as body
 use Rattle.petal_msg.specs.declared.copying.Copying.{Copying}
 use Rattle.petal_msg.specs.declared.copying.LastCopy.{LastCopy}
 use Rattle.petal_msg.specs.declared.letter.Actor.{Actor}
 use Rattle.petal_msg.specs.declared.letter.Actor.TheVariants as actor
 use Rattle.petal_msg.specs.declared.letter.Letter.{Letter}
+use Rattle.petal_msg.specs.declared.operation.OpKind.TheVariants as kind
+use Rattle.petal_msg.specs.declared.operation.Pending.{Pending}
 use Rattle.petal_rules.specs.Copies.{Entry}
+use Rattle.petal_rules.specs.Fills.{Moving}
 use Rattle.petal_rules.specs.Lists.{In}
 use Rattle.petal_rules.specs.Progress.{copying_on}
-use Rattle.petal_rules.specs.Store.{chain_in, free_of}
+use Rattle.petal_rules.specs.Store.{cell_cmp, chain_in, free_of}
 use Rattle.petal_rules.specs.World.{Setting, World, start}
 use Rattle.petal_rules.specs.declared.step.Step.{Step}
 use Rattle.petal_rules.specs.declared.step.Step.TheVariants.{Work}
@@ -19,6 +26,8 @@ use Rattle.petal_rules.specs.declared.step.WorkEnd.TheVariants as work_end
 use Rattle.petal_history.specs.Legal.{world_after}
 use Rattle.petal_history.specs.declared.record.Record.{Record}
 use Rattle.law_causes.specs.Settles.{HasFoundFull}
+use Rattle.law_steps.specs.DidFiller.{IsNextKey}
+use Rattle.law_steps.specs.DidLead.{IsNewFill}
 use Rattle.law_steps.specs.DidOther.{IsOfCopy}
 use Rattle.law_steps.specs.Happens.{Handled, own_place}
 
@@ -64,7 +73,54 @@ pub record HasEndedFull (setting : Setting) (records : List Record) (server inc 
   pub heard : Handled (world_after setting (start setting) front) server (body.SyncFull copy.op cell)
   pub told : WasTold setting front heard.letter server copy.op cell
 
--- one of the line's glances found a server, and before it a copy of that server's, as this incarnation, had found no slot
-pub record HasFullCopy (setting : Setting) (records : List Record) (line : ℕ) : Type 0 where
+-- ### Entries that move
+
+-- a server's job told the old map's lead that there is no slot for this entry. At the lead of the new map's cell, by its own state, the entry is
+-- new, nothing is under way on the cell, and no slot is free; or the operation that is pending there for the entry is declined, since its
+-- second server told so
+pub data HadNoFill (setting : Setting) (w : World) (who : Actor) (what : Step) (key : Key) : Type 0 where
+  At_the_lead : (n : ℕ) (moving : Moving) → who ≡ actor.Server n → what ≡ Work work_end.Done → moving.key ≡ key
+      → IsNewFill (Handled w n) (own_place setting w n) (w.servers n).own moving → free_of (w.servers n).own.store ≡ 0
+      → HadNoFill setting w who what key
+  At_the_second : (n : ℕ) (op : Pending) → who ≡ actor.Server n → what ≡ Work work_end.Done
+      → at cell_cmp (w.servers n).own.pairs.pending (cell_of key) ≡ Some op → op.kind ≡ kind.Fill → op.key ≡ key
+      → Handled w n (body.PairFull op.op (cell_of key)) → HadNoFill setting w who what key
+
+-- one of these records tells of such a step, which sent the letter
+pub record WasDeclined (setting : Setting) (records : List Record) (letter : Letter) (key : Key) : Type 0 where
+  pub front : List Record
+  pub own : Record
+  pub behind : List Record
+  pub lies : records ≡ front ++ own ∷ behind
+  pub sent : In letter own.sent
+  pub reason : HadNoFill setting (world_after setting (start setting) front) own.actor own.step key
+
+-- one of these records tells of a job of the server, as this incarnation, in which it heard that there is no slot for the next entry of a link
+-- that it is to move; and of the earlier step that sent the letter
+pub record HasFilledFull (setting : Setting) (records : List Record) (server inc : ℕ) : Type 0 where
+  pub front : List Record
+  pub own : Record
+  pub behind : List Record
+  pub lies : records ≡ front ++ own ∷ behind
+  pub who : own.actor ≡ actor.Server server
+  pub works : own.step ≡ Work work_end.Done
+  pub runs : ((world_after setting (start setting) front).servers server).life.running ≡ true
+  pub lives : ((world_after setting (start setting) front).servers server).life.inc ≡ inc
+  pub key : Key
+  pub row : LinkRow
+  pub next : IsNextKey (own_place setting (world_after setting (start setting) front) server)
+      ((world_after setting (start setting) front).servers server).own key row
+  pub heard : Handled (world_after setting (start setting) front) server (body.FillFull key)
+  pub told : WasDeclined setting front heard.letter key
+
+-- ### Either
+
+-- a copy of the server's, as this incarnation, has found no slot, or an entry that it was to move has
+pub data HasFoundNone (setting : Setting) (records : List Record) (server inc : ℕ) : Type 0 where
+  By_copy : HasEndedFull setting records server inc → HasFoundNone setting records server inc
+  By_fill : HasFilledFull setting records server inc → HasFoundNone setting records server inc
+
+-- one of the line's glances found a server to which this had happened before, as this incarnation
+pub record HasFullServer (setting : Setting) (records : List Record) (line : ℕ) : Type 0 where
   pub found : HasFoundFull setting (start setting) records line
-  pub copied : HasEndedFull setting found.at.front found.server ((world_after setting (start setting) found.at.front).servers found.server).life.inc
+  pub full : HasFoundNone setting found.at.front found.server ((world_after setting (start setting) found.at.front).servers found.server).life.inc

@@ -14,9 +14,9 @@ use Rattle.petal_msg.specs.declared.operation.Pending.{Pending}
 use Rattle.script_lines.specs.declared.request.Request.TheVariants.{Settle}
 use Rattle.petal_rules.specs.Lists.{In}
 use Rattle.petal_state.specs.Command.{state_after}
-use Rattle.petal_rules.specs.State.{first, second, is_in, is_lead}
-use Rattle.petal_rules.specs.Store.{cell_cmp, free_of}
-use Rattle.petal_rules.specs.Writes.{pending_on}
+use Rattle.petal_rules.specs.State.{coming, first, second, is_in, is_lead}
+use Rattle.petal_rules.specs.Store.{cell_cmp, chain_in, entry_at, free_of}
+use Rattle.petal_rules.specs.Writes.{is_clients, pending_on}
 use Rattle.petal_rules.specs.Clients.{Asked}
 use Rattle.petal_rules.specs.World.{Setting, World, start, chosen_log, server_state}
 use Rattle.petal_rules.specs.declared.step.Step.{Step}
@@ -26,10 +26,11 @@ use Rattle.petal_history.specs.Claims.{IsPrefix}
 use Rattle.petal_history.specs.Legal.{world_after}
 use Rattle.petal_history.specs.declared.record.Record.{Record}
 use Rattle.law_steps.specs.Operations.{done_to}
+use Rattle.law_steps.specs.DidRead.{IsReadable}
 use Rattle.law_steps.specs.DidSecond.{FoundNoSlot}
 use Rattle.law_steps.specs.Did.{IsBusy, IsHeldBack}
 use Rattle.law_steps.specs.Happens.{Handled, own_place}
-use Rattle.law_refusals.specs.Full.{HasFullCopy}
+use Rattle.law_refusals.specs.Full.{HasFullServer}
 
 -- ### No slot
 
@@ -44,7 +45,7 @@ pub data HadNoSlot (setting : Setting) (w : World) (who : Actor) (what : Step) (
       → free_of (w.servers n).own.store ≡ 0 → HadNoSlot setting w who what client seq
   At_the_second : (n m : ℕ) (cell : Cell) (op : Pending) → who ≡ actor.Server m → what ≡ Work work_end.Done
       → first (server_state setting w m) cell ≡ Some n → second (server_state setting w m) cell ≡ Some m
-      → at cell_cmp (w.servers n).own.pairs.pending cell ≡ Some op → op.client ≡ client → op.seq ≡ seq
+      → at cell_cmp (w.servers n).own.pairs.pending cell ≡ Some op → is_clients op.kind ≡ true → op.client ≡ client → op.seq ≡ seq
       → Handled w m (body.Reserve op.op cell) → FoundNoSlot (w.servers m).own cell op.op → HadNoSlot setting w who what client seq
 
 -- one of these records tells of such a step
@@ -61,10 +62,11 @@ pub record IsOpenFor (w : World) (client line : ℕ) : Type 0 where
   pub is : (w.clients client).asked ≡ Some asked
   pub number : asked.line ≡ line
 
--- it was refused for want of a slot; or it is a settle, and one of its glances found a server of which a copy had found no slot
+-- it was refused for want of a slot; or it is a settle, and one of its glances found a server of which a copy, or an entry that it was to move,
+-- had found no slot
 abbrev pub HasNoSpace : Setting → List Record → (client line : ℕ) → Asked → Type 0
 HasNoSpace setting records client line asked =
-    WasRefused setting records client asked.seq ⊎ ((asked.request ≡ Settle) × HasFullCopy setting records line)
+    WasRefused setting records client asked.seq ⊎ ((asked.request ≡ Settle) × HasFullServer setting records line)
 
 -- the answer has a reason
 pub record HasReason (setting : Setting) (records : List Record) (client line : ℕ) : Type 0 where
@@ -87,6 +89,21 @@ pub record FoundHeld (setting : Setting) (w : World) (who : Actor) (seq : ℕ) :
   pub is : who ≡ actor.Server server
   pub held : IsHeldBack (Handled w server) (own_place setting w server) (w.servers server).own seq
 
+-- ### What the new map has nothing of
+
+-- a server's step found that it has nothing of what this client's read asked for: the server may read the cell, which is coming by its own
+-- state, and no fence holds its reads; and its chain has no entry at the epoch or below
+pub record FoundNothing (setting : Setting) (w : World) (who to : Actor) (seq : ℕ) : Type 0 where
+  pub server : ℕ
+  pub is : who ≡ actor.Server server
+  pub client : ℕ
+  pub to_client : to ≡ actor.Client client
+  pub cell : Cell
+  pub epoch : ℕ
+  pub may : IsReadable (Handled w server) (own_place setting w server) (w.servers server).own client seq cell epoch
+  pub comes : coming (server_state setting w server) cell ≡ true
+  pub none : entry_at (chain_in (w.servers server).own.store.chains cell) epoch ≡ None
+
 -- ### What is kept
 
 -- the letter speaks of the operation of this number of the cell's first server, by the entries that its revision counts: of this
@@ -102,13 +119,13 @@ pub record IsNumbered (setting : Setting) (w : World) (letter : Letter) (number 
   pub begun : inc ≤ (w.servers server).life.inc
   pub given : (w.servers server).life.inc ≡ inc → number < (w.servers server).own.pairs.next
 
--- and R holds of the request of that operation, as long as it is pending there
+-- and R holds of the request of that operation, as long as it is pending there, if it is a client's write
 pub record IsDeclined (R : ℕ → ℕ → Type 0) (setting : Setting) (w : World) (letter : Letter) (number : ℕ) (cell : Cell) : Type 0 where
   pub by : IsNumbered setting w letter number cell
   pub to : letter.to ≡ actor.Server by.server
   pub refused : (op : Pending) → (w.servers by.server).life.inc ≡ by.inc
       → at cell_cmp (w.servers by.server).own.pairs.pending cell ≡ Some op
-      → op.op ≡ number → R op.client op.seq
+      → op.op ≡ number → is_clients op.kind ≡ true → R op.client op.seq
 
 -- where R holds of each request that was refused so far: of each that a letter tells of, or a server that runs remembers, and of the
 -- operation of which a second server told its lead that it has no slot. Numbers count from 1 in each life, so that such a letter says

@@ -1,6 +1,7 @@
 -- Where the request of an operation is open still beside a server that runs: that one has the cell's link in Both by its own state, at
--- the place up to which the operation's incarnation is known to have led the cell. That incarnation may have stopped, and be forgotten.
-use Rattle.std.proofs.Common.{◌≡◌, ℕ, List, true, Some, sym, ap, ◌∙◌, subst, ◌⊎◌, inl, inr, arith}
+-- the place up to which the operation's incarnation is known to have led the cell, and the cell has not been left by what is chosen. That
+-- incarnation may have stopped, and be forgotten.
+use Rattle.std.proofs.Common.{◌≡◌, ◌≤◌, ◌<◌, ℕ, List, true, Some, sym, ap, ◌∙◌, subst, ◌⊎◌, inl, inr, arith}
 use Rattle.global_tables.specs.Link.{has_server}
 use Rattle.global_tables.specs.declared.link.LinkRow.{LinkRow}
 use Rattle.global_tables.specs.declared.link.LinkState.TheVariants.{Both}
@@ -12,13 +13,15 @@ use Rattle.petal_state.specs.Place.{places_from}
 use Rattle.petal_state.specs.State.{start}
 use Rattle.petal_rules.specs.State.{State, is_in, is_alone_on}
 use Rattle.petal_rules.specs.Writes.{Wanted}
-use Rattle.petal_rules.specs.World.{Setting, World, server_state, chosen_log}
+use Rattle.petal_rules.specs.World.{Setting, World, server_state, chosen_log, chosen_state}
 use Rattle.petal_rules.proofs.Tests.{is_the_one, none_some, true_false}
 use Rattle.law_state.specs.Firm.{Firm}
+use Rattle.law_state.specs.Homes.{stage_at}
+use Rattle.law_state.specs.Places.{StaysSo}
 use Rattle.law_state.specs.Steady.{IsSteady}
 use Rattle.law_state.proofs.Ages.{in_up}
 use Rattle.law_state.proofs.Alone.{both_not_alone, so_both}
-use Rattle.law_state.proofs.Steady.{front_plain, log_steady}
+use Rattle.law_state.proofs.Steady.{front_plain, log_below, log_steady}
 use Rattle.law_state.proofs.Touching.{places_grow, same_place}
 use Rattle.law_steps.proofs.Fronts.{front_itself, front_on}
 use Rattle.law_steps.proofs.Histories.{runs_at}
@@ -26,15 +29,16 @@ use Rattle.law_steps.proofs.Ties.{stays_both}
 use Rattle.law_requests.specs.Asked.{IsOpen}
 use Rattle.law_requests.specs.Known.{Lives, seen, LedBy, IsLate, Is_past, Had_no_lead, Had_another, PendingFor}
 use Rattle.law_requests.proofs.Later.{either_front, one_log}
-use Rattle.law_requests.proofs.Leads.{alone_leads, leader_alone, led_at_place, led_while, one_lead}
+use Rattle.law_requests.proofs.Leads.{Takes, alone_leads, leader_alone, led_at_place, led_while, one_lead, takes_later}
 use Rattle.law_requests.proofs.Running.{open_or, upto_chosen}
 
-module _ (setting : Setting) (w : World) (firm : Firm setting w) (lives : Lives) (state : State) (n inc : ℕ) (want : Wanted) (rev : ℕ)
-    (p : PendingFor setting state (seen lives w) n inc want rev) (m : ℕ) (runs : (w.servers m).life.running ≡ true)
+module _ (setting : Setting) (w : World) (firm : Firm setting w) (lives : Lives) (n inc : ℕ) (want : Wanted) (rev : ℕ)
+    (p : PendingFor setting (seen lives w) n inc want rev) (m : ℕ) (runs : (w.servers m).life.running ≡ true)
     (seat : is_in (server_state setting w m) m (w.servers m).life.inc ≡ true) (row : LinkRow)
     (there : cell_link (server_state setting w m) want.cell ≡ Some row)
     (has : has_server m row ≡ true) (both : row.state ≡ Both) (known : cell_link (state_after setting.servers p.upto) want.cell ≡ Some row)
-    (place : places_from (start setting.servers) (w.servers m).log.applied row ≡ places_from (start setting.servers) p.upto row) where
+    (place : places_from (start setting.servers) (w.servers m).log.applied row ≡ places_from (start setting.servers) p.upto row)
+    (most : stage_at (chosen_state setting w) want.cell ≤ 2) where
   abbrev own : List Command
   own = (w.servers m).log.applied
 
@@ -54,23 +58,40 @@ module _ (setting : Setting) (w : World) (firm : Firm setting w) (lives : Lives)
   steady_at log all = log_steady setting.servers log (front_plain setting.servers log _ firm.plain all)
 
   upto_all : IsPrefix p.upto chosen
-  upto_all = upto_chosen setting w firm lives state n inc want rev p
+  upto_all = upto_chosen setting w firm lives n inc want rev p
 
   upto_led : Led p.upto
   upto_led = p.along p.upto p.opened (front_itself p.upto)
 
-  -- at the place of both the incarnation leads
-  own_led : Led own
-  own_led = elim (either_front own p.upto chosen (firm.servers m) upto_all) [
-    | inl before ↦ (
-        let stays = same_place setting.servers own p.upto want.cell row
-        (front_plain setting.servers p.upto _ firm.plain upto_all) before there (sym place) in
-        led_while (At p.upto) (At own) (steady_at p.upto upto_all) (steady_at own (firm.servers m)) want.cell row known
-        (record { same = there; primary = sym stays.primary; secondary = sym stays.secondary }) n inc upto_led)
-    | inr behind ↦
-        led_at_place setting.servers p.upto own
-        (front_plain setting.servers own _ firm.plain (firm.servers m)) behind n inc want.cell row known place upto_led
+  -- the cell takes writes by each front from the opening on
+  unleft : (log : List Command) → IsPrefix log chosen → stage_at (At log) want.cell ≤ 2
+  unleft log all = let up = (log_below setting.servers log chosen firm.plain all).stages want.cell in omega arith
+
+  takes_on : (log : List Command) → IsPrefix front log → IsPrefix log chosen → Takes (At log) want.cell
+  takes_on log more all = takes_later setting.servers front log (front_plain setting.servers log _ firm.plain all) more n want.cell
+      (p.along front (front_itself front) p.opened).leads (unleft log all)
+
+  -- from the place of both on the incarnation leads, while the link stays so
+  led_on : (log : List Command) → IsPrefix p.upto log → IsPrefix log chosen → StaysSo want.cell row (At own) (At log) → Led log
+  led_on log late all stays = elim (either_front own p.upto chosen (firm.servers m) upto_all) [
+    | inl before ↦
+        elim (same_place setting.servers own p.upto want.cell row (front_plain setting.servers p.upto _ firm.plain upto_all) before there (sym place)) [
+          | inl same ↦ led_while (At p.upto) (At log) (steady_at p.upto upto_all) (steady_at log all) want.cell row known
+              (record {
+                same = stays.same;
+                primary = stays.primary ∙ sym same.primary;
+                secondary = stays.secondary ∙ sym same.secondary;
+              }) takes n inc upto_led
+          | inr died ↦ let e = died.1 in let le = unleft p.upto upto_all in absurd (omega arith)
+        ]
+    | inr on ↦
+        led_while (At own) (At log) (steady_at own (firm.servers m)) (steady_at log all) want.cell row there stays takes n inc
+        (led_at_place setting.servers p.upto own (front_plain setting.servers own _ firm.plain (firm.servers m)) on n inc want.cell row known place
+        (unleft own (firm.servers m)) upto_led)
   ]
+    where
+      takes : Takes (At log) want.cell
+      takes = takes_on log (front_on front p.upto log p.opened late) all
 
   -- the other server holds the link alone by these entries, behind its own
   record IsLeftTo (log : List Command) : Type 0 where
@@ -79,22 +100,24 @@ module _ (setting : Setting) (w : World) (firm : Firm setting w) (lives : Lives)
 
   -- from the opening on the incarnation leads the cell, until that
   leads_or_left : (log : List Command) → IsPrefix front log → IsPrefix log chosen → Led log ⊎ IsLeftTo log
-  leads_or_left log more all = elim (either_front log own chosen all (firm.servers m)) [
-    | inl before ↦ inl (elim (either_front log p.upto chosen all upto_all) [
-      | inl early ↦ p.along log more early
-      | inr late ↦ (
+  leads_or_left log more all = elim (either_front log p.upto chosen all upto_all) [
+    | inl early ↦ inl (p.along log more early)
+    | inr late ↦ elim (either_front log own chosen all (firm.servers m)) [
+      | inl before ↦ (
           let one = places_grow setting.servers p.upto log row late in
           let two = places_grow setting.servers log own row before in
-          led_at_place setting.servers p.upto log (front_plain setting.servers log _ firm.plain all) late n inc want.cell row known
-          (omega arith) upto_led)
-    ])
-    | inr behind ↦ elim (stays_both setting w firm m runs own log (front_itself own) behind all seat want.cell row there has
-        (ap (serves m row) both ∙ has) both) [
-          | inl stays ↦ inl (led_while (At own) (At log) (steady_at own (firm.servers m))
-              (steady_at log all) want.cell row there stays n inc own_led)
-          | inr alone ↦ inr (record { behind = behind; alone = alone })
-        ]
+          inl (led_at_place setting.servers p.upto log (front_plain setting.servers log _ firm.plain all) late n inc want.cell row known
+          (omega arith) (unleft log all) upto_led))
+      | inr behind ↦ elim (stays_both setting w firm m runs own log (front_itself own) behind all seat want.cell row there has
+          (ap (serves m row) both ∙ has) (below_four log all) both) [
+            | inl stays ↦ inl (led_on log late all stays)
+            | inr alone ↦ inr (record { behind = behind; alone = alone })
+          ]
+    ]
   ]
+    where
+      below_four : (log : List Command) → IsPrefix log chosen → stage_at (At log) want.cell < 4
+      below_four log all = let le = unleft log all in omega arith
 
   not_late : IsLate setting.servers (seen lives w) front want.client want.seq want.cell n inc → ⊥
   not_late (Is_past lt) = let u = p.unfinished in omega arith
@@ -102,7 +125,7 @@ module _ (setting : Setting) (w : World) (firm : Firm setting w) (lives : Lives)
       let all = front_on log _ chosen lies (firm.clients want.client) in
       elim (leads_or_left log more all) [
         | inl led ↦ none_some none (is_the_one _ n led.leads)
-        | inr left ↦ none_some none (alone_leads (At log) (steady_at log all) m want.cell left.alone
+        | inr left ↦ none_some none (alone_leads (At log) m want.cell (takes_on log more all) left.alone
             (in_up (At log) m (w.servers m).life.inc (runs_at setting w firm own log left.behind all m runs seat)))
       ]
   not_late (Had_another log other more lies leads apart) =
@@ -117,4 +140,4 @@ module _ (setting : Setting) (w : World) (firm : Firm setting w) (lives : Lives)
       ]
 
   pub open_beside : IsOpen (w.clients want.client) want.seq
-  open_beside = open_or setting w firm lives state n inc want rev p not_late
+  open_beside = open_or setting w firm lives n inc want rev p not_late

@@ -13,33 +13,34 @@ use Rattle.script_lines.specs.declared.request.Line.{Line}
 use Rattle.petal_rules.specs.Lists.{In}
 use Rattle.petal_rules.specs.Log.{state_in}
 use Rattle.petal_rules.specs.State.{State, is_in}
+use Rattle.petal_rules.specs.Writes.{is_clients}
 use Rattle.petal_rules.specs.Store.{cell_cmp}
 use Rattle.petal_rules.specs.Server.{Own, Server}
 use Rattle.petal_rules.specs.Jobs.{Acted}
 use Rattle.petal_rules.specs.World.{Setting, World, acts, server_state, stamped}
 use Rattle.petal_rules.specs.declared.step.Step.{Step}
-use Rattle.petal_rules.proofs.ListLemmas.{put_same, put_apart, in-append}
+use Rattle.petal_rules.proofs.ListLemmas.{put_same, put_apart, in-append, in_later}
 use Rattle.petal_rules.proofs.Tests.{all_put, all_put_apart}
 use Rattle.law_state.specs.Firm.{Firm}
 use Rattle.law_state.specs.Plain.{IsPlainLog}
 use Rattle.law_steps.specs.Ready.{Rests}
 use Rattle.law_steps.proofs.Fronts.{front_itself, front_on, front_same}
 use Rattle.law_steps.proofs.Histories.{own_plain}
-use Rattle.law_steps.proofs.Restages.{IsSame, Was}
+use Rattle.law_steps.proofs.Restages.{IsSame, Was, was_same}
 use Rattle.law_requests.specs.Asked.{IsWrite, IsOpen}
-use Rattle.law_requests.specs.Known.{Lives, LedBy, lives_after, seen, done_by, EndKnownAt, Known, KnownLetter, asked_for, IsLedAlong, PendingFor, IsUsed, Has_pending, AskingBy}
-use Rattle.law_requests.proofs.Later.{Later, known_later, pending_further}
+use Rattle.law_requests.specs.Known.{Lives, LedBy, lives_after, seen, done_by, EndKnownAt, NothingKnownAt, Known, KnownLetter, asked_for, IsLedAlong, PendingFor, IsUsed, Has_pending, AskingBy, KnowsReports}
+use Rattle.law_requests.proofs.Later.{Later, known_later, pending_further, way_later}
 use Rattle.law_requests.proofs.Lives.{Lived, done_now, dones_rise, lived_on, lives_still, ran_same}
 use Rattle.law_requests.proofs.Running.{PendingHere}
 
 -- ### What a job shows
 
 -- the server, which runs, finishes the client's open write, which is then pending no more
-pub record Ends (state : State) (lines : List Line) (w : World) (n : ℕ) (new : Own) (c : ℕ) : Type 0 where
+pub record Ends (setting : Setting) (w : World) (n : ℕ) (new : Own) (c : ℕ) : Type 0 where
   pub seq : ℕ
   pub cell : Cell
   pub bytes : List ℕ
-  pub write : IsWrite state lines c seq cell bytes
+  pub write : IsWrite (server_state setting w n) setting.lines c seq cell bytes
   pub runs : (w.servers n).life.running ≡ true
   pub still : IsOpen (w.clients c) seq
   pub old : seq ≤ (w.clients c).seq
@@ -48,29 +49,35 @@ pub record Ends (state : State) (lines : List Line) (w : World) (n : ℕ) (new :
   pub gone : at cell_cmp new.pairs.pending cell ≡ None
 
 -- a reply that ends a write tells of one that this server, which leads the cell, is past
-pub record Tells (setting : Setting) (state : State) (w : World) (n : ℕ) (new : Own) (client seq : ℕ) : Type 0 where
+pub record Tells (setting : Setting) (w : World) (n : ℕ) (new : Own) (client seq : ℕ) : Type 0 where
   pub cell : Cell
   pub bytes : List ℕ
-  pub write : IsWrite state setting.lines client seq cell bytes
+  pub write : IsWrite (server_state setting w n) setting.lines client seq cell bytes
   pub led : LedBy (server_state setting w n) n (w.servers n).life.inc cell
   pub old : seq ≤ (w.clients client).seq
   pub past : seq < done_by new client
 
-abbrev pub TellsAt : Setting → State → World → ℕ → Own → ℕ → Actor → Type 0
-TellsAt setting state w n new seq (actor.Client c) = Tells setting state w n new c seq
-TellsAt setting state w n new seq (actor.Server m) = ⊥
+abbrev pub TellsAt : Setting → World → ℕ → Own → ℕ → Actor → Type 0
+TellsAt setting w n new seq (actor.Client c) = Tells setting w n new c seq
+TellsAt setting w n new seq (actor.Server m) = ⊥
 
-abbrev pub SaysOk : Setting → State → World → ℕ → Own → Actor → Body → Type 0
-SaysOk setting state w n new to (body.Written seq) = TellsAt setting state w n new seq to
-SaysOk setting state w n new to (body.Full seq) = TellsAt setting state w n new seq to
-SaysOk setting state w n new to (body.Write client seq cell epoch bytes) = ⊥
-SaysOk setting state w n new to (body.Read client seq cell epoch) = ⊥
-SaysOk setting state w n new to _ = Unit {0}
+-- what a server says of requests in a step
+abbrev pub SaysOk : Setting → World → Lives → ℕ → Own → Actor → Body → Type 0
+SaysOk setting w lives n new to (body.Written seq) = TellsAt setting w n new seq to
+SaysOk setting w lives n new to (body.Full seq) = TellsAt setting w n new seq to
+SaysOk setting w lives n new to (body.NotHere seq) = NothingKnownAt setting (seen lives w) seq (length (w.servers n).log.applied) to
+SaysOk setting w lives n new to (body.Write client seq cell epoch bytes) = ⊥
+SaysOk setting w lives n new to (body.Read client seq cell epoch) = ⊥
+SaysOk setting w lives n new to _ = Unit {0}
 
-pub record JobTells (setting : Setting) (state : State) (w : World) (lives : Lives) (n : ℕ) (new : Own) : Type 0 where
-  pub finished : (c : ℕ) → (done_by new c ≡ done_by (w.servers n).own c) ⊎ Ends state setting.lines w n new c
-  pub pending : (cell : Cell) (op : Pending) → at cell_cmp new.pairs.pending cell ≡ Some op
-      → Was (w.servers n).own cell op ⊎ PendingHere setting state w lives n (asked_for cell op) op.rev
+-- an operation was pending, or was opened in this step, by the entries that the server had
+abbrev pub WasOrNew : World → ℕ → Cell → Pending → Type 0
+WasOrNew w n cell op = Was (w.servers n).own cell op ⊎ (op.rev ≡ length (w.servers n).log.applied)
+
+pub record JobTells (setting : Setting) (w : World) (lives : Lives) (n : ℕ) (new : Own) : Type 0 where
+  pub finished : (c : ℕ) → (done_by new c ≡ done_by (w.servers n).own c) ⊎ Ends setting w n new c
+  pub pending : (cell : Cell) (op : Pending) → at cell_cmp new.pairs.pending cell ≡ Some op → is_clients op.kind ≡ true
+      → Was (w.servers n).own cell op ⊎ PendingHere setting w lives n (asked_for cell op) op.rev × (op.rev ≡ length (w.servers n).log.applied)
 
 -- the operation was opened for the same
 pub same_want : (cell : Cell) (a b : Pending) → IsSame a b → asked_for cell a ≡ asked_for cell b
@@ -84,7 +91,8 @@ pub record Scene : Type 0 where
   pub lives : Lives
   pub firm : Firm setting w
   pub rests : Rests setting w
-  pub asking : AskingBy setting state w lives
+  pub asking : AskingBy setting w lives
+  pub reports : KnowsReports setting w lives
 
 -- what is pending or was finished is that of the incarnation that ran last, which its own state has In
 pub record IsSettled (scene : Scene) (n : ℕ) (new : Server) : Type 0 where
@@ -93,7 +101,8 @@ pub record IsSettled (scene : Scene) (n : ℕ) (new : Server) : Type 0 where
 
 -- an operation that a step leaves: the incarnation that ran last leads its cell on, as far as the server has come
 pub record StepPending (scene : Scene) (n : ℕ) (new : Server) (cell : Cell) (op : Pending) : Type 0 where
-  pub was : PendingHere scene.setting scene.state scene.w scene.lives n (asked_for cell op) op.rev
+  pub was : PendingHere scene.setting scene.w scene.lives n (asked_for cell op) op.rev
+  pub since : WasOrNew scene.w n cell op
   pub along : IsLedAlong scene.setting.servers (scene.w.servers n).log.applied new.log.applied n (scene.lives.ran n) cell
   pub unfinished : done_by new.own op.client ≤ op.seq
 
@@ -105,7 +114,8 @@ pub record IsStepped (scene : Scene) (n : ℕ) (new : Server) : Type 0 where
   pub plain : IsPlainLog scene.setting.servers new.log.applied
   pub bound : (c : ℕ) → done_by new.own c ≤ (scene.w.clients c).seq + 1
   pub used : IsUsed new.own → IsSettled scene n new
-  pub pending : (cell : Cell) (op : Pending) → at cell_cmp new.own.pairs.pending cell ≡ Some op → StepPending scene n new cell op
+  pub pending : (cell : Cell) (op : Pending) → at cell_cmp new.own.pairs.pending cell ≡ Some op → is_clients op.kind ≡ true
+      → StepPending scene n new cell op
 
 -- ### The world after a server's step
 
@@ -113,16 +123,13 @@ module _ (scene : Scene) (n stamp : ℕ) (what : Step) (acted : Acted) (step : I
   abbrev setting : Setting
   setting = scene.setting
 
-  abbrev state : State
-  state = scene.state
-
   abbrev w : World
   w = scene.w
 
   abbrev lives : Lives
   lives = scene.lives
 
-  abbrev asking : AskingBy setting state w lives
+  abbrev asking : AskingBy setting w lives
   asking = scene.asking
 
   abbrev later : World
@@ -138,8 +145,9 @@ module _ (scene : Scene) (n stamp : ℕ) (what : Step) (acted : Acted) (step : I
   steps = all_put w.servers n acted.server (λ m (x : Server). Lived lives m (w.servers m) x)
       (lives_still lives w asking.lived) step.life
 
-  pub goes_on : Later setting state (seen lives w) (seen after later)
+  pub goes_on : Later setting (seen lives w) (seen after later)
   goes_on = record {
+    sent = λ letter h. in_later letter (stamped stamp acted.letters) w.sent h;
     seqs = λ c. omega arith;
     clients = λ c. front_itself (w.clients c).applied;
     logs = all_put w.servers n acted.server (λ m (x : Server). IsPrefix (w.servers m).log.applied x.log.applied)
@@ -163,27 +171,27 @@ module _ (scene : Scene) (n stamp : ℕ) (what : Step) (acted : Acted) (step : I
 
   -- an operation of the incarnation that ran last, as far as the server has come
   abbrev PendingUpto : ℕ → Server → Cell → Pending → Type 0
-  PendingUpto m x cell op = (q : PendingFor setting state (seen after later) m (after.ran m) (asked_for cell op) op.rev)
+  PendingUpto m x cell op = (q : PendingFor setting (seen after later) m (after.ran m) (asked_for cell op) op.rev)
       × (q.upto ≡ x.log.applied)
 
   goes_pending : (m : ℕ) → after.ran m ≡ lives.ran m → (cell : Cell) (op : Pending)
-      → (p : PendingFor setting state (seen lives w) m (lives.ran m) (asked_for cell op) op.rev)
+      → (p : PendingFor setting (seen lives w) m (lives.ran m) (asked_for cell op) op.rev)
       → done_by (later.servers m).own op.client ≤ op.seq
       → (x : Server) → later.servers m ≡ x → IsPrefix p.upto x.log.applied
       → IsLedAlong setting.servers p.upto x.log.applied m (lives.ran m) cell
       → PendingUpto m x cell op
   goes_pending m e cell op p le x same on along =
       let now = done_of m e op.client in
-      subst (λ i. (q : PendingFor setting state (seen after later) m i (asked_for cell op) op.rev) × (q.upto ≡ x.log.applied)) (sym e)
-      (pending_further setting state (seen lives w) (seen after later) goes_on m (lives.ran m) (asked_for cell op) op.rev p
+      subst (λ i. (q : PendingFor setting (seen after later) m i (asked_for cell op) op.rev) × (q.upto ≡ x.log.applied)) (sym e)
+      (pending_further setting (seen lives w) (seen after later) goes_on m (lives.ran m) (asked_for cell op) op.rev p
       (omega arith) x.log.applied on
       (front_same x.log.applied _ (ap (λ (y : Server). y.log.applied) same)) along)
 
   -- of the server that took the step
-  pending_acted : (cell : Cell) (op : Pending) → at cell_cmp acted.server.own.pairs.pending cell ≡ Some op
+  pending_acted : (cell : Cell) (op : Pending) → at cell_cmp acted.server.own.pairs.pending cell ≡ Some op → is_clients op.kind ≡ true
       → PendingUpto n acted.server cell op
-  pending_acted cell op there =
-      let p = step.pending cell op there in
+  pending_acted cell op there clients =
+      let p = step.pending cell op there clients in
       let ran = ran_here (step.used (Has_pending cell op there)).same in
       let unfinished : done_by (later.servers n).own op.client ≤ op.seq =
       subst (λ (x : Server). done_by x.own op.client ≤ op.seq) (sym server_now) p.unfinished in
@@ -193,11 +201,11 @@ module _ (scene : Scene) (n stamp : ℕ) (what : Step) (acted : Acted) (step : I
 
   -- of another one
   pending_beside : (m : ℕ) → m ≢ n → (cell : Cell) (op : Pending) → at cell_cmp (w.servers m).own.pairs.pending cell ≡ Some op
-      → PendingUpto m (w.servers m) cell op
-  pending_beside m ne cell op there =
+      → is_clients op.kind ≡ true → PendingUpto m (w.servers m) cell op
+  pending_beside m ne cell op there clients =
       let server : later.servers m ≡ w.servers m = put_apart w.servers n acted.server m ne in
-      let p = asking.pending m cell op there in
-      let come = asking.come m cell op there in
+      let p = asking.pending m cell op there clients in
+      let come = asking.come m cell op there clients in
       let tied = asking.lived.tied m op.client in
       let un = p.unfinished in
       let unfinished : done_by (later.servers m).own op.client ≤ op.seq =
@@ -206,10 +214,17 @@ module _ (scene : Scene) (n stamp : ℕ) (what : Step) (acted : Acted) (step : I
       (λ log more lies. p.along log (front_on _ p.upto log p.opened more) (subst (IsPrefix log) (sym come) lies))
 
   pending_now : (m : ℕ) (cell : Cell) (op : Pending) → at cell_cmp (later.servers m).own.pairs.pending cell ≡ Some op
-      → PendingUpto m (later.servers m) cell op
+      → is_clients op.kind ≡ true → PendingUpto m (later.servers m) cell op
   pending_now = all_put_apart w.servers n acted.server
-      (λ m (x : Server). (cell : Cell) (op : Pending) → at cell_cmp x.own.pairs.pending cell ≡ Some op → PendingUpto m x cell op)
+      (λ m (x : Server). (cell : Cell) (op : Pending) → at cell_cmp x.own.pairs.pending cell ≡ Some op → is_clients op.kind ≡ true → PendingUpto m x cell op)
       pending_beside pending_acted
+
+  -- each operation was pending, or is new
+  pub opened_now : (m : ℕ) (cell : Cell) (op : Pending) → at cell_cmp (later.servers m).own.pairs.pending cell ≡ Some op → is_clients op.kind ≡ true
+      → WasOrNew w m cell op
+  opened_now = all_put_apart w.servers n acted.server
+      (λ m (x : Server). (cell : Cell) (op : Pending) → at cell_cmp x.own.pairs.pending cell ≡ Some op → is_clients op.kind ≡ true → WasOrNew w m cell op)
+      (λ m ne cell op is clients. inl (was_same (w.servers m).own cell op is)) (λ cell op is clients. (step.pending cell op is clients).since)
 
   used_now : (m : ℕ) → IsUsed (later.servers m).own → is_in (server_state setting later m) m (after.ran m) ≡ true
   used_now = all_put_apart w.servers n acted.server (λ m (x : Server). IsUsed x.own → is_in (state_in setting.servers x.log) m (after.ran m) ≡ true)
@@ -219,17 +234,18 @@ module _ (scene : Scene) (n stamp : ℕ) (what : Step) (acted : Acted) (step : I
       subst (λ i. is_in (state_in setting.servers acted.server.log) n i ≡ true) (sym (ran_here k.same)) k.seated)
 
   -- what a job shows keeps what is known of requests
-  pub step_asking : ((letter : Letter) → In letter (stamped stamp acted.letters) → KnownLetter setting state (seen after later) letter)
-      → AskingBy setting state later after
+  pub step_asking : ((letter : Letter) → In letter (stamped stamp acted.letters) → KnownLetter setting (seen after later) letter)
+      → AskingBy setting later after
   step_asking says = record {
     lived = lived_on lives w later asking.lived steps;
     asked = asking.asked;
+    ways = λ c asked is. way_later setting (seen lives w) (seen after later) goes_on c asked (asking.ways c asked is);
     letters = λ letter h. elim (in-append letter (stamped stamp acted.letters) w.sent h) [
       | inl new ↦ says letter new
-      | inr sent ↦ known_later setting state (seen lives w) (seen after later) goes_on letter.from letter.to letter.rev letter.body (asking.letters letter sent)
+      | inr sent ↦ known_later setting (seen lives w) (seen after later) goes_on letter.from letter.to letter.rev letter.body (asking.letters letter sent)
     ];
-    pending = λ m cell op is. (pending_now m cell op is).0;
-    come = λ m cell op is. (pending_now m cell op is).1;
+    pending = λ m cell op is clients. (pending_now m cell op is clients).0;
+    come = λ m cell op is clients. (pending_now m cell op is clients).1;
     finished = all_put w.servers n acted.server (λ m (x : Server). (c : ℕ) → done_by x.own c ≤ (w.clients c).seq + 1) asking.finished step.bound;
     used = used_now;
   }
@@ -242,8 +258,8 @@ module _ (scene : Scene) (n stamp : ℕ) (what : Step) (acted : Acted) (step : I
         let ran = asking.lived.ran n runs in
         ap (λ i. after.done n i c) (sym ran) ∙ done_of n (ran_here (λ on. same ∙ sym ran)) c ∙ ap (λ (x : Server). done_by x.own c) server_now
 
-    told : (seq rev : ℕ) (to : Actor) → length (w.servers n).log.applied ≡ rev → TellsAt setting state w n acted.server.own seq to
-        → EndKnownAt setting state (seen after later) seq rev (actor.Server n) to
+    told : (seq rev : ℕ) (to : Actor) → length (w.servers n).log.applied ≡ rev → TellsAt setting w n acted.server.own seq to
+        → EndKnownAt setting (seen after later) seq rev (actor.Server n) to
     told seq rev (actor.Server m) long t = t
     told seq rev (actor.Client c) long t =
         let now = past_now c in
@@ -252,17 +268,20 @@ module _ (scene : Scene) (n stamp : ℕ) (what : Step) (acted : Acted) (step : I
           inc = (w.servers n).life.inc;
           cell = t.cell;
           bytes = t.bytes;
-          write = t.write;
           old = t.old;
           at = record { front = (w.servers n).log.applied; lies = goes_on.logs n; long = long };
+          write = t.write;
           led = record { seated = t.led.seated; leads = t.led.leads };
           past = omega arith;
         }
 
-    pub says_known : (rev : ℕ) → length (w.servers n).log.applied ≡ rev → (to : Actor) (what : Body) → SaysOk setting state w n acted.server.own to what
-        → Known setting state (seen after later) (actor.Server n) to rev what
+    pub says_known : (rev : ℕ) → length (w.servers n).log.applied ≡ rev → (to : Actor) (what : Body) → SaysOk setting w lives n acted.server.own to what
+        → Known setting (seen after later) (actor.Server n) to rev what
     says_known rev long to (body.Written seq) h = told seq rev to long h
     says_known rev long to (body.Full seq) h = told seq rev to long h
+    says_known rev long to (body.NotHere seq) h =
+        known_later setting (seen lives w) (seen after later) goes_on (actor.Server n) to rev (body.NotHere seq)
+        (subst (λ (r : ℕ). NothingKnownAt setting (seen lives w) seq r to) long h)
     says_known rev long to (body.Write client seq cell epoch bytes) h = absurd h
     says_known rev long to (body.Read client seq cell epoch) h = absurd h
     says_known rev long to _ h = tt

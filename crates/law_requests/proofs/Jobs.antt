@@ -1,72 +1,92 @@
 -- Each kind of job keeps what is known of requests.
-use Rattle.std.proofs.Common.{◌≡◌, ◌≢◌, ◌≤◌, ◌+◌, ℕ, List, [], ◌∷◌, true, false, Some, None, refl, ap, sym, ◌∙◌, subst, inl, inr, arith}
+use Rattle.std.proofs.Common.{◌≡◌, ◌≢◌, ◌≤◌, ◌+◌, ℕ, List, [], ◌∷◌, Bool, true, false, Some, None, length, refl, ap, sym, ◌∙◌, subst, inl, inr, arith}
 use Rattle.std.specs.Ordering.{nat_cmp}
 use Rattle.busy_marks.specs.declared.marks.MarkKind.TheVariants.{Stale}
 use Rattle.petal_base.specs.declared.cell.Cell.{Cell}
 use Rattle.petal_table.specs.Table.{Table, at, put, without}
 use Rattle.petal_table.proofs.Rows.{at_same, at_apart}
 use Rattle.petal_command.specs.declared.command.Command.{Command}
-use Rattle.petal_msg.specs.Kinds.{is_logged, subject_of}
+use Rattle.petal_msg.specs.Kinds.{Refused, is_logged, is_refused, subject_of}
 use Rattle.petal_msg.specs.declared.body.Body.{Body}
 use Rattle.petal_msg.specs.declared.body.Body.TheVariants as body
 use Rattle.petal_msg.specs.declared.letter.Actor.{Actor}
 use Rattle.petal_msg.specs.declared.letter.Actor.TheVariants as actor
+use Rattle.petal_base.specs.Cells.{cell_of}
+use Rattle.petal_msg.specs.declared.operation.Action.{Action}
+use Rattle.petal_msg.specs.declared.operation.Action.TheVariants as action
 use Rattle.petal_msg.specs.declared.operation.Ending.{Ending}
 use Rattle.petal_msg.specs.declared.operation.Ending.TheVariants as ending
 use Rattle.petal_msg.specs.declared.operation.Finished.{Finished}
+use Rattle.petal_msg.specs.declared.operation.OpKind.{OpKind}
+use Rattle.petal_msg.specs.declared.operation.OpKind.TheVariants as kind
 use Rattle.petal_msg.specs.declared.operation.Pending.{Pending}
 use Rattle.petal_history.specs.Claims.{IsPrefix}
 use Rattle.petal_state.specs.Command.{state_after}
 use Rattle.petal_rules.specs.Lists.{In}
 use Rattle.petal_rules.specs.Log.{rev_of}
-use Rattle.petal_rules.specs.State.{State, held, is_in, is_lead}
+use Rattle.petal_rules.specs.State.{State, coming, held, is_in, is_lead, live}
 use Rattle.petal_rules.specs.Store.{cell_cmp}
-use Rattle.petal_rules.specs.Server.{Own, Here, Post, Done}
-use Rattle.petal_rules.specs.Writes.{Wanted, is_writes_held, operation, ended, finishes, pending_on, with_mark_at}
+use Rattle.petal_rules.specs.Fills.{Moving, fill_operation}
+use Rattle.petal_rules.specs.Server.{Own, Here, Pairs, Post, Done}
+use Rattle.petal_rules.specs.Writes.{Wanted, acts, ends, gives_back, is_clients, is_writes_held, moved_as, next_stage, old_lead, operation, ended, finishes, pending_on, with_mark_at, without_pending}
 use Rattle.petal_rules.specs.World.{Setting, World}
 use Rattle.petal_rules.proofs.CellTables.{cell_same, cell_apart, cell_gone}
-use Rattle.petal_rules.proofs.Tests.{none_some, same_or_apart, same_some, true_false}
-use Rattle.law_state.specs.Firm.{Firm}
+use Rattle.petal_rules.proofs.Tests.{by_bool, by_test, none_some, same_or_apart, same_some, true_false}
+use Rattle.law_state.specs.Plain.{IsPlainLog}
 use Rattle.law_state.proofs.Steady.{log_rev}
 use Rattle.law_steps.specs.Operations.{done_to}
-use Rattle.law_steps.specs.DidRead.{DidRead}
-use Rattle.law_steps.specs.DidLead.{DidLead, IsNew, Asks_for, Repeats, Is_full, Gives_up, Opens, Marks, Puts, Unmarks, Closes, Opens_alone, Marks_alone, Puts_alone, Unmarks_alone, Closes_alone, Asks, A_slot, A_copy, A_trim, A_copied_entry, A_page, Of_the_log}
+use Rattle.law_steps.specs.DidRead.{DidRead, Not_here, Shows as Shows_data}
+use Rattle.law_steps.specs.DidLead.{DidLead, IsNew, Asks_for, Repeats, Is_full, Gives_up, Opens, Marks, Puts, Unmarks, Closes, Opens_alone, Marks_alone, Puts_alone, Unmarks_alone, Closes_alone, Opens_fill, Opens_fill_alone, Has_fill, Has_no_room, Goes_on_dead, Taken, Asks, A_slot, A_copy, A_trim, A_copied_entry, A_page, An_entry_to_move, Of_the_log}
 use Rattle.law_steps.specs.DidSecond.{DidSecond}
-use Rattle.law_steps.specs.Did.{Did, Ignores, Refuses, By_read, By_lead, By_second, By_holder, By_other}
+use Rattle.law_steps.specs.Did.{Did, Ignores, Refuses, By_read, By_lead, By_second, By_holder, By_other, By_filler, By_sweep, is_not_here}
 use Rattle.law_steps.specs.Happens.{Handled, IsSeated, own_place}
-use Rattle.law_steps.specs.Ready.{Rests}
 use Rattle.law_steps.proofs.Letters.{one_post, posted}
-use Rattle.law_steps.proofs.Restages.{Restages, Was, was_same, stood, marked, has_put, unmarked, was_taken, was_before, marked_alone, put_alone, unmarked_alone}
+use Rattle.law_steps.proofs.Restages.{Restages, Was, was_same, stood, marked, has_put, unmarked, was_taken, was_before, marked_alone, put_alone, unmarked_alone, was_acted}
 use Rattle.law_steps.proofs.Staged.{same_cell_or_apart, put_put}
 use Rattle.law_steps.proofs.CopyFrames.{CopyFrame, of_holder, of_other}
 use Rattle.law_steps.proofs.Fronts.{front_itself, front_same}
-use Rattle.law_steps.proofs.Subjects.{of_read, of_second}
+use Rattle.law_steps.proofs.Leading.{lead_links}
+use Rattle.law_steps.proofs.Subjects.{of_filler, of_second, of_sweep}
 use Rattle.law_steps.proofs.Taking.{taking}
-use Rattle.law_requests.specs.Asked.{IsWrite, IsOpen}
-use Rattle.law_requests.specs.Known.{Lives, LedBy, seen, done_by, WriteKnown, Known, asked_for, IsUsed, Has_pending, Has_finished, AskingBy}
-use Rattle.law_requests.proofs.Frames.{Ends, Tells, SaysOk, JobTells}
+use Rattle.law_requests.specs.Asked.{IsRead, IsWrite, IsOpen}
+use Rattle.law_requests.specs.Known.{Lives, LedBy, seen, done_by, NothingKnown, ReadKnown, WriteKnown, Known, asked_for, IsUsed, Has_pending, Has_finished, AskingBy}
+use Rattle.law_requests.proofs.Cells.{coming_untold}
+use Rattle.law_requests.proofs.Ended.{write_now}
+use Rattle.law_requests.proofs.Frames.{Ends, Tells, SaysOk, JobTells, Scene}
 use Rattle.law_requests.proofs.Later.{tells_request, logged_untold, one_log}
-use Rattle.law_requests.proofs.Running.{PendingHere, late_where, own_front, open_running, pending_here}
+use Rattle.law_requests.proofs.Running.{IsUnleft, PendingHere, here_led, late_where, own_front, open_running, pending_here, unleft_now}
+use Rattle.law_steps.proofs.Histories.{own_plain}
 
 -- the actor is this one, and the letter says this
 abbrev Says : Actor → Body → Post → Type 0
 Says to said post = (post.to ≡ to) × (post.body ≡ said)
 
 -- a job tells what it leaves, and says nothing else of requests
-pub record Shows (setting : Setting) (state : State) (w : World) (lives : Lives) (n : ℕ) (new : Own) (posts : List Post) : Type 0 where
-  pub tells : JobTells setting state w lives n new
-  pub says : (post : Post) → In post posts → SaysOk setting state w n new post.to post.body
+pub record Shows (setting : Setting) (w : World) (lives : Lives) (n : ℕ) (new : Own) (posts : List Post) : Type 0 where
+  pub tells : JobTells setting w lives n new
+  pub says : (post : Post) → In post posts → SaysOk setting w lives n new post.to post.body
 
 -- what is known of the letter that a server handles
-pub known_of : (setting : Setting) (state : State) (w : World) (lives : Lives) → AskingBy setting state w lives → (n : ℕ) (said : Body) (h : Handled w n said)
-    → Known setting state (seen lives w) h.letter.from (actor.Server n) (rev_of (w.servers n).log) said
-known_of setting state w lives asking n said h =
-    subst (λ (b : Body). Known setting state (seen lives w) h.letter.from (actor.Server n) (rev_of (w.servers n).log) b) h.is
-    (subst (λ (r : ℕ). Known setting state (seen lives w) h.letter.from (actor.Server n) r h.letter.body) h.at
-    (subst (λ (a : Actor). Known setting state (seen lives w) h.letter.from a h.letter.rev h.letter.body) h.own (asking.letters h.letter h.sent)))
+pub known_of : (setting : Setting) (w : World) (lives : Lives) → AskingBy setting w lives → (n : ℕ) (said : Body) (h : Handled w n said)
+    → Known setting (seen lives w) h.letter.from (actor.Server n) (rev_of (w.servers n).log) said
+known_of setting w lives asking n said h =
+    subst (λ (b : Body). Known setting (seen lives w) h.letter.from (actor.Server n) (rev_of (w.servers n).log) b) h.is
+    (subst (λ (r : ℕ). Known setting (seen lives w) h.letter.from (actor.Server n) r h.letter.body) h.at
+    (subst (λ (a : Actor). Known setting (seen lives w) h.letter.from a h.letter.rev h.letter.body) h.own (asking.letters h.letter h.sent)))
 
-module _ (setting : Setting) (state : State) (w : World) (lives : Lives) (firm : Firm setting w) (asking : AskingBy setting state w lives) (n : ℕ)
-    (runs : (w.servers n).life.running ≡ true) (rests : Rests setting w) where
+module _ (scene : Scene) (n : ℕ) (runs : (scene.w.servers n).life.running ≡ true) where
+  abbrev setting : Setting
+  setting = scene.setting
+
+  abbrev w : World
+  w = scene.w
+
+  abbrev lives : Lives
+  lives = scene.lives
+
+  abbrev asking : AskingBy setting w lives
+  asking = scene.asking
+
   abbrev here : Here
   here = own_place setting w n
 
@@ -74,10 +94,10 @@ module _ (setting : Setting) (state : State) (w : World) (lives : Lives) (firm :
   own = (w.servers n).own
 
   abbrev J : Own → List Post → Type 0
-  J new posts = Shows setting state w lives n new posts
+  J new posts = Shows setting w lives n new posts
 
   abbrev S : Own → Actor → Body → Type 0
-  S new to said = SaysOk setting state w n new to said
+  S new to said = SaysOk setting w lives n new to said
 
   abbrev hears : Body → Type 0
   hears = Handled w n
@@ -88,10 +108,10 @@ module _ (setting : Setting) (state : State) (w : World) (lives : Lives) (firm :
 
   -- the letter of a write, which has the server's revision
   wanted_known : (want : Wanted) → hears (body.Write want.client want.seq want.cell want.epoch want.bytes)
-      → WriteKnown setting state (seen lives w) want here.state.rev
+      → WriteKnown setting (seen lives w) want here.state.rev
   wanted_known want h =
-      subst (λ (r : ℕ). WriteKnown setting state (seen lives w) want r) (sym (log_rev setting.servers (w.servers n).log.applied))
-      (known_of setting state w lives asking n _ h)
+      subst (λ (r : ℕ). WriteKnown setting (seen lives w) want r) (sym (log_rev setting.servers (w.servers n).log.applied))
+      (known_of setting w lives asking n _ h)
 
   ran_now : lives.ran n ≡ (w.servers n).life.inc
   ran_now = asking.lived.ran n runs
@@ -99,14 +119,19 @@ module _ (setting : Setting) (state : State) (w : World) (lives : Lives) (firm :
   abbrev own_log : List Command
   own_log = (w.servers n).log.applied
 
-  at_own : (want : Wanted) (k : WriteKnown setting state (seen lives w) want here.state.rev) → own_log ≡ k.sent.at.front
-  at_own want k = own_front setting w firm want.client n here.state.rev k.sent.at (sym (log_rev setting.servers own_log))
+  at_own : (want : Wanted) (k : WriteKnown setting (seen lives w) want here.state.rev) → own_log ≡ k.sent.at.front
+  at_own want k = own_front setting w scene.firm want.client n here.state.rev k.sent.at (sym (log_rev setting.servers own_log))
 
   -- the server leads the cell at that revision
-  led_then : (want : Wanted) (k : WriteKnown setting state (seen lives w) want here.state.rev) → IsSeat → is_lead here.state n want.cell ≡ true
+  led_then : (want : Wanted) (k : WriteKnown setting (seen lives w) want here.state.rev) → IsSeat → is_lead here.state n want.cell ≡ true
       → LedBy (state_after setting.servers k.sent.at.front) n here.inc want.cell
   led_then want k seat lead =
       subst (λ log. LedBy (state_after setting.servers log) n here.inc want.cell) (at_own want k) (record { seated = seat; leads = lead })
+
+  -- the write is of its cell by the server's own state
+  write_here : (want : Wanted) (k : WriteKnown setting (seen lives w) want here.state.rev)
+      → IsWrite here.state setting.lines want.client want.seq want.cell want.bytes
+  write_here want k = subst (λ log. IsWrite (state_after setting.servers log) setting.lines want.client want.seq want.cell want.bytes) (sym (at_own want k)) k.sent.served
 
   -- what has something pending, or has finished something, is In as itself
   used_seat : IsUsed own → IsSeat
@@ -120,10 +145,10 @@ module _ (setting : Setting) (state : State) (w : World) (lives : Lives) (firm :
 
   -- a job that ends no request and opens none
   calm : (new : Own) (posts : List Post) → ((c : ℕ) → done_by new c ≡ done_by own c)
-      → ((cell : Cell) (op : Pending) → at cell_cmp new.pairs.pending cell ≡ Some op → Was own cell op)
+      → ((cell : Cell) (op : Pending) → at cell_cmp new.pairs.pending cell ≡ Some op → is_clients op.kind ≡ true → Was own cell op)
       → ((post : Post) → In post posts → S new post.to post.body) → J new posts
   calm new posts same pending says =
-      record { tells = record { finished = λ c. inl (same c); pending = λ cell op is. inl (pending cell op is) }; says = says }
+      record { tells = record { finished = λ c. inl (same c); pending = λ cell op is clients. inl (pending cell op is clients) }; says = says }
 
   -- what speaks of no request
   nothing_said : (new : Own) (to : Actor) (said : Body) → tells_request (subject_of said) ≡ false → S new to said
@@ -131,15 +156,21 @@ module _ (setting : Setting) (state : State) (w : World) (lives : Lives) (firm :
   nothing_said new to (body.Write client seq cell epoch bytes) e = true_false refl e
   nothing_said new to (body.Written seq) e = true_false refl e
   nothing_said new to (body.Full seq) e = true_false refl e
+  nothing_said new to (body.NotHere seq) e = true_false refl e
   nothing_said new to _ e = tt
+
+  -- nor does a refusal
+  refusal_said : (new : Own) (to : Actor) (said : Body) → subject_of said ≡ Refused → is_not_here said ≡ false → S new to said
+  refusal_said new to (body.Read client seq cell epoch) e other = true_false refl (sym (ap is_refused e))
+  refusal_said new to (body.Write client seq cell epoch bytes) e other = true_false refl (sym (ap is_refused e))
+  refusal_said new to (body.Written seq) e other = true_false refl (sym (ap is_refused e))
+  refusal_said new to (body.Full seq) e other = true_false refl (sym (ap is_refused e))
+  refusal_said new to (body.NotHere seq) e other = true_false refl other
+  refusal_said new to _ e other = tt
 
   -- a job that leaves the server's own part
   speaks : (posts : List Post) → ((post : Post) → In post posts → S own post.to post.body) → J own posts
-  speaks posts says = calm own posts (λ c. refl) (was_same own) says
-
-  talked : (done : Done) → done.own ≡ own → ((post : Post) → In post done.posts → S done.own post.to post.body) → J done.own done.posts
-  talked done same says = calm done.own done.posts (λ c. ap (λ (o : Own). done_by o c) same)
-      (λ cell op is. was_same own cell op (ap (λ (o : Own). at cell_cmp o.pairs.pending cell) (sym same) ∙ is)) says
+  speaks posts says = calm own posts (λ c. refl) (λ cell op is clients. was_same own cell op is) says
 
   asks_says : (post : Post) → Asks here own post → S own post.to post.body
   asks_says _ (A_slot op to is stage e) = tt
@@ -147,11 +178,17 @@ module _ (setting : Setting) (state : State) (w : World) (lives : Lives) (firm :
   asks_says _ (A_trim cell copy to is fresh e) = tt
   asks_says _ (A_copied_entry cell copy row to is trimmed there e) = tt
   asks_says _ (A_page row to i other fresh) = tt
+  asks_says post (An_entry_to_move _ next) = says_any own _ post (ap (λ (p : Post). p.body) next.is) (λ to. tt)
   asks_says _ (Of_the_log post e) = nothing_said own post.to post.body (logged_untold (subject_of post.body) e)
 
-  ended_says : (new : Own) (c seq : ℕ) (how : Ending) → Tells setting state w n new c seq → S new (actor.Client c) (ended seq how)
+  ended_says : (new : Own) (c seq : ℕ) (how : Ending) → Tells setting w n new c seq → S new (actor.Client c) (ended seq how)
   ended_says new c seq ending.Written t = t
   ended_says new c seq ending.Full t = t
+
+  -- a cell that the server leads, and whose writes no fence holds, has not been left
+  unleft_new : (want : Wanted) → IsSeat → IsNew hears here own want → IsUnleft setting w n (lives.ran n) want.cell
+  unleft_new want seat new = unleft_now setting w scene.firm lives scene.reports n want.cell
+      (subst (λ i. LedBy here.state n i want.cell) (sym ran_now) (record { seated = seat; leads = new.lead })) new.unfenced
 
   -- a write that is not finished is open still
   new_open : (want : Wanted) → IsSeat → IsNew hears here own want → IsOpen (w.clients want.client) want.seq
@@ -160,7 +197,8 @@ module _ (setting : Setting) (state : State) (w : World) (lives : Lives) (firm :
       let led = led_then want k seat new.lead in
       elim k.still [
         | inl open_now ↦ open_now.now
-        | inr late ↦ elim (late_where setting w firm lives n runs want.cell (record { seated = seat; leads = new.lead }) k.sent.at.front
+        | inr late ↦ elim (late_where setting w scene.firm lives n runs want.cell (record { seated = seat; leads = new.lead })
+            (subst (λ i. IsUnleft setting w n i want.cell) ran_now (unleft_new want seat new)) k.sent.at.front
             (front_same own_log k.sent.at.front (sym (at_own want k))) want.client want.seq (late n here.inc led)) [
               | inl lt ↦ (
                   let newer = new.newer in
@@ -171,7 +209,7 @@ module _ (setting : Setting) (state : State) (w : World) (lives : Lives) (firm :
             ]
       ]
 
-  new_pending : (want : Wanted) → IsSeat → IsNew hears here own want → PendingHere setting state w lives n want here.state.rev
+  new_pending : (want : Wanted) → IsSeat → IsNew hears here own want → PendingHere setting w lives n want here.state.rev
   new_pending want seat new =
       let k = wanted_known want new.wanted in
       let newer = new.newer in
@@ -192,19 +230,20 @@ module _ (setting : Setting) (state : State) (w : World) (lives : Lives) (firm :
         };
         here = refl;
         unheld = new.unheld;
+        stays = unleft_new want seat new;
       }
 
   -- the server finishes a request
   finish_tells : (new : Own) (c seq : ℕ) (cell : Cell) (bytes : List ℕ) (how : Ending)
       → new.pairs.finished ≡ put nat_cmp own.pairs.finished c (record { seq = seq; ending = how }) → LedBy here.state n here.inc cell
-      → IsWrite state setting.lines c seq cell bytes → seq ≤ (w.clients c).seq → IsOpen (w.clients c) seq
+      → IsWrite here.state setting.lines c seq cell bytes → seq ≤ (w.clients c).seq → IsOpen (w.clients c) seq
       → done_by own c ≤ seq → at cell_cmp new.pairs.pending cell ≡ None
-      → ((q : Cell) (op : Pending) → at cell_cmp new.pairs.pending q ≡ Some op → Was own q op)
+      → ((q : Cell) (op : Pending) → at cell_cmp new.pairs.pending q ≡ Some op → is_clients op.kind ≡ true → Was own q op)
       → J new (record { to = actor.Client c; body = ended seq how } ∷ [])
   finish_tells new c seq cell bytes how finished led write old still before gone pending =
       let last : Finished = record { seq = seq; ending = how } in
       let after : done_by new c ≡ seq + 1 = ap (λ t. done_to (at nat_cmp t c)) finished ∙ ap done_to (at_same own.pairs.finished c last) in
-      let ends : Ends state setting.lines w n new c = record {
+      let ends : Ends setting w n new c = record {
         seq = seq;
         cell = cell;
         bytes = bytes;
@@ -219,10 +258,10 @@ module _ (setting : Setting) (state : State) (w : World) (lives : Lives) (firm :
       record {
         tells = record {
           finished = λ j. elim (same_or_apart j c) [
-            | inl e ↦ inr (subst (λ i. Ends state setting.lines w n new i) (sym e) ends)
+            | inl e ↦ inr (subst (λ i. Ends setting w n new i) (sym e) ends)
             | inr ne ↦ inl (ap (λ t. done_to (at nat_cmp t j)) finished ∙ ap done_to (at_apart own.pairs.finished c last j ne))
           ];
-          pending = λ q op is. inl (pending q op is);
+          pending = λ q op is clients. inl (pending q op is clients);
         };
         says = λ post i. says_as new _ _ post (one_post _ _ post i)
             (ended_says new c seq how (record {
@@ -244,14 +283,17 @@ module _ (setting : Setting) (state : State) (w : World) (lives : Lives) (firm :
   opens_tells want new posts op seat fresh for rev finished there others says = record {
     tells = record {
       finished = λ c. inl (finished c);
-      pending = λ cell o is. elim (same_cell_or_apart cell want.cell) [
+      pending = λ cell o is clients. elim (same_cell_or_apart cell want.cell) [
         | inl e ↦
             let same : op ≡ o = same_some (sym there ∙ ap (at cell_cmp new.pairs.pending) (sym e) ∙ is) in
-            let p : PendingHere setting state w lives n (asked_for want.cell op) op.rev =
-            subst (λ (r : ℕ). PendingHere setting state w lives n (asked_for want.cell op) r) (sym rev)
-            (subst (λ (x : Wanted). PendingHere setting state w lives n x here.state.rev) (sym for) (new_pending want seat fresh)) in
-            inr (subst (λ (q : Cell). PendingHere setting state w lives n (asked_for q o) o.rev) (sym e)
-            (subst (λ (x : Pending). PendingHere setting state w lives n (asked_for want.cell x) x.rev) same p))
+            let p : PendingHere setting w lives n (asked_for want.cell op) op.rev =
+            subst (λ (r : ℕ). PendingHere setting w lives n (asked_for want.cell op) r) (sym rev)
+            (subst (λ (x : Wanted). PendingHere setting w lives n x here.state.rev) (sym for) (new_pending want seat fresh)) in
+            inr (
+              subst (λ (q : Cell). PendingHere setting w lives n (asked_for q o) o.rev) (sym e)
+                  (subst (λ (x : Pending). PendingHere setting w lives n (asked_for want.cell x) x.rev) same p),
+              ap (λ (x : Pending). x.rev) (sym same) ∙ rev ∙ log_rev setting.servers own_log,
+            )
         | inr ne ↦ inl (was_same own cell o (sym (others cell ne) ∙ is))
       ];
     };
@@ -261,39 +303,115 @@ module _ (setting : Setting) (state : State) (w : World) (lives : Lives) (firm :
   -- a pending operation goes on to its next stage
   restages_tells : (done : Done) → Restages own done → J done.own done.posts
   restages_tells done r =
-      calm done.own done.posts (λ c. ap (λ t. done_to (at nat_cmp t c)) r.finished) r.was (λ post i. absurd (r.silent post i))
+      calm done.own done.posts (λ c. ap (λ t. done_to (at nat_cmp t c)) r.finished) (λ cell op is clients. r.was cell op is) (λ post i. absurd (r.silent post i))
 
-  -- the operation is done with
-  done_tells : (op : Pending) (new : Own) (how : Ending) → Was own op.cell op
+  -- a client's write is done with
+  done_tells : (op : Pending) (new : Own) (how : Ending) → Was own op.cell op → is_clients op.kind ≡ true
       → new.pairs.finished ≡ put nat_cmp own.pairs.finished op.client (record { seq = op.seq; ending = how })
       → at cell_cmp new.pairs.pending op.cell ≡ None
       → ((q : Cell) (o : Pending) → at cell_cmp new.pairs.pending q ≡ Some o → Was own q o)
       → J new (record { to = actor.Client op.client; body = ended op.seq how } ∷ [])
-  done_tells op new how was finished gone others =
+  done_tells op new how was clients finished gone others =
       let old = was.was in
       let e = was.same in
-      let p = asking.pending n op.cell old was.is in
-      let still = open_running setting w firm lives state n (asked_for op.cell old) old.rev
-      (pending_here setting w firm lives state rests asking n op.cell old was.is) ran_now runs in
-      let led : LedBy here.state n here.inc op.cell = record {
-        seated = used_seat (Has_pending op.cell old was.is);
-        leads = ((rests.pending n).staged op.cell old was.is).lead;
-      } in
-      let un : done_by own old.client ≤ old.seq = (let u = p.unfinished in let t = asking.lived.tied n old.client in omega arith) in
-      finish_tells new op.client op.seq op.cell old.bytes how finished led (rw (← e.client, ← e.seq) p.known.sent.write)
-      (rw (← e.client, ← e.seq) p.known.sent.old) (rw (← e.client, ← e.seq) still) (rw (← e.client, ← e.seq) un) gone others
+      let kind = ap is_clients e.kind ∙ clients in
+      let p = pending_here setting w scene.firm lives scene.rests asking scene.reports n op.cell old was.is kind in
+      let still = open_running setting w scene.firm lives n (asked_for op.cell old) old.rev p ran_now runs in
+      let led : LedBy here.state n here.inc op.cell = subst (λ i. LedBy here.state n i op.cell) ran_now
+      (here_led setting w scene.firm lives n (asked_for op.cell old) old.rev p) in
+      let un : done_by own old.client ≤ old.seq = (let u = p.known.unfinished in let t = asking.lived.tied n old.client in omega arith) in
+      let write = write_now scene n op.cell old p in
+      finish_tells new op.client op.seq op.cell old.bytes how finished led (rw (← e.client, ← e.seq) write)
+      (rw (← e.client, ← e.seq) p.known.known.sent.old) (rw (← e.client, ← e.seq) still) (rw (← e.client, ← e.seq) un) gone
+      (λ q o is k. others q o is)
 
-  pub finished_here : (op : Pending) (now : Own) (t : Table Cell Pending) → t ≡ without cell_cmp now.pairs.pending op.cell
-      → ((q : Cell) (o : Pending) → pending_on now q ≡ Some o → Was own q o) → (q : Cell) (o : Pending) → at cell_cmp t q ≡ Some o → Was own q o
-  finished_here op now t e was q o there = was q o (stood now.pairs.pending op.cell q o (ap (λ t. at cell_cmp t q) (sym e) ∙ there))
+  -- an operation ends: a client's request is done with, or another server is told how an entry came
+  ends_tells : (op : Pending) (now left : Own) (of : OpKind) (how : Ending) → op.kind ≡ of → Was own op.cell op
+      → ((q : Cell) (o : Pending) → pending_on now q ≡ Some o → Was own q o) → left.pairs.finished ≡ own.pairs.finished
+      → left.pairs.pending ≡ without cell_cmp now.pairs.pending op.cell → J (ends here left op of how).own (ends here left op of how).posts
+  unfolding In
+  ends_tells op now left kind.Write how e was others same pending =
+      done_tells op (finishes left op.client op.seq how).own how was (ap is_clients e)
+      (ap (λ t. put nat_cmp t op.client (record { seq = op.seq; ending = how })) same)
+      (ap (λ t. at cell_cmp t op.cell) pending ∙ cell_gone now.pairs.pending op.cell)
+      (λ q o there. others q o (stood now.pairs.pending op.cell q o (ap (λ t. at cell_cmp t q) (sym pending) ∙ there)))
+  ends_tells op now left kind.Fill how e was others same pending =
+      calm left _ (λ c. ap (λ t. done_to (at nat_cmp t c)) same)
+      (λ q o there k. others q o (stood now.pairs.pending op.cell q o (ap (λ t. at cell_cmp t q) (sym pending) ∙ there)))
+      (λ post i. says_any left _ post (posted (old_lead here.state op.cell) (moved_as op.key how) post i) (moved_said left how))
+    where
+      moved_said : (new : Own) (how : Ending) (to : Actor) → S new to (moved_as op.key how)
+      moved_said new ending.Written to = tt
+      moved_said new ending.Full to = tt
+  ends_tells op now left kind.Copy how e was others same pending =
+      calm left [] (λ c. ap (λ t. done_to (at nat_cmp t c)) same)
+      (λ q o there k. others q o (stood now.pairs.pending op.cell q o (ap (λ t. at cell_cmp t q) (sym pending) ∙ there)))
+      (λ post i. absurd i)
 
-  closed_tells : (op : Pending) (new now : Own) (how : Ending) → Was own op.cell op → ((q : Cell) (o : Pending) → pending_on now q ≡ Some o → Was own q o)
-      → now.pairs.finished ≡ own.pairs.finished
-      → new.pairs.finished ≡ put nat_cmp now.pairs.finished op.client (record { seq = op.seq; ending = how })
-      → new.pairs.pending ≡ without cell_cmp now.pairs.pending op.cell → J new (record { to = actor.Client op.client; body = ended op.seq how } ∷ [])
-  closed_tells op new now how was others same finished pending =
-      done_tells op new how was (finished ∙ ap (λ t. put nat_cmp t op.client (record { seq = op.seq; ending = how })) same)
-      (ap (λ t. at cell_cmp t op.cell) pending ∙ cell_gone now.pairs.pending op.cell) (finished_here op now new.pairs.pending pending others)
+  -- what is not a client's ends without a word to one
+  ends_kept : (op : Pending) (left : Own) (of : OpKind) (how : Ending) → is_clients of ≡ false
+      → (ends here left op of how).own.pairs.finished ≡ left.pairs.finished
+  ends_kept op left kind.Write how e = true_false refl e
+  ends_kept op left kind.Fill how e = refl
+  ends_kept op left kind.Copy how e = refl
+
+  ends_mute : (op : Pending) (left new : Own) (of : OpKind) (how : Ending) → is_clients of ≡ false → (post : Post)
+      → In post (ends here left op of how).posts → S new post.to post.body
+  unfolding In
+  ends_mute op left new kind.Write how e post i = true_false refl e
+  ends_mute op left new kind.Fill ending.Written e post i = says_any new _ post (posted (old_lead here.state op.cell) (moved_as op.key ending.Written) post i) (λ to. tt)
+  ends_mute op left new kind.Fill ending.Full e post i = says_any new _ post (posted (old_lead here.state op.cell) (moved_as op.key ending.Full) post i) (λ to. tt)
+  ends_mute op left new kind.Copy how e post i = absurd i
+
+  -- whatever an operation does next that is not a client's
+  acts_kept : (now : Own) (op : Pending) (next : Action) → is_clients op.kind ≡ false → (acts here now op next).own.pairs.finished ≡ now.pairs.finished
+  acts_kept now op action.Reserve other = refl
+  acts_kept now op (action.Mark which) other = refl
+  acts_kept now op action.Put other = refl
+  acts_kept now op action.Replicate other = refl
+  acts_kept now op (action.Unmark which) other = refl
+  acts_kept now op action.Answer other = ends_kept op (without_pending now op.cell) op.kind ending.Written other
+  acts_kept now op action.Drop other = by_test (λ (left : Own). left.pairs.finished ≡ now.pairs.finished) op.stage.put (without_pending now op.cell)
+      (gives_back (without_pending now op.cell)) (λ put. refl) (λ fresh. refl)
+
+  acts_mute : (now new : Own) (op : Pending) (next : Action) → is_clients op.kind ≡ false → (post : Post) → In post (acts here now op next).posts
+      → S new post.to post.body
+  unfolding In
+  acts_mute now new op action.Reserve other post i = says_any new _ post (posted _ _ post i) (λ to. tt)
+  acts_mute now new op (action.Mark which) other post i = absurd i
+  acts_mute now new op action.Put other post i = absurd i
+  acts_mute now new op action.Replicate other post i = says_any new _ post (posted _ _ post i) (λ to. tt)
+  acts_mute now new op (action.Unmark which) other post i = absurd i
+  acts_mute now new op action.Answer other post i = ends_mute op (without_pending now op.cell) new op.kind ending.Written other post i
+  acts_mute now new op action.Drop other post i = absurd i
+
+  -- on a cell that is not live no client has an operation
+  dead_tells : (now : Own) (op : Pending) (taken : Taken own now op) → live here.state op.cell ≡ false → (next : Action)
+      → J (acts here now op next).own (acts here now op next).posts
+  dead_tells now op taken off next = by_bool (is_clients op.kind)
+      (λ clients.
+      let was = was_taken own now op taken in
+      let kind = ap is_clients was.same.kind ∙ clients in
+      let p = pending_here setting w scene.firm lives scene.rests asking scene.reports n op.cell was.was was.is kind in
+      let led = here_led setting w scene.firm lives n (asked_for op.cell was.was) was.was.rev p in
+      true_false (lead_links here.state n op.cell led.leads).0 off)
+      (λ other.
+      calm _ _ (λ c. ap (λ t. done_to (at nat_cmp t c)) (acts_kept now op next other ∙ (taking own now op taken).finished))
+      (λ q o there k. was_acted own now op taken here next q o there) (acts_mute now _ op next other))
+
+  -- an operation is opened for an entry that moves
+  fill_tells : (cell : Cell) (op : Pending) (new : Own) (posts : List Post) → is_clients op.kind ≡ false → new.pairs.finished ≡ own.pairs.finished
+      → at cell_cmp new.pairs.pending cell ≡ Some op
+      → ((q : Cell) → q ≢ cell → at cell_cmp new.pairs.pending q ≡ at cell_cmp own.pairs.pending q)
+      → ((post : Post) → In post posts → S new post.to post.body) → J new posts
+  fill_tells cell op new posts other finished there others says =
+      calm new posts (λ c. ap (λ t. done_to (at nat_cmp t c)) finished)
+      (λ q o is clients. elim (same_cell_or_apart q cell) [
+        | inl e ↦ true_false clients
+            (ap (λ (x : Pending). is_clients x.kind) (same_some (sym is ∙ ap (at cell_cmp new.pairs.pending) e ∙ there)) ∙ other)
+        | inr ne ↦ was_same own q o (sym (others q ne) ∙ is)
+      ])
+      says
 
   -- a job that finishes a request, or opens an operation, leaves another own
   open_seat : (want : Wanted) → IsNew hears here own want → (op : Pending) (done : Done) → IsSeated here own done
@@ -322,7 +440,7 @@ module _ (setting : Setting) (state : State) (w : World) (lives : Lives) (firm :
       speaks _ (λ post i. says_as own _ _ post (one_post _ _ post i) (ended_says own want.client want.seq last.ending (record {
         cell = want.cell;
         bytes = want.bytes;
-        write = k.sent.write;
+        write = write_here want k;
         led = record { seated = used_seat (Has_finished want.client (omega arith)); leads = lead };
         old = k.sent.old;
         past = omega arith;
@@ -330,10 +448,11 @@ module _ (setting : Setting) (state : State) (w : World) (lives : Lives) (firm :
   lead_tells _ seat (Is_full want new no_room) =
       let k = wanted_known want new.wanted in
       let seated = full_seat want new seat in
-      finish_tells _ want.client want.seq want.cell want.bytes ending.Full refl (record { seated = seated; leads = new.lead }) k.sent.write k.sent.old
+      finish_tells _ want.client want.seq want.cell want.bytes ending.Full refl (record { seated = seated; leads = new.lead }) (write_here want k) k.sent.old
       (new_open want seated new) new.newer new.none
-      (λ q op is. was_same own q op is)
-  lead_tells _ seat (Gives_up op h is reserved put) = closed_tells op _ own ending.Full (was_same own op.cell op is) (was_same own) refl refl refl
+      (λ q op is clients. was_same own q op is)
+  lead_tells _ seat (Gives_up op h is reserved put) =
+      ends_tells op own (gives_back (without_pending own op.cell)) op.kind ending.Full refl (was_same own op.cell op is) (was_same own) refl refl
   lead_tells _ seat (Opens want new both) =
       let op = operation here own.pairs.next want in
       let there = cell_same own.pairs.pending want.cell op in
@@ -342,7 +461,8 @@ module _ (setting : Setting) (state : State) (w : World) (lives : Lives) (firm :
   lead_tells _ seat (Marks op h is both stage) = restages_tells _ (marked own op is)
   lead_tells _ seat (Puts op is both stage) = restages_tells _ (has_put own op is)
   lead_tells _ seat (Unmarks op h is both stage) = restages_tells _ (unmarked own op is)
-  lead_tells _ seat (Closes op is both stage) = closed_tells op _ own ending.Written (was_same own op.cell op is) (was_same own) refl refl refl
+  lead_tells _ seat (Closes op is both stage) =
+      ends_tells op own (without_pending own op.cell) op.kind ending.Written refl (was_same own op.cell op is) (was_same own) refl refl
   lead_tells _ seat (Opens_alone want new alone) =
       let op = operation here own.pairs.next want in
       let two = with_mark_at op Stale true in
@@ -353,41 +473,82 @@ module _ (setting : Setting) (state : State) (w : World) (lives : Lives) (firm :
   lead_tells _ seat (Puts_alone now op taken alone stale put) = restages_tells _ (put_alone own now op taken)
   lead_tells _ seat (Unmarks_alone now op taken alone stale put busy) = restages_tells _ (unmarked_alone own now op taken)
   lead_tells _ seat (Closes_alone now op taken alone stale put free) =
-      closed_tells op _ now ending.Written (was_taken own now op taken) (was_before own now op taken) (taking own now op taken).finished refl refl
+      ends_tells op now (without_pending now op.cell) op.kind ending.Written refl (was_taken own now op taken) (was_before own now op taken)
+      (taking own now op taken).finished refl
+  lead_tells _ seat (Opens_fill moving new room both) =
+      let op = fill_operation here own.pairs.next moving in
+      fill_tells (cell_of moving.key) op _ _ refl refl (cell_same own.pairs.pending (cell_of moving.key) op)
+      (λ q ne. cell_apart own.pairs.pending (cell_of moving.key) op q ne) (λ post i. says_any _ _ post (posted _ _ post i) (λ to. tt))
+  lead_tells _ seat (Opens_fill_alone moving new room alone) =
+      let op = fill_operation here own.pairs.next moving in
+      let two = with_mark_at op Stale true in
+      fill_tells (cell_of moving.key) two _ [] refl refl (cell_same (put cell_cmp own.pairs.pending (cell_of moving.key) op) (cell_of moving.key) two)
+      (λ q ne. put_put own.pairs.pending (cell_of moving.key) op two q ne) (λ post i. absurd i)
+  lead_tells _ seat (Has_fill moving filled) = speaks _ (λ post i. says_any own _ post (posted _ _ post i) (λ to. tt))
+  lead_tells _ seat (Has_no_room moving new no_room) = speaks _ (λ post i. says_any own _ post (posted _ _ post i) (λ to. tt))
+  lead_tells _ seat (Goes_on_dead now op taken off) = dead_tells now op taken off (next_stage here.state here.me op)
+
+  -- the read that is told that the new map has nothing is of a cell that is coming
+  nothing_known : (client seq : ℕ) (cell : Cell) (epoch : ℕ) → ReadKnown setting (seen lives w) client seq cell epoch (length own_log)
+      → coming here.state cell ≡ true → NothingKnown setting (seen lives w) client seq (length own_log)
+  nothing_known client seq cell epoch k comes =
+      let same : own_log ≡ k.at.front = own_front setting w scene.firm client n (length own_log) k.at refl in
+      let there : coming (state_after setting.servers k.at.front) cell ≡ true =
+      subst (λ log. coming (state_after setting.servers log) cell ≡ true) same comes in
+      let plain = subst (IsPlainLog setting.servers) same (own_plain setting w scene.firm n) in
+      let untold = coming_untold setting.servers k.at.front plain setting.lines client seq k.told cell epoch k.read there in
+      record {
+        cell = cell;
+        epoch = epoch;
+        at = k.at;
+        read = subst (λ b. IsRead (state_after setting.servers k.at.front) setting.lines client seq b cell epoch) untold k.read;
+        comes = there;
+      }
 
   read_tells : (done : Done) → DidRead hears here own done → J done.own done.posts
-  read_tells done d =
-      let frame = of_read hears here own done d in
-      talked done frame.same (λ post i. says_any done.own _ post (frame.says post i).is (λ to. tt))
+  read_tells _ (Shows_data client seq cell epoch may there) = speaks _ (λ post i. says_any own _ post (one_post _ _ post i).1 (λ to. tt))
+  read_tells _ (Not_here client seq cell epoch may comes none) =
+      speaks _ (λ post i. says_as own _ _ post (one_post _ _ post i)
+      (nothing_known client seq cell epoch (known_of setting w lives asking n _ may.asked) comes))
 
   -- copies are of no request
   copied_tells : (done : Done) → CopyFrame own done → J done.own done.posts
   copied_tells done frame =
       calm done.own done.posts (λ c. ap (λ t. done_to (at nat_cmp t c)) frame.finished)
-      (λ cell op is. was_same own cell op (ap (λ t. at cell_cmp t cell) (sym frame.pending) ∙ is))
+      (λ cell op is clients. was_same own cell op (ap (λ t. at cell_cmp t cell) (sym frame.pending) ∙ is))
       (λ post i. nothing_said done.own post.to post.body (ap tells_request (frame.says post i)))
 
   second_tells : (done : Done) → DidSecond hears here own done → J done.own done.posts
   second_tells done d =
       let frame = of_second hears here own done d in
       calm done.own done.posts (λ c. ap (λ t. done_to (at nat_cmp t c)) frame.finished)
-      (λ cell op is. was_same own cell op (ap (λ t. at cell_cmp t cell) (sym frame.pending) ∙ is))
+      (λ cell op is clients. was_same own cell op (ap (λ t. at cell_cmp t cell) (sym frame.pending) ∙ is))
       (λ post i. nothing_said done.own post.to post.body (ap tells_request (frame.says post i)))
+
+  -- a job that leaves the server's pairs
+  kept_pairs : (new : Own) (posts : List Post) → new.pairs ≡ own.pairs → ((post : Post) → In post posts → S new post.to post.body) → J new posts
+  kept_pairs new posts same says = calm new posts (λ c. ap (λ (p : Pairs). done_to (at nat_cmp p.finished c)) same)
+      (λ cell op is clients. was_same own cell op (ap (λ (p : Pairs). at cell_cmp p.pending cell) (sym same) ∙ is)) says
 
   pub job_tells : (done : Done) → IsSeated here own done → Did hears here own done → J done.own done.posts
   unfolding In
   job_tells _ seat Ignores = speaks _ (λ post i. absurd i)
   job_tells _ seat (Refuses to said is why kept) =
-      speaks _ (λ post i. says_as own to said post (one_post to said post i) (nothing_said own to said (ap tells_request is)))
+      speaks _ (λ post i. says_as own to said post (one_post to said post i) (refusal_said own to said is.refused is.other))
   job_tells _ seat (By_read done d) = read_tells done d
   job_tells _ seat (By_lead done d) = lead_tells done seat d
   job_tells _ seat (By_second done d) = second_tells done d
   job_tells _ seat (By_holder done d) = copied_tells done (of_holder hears here own done d)
   job_tells _ seat (By_other done d) = copied_tells done (of_other hears here own done d)
+  job_tells _ seat (By_filler done d) =
+      let frame = of_filler hears here own done d in
+      kept_pairs done.own done.posts frame.pairs (λ post i. nothing_said done.own post.to post.body (ap tells_request (frame.says post i)))
+  job_tells _ seat (By_sweep done d) =
+      let frame = of_sweep hears here own done d in kept_pairs done.own done.posts frame.pairs (λ post i. absurd (frame.silent post i))
 
   -- a ballot, and an entry that is applied, leave what the server leads
   pub kept_tells : (new : Own) (posts : List Post) → new.pairs.pending ≡ own.pairs.pending → new.pairs.finished ≡ own.pairs.finished
       → ((post : Post) → In post posts → is_logged (subject_of post.body) ≡ true) → J new posts
   kept_tells new posts pending finished says = calm new posts (λ c. ap (λ t. done_to (at nat_cmp t c)) finished)
-      (λ cell op is. was_same own cell op (ap (λ t. at cell_cmp t cell) (sym pending) ∙ is))
+      (λ cell op is clients. was_same own cell op (ap (λ t. at cell_cmp t cell) (sym pending) ∙ is))
       (λ post i. nothing_said new post.to post.body (logged_untold (subject_of post.body) (says post i)))

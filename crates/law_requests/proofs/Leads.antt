@@ -1,5 +1,6 @@
 -- Who leads a cell at an earlier and at a later place of the log.
-use Rattle.std.proofs.Common.{◌≡◌, ◌==◌, ℕ, List, Bool, true, false, Some, None, if◌then◌else◌, sym, ap, ◌∙◌, subst, ◌⊎◌, inl, inr}
+use Rattle.std.proofs.Common.{◌≡◌, ◌≤◌, ◌==◌, ℕ, List, Bool, true, false, Some, None, if◌then◌else◌, sym, ap, ◌∙◌, subst, ◌⊎◌, inl, inr, arith}
+use Rattle.std.specs.Prelude.{option_and_then}
 use Rattle.std.specs.Option.{option_map_or}
 use Rattle.petal_base.specs.declared.cell.Cell.{Cell}
 use Rattle.global_tables.specs.Link.{has_server, other_of}
@@ -7,13 +8,14 @@ use Rattle.global_tables.specs.declared.link.LinkRow.{LinkRow}
 use Rattle.global_tables.specs.declared.link.LinkState.TheVariants.{Lost, Only}
 use Rattle.petal_command.specs.declared.command.Command.{Command}
 use Rattle.petal_history.specs.Claims.{IsPrefix}
-use Rattle.petal_state.specs.CellState.{cell_link}
+use Rattle.petal_state.specs.CellState.{cell_link, row_lead}
 use Rattle.petal_state.specs.Command.{state_after}
 use Rattle.petal_state.specs.Place.{places_from}
 use Rattle.petal_state.specs.State.{inc_of, is_up, start}
-use Rattle.petal_rules.specs.State.{State, lead, is_in, is_lead, is_alone_on}
-use Rattle.petal_rules.proofs.Tests.{by_bool, is_the_one, is_the_so, none_some, same_numbers, same_some, true_false}
-use Rattle.law_state.specs.Below.{IsBelow}
+use Rattle.petal_rules.specs.State.{State, lead, leaving, live, is_in, is_lead, is_alone_on}
+use Rattle.petal_rules.proofs.Tests.{by_bool, is_the_one, is_the_so, none_some, same_numbers, same_some, some_or_none, true_false}
+use Rattle.law_state.specs.Below.{HasLater, IsBelow}
+use Rattle.law_state.specs.Homes.{HasDied, HasStage, stage_at}
 use Rattle.law_state.specs.Places.{IsCaughtBy, StaysSo}
 use Rattle.law_state.specs.Plain.{IsPlainLog}
 use Rattle.law_state.specs.Rows.{IsServed, ByBoth, ByNone, ByOne}
@@ -21,8 +23,10 @@ use Rattle.law_state.specs.Steady.{IsSteady}
 use Rattle.law_state.proofs.Again.{log_alone}
 use Rattle.law_state.proofs.Ages.{in_up}
 use Rattle.law_state.proofs.Alone.{alone_row, alone_not_both, lead_alone, so_alone}
-use Rattle.law_state.proofs.Cells.{alone_lead, both_lead, led_by, lost_lead}
+use Rattle.law_state.proofs.Cells.{alone_leads as alone_leads_link, both_leads, lead_is, led_by, led_so, lost_leads}
+use Rattle.law_state.proofs.Entries.{log_plain}
 use Rattle.law_state.proofs.Grown.{alone_not_both as alone_row_not_both, lost_not_alone}
+use Rattle.law_state.proofs.Homes.{has_stage}
 use Rattle.law_state.proofs.Leaves.{both_up, either_true}
 use Rattle.law_state.proofs.Roles.{primary_is_one, secondary_is_one}
 use Rattle.law_state.proofs.Steady.{front_plain, log_below, log_steady}
@@ -34,6 +38,28 @@ pub same_only : {n m : ℕ} {one other : Bool} → Only n one ≡ Only m other �
 same_only e = cc
 
 -- ### One state
+
+-- a cell that takes writes is live and does not leave
+pub record Takes (state : State) (cell : Cell) : Type 0 where
+  pub lives : live state cell ≡ true
+  pub stays : leaving state cell ≡ false
+
+-- its lead is that of its link
+takes_lead : (state : State) (cell : Cell) → Takes state cell → lead state cell ≡ option_and_then (row_lead state) (cell_link state cell)
+takes_lead state cell takes = lead_is state cell takes.lives takes.stays
+
+pub takes_by : (state : State) (cell : Cell) → HasStage state cell → 1 ≤ stage_at state cell → stage_at state cell ≤ 2 → Takes state cell
+takes_by state cell stage low most = record {
+  lives = stage.alive low (omega arith);
+  stays = by_bool (leaving state cell) (λ leaves. let e = stage.leaves leaves in absurd (omega arith)) (λ no. no);
+}
+
+-- a cell whose link has no lead has none
+unled_link : (state : State) (cell : Cell) → option_and_then (row_lead state) (cell_link state cell) ≡ None → lead state cell ≡ None
+unled_link state cell none = elim (some_or_none (lead state cell)) [
+  | inl some ↦ none_some none (led_so state cell some.0 some.1).leads
+  | inr unled ↦ unled
+]
 
 -- one server leads a cell
 pub one_lead : (state : State) (n m : ℕ) (cell : Cell) → is_lead state n cell ≡ true → is_lead state m cell ≡ true → n ≡ m
@@ -58,24 +84,24 @@ own_link state steady n cell leads = elim (led_by state steady cell n (is_the_on
   | inr held ↦ record { row = held.row; is = held.is; has = holder_of_row state held.row n held.whole held.so held.linked.served }
 ]
 
--- a link whose cell has no lead is Lost, or a server that is Out holds it alone
+-- a link whose cell takes writes, and has no lead, is Lost, or a server that is Out holds it alone
 pub record IsHeldOut (state : State) (row : LinkRow) : Type 0 where
   pub holder : ℕ
   pub whole : Bool
   pub alone : row.state ≡ Only holder whole
   pub out : is_up state holder ≡ false
 
-pub held_out : (state : State) → IsSteady state → (cell : Cell) (row : LinkRow) → cell_link state cell ≡ Some row → lead state cell ≡ None
-    → IsHeldOut state row ⊎ (row.state ≡ Lost)
-held_out state steady cell row is none =
-    let linked = steady.linked cell row is in
-    elim linked.served [
-      | ByBoth both one two ↦ none_some none (both_lead state cell row is linked both)
+pub held_out : (state : State) → IsSteady state → (cell : Cell) (row : LinkRow) → cell_link state cell ≡ Some row → Takes state cell
+    → lead state cell ≡ None → IsHeldOut state row ⊎ (row.state ≡ Lost)
+held_out state steady cell row is takes unled =
+    let none = sym (takes_lead state cell takes) ∙ unled in
+    elim (steady.linked cell row is).served [
+      | ByBoth both one two ↦ none_some none (both_leads state cell row is both)
       | ByOne holder other whole only pair out ↦ inl (record {
         holder = holder;
         whole = whole;
         alone = only;
-        out = by_bool (is_up state holder) (λ up. none_some none (alone_lead state cell row is linked holder whole only up)) (λ no. no);
+        out = by_bool (is_up state holder) (λ up. none_some none (alone_leads_link state cell row is holder whole only up)) (λ no. no);
       })
       | ByNone one other lost pair out ↦ inr lost
     ]
@@ -94,11 +120,11 @@ leader_alone state steady n m cell leads alone =
     let b = alone_row state m cell alone in
     same_only (sym a.alone ∙ ap (λ (r : LinkRow). r.state) (same_some (sym a.is ∙ b.is)) ∙ b.alone)
 
--- and who does so leads it, while it is In
-pub alone_leads : (state : State) → IsSteady state → (n : ℕ) (cell : Cell) → is_alone_on state n cell ≡ true → is_up state n ≡ true
+-- and who does so leads it, while it is In and the cell takes writes
+pub alone_leads : (state : State) (n : ℕ) (cell : Cell) → Takes state cell → is_alone_on state n cell ≡ true → is_up state n ≡ true
     → lead state cell ≡ Some n
-alone_leads state steady n cell alone up =
-    let a = alone_row state n cell alone in alone_lead state cell a.row a.is (steady.linked cell a.row a.is) n a.whole a.alone up
+alone_leads state n cell takes alone up =
+    let a = alone_row state n cell alone in takes_lead state cell takes ∙ alone_leads_link state cell a.row a.is n a.whole a.alone up
 
 -- both servers of a link are In where its Caught acts
 pub caught_up : (state : State) (row : LinkRow) (entry : Command) (c : IsCaughtBy state entry row) → IsServed state row → (n : ℕ)
@@ -118,10 +144,24 @@ caught_up state row entry c served n has =
     both_up (is_up state) row n (ap (λ b. is_up state (if b then row.secondary else row.primary)) (sym f) ∙ other)
     (ap (is_up state) mine ∙ holder) has)
 
+-- ### A log
+
+module _ (servers : ℕ) (log : List Command) (plain : IsPlainLog servers log) (cell : Cell) where
+  pub stage_by : HasStage (state_after servers log) cell
+  stage_by = let p = log_plain servers log plain in has_stage (state_after servers log) p.rows p.homes cell
+
+  -- a cell that a server leads takes writes
+  pub led_stage : (n : ℕ) → is_lead (state_after servers log) n cell ≡ true
+      → (1 ≤ stage_at (state_after servers log) cell) × (stage_at (state_after servers log) cell ≤ 2)
+  led_stage n leads = let h = stage_by.leads n leads in (h.1, h.2)
+
+  pub takes_at : 1 ≤ stage_at (state_after servers log) cell → stage_at (state_after servers log) cell ≤ 2 → Takes (state_after servers log) cell
+  takes_at = takes_by (state_after servers log) cell stage_by
+
 -- ### A longer log
 
 -- a server of a link at whose place the link still is, is In as before
-seat_stays : (s t : State) (cell : Cell) (row : LinkRow) → StaysSo cell row s t → (n inc : ℕ) → has_server n row ≡ true
+pub seat_stays : (s t : State) (cell : Cell) (row : LinkRow) → StaysSo cell row s t → (n inc : ℕ) → has_server n row ≡ true
     → is_in s n inc ≡ true
     → is_in t n inc ≡ true
 seat_stays s t cell row stays n inc has seat = by_bool (row.primary == n)
@@ -132,11 +172,11 @@ seat_stays s t cell row stays n inc has seat = by_bool (row.primary == n)
     by k e same = subst (λ i. is_in t i inc ≡ true) e
         (ap (λ o. option_map_or (λ present. present == inc) o false) same ∙ subst (λ i. is_in s i inc ≡ true) (sym e) seat)
 
--- so is who led its cell, which it leads still
+-- so is who led its cell, which it leads still, where this takes writes
 pub led_while : (s t : State) → IsSteady s → IsSteady t → (cell : Cell) (row : LinkRow) → cell_link s cell ≡ Some row
-    → StaysSo cell row s t → (n inc : ℕ)
+    → StaysSo cell row s t → Takes t cell → (n inc : ℕ)
     → LedBy s n inc cell → LedBy t n inc cell
-led_while s t was now cell row is stays n inc led =
+led_while s t was now cell row is stays takes n inc led =
     let linked = now.linked cell row stays.same in
     elim (led_by s was cell n (is_the_one (lead s cell) n led.leads)) [
       | inl b ↦ (
@@ -145,7 +185,7 @@ led_while s t was now cell row is stays n inc led =
           let both = ap (λ (r : LinkRow). r.state) (sym same) ∙ b.0.so in
           record {
             seated = seat_stays s t cell row stays n inc (primary_is_one row n first) led.seated;
-            leads = is_the_so (lead t cell) n (both_lead t cell row stays.same linked both ∙ ap Some first);
+            leads = is_the_so (lead t cell) n (takes_lead t cell takes ∙ both_leads t cell row stays.same both ∙ ap Some first);
           })
       | inr held ↦ (
           let same : held.row ≡ row = same_some (sym held.is ∙ is) in
@@ -154,7 +194,8 @@ led_while s t was now cell row is stays n inc led =
           let seated = seat_stays s t cell row stays n inc has led.seated in
           record {
             seated = seated;
-            leads = is_the_so (lead t cell) n (alone_lead t cell row stays.same linked n held.whole only (in_up t n inc seated));
+            leads = is_the_so (lead t cell) n
+                (takes_lead t cell takes ∙ alone_leads_link t cell row stays.same n held.whole only (in_up t n inc seated));
           })
     ]
 
@@ -174,10 +215,21 @@ module _ (servers : ℕ) (front whole : List Command) (plain : IsPlainLog server
   below : IsBelow earlier later
   below = log_below servers front whole plain prefix
 
+  -- the row of a cell's link, while the cell is not dead
+  later_row : (cell : Cell) (row : LinkRow) → cell_link earlier cell ≡ Some row → (HasDied later cell → ⊥) → HasLater earlier later cell row
+  later_row cell row is alive = elim (below.rows cell row is) [ inl h ↦ h | inr died ↦ absurd (alive died) ]
+
+  -- a cell that a server led takes writes as long as its stage says so
+  pub takes_later : (n : ℕ) (cell : Cell) → is_lead earlier n cell ≡ true → stage_at later cell ≤ 2 → Takes later cell
+  takes_later n cell leads most =
+      let low = (led_stage servers front (front_plain servers front whole plain prefix) cell n leads).0 in
+      let up = below.stages cell in
+      takes_at servers whole plain cell (omega arith) most
+
   -- a server of a link is so later
-  pub own_link_on : (n : ℕ) (cell : Cell) → HasOwnLink earlier n cell → HasOwnLink later n cell
-  own_link_on n cell link =
-      let h = below.rows cell link.row link.is in
+  pub own_link_on : (n : ℕ) (cell : Cell) → (HasDied later cell → ⊥) → HasOwnLink earlier n cell → HasOwnLink later n cell
+  own_link_on n cell alive link =
+      let h = later_row cell link.row link.is alive in
       record {
         row = h.now;
         is = h.is;
@@ -185,24 +237,40 @@ module _ (servers : ℕ) (front whole : List Command) (plain : IsPlainLog server
             ∙ link.has;
       }
 
-  -- at a place of its link who led a cell leads it, and is In as before
+  -- at a place of its link who led a cell is In as before, until the cell is dead, and leads it while it takes writes
+  pub seat_at_place : (n inc : ℕ) (cell : Cell) (row : LinkRow) → cell_link earlier cell ≡ Some row
+      → places_from (start servers) whole row ≡ places_from (start servers) front row → LedBy earlier n inc cell
+      → (is_in later n inc ≡ true) ⊎ HasDied later cell
+  seat_at_place n inc cell row is place led = elim (same_place servers front whole cell row plain prefix is place) [
+    | inl stays ↦
+        let link = own_link earlier was_steady n cell led.leads in
+        let has = subst (λ (r : LinkRow). has_server n r ≡ true) (same_some (sym link.is ∙ is)) link.has in
+        inl (seat_stays earlier later cell row stays n inc has led.seated)
+    | inr died ↦ inr died
+  ]
+
   pub led_at_place : (n inc : ℕ) (cell : Cell) (row : LinkRow) → cell_link earlier cell ≡ Some row
-      → places_from (start servers) whole row ≡ places_from (start servers) front row → LedBy earlier n inc cell → LedBy later n inc cell
-  led_at_place n inc cell row is place led =
-      led_while earlier later was_steady now_steady cell row is (same_place servers front whole cell row plain prefix is place) n inc led
+      → places_from (start servers) whole row ≡ places_from (start servers) front row → stage_at later cell ≤ 2 → LedBy earlier n inc cell
+      → LedBy later n inc cell
+  led_at_place n inc cell row is place most led = elim (same_place servers front whole cell row plain prefix is place) [
+    | inl stays ↦ led_while earlier later was_steady now_steady cell row is stays (takes_later n cell led.leads most) n inc led
+    | inr died ↦ let e = died.1 in absurd (omega arith)
+  ]
 
   -- a link that is Lost has no lead from there on
   pub no_lead_on : (cell : Cell) (row : LinkRow) → cell_link earlier cell ≡ Some row → row.state ≡ Lost → lead later cell ≡ None
-  no_lead_on cell row is lost =
-      let h = below.rows cell row is in lost_lead later cell h.now h.is (now_steady.linked cell h.now h.is) (h.lost lost)
+  no_lead_on cell row is lost = unled_link later cell (elim (below.rows cell row is) [
+    | inl h ↦ lost_leads later cell h.now h.is (h.lost lost)
+    | inr died ↦ ap (option_and_then (row_lead later)) died.0
+  ])
 
   -- one that a server holds alone stays so while one of its two is Out, or it is Lost
   pub held_while : (n : ℕ) → ((log : List Command) → IsPrefix front log → IsPrefix log whole → is_up (state_after servers log) n ≡ false)
       → (cell : Cell) (row : LinkRow) (holder : ℕ) (copied : Bool) → cell_link earlier cell ≡ Some row → has_server n row ≡ true
-      → row.state ≡ Only holder copied
+      → row.state ≡ Only holder copied → (HasDied later cell → ⊥)
       → (is_alone_on later holder cell ≡ true) ⊎ HasLost later cell
-  held_while n out cell row holder copied is has only =
-      let h = below.rows cell row is in
+  held_while n out cell row holder copied is has only alive =
+      let h = later_row cell row is alive in
       elim (log_alone servers front whole plain prefix cell row h.now holder copied is only h.is) [
         | inl same ↦ inl (so_alone later holder cell h.now same.0 h.is same.1)
         | inr (inl lost) ↦ inr (record { row = h.now; is = h.is; lost = lost.0 })

@@ -1,11 +1,13 @@
-pub mod Leads
+pub mod Cells
 pub mod Later
+pub mod Leads
 pub mod Lives
 pub mod Minds
 pub mod Running
 pub mod Stopped
 pub mod Beside
 pub mod Frames
+pub mod Drained
 pub mod Ended
 pub mod Jobs
 pub mod Turns

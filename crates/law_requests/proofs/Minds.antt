@@ -12,10 +12,10 @@ use Rattle.petal_rules.specs.World.{Setting, World, server_state}
 use Rattle.law_state.specs.Started.{is_flagged}
 use Rattle.law_log.proofs.Catching.{kept_proposed}
 use Rattle.law_log.proofs.Flags.{same_caught}
-use Rattle.law_steps.specs.Did.{Did, Ignores, Refuses, By_read, By_lead, By_second, By_holder, By_other}
+use Rattle.law_steps.specs.Did.{Did, Ignores, Refuses, By_read, By_lead, By_second, By_holder, By_other, By_filler, By_sweep}
 use Rattle.law_steps.specs.Happens.{Handled, Worked, By_job, By_ballot, By_entry, own_place}
 use Rattle.law_steps.proofs.CopyFrames.{of_holder, of_other}
-use Rattle.law_steps.proofs.Subjects.{of_lead, of_read, of_second}
+use Rattle.law_steps.proofs.Subjects.{of_filler, of_lead, of_read, of_second, of_sweep}
 
 module _ (heard : Body → Type 0) (here : Here) (own : Own) where
   by_copies : (new : Own) (row : LinkRow) → new.copies ≡ own.copies → (progress_on new row).caught ≡ (progress_on own row).caught
@@ -30,6 +30,8 @@ module _ (heard : Body → Type 0) (here : Here) (own : Own) where
   did_caught _ (By_second done d) row = by_copies done.own row (of_second heard here own done d).copies
   did_caught _ (By_holder done d) row = (of_holder heard here own done d).caught row
   did_caught _ (By_other done d) row = (of_other heard here own done d).caught row
+  did_caught _ (By_filler done d) row = ap (λ t. (unwrap_or (at link_cmp t (id_of row)) no_progress).caught) (of_filler heard here own done d).progress
+  did_caught _ (By_sweep done d) row = by_copies done.own row (of_sweep heard here own done d).copies
 
 -- nor does a running server in a step that applies no entry
 pub worked_flags : (setting : Setting) (w : World) (n : ℕ) (log : Log) (done : Done) → Worked setting w n log done

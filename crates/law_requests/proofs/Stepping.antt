@@ -1,5 +1,5 @@
 -- What is known of requests is kept by each step.
-use Rattle.std.proofs.Common.{◌≡◌, ◌≢◌, ◌≤◌, ◌<◌, ◌+◌, ◌==◌, ℕ, List, [], ◌∷◌, true, false, Some, length, refl, ap, sym, ◌∙◌, subst, inl, inr, arith}
+use Rattle.std.proofs.Common.{◌≡◌, ◌≢◌, ◌≤◌, ◌<◌, ◌+◌, ◌==◌, ℕ, Bool, List, [], ◌∷◌, true, false, Some, length, refl, ap, sym, ◌∙◌, subst, inl, inr, arith}
 use Rattle.std.specs.Prelude.{filter, not}
 use Rattle.std.specs.Option.{option_map_or}
 use Rattle.std.specs.List.{range_with_len}
@@ -26,58 +26,64 @@ use Rattle.petal_rules.specs.Log.{Log, rev_of, state_in}
 use Rattle.petal_rules.specs.Server.{Own, Copies, Pairs, Post, Sender, Server, Done, no_pairs, sender, letters_of}
 use Rattle.petal_rules.specs.State.{State, id_of, is_in, link_cmp, servers_of}
 use Rattle.petal_rules.specs.Store.{cell_cmp}
-use Rattle.petal_rules.specs.Writes.{Wanted}
-use Rattle.petal_rules.specs.World.{Setting, World, acts, chosen_log, server_state, stamped}
+use Rattle.petal_rules.specs.Writes.{Wanted, is_clients}
+use Rattle.petal_rules.specs.World.{Setting, World, acts, chosen_log, reacts, server_state, stamped}
 use Rattle.petal_rules.specs.declared.step.Step.{Step}
 use Rattle.petal_rules.specs.declared.step.Step.TheVariants.{Blank}
+use Rattle.petal_rules.specs.Clients.{Reaction, client_sender}
+use Rattle.petal_rules.proofs.ListLemmas.{in_later}
 use Rattle.petal_rules.proofs.Settled.{settling}
 use Rattle.petal_rules.proofs.Tests.{none_some, true_false}
 use Rattle.law_log.proofs.Proposing.{said_to_all}
+use Rattle.law_state.specs.Firm.{Firm}
 use Rattle.law_state.specs.Plain.{IsPlainLog}
 use Rattle.law_state.specs.Started.{is_flagged}
-use Rattle.law_state.specs.Steady.{IsSteady}
 use Rattle.law_state.proofs.Steady.{log_rev, front_plain}
-use Rattle.law_steps.specs.Happens.{Happens, Serves, Blanks, Turns, Serving, Goes, Ends, Stays, Wakes, Fails, Worked, By_job, By_ballot, By_entry, served_so, stopped_so, shown_so, without_rev, own_place}
+use Rattle.law_steps.specs.Happens.{Happens, Heard, Serves, Blanks, Turns, Serving, Goes, Ends, Stays, Wakes, Fails, Worked, By_job, By_ballot, By_entry, served_so, stopped_so, shown_so, without_rev, own_place}
 use Rattle.law_steps.specs.Operations.{done_to}
 use Rattle.law_steps.specs.Ready.{Ready}
+use Rattle.law_steps.specs.Turned.{Turned}
 use Rattle.law_steps.specs.Waking.{AllMayWake}
 use Rattle.law_steps.proofs.Fronts.{front_itself, front_on, front_same}
 use Rattle.law_steps.proofs.Histories.{own_plain, runs_at}
 pub use Rattle.law_steps.proofs.Histories.{proposed_pairs}
 use Rattle.law_steps.proofs.Letters.{said}
-use Rattle.law_requests.specs.Known.{Seen, Lives, AreLives, LedBy, lives_after, seen, done_by, Known, KnownLetter, IsLedAlong, PendingFor, asked_for, IsUsed, Has_pending, Has_finished, AskingBy}
+use Rattle.law_steps.proofs.Restages.{was_same}
+use Rattle.law_requests.specs.Known.{Seen, Lives, AreLives, LedBy, lives_after, seen, done_by, Known, KnownLetter, IsLedAlong, PendingFor, asked_for, IsUsed, Has_pending, Has_finished, AskingBy, KnowsReports}
 use Rattle.law_requests.proofs.Ended.{bound_now, pending_new, rises}
-use Rattle.law_requests.proofs.Frames.{Scene, IsSettled, IsStepped, goes_on, says_known, step_asking, steps}
+use Rattle.law_requests.proofs.Frames.{Scene, IsSettled, IsStepped, WasOrNew, goes_on, opened_now, says_known, step_asking, steps}
 use Rattle.law_requests.proofs.Jobs.{Shows, job_tells, kept_tells}
 use Rattle.law_requests.proofs.Later.{Later, one_log, pending_later, tells_request, untold}
 use Rattle.law_requests.proofs.Lives.{Lived, Goes_on, Begins, done_beside, lives_still}
 use Rattle.law_requests.proofs.Minds.{worked_flags}
 use Rattle.law_requests.proofs.Running.{PendingHere, here_along, here_led, pending_here, remembers_running}
 use Rattle.law_requests.proofs.Turning.{turn_ok}
-use Rattle.law_requests.proofs.Turns.{turn_asking, turn_later}
+use Rattle.law_requests.proofs.Turns.{TurnOk, seen_with, turn_asking, turn_later}
 
 -- time goes on from this world to that one, and each server as the incarnation that it ran as last, or as a new one
-pub record GoesOn (setting : Setting) (state : State) (w v : World) (lives : Lives) : Type 0 where
-  pub later : Later setting state (seen lives w) (seen (lives_after lives v) v)
+pub record GoesOn (setting : Setting) (w v : World) (lives : Lives) : Type 0 where
+  pub later : Later setting (seen lives w) (seen (lives_after lives v) v)
   pub steps : (n : ℕ) → Lived lives n (w.servers n) (v.servers n)
+  pub opened : (n : ℕ) (cell : Cell) (op : Pending) → at cell_cmp (v.servers n).own.pairs.pending cell ≡ Some op → is_clients op.kind ≡ true
+      → WasOrNew w n cell op
 
 -- a write that was known of at an incarnation that has ended is known of later
-pub ended_later : (setting : Setting) (state : State) (w v : World) (lives : Lives) → AreLives w lives → GoesOn setting state w v lives → (n inc : ℕ)
-    (want : Wanted) (rev : ℕ) → inc < (lives_after lives v).ran n → PendingFor setting state (seen lives w) n inc want rev
-    → PendingFor setting state (seen (lives_after lives v) v) n inc want rev
-ended_later setting state w v lives known on n inc want rev lt p =
+pub ended_later : (setting : Setting) (w v : World) (lives : Lives) → AreLives w lives → GoesOn setting w v lives → (n inc : ℕ)
+    (want : Wanted) (rev : ℕ) → inc < (lives_after lives v).ran n → PendingFor setting (seen lives w) n inc want rev
+    → PendingFor setting (seen (lives_after lives v) v) n inc want rev
+ended_later setting w v lives known on n inc want rev lt p =
     let apart : inc ≢ (lives_after lives v).ran n = λ e. omega arith in
     let same = done_beside lives w v known on.steps n inc want.client apart in
     let un = p.unfinished in
-    pending_later setting state (seen lives w) (seen (lives_after lives v) v) on.later n inc want rev p (omega arith)
+    pending_later setting (seen lives w) (seen (lives_after lives v) v) on.later n inc want rev p (omega arith)
 
 -- letters that tell of no request
-all_untold : (setting : Setting) (state : State) (v : Seen) (who : Sender) (stamp : ℕ) (posts : List Post)
+all_untold : (setting : Setting) (v : Seen) (who : Sender) (stamp : ℕ) (posts : List Post)
     → ((post : Post) → In post posts → tells_request (subject_of post.body) ≡ false) → (letter : Letter)
-    → In letter (stamped stamp (letters_of who 0 posts)) → KnownLetter setting state v letter
-all_untold setting state v who stamp posts none letter i =
+    → In letter (stamped stamp (letters_of who 0 posts)) → KnownLetter setting v letter
+all_untold setting v who stamp posts none letter i =
     let s = said who stamp 0 posts letter i in
-    untold setting state v letter.from letter.to letter.rev letter.body (ap (λ (b : Body). tells_request (subject_of b)) s.body ∙ none s.post s.there)
+    untold setting v letter.from letter.to letter.rev letter.body (ap (λ (b : Body). tells_request (subject_of b)) s.body ∙ none s.post s.there)
 
 -- a server that stops, and one that boots, tell the others
 downs_untold : (n inc servers : ℕ) (post : Post) → In post (down_posts n inc servers) → tells_request (subject_of post.body) ≡ false
@@ -88,16 +94,13 @@ module _ (scene : Scene) (ready : Ready scene.setting scene.state scene.w) (n st
   abbrev setting : Setting
   setting = scene.setting
 
-  abbrev state : State
-  state = scene.state
-
   abbrev w : World
   w = scene.w
 
   abbrev lives : Lives
   lives = scene.lives
 
-  abbrev asking : AskingBy setting state w lives
+  abbrev asking : AskingBy setting w lives
   asking = scene.asking
 
   abbrev after : Acted → World
@@ -111,16 +114,16 @@ module _ (scene : Scene) (ready : Ready scene.setting scene.state scene.w) (n st
   entry_pairs entry = (settling (own_place setting w n) entry (crossed (server_state setting w n) entry (w.servers n).own)).pairs
 
   worked_shows : (w.servers n).life.running ≡ true → (log : Log) (done : Done) → Worked setting w n log done
-      → Shows setting state w lives n done.own done.posts
+      → Shows setting w lives n done.own done.posts
   unfolding In
-  worked_shows runs _ _ (By_job log done same did seat) = job_tells setting state w lives scene.firm asking n runs ready.rests done seat did
+  worked_shows runs _ _ (By_job log done same did seat) = job_tells scene n runs done seat did
   worked_shows runs _ _ (By_ballot log started posts same starts says) =
-      kept_tells setting state w lives scene.firm asking n runs ready.rests _ posts
+      kept_tells scene n runs _ posts
       (ap (λ (p : Pairs). p.pending) (proposed_pairs (server_state setting w n) (w.servers n).own started))
       (ap (λ (p : Pairs). p.finished) (proposed_pairs (server_state setting w n) (w.servers n).own started)) says
   worked_shows runs _ _ (By_entry log entry more front) =
       let pairs = entry_pairs entry in
-      kept_tells setting state w lives scene.firm asking n runs ready.rests _ [] (ap (λ (p : Pairs). p.pending) pairs)
+      kept_tells scene n runs _ [] (ap (λ (p : Pairs). p.pending) pairs)
       (ap (λ (p : Pairs). p.finished) pairs) (λ post i. absurd i)
 
   own_grows : (log : Log) → log.applied ≡ (w.servers n).log.applied
@@ -174,12 +177,12 @@ module _ (scene : Scene) (ready : Ready scene.setting scene.state scene.w) (n st
       (runs_at setting w scene.firm (w.servers n).log.applied log.applied (record { later = entry ∷ []; is = more }) front n runs was)
 
   -- while it runs it leads the cell of its operation
-  worked_along : (w.servers n).life.running ≡ true → (want : Wanted) (rev : ℕ) → PendingHere setting state w lives n want rev
+  worked_along : (w.servers n).life.running ≡ true → (want : Wanted) (rev : ℕ) → PendingHere setting w lives n want rev
       → IsLedAlong setting.servers (w.servers n).log.applied (chosen_log setting w) n (lives.ran n) want.cell
   worked_along runs want rev p log more all =
       let ran = asking.lived.ran n runs in
-      let led = here_led setting w scene.firm lives state n want rev p in
-      here_along setting w scene.firm lives state n want rev p (remembers_running setting w scene.firm lives n ran) log more all
+      let led = here_led setting w scene.firm lives n want rev p in
+      here_along setting w scene.firm lives n want rev p (remembers_running setting w scene.firm lives n ran) log more all
       (subst (λ i. is_in (state_after setting.servers log) n i ≡ true) (sym ran)
       (runs_at setting w scene.firm (w.servers n).log.applied log more all n runs
       (subst (λ i. is_in (server_state setting w n) n i ≡ true) ran led.seated)))
@@ -205,14 +208,15 @@ module _ (scene : Scene) (ready : Ready scene.setting scene.state scene.w) (n st
           seated = subst (λ (l : Log). is_in (state_in setting.servers l) n (lives.ran n) ≡ true) (sym logs)
               (worked_used runs log done worked (subst IsUsed owns u));
         };
-        pending = λ cell op is.
-            let p = pending_new scene n done.own shows.tells cell op (sym (ap (λ (o : Own). at cell_cmp o.pairs.pending cell) owns) ∙ is) in
+        pending = λ cell op is clients.
+            let p = pending_new scene n done.own shows.tells cell op (sym (ap (λ (o : Own). at cell_cmp o.pairs.pending cell) owns) ∙ is) clients in
             record {
               was = p.0;
+              since = p.1;
               along = λ before more lies.
                   worked_along runs (asked_for cell op) op.rev p.0 before more
                   (front_on before log.applied _ (subst (λ (l : Log). IsPrefix before l.applied) logs lies) grows.1);
-              unfinished = subst (λ (o : Own). done_by o op.client ≤ op.seq) (sym owns) p.1;
+              unfinished = subst (λ (o : Own). done_by o op.client ≤ op.seq) (sym owns) p.2;
             };
       }
 
@@ -233,18 +237,19 @@ module _ (scene : Scene) (ready : Ready scene.setting scene.state scene.w) (n st
           seated = subst (λ applied. is_in (state_after setting.servers applied) n (lives.ran n) ≡ true) (sym logs)
               (asking.used n (used_same new.own (w.servers n).own pairs u));
         };
-        pending = λ cell op is.
-            let p = pending_here setting w scene.firm lives state ready.rests asking n cell op
-            (sym (ap (λ (p : Pairs). at cell_cmp p.pending cell) pairs) ∙ is) in
+        pending = λ cell op is clients.
+            let stood = sym (ap (λ (p : Pairs). at cell_cmp p.pending cell) pairs) ∙ is in
+            let p = pending_here setting w scene.firm lives ready.rests asking scene.reports n cell op stood clients in
             let tied = asking.lived.tied n op.client in
             let un = p.known.unfinished in
             let e = done op.client in
             record {
               was = p;
+              since = inl (was_same (w.servers n).own cell op stood);
               along = λ log more lies.
                   let same = one_log log (w.servers n).log.applied (subst (IsPrefix log) logs lies) more in
                   subst (λ l. LedBy (state_after setting.servers l) n (lives.ran n) cell) (sym same)
-                  (here_led setting w scene.firm lives state n (asked_for cell op) op.rev p);
+                  (here_led setting w scene.firm lives n (asked_for cell op) op.rev p);
               unfinished = omega arith;
             };
       }
@@ -265,7 +270,7 @@ module _ (scene : Scene) (ready : Ready scene.setting scene.state scene.w) (n st
     plain = plain;
     bound = λ c. let e = none_done new empty c in omega arith;
     used = unused;
-    pending = λ cell op is. none_pending new empty cell op is;
+    pending = λ cell op is clients. none_pending new empty cell op is;
   }
     where
       unused : IsUsed new.own → IsSettled scene n new
@@ -287,7 +292,7 @@ module _ (scene : Scene) (ready : Ready scene.setting scene.state scene.w) (n st
   blanks_step asleep = still_stepped (blanked (w.servers n)) refl refl refl (λ on. true_false on asleep) (omega arith)
 
   pub serves_asking : AllMayWake setting w → (acted : Acted) → Serving setting w n what acted
-      → AskingBy setting state (after acted) (lives_after lives (after acted))
+      → AskingBy setting (after acted) (lives_after lives (after acted))
   unfolding In
   serves_asking wake _ (Goes log done queue runs worked queued works) =
       let acted = served_so setting w n log done queue in
@@ -298,25 +303,25 @@ module _ (scene : Scene) (ready : Ready scene.setting scene.state scene.w) (n st
       step_asking scene n stamp what acted step (λ letter i.
       let s = said (sender (own_place setting w n)) stamp 0 done.posts letter i in
       let k = says_known scene n stamp what acted step runs refl (server_state setting w n).rev rev s.post.to s.post.body (shows.says s.post s.there) in
-      subst (λ (b : Body). Known setting state later letter.from letter.to letter.rev b) (sym s.body)
-      (subst (λ (r : ℕ). Known setting state later letter.from letter.to r s.post.body) (sym s.rev)
-      (subst (λ (a : Actor). Known setting state later letter.from a (server_state setting w n).rev s.post.body) (sym s.to)
-      (subst (λ (a : Actor). Known setting state later a s.post.to (server_state setting w n).rev s.post.body) (sym s.from) k))))
+      subst (λ (b : Body). Known setting later letter.from letter.to letter.rev b) (sym s.body)
+      (subst (λ (r : ℕ). Known setting later letter.from letter.to r s.post.body) (sym s.rev)
+      (subst (λ (a : Actor). Known setting later letter.from a (server_state setting w n).rev s.post.body) (sym s.to)
+      (subst (λ (a : Actor). Known setting later a s.post.to (server_state setting w n).rev s.post.body) (sym s.from) k))))
   serves_asking wake _ (Ends log done runs worked) =
       let acted = stopped_so setting w n log done in
       step_asking scene n stamp what acted (serves_step wake _ (Ends log done runs worked))
-      (all_untold setting state (seen (lives_after lives (after acted)) (after acted)) (without_rev (own_place setting w n)) stamp
+      (all_untold setting (seen (lives_after lives (after acted)) (after acted)) (without_rev (own_place setting w n)) stamp
       (down_posts n (w.servers n).life.inc (servers_of (server_state setting w n)))
       (downs_untold n (w.servers n).life.inc (servers_of (server_state setting w n))))
   serves_asking wake _ (Stays who posts from shown) =
       let acted = shown_so w n who posts in
       step_asking scene n stamp what acted (serves_step wake _ (Stays who posts from shown))
-      (all_untold setting state (seen (lives_after lives (after acted)) (after acted)) who stamp posts (λ post i. ap tells_request (shown post i)))
+      (all_untold setting (seen (lives_after lives (after acted)) (after acted)) who stamp posts (λ post i. ap tells_request (shown post i)))
   serves_asking wake _ (Wakes booted asleep) =
       let server = awake (raised (w.servers n)) in
       let acted = wakes (own_place setting w n) server in
       step_asking scene n stamp what acted (serves_step wake _ (Wakes booted asleep))
-      (all_untold setting state (seen (lives_after lives (after acted)) (after acted))
+      (all_untold setting (seen (lives_after lives (after acted)) (after acted))
       (record { from = actor.Server n; inc = server.life.inc; rev = rev_of server.log }) stamp
       (down_posts n (w.servers n).life.inc (servers_of (server_state setting w n)))
       (downs_untold n (w.servers n).life.inc (servers_of (server_state setting w n))))
@@ -325,43 +330,70 @@ module _ (scene : Scene) (ready : Ready scene.setting scene.state scene.w) (n st
 
   -- what was known of incarnations is known later
   pub serves_later : AllMayWake setting w → (acted : Acted) → Serving setting w n what acted
-      → GoesOn setting state w (after acted) lives
+      → GoesOn setting w (after acted) lives
   serves_later wake acted serving =
       let step = serves_step wake acted serving in
-      record { later = goes_on scene n stamp what acted step; steps = steps scene n stamp what acted step }
+      record {
+        later = goes_on scene n stamp what acted step;
+        steps = steps scene n stamp what acted step;
+        opened = opened_now scene n stamp what acted step;
+      }
 
   pub blanks_asking : (w.servers n).life.running ≡ false
-      → AskingBy setting state (after (stays (blanked (w.servers n)))) (lives_after lives (after (stays (blanked (w.servers n)))))
+      → AskingBy setting (after (stays (blanked (w.servers n)))) (lives_after lives (after (stays (blanked (w.servers n)))))
   unfolding In
   blanks_asking asleep = step_asking scene n stamp what (stays (blanked (w.servers n))) (blanks_step asleep) (λ letter i. absurd i)
 
-  pub blanks_later : (w.servers n).life.running ≡ false → GoesOn setting state w (after (stays (blanked (w.servers n)))) lives
+  pub blanks_later : (w.servers n).life.running ≡ false → GoesOn setting w (after (stays (blanked (w.servers n)))) lives
   blanks_later asleep =
       let acted = stays (blanked (w.servers n)) in
-      record { later = goes_on scene n stamp what acted (blanks_step asleep); steps = steps scene n stamp what acted (blanks_step asleep) }
+      record {
+        later = goes_on scene n stamp what acted (blanks_step asleep);
+        steps = steps scene n stamp what acted (blanks_step asleep);
+        opened = opened_now scene n stamp what acted (blanks_step asleep);
+      }
 
-abbrev scene_at : (setting : Setting) (state : State) (w : World) (lives : Lives) → Ready setting state w → AskingBy setting state w lives → Scene
-scene_at setting state w lives ready asking =
-    record { setting = setting; state = state; w = w; lives = lives; firm = ready.firm; rests = ready.rests; asking = asking }
+abbrev scene_at : (setting : Setting) (state : State) (w : World) (lives : Lives) → Ready setting state w → AskingBy setting w lives
+    → KnowsReports setting w lives → Scene
+scene_at setting state w lives ready asking reports = record {
+  setting = setting;
+  state = state;
+  w = w;
+  lives = lives;
+  firm = ready.firm;
+  rests = ready.rests;
+  asking = asking;
+  reports = reports;
+}
 
-pub happens_asking : (setting : Setting) (state : State) → IsSteady state → (w v : World) (lives : Lives) → Ready setting state w → AllMayWake setting w
-    → AskingBy setting state w lives → Happens setting state w v → AskingBy setting state v (lives_after lives v)
-happens_asking setting state steady w _ lives ready wake asking (Serves n stamp what acted lt member unblanked serving) =
-    serves_asking (scene_at setting state w lives ready asking) ready n stamp what wake acted serving
-happens_asking setting state steady w _ lives ready wake asking (Blanks n stamp lt member asleep) =
-    blanks_asking (scene_at setting state w lives ready asking) ready n stamp Blank asleep
-happens_asking setting state steady w _ lives ready wake asking (Turns c stamp in_call reacted lt within turned onward) =
-    turn_asking (scene_at setting state w lives ready asking) c stamp reacted
-    (turn_ok setting state w lives ready.firm asking c within in_call reacted onward turned) onward
+turned_ok : (setting : Setting) (w : World) (lives : Lives) (firm : Firm setting w) → AskingBy setting w lives → (c : ℕ) → c < 9 → (stamp : ℕ) (in_call : Bool)
+    (reacted : Reaction) → IsPrefix (w.clients c).applied reacted.client.applied → IsPlainLog setting.servers reacted.client.applied
+    → Turned (Heard w (actor.Client c)) setting.servers setting.lines c (w.clients c) in_call reacted
+    → TurnOk setting w lives (seen_with lives w (reacts w c stamp reacted).world.sent c reacted.client) c reacted.client reacted.posts
+turned_ok setting w lives firm asking c within stamp in_call reacted grows plain turned =
+    turn_ok setting w lives firm asking c within (reacts w c stamp reacted).world.sent
+    (λ letter h. in_later letter (stamped stamp (letters_of (client_sender c reacted.client) 0 reacted.posts)) w.sent h)
+    in_call reacted (grows, plain) turned
 
-pub happens_later : (setting : Setting) (state : State) → IsSteady state → (w v : World) (lives : Lives) → Ready setting state w → AllMayWake setting w
-    → AskingBy setting state w lives → Happens setting state w v → GoesOn setting state w v lives
-happens_later setting state steady w _ lives ready wake asking (Serves n stamp what acted lt member unblanked serving) =
-    serves_later (scene_at setting state w lives ready asking) ready n stamp what wake acted serving
-happens_later setting state steady w _ lives ready wake asking (Blanks n stamp lt member asleep) =
-    blanks_later (scene_at setting state w lives ready asking) ready n stamp Blank asleep
-happens_later setting state steady w _ lives ready wake asking (Turns c stamp in_call reacted lt within turned onward) = record {
-  later = turn_later (scene_at setting state w lives ready asking) c stamp reacted
-      (turn_ok setting state w lives ready.firm asking c within in_call reacted onward turned) onward;
+pub happens_asking : (setting : Setting) (state : State) → (w v : World) (lives : Lives) → Ready setting state w → AllMayWake setting w
+    → AskingBy setting w lives → KnowsReports setting w lives → Happens setting state w v → AskingBy setting v (lives_after lives v)
+happens_asking setting state w _ lives ready wake asking reports (Serves n stamp what acted lt member unblanked serving) =
+    serves_asking (scene_at setting state w lives ready asking reports) ready n stamp what wake acted serving
+happens_asking setting state w _ lives ready wake asking reports (Blanks n stamp lt member asleep) =
+    blanks_asking (scene_at setting state w lives ready asking reports) ready n stamp Blank asleep
+happens_asking setting state w _ lives ready wake asking reports (Turns c stamp in_call reacted lt within turned onward) =
+    turn_asking (scene_at setting state w lives ready asking reports) c stamp reacted
+    (turned_ok setting w lives ready.firm asking c within stamp in_call reacted onward.grows onward.plain turned) onward
+
+pub happens_later : (setting : Setting) (state : State) → (w v : World) (lives : Lives) → Ready setting state w → AllMayWake setting w
+    → AskingBy setting w lives → KnowsReports setting w lives → Happens setting state w v → GoesOn setting w v lives
+happens_later setting state w _ lives ready wake asking reports (Serves n stamp what acted lt member unblanked serving) =
+    serves_later (scene_at setting state w lives ready asking reports) ready n stamp what wake acted serving
+happens_later setting state w _ lives ready wake asking reports (Blanks n stamp lt member asleep) =
+    blanks_later (scene_at setting state w lives ready asking reports) ready n stamp Blank asleep
+happens_later setting state w _ lives ready wake asking reports (Turns c stamp in_call reacted lt within turned onward) = record {
+  later = turn_later (scene_at setting state w lives ready asking reports) c stamp reacted
+      (turned_ok setting w lives ready.firm asking c within stamp in_call reacted onward.grows onward.plain turned) onward;
   steps = lives_still lives w asking.lived;
+  opened = λ n cell op is clients. inl (was_same (w.servers n).own cell op is);
 }

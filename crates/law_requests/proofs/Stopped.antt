@@ -15,7 +15,9 @@ use Rattle.petal_rules.specs.State.{State, lead, is_in, is_lead, primary, second
 use Rattle.petal_rules.specs.Writes.{Wanted}
 use Rattle.petal_rules.specs.World.{Setting, World, server_state, chosen_log, chosen_state}
 use Rattle.petal_rules.proofs.Tests.{by_bool, is_the_one, is_the_so, none_some, same_or_apart, same_some, true_false}
+use Rattle.law_state.specs.Below.{HasLater}
 use Rattle.law_state.specs.Firm.{Firm}
+use Rattle.law_state.specs.Homes.{HasDied, stage_at}
 use Rattle.law_state.specs.Rows.{IsServed, ByBoth, ByNone, ByOne}
 use Rattle.law_state.specs.Steady.{IsSteady}
 use Rattle.law_state.proofs.Ages.{age_in, in_age, in_up, up_some}
@@ -30,7 +32,7 @@ use Rattle.law_requests.specs.Asked.{IsOpen}
 use Rattle.law_requests.specs.Known.{Lives, seen, LedBy, IsLate, Is_past, Had_no_lead, Had_another}
 use Rattle.law_requests.specs.Still.{NoOtherHolds, IsStill}
 use Rattle.law_requests.proofs.Later.{either_front}
-use Rattle.law_requests.proofs.Leads.{HasOwnLink, held_out, held_while, leader_alone, no_lead_on, one_lead, own_link, own_link_on}
+use Rattle.law_requests.proofs.Leads.{HasOwnLink, held_out, held_while, leader_alone, led_stage, no_lead_on, one_lead, own_link, own_link_on, takes_later}
 use Rattle.law_requests.proofs.Running.{PendingHere, RemembersCaughts, here_along, here_led, in_between, open_or, open_still}
 
 -- whoever is In by a front of what is chosen is so with an incarnation that ran
@@ -39,6 +41,10 @@ HaveRun setting w lives = (front : List Command) (n inc : ℕ) → IsPrefix fron
     → is_in (state_after setting.servers front) n inc ≡ true
     → inc ≤ lives.ran n
 
+-- a cell that has a link is not dead
+linked_alive : (state : State) (cell : Cell) (row : LinkRow) → cell_link state cell ≡ Some row → HasDied state cell → ⊥
+linked_alive state cell row is died = none_some died.0 is
+
 -- of two servers beside one of a cell's two, the other one alone may hold it
 no_other_holds : (setting : Setting) (w : World) → Firm setting w → (n m : ℕ) (cell : Cell) → primary (chosen_state setting w) cell ≡ Some n
     → secondary (chosen_state setting w) cell ≡ Some m → is_alone_on (server_state setting w m) m cell ≡ false
@@ -46,7 +52,11 @@ no_other_holds : (setting : Setting) (w : World) → Firm setting w → (n m : �
 no_other_holds setting w firm n m cell one two apart other ne = by_bool (is_alone_on (server_state setting w other) other cell)
     (λ alone.
     let a = alone_row (server_state setting w other) other cell alone in
-    let h = (own_below setting w firm other).rows cell a.row a.is in
+    let h : HasLater (server_state setting w other) (chosen_state setting w) cell a.row =
+    elim ((own_below setting w firm other).rows cell a.row a.is) [
+      | inl later ↦ later
+      | inr died ↦ none_some (ap (option_map (λ (r : LinkRow). r.primary)) died.0) one
+    ] in
     let first : primary (server_state setting w other) cell ≡ Some n =
     ap (option_map (λ (r : LinkRow). r.primary)) a.is ∙ ap Some (sym h.so.primary)
     ∙ sym (ap (option_map (λ (r : LinkRow). r.primary)) h.is) ∙ one in
@@ -59,9 +69,9 @@ no_other_holds setting w firm n m cell one two apart other ne = by_bool (is_alon
     ])
     (λ no. no)
 
-module _ (setting : Setting) (w : World) (firm : Firm setting w) (lives : Lives) (run : HaveRun setting w lives) (state : State) (n : ℕ)
+module _ (setting : Setting) (w : World) (firm : Firm setting w) (lives : Lives) (run : HaveRun setting w lives) (n : ℕ)
     (want : Wanted)
-    (rev : ℕ) (p : PendingHere setting state w lives n want rev) (remembers : RemembersCaughts setting w n (lives.ran n)) where
+    (rev : ℕ) (p : PendingHere setting w lives n want rev) (remembers : RemembersCaughts setting w n (lives.ran n)) where
   abbrev inc : ℕ
   inc = lives.ran n
 
@@ -87,7 +97,7 @@ module _ (setting : Setting) (w : World) (firm : Firm setting w) (lives : Lives)
   led_at : (log : List Command) → IsPrefix front log → IsPrefix log chosen → is_in (At log) n inc ≡ true → LedBy (At log) n inc want.cell
   led_at log more all still = elim (either_front log own chosen all (firm.servers n)) [
     | inl before ↦ p.known.along log more (subst (IsPrefix log) (sym p.here) before)
-    | inr behind ↦ here_along setting w firm lives state n want rev p remembers log behind all still
+    | inr behind ↦ here_along setting w firm lives n want rev p remembers log behind all still
   ]
 
   -- ### Once it is Out
@@ -106,11 +116,22 @@ module _ (setting : Setting) (w : World) (firm : Firm setting w) (lives : Lives)
         true_false (age_in (At log) n inc (omega arith)) gone)
         (λ no. no)
 
-    link : HasOwnLink (At log) n want.cell
-    link = own_link_on setting.servers front log (front_plain setting.servers log _ firm.plain all) more n want.cell
-        (own_link (At front) (steady_at front (front_on front log chosen more all)) n want.cell first_led.leads)
-
     module _ (leader : ℕ) (led : lead (chosen_state setting w) want.cell ≡ Some leader) where
+      -- the cell takes writes by what is chosen, and has not been left before
+      unleft : (later : List Command) → IsPrefix later chosen → stage_at (At later) want.cell ≤ 2
+      unleft later lies =
+          let now = led_stage setting.servers chosen firm.plain want.cell leader (is_the_so (lead (chosen_state setting w) want.cell) leader led) in
+          let up = (log_below setting.servers later chosen firm.plain lies).stages want.cell in
+          let most = now.1 in
+          omega arith
+
+      alive : (later : List Command) → IsPrefix later chosen → HasDied (At later) want.cell → ⊥
+      alive later lies died = let e = died.1 in let le = unleft later lies in omega arith
+
+      link : HasOwnLink (At log) n want.cell
+      link = own_link_on setting.servers front log (front_plain setting.servers log _ firm.plain all) more n want.cell (alive log all)
+          (own_link (At front) (steady_at front (front_on front log chosen more all)) n want.cell first_led.leads)
+
       -- a link that is Lost has no lead from there on
       not_lost : {A : Type 0} (later : List Command) → IsPrefix later chosen → (row : LinkRow) → cell_link (At later) want.cell ≡ Some row
           → row.state ≡ Lost → A
@@ -122,7 +143,7 @@ module _ (setting : Setting) (w : World) (firm : Firm setting w) (lives : Lives)
           → has_server n row ≡ true → row.state ≡ Only holder copied → is_alone_on (At later) holder want.cell ≡ true
       held_by later on lies row holder copied is has only =
           elim (held_while setting.servers log later (front_plain setting.servers later _ firm.plain lies) on n
-          (λ between from upto. out_from between from (front_on between later chosen upto lies)) want.cell row holder copied is has only) [
+          (λ between from upto. out_from between from (front_on between later chosen upto lies)) want.cell row holder copied is has only (alive later lies)) [
             | inl alone ↦ alone
             | inr gone ↦ not_lost later lies gone.row gone.is gone.lost
           ]
@@ -134,7 +155,7 @@ module _ (setting : Setting) (w : World) (firm : Firm setting w) (lives : Lives)
           | inl e ↦ true_false
               (in_between setting w firm front log own more (subst (λ k. IsPrefix log (w.servers k).log.applied) e lies)
               (firm.servers n) n inc first_led.seated
-              (here_led setting w firm lives state n want rev p).seated) gone
+              (here_led setting w firm lives n want rev p).seated) gone
           | inr ne ↦ elim (led_by (At log) (steady_at log all) want.cell other (is_the_one (lead (At log) want.cell) other leads)) [
             | inl b ↦ (
                 let same : link.row ≡ b.0.row = same_some (sym link.is ∙ b.0.is) in
@@ -156,27 +177,29 @@ module _ (setting : Setting) (w : World) (firm : Firm setting w) (lives : Lives)
 
         -- nor has the cell been without a lead
         no_unled : IsStill setting w leader → lead (At log) want.cell ≡ None → ⊥
-        no_unled still none = elim (held_out (At log) (steady_at log all) want.cell link.row link.is none) [
-          | inr lost ↦ not_lost log all link.row link.is lost
-          | inl held ↦ (
-              let h = held.holder in
-              let now = held_by chosen all (front_itself chosen) link.row h held.whole link.is link.has held.alone in
-              let same : leader ≡ h = leader_alone (chosen_state setting w) (chosen_steady setting w firm) leader h want.cell
-              (is_the_so (lead (chosen_state setting w) want.cell) leader led) now in
-              let stays = subst (IsStill setting w) same still in
-              elim (either_front (w.servers h).log.applied log chosen (firm.servers h) all) [
-                | inl before ↦ true_false
-                    (in_up (At log) h stays.inc
-                    (in_between setting w firm _ log chosen before all (front_itself chosen) h stays.inc stays.own stays.now)) held.out
-                | inr knows ↦ elim (same_or_apart h n) [
-                  | inl e ↦ true_false (in_up (chosen_state setting w) n stays.inc
-                      (subst (λ k. is_in (chosen_state setting w) k stays.inc ≡ true) e stays.now))
-                      (out_from chosen all (front_itself chosen))
-                  | inr ne ↦ true_false (held_by (w.servers h).log.applied knows (firm.servers h) link.row h held.whole link.is link.has held.alone)
-                      (no_other h ne)
-                ]
-              ])
-        ]
+        no_unled still none = elim (held_out (At log) (steady_at log all) want.cell link.row link.is
+            (takes_later setting.servers front log (front_plain setting.servers log _ firm.plain all) more n want.cell first_led.leads (unleft log all))
+            none) [
+              | inr lost ↦ not_lost log all link.row link.is lost
+              | inl held ↦ (
+                  let h = held.holder in
+                  let now = held_by chosen all (front_itself chosen) link.row h held.whole link.is link.has held.alone in
+                  let same : leader ≡ h = leader_alone (chosen_state setting w) (chosen_steady setting w firm) leader h want.cell
+                  (is_the_so (lead (chosen_state setting w) want.cell) leader led) now in
+                  let stays = subst (IsStill setting w) same still in
+                  elim (either_front (w.servers h).log.applied log chosen (firm.servers h) all) [
+                    | inl before ↦ true_false
+                        (in_up (At log) h stays.inc
+                        (in_between setting w firm _ log chosen before all (front_itself chosen) h stays.inc stays.own stays.now)) held.out
+                    | inr knows ↦ elim (same_or_apart h n) [
+                      | inl e ↦ true_false (in_up (chosen_state setting w) n stays.inc
+                          (subst (λ k. is_in (chosen_state setting w) k stays.inc ≡ true) e stays.now))
+                          (out_from chosen all (front_itself chosen))
+                      | inr ne ↦ true_false (held_by (w.servers h).log.applied knows (firm.servers h) link.row h held.whole link.is link.has held.alone)
+                          (no_other h ne)
+                    ]
+                  ])
+            ]
 
   -- ### The request is open
 
@@ -196,7 +219,7 @@ module _ (setting : Setting) (w : World) (firm : Firm setting w) (lives : Lives)
         (λ gone. no_another log more all gone leader led no_other other lies leads)
 
     pub open_led : IsOpen (w.clients want.client) want.seq
-    open_led = open_or setting w firm lives state n inc want rev p.known not_late
+    open_led = open_or setting w firm lives n inc want rev p.known not_late
 
   pub open_secondary : (m leader : ℕ) → primary (chosen_state setting w) want.cell ≡ Some n
       → secondary (chosen_state setting w) want.cell ≡ Some m
@@ -207,10 +230,11 @@ module _ (setting : Setting) (w : World) (firm : Firm setting w) (lives : Lives)
 
   pub open_in_both : in_both (chosen_state setting w) want.cell ≡ true → IsOpen (w.clients want.client) want.seq
   open_in_both both =
-      let led = here_led setting w firm lives state n want rev p in
-      let now = own_link_on setting.servers own chosen firm.plain (firm.servers n) n want.cell
-      (own_link (server_state setting w n) (own_steady setting w firm n) n want.cell led.leads) in
+      let led = here_led setting w firm lives n want rev p in
       let b = both_row (chosen_state setting w) want.cell both in
+      let now = own_link_on setting.servers own chosen firm.plain (firm.servers n) n want.cell
+      (linked_alive (chosen_state setting w) want.cell b.row b.is)
+      (own_link (server_state setting w n) (own_steady setting w firm n) n want.cell led.leads) in
       let same : b.row ≡ now.row = same_some (sym b.is ∙ now.is) in
       by now.row (ap (λ (r : LinkRow). r.state) (sym same) ∙ b.both)
       (((chosen_steady setting w firm).linked want.cell now.row now.is).served) now.has
@@ -220,11 +244,11 @@ module _ (setting : Setting) (w : World) (firm : Firm setting w) (lives : Lives)
       by row both (ByOne holder beside whole only pair out) has = alone_not_both row holder only both
       by row both (ByNone one beside lost pair out) has = lost_not_both row lost both
       by row both (ByBoth so one two) has =
-          let led = here_led setting w firm lives state n want rev p in
+          let led = here_led setting w firm lives n want rev p in
           let s = up_some (chosen_state setting w) n (both_up (is_up (chosen_state setting w)) row n one two has) in
           let low = run chosen n s.0 (front_itself chosen) s.1 in
           let first = in_age (server_state setting w n) n inc led.seated in
           let last = in_age (chosen_state setting w) n s.0 s.1 in
           let on = (log_below setting.servers own chosen firm.plain (firm.servers n)).ages n in
           let same : s.0 ≡ inc = omega arith in
-          open_still setting w firm lives state n want rev p remembers (subst (λ i. is_in (chosen_state setting w) n i ≡ true) same s.1)
+          open_still setting w firm lives n want rev p remembers (subst (λ i. is_in (chosen_state setting w) n i ≡ true) same s.1)

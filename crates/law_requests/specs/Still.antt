@@ -6,6 +6,7 @@ use Rattle.petal_msg.specs.declared.operation.Pending.{Pending}
 use Rattle.petal_rules.specs.State.{is_in, lead, is_alone_on}
 use Rattle.petal_rules.specs.State as state
 use Rattle.petal_rules.specs.Store.{cell_cmp}
+use Rattle.petal_rules.specs.Writes.{is_clients}
 use Rattle.petal_rules.specs.World.{Setting, World, server_state, chosen_state}
 use Rattle.law_requests.specs.Asked.{IsOpen}
 
@@ -24,12 +25,12 @@ pub record IsStill (setting : Setting) (w : World) (n : ℕ) : Type 0 where
 -- where the operation is of the primary and the secondary doesn't know yet that it is alone
 pub record AreOpen (setting : Setting) (w : World) : Type 0 where
   pub running : (n : ℕ) (cell : Cell) (op : Pending) → at cell_cmp (w.servers n).own.pairs.pending cell ≡ Some op
-      → (w.servers n).life.running ≡ true → IsOpen (w.clients op.client) op.seq
+      → is_clients op.kind ≡ true → (w.servers n).life.running ≡ true → IsOpen (w.clients op.client) op.seq
   pub led : (n leader : ℕ) (cell : Cell) (op : Pending) → at cell_cmp (w.servers n).own.pairs.pending cell ≡ Some op
-      → lead (chosen_state setting w) cell ≡ Some leader → IsStill setting w leader → NoOtherHolds setting w n cell → IsOpen (w.clients op.client) op.seq
+      → is_clients op.kind ≡ true → lead (chosen_state setting w) cell ≡ Some leader → IsStill setting w leader → NoOtherHolds setting w n cell → IsOpen (w.clients op.client) op.seq
   pub in_both : (n : ℕ) (cell : Cell) (op : Pending) → at cell_cmp (w.servers n).own.pairs.pending cell ≡ Some op
-      → state.in_both (chosen_state setting w) cell ≡ true → IsOpen (w.clients op.client) op.seq
+      → is_clients op.kind ≡ true → state.in_both (chosen_state setting w) cell ≡ true → IsOpen (w.clients op.client) op.seq
   pub beside : (n m leader : ℕ) (cell : Cell) (op : Pending) → at cell_cmp (w.servers n).own.pairs.pending cell ≡ Some op
-      → state.primary (chosen_state setting w) cell ≡ Some n → state.secondary (chosen_state setting w) cell ≡ Some m
+      → is_clients op.kind ≡ true → state.primary (chosen_state setting w) cell ≡ Some n → state.secondary (chosen_state setting w) cell ≡ Some m
       → lead (chosen_state setting w) cell ≡ Some leader → IsStill setting w leader → is_alone_on (server_state setting w m) m cell ≡ false
       → IsOpen (w.clients op.client) op.seq

@@ -9,7 +9,7 @@
 
 ghost use Rattle.std.specs.Prelude.{List};
 ghost use Rattle.script_lines.specs.declared.script.Script.{Script};
-ghost use Rattle.petal_rules.specs.World.{chosen_state, setting_of, start};
+ghost use Rattle.petal_rules.specs.World.{setting_of, start};
 ghost use Rattle.petal_history.specs.Claims.{Requests};
 ghost use Rattle.petal_history.specs.Legal.{IsLegal, world_after};
 ghost use Rattle.petal_history.specs.Sound.{IsSound};
@@ -26,7 +26,7 @@ pub fn answered_requests_are_over()
 /// And what goes with it: open requests are those of their lines, a pending operation is of its client's write that its server
 /// is not past, on a cell that this one has led since, and each letter that was ever sent tells of a request of its line.
 pub fn letters_of_clients_and_replies()
-    ensures { (script : Script) (records : List Record) → IsSound script → IsLegal script records → Asking (setting_of script) (chosen_state (setting_of script) (world_after (setting_of script) (start (setting_of script)) records)) (world_after (setting_of script) (start (setting_of script)) records) }
+    ensures { (script : Script) (records : List Record) → IsSound script → IsLegal script records → Asking (setting_of script) (world_after (setting_of script) (start (setting_of script)) records) }
 {}
 
 /// The request of a pending operation is open while its server runs; and, also after it stopped, while the cell has a lead by

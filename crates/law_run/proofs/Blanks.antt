@@ -1,7 +1,8 @@
 -- A stopped server's device is made blank: the store from before counts on, so that the machine is told nothing.
-use Rattle.std.proofs.Common.{◌≡◌, ◌==◌, ◌++◌, ℕ, [], true, false, Option, Some, None, refl, sym, ap, ◌∙◌, subst, inl, inr}
+use Rattle.std.proofs.Common.{◌≡◌, ◌==◌, ◌++◌, ℕ, [], true, false, Option, Some, None, refl, sym, ap, ◌∙◌, subst, inl, inr, is_some}
+use Rattle.law_run.proofs.Named.{entry_named, entry_over, has_named, has_over, is_between}
 use Rattle.std.specs.List.{flat_map}
-use Rattle.std.specs.Prelude.{drop, if◌then◌else◌, length, map, unwrap_or}
+use Rattle.std.specs.Prelude.{drop, if◌then◌else◌, length, map, unwrap_or, option_and_then}
 use Rattle.std.specs.Ordering.{nat_cmp}
 use Rattle.petal_base.specs.declared.cell.Cell.{Cell}
 use Rattle.petal_table.specs.Table.{at}
@@ -10,7 +11,7 @@ use Rattle.global_tables.specs.Disk.{disk_at}
 use Rattle.global_tables.specs.declared.disk.DiskRow.{DiskRow}
 use Rattle.petal_machine.specs.Machine.{Plain}
 use Rattle.petal_msg.specs.declared.operation.Pending.{Pending}
-use Rattle.petal_state.specs.CellState.{cell_link}
+use Rattle.petal_state.specs.CellState.{named_cell}
 use Rattle.petal_state.specs.Command.{state_after}
 use Rattle.petal_rules.specs.Blanked.{BeforeBlank, kept_store}
 use Rattle.petal_rules.specs.Boots.{blanked, stays}
@@ -22,15 +23,14 @@ use Rattle.petal_rules.specs.World.{Setting, World, acts, blank_joins_in, chosen
 use Rattle.petal_rules.specs.declared.step.Step.TheVariants.{Blank}
 use Rattle.petal_rules.proofs.ListLemmas.{put_apart, put_same}
 use Rattle.petal_rules.proofs.Tests.{all_put, all_put_apart, number_itself, same_or_apart, true_false}
-use Rattle.petal_history.specs.Contents.{cell_of_block, content_by, content_in, content_where, has_content}
+use Rattle.petal_history.specs.Contents.{content_at, content_where, entry_by, entry_of, has_content_at, has_content_where, old_cell}
 use Rattle.petal_history.specs.Events.{change_by, freezes, freezes_on, makes, make_of, takes, told_with}
 use Rattle.law_state.specs.Firm.{Firm}
 use Rattle.law_steps.proofs.Serving.{chosen_same}
 use Rattle.law_copies.specs.Visits.{IsLinked}
-use Rattle.law_run.specs.Follow.{Follow, HasCounted, HasOnlyKnown, Is_counted, Is_followed, Is_told, OfStores}
+use Rattle.law_run.specs.Follow.{Follow, HasCounted, Is_counted, Is_followed, Is_told}
 use Rattle.law_run.proofs.Along.{disks_now, rows_in}
-use Rattle.law_run.proofs.Counted.{of_stores}
-use Rattle.law_run.proofs.Grounds.{before_after}
+use Rattle.law_run.proofs.Counted.{frozen_stays}
 use Rattle.law_run.proofs.Freezes.{no_freezes}
 use Rattle.law_run.proofs.Makes.{drop_all}
 use Rattle.law_run.proofs.Snapshots.{snapshots_on}
@@ -74,41 +74,56 @@ module _ (setting : Setting) (w : World) (n stamp : ℕ) where
         (put_apart w.servers n (blanked (w.servers n)) i ne k).own.store)
   ]
 
-  held_same : (cell : Cell) (epoch : ℕ) (o : Option ℕ) → content_by (counted setting v) cell epoch o ≡ content_by (counted setting w) cell epoch o
+  held_same : (cell : Cell) (epoch : ℕ) (o : Option ℕ) → entry_by (counted setting v) cell epoch o ≡ entry_by (counted setting w) cell epoch o
   held_same cell epoch None = refl
-  held_same cell epoch (Some i) = ap (λ (s : Store). bytes_of (entry_at (chain_in s.chains cell) epoch)) (blank_kept i)
+  held_same cell epoch (Some i) = ap (λ (s : Store). entry_at (chain_in s.chains cell) epoch) (blank_kept i)
 
-  content_same : (row : DiskRow) (epoch b : ℕ)
-      → content_in (chosen_state setting v) (counted setting v) row epoch b ≡ content_in (chosen_state setting w) (counted setting w) row epoch b
-  content_same row epoch b =
-      ap (λ s. content_by (counted setting v) (cell_of_block row b) epoch (authority s (cell_of_block row b))) state_same
-      ∙ held_same (cell_of_block row b) epoch (authority (chosen_state setting w) (cell_of_block row b))
+  entry_same : (cell : Cell) (epoch : ℕ)
+      → entry_of (chosen_state setting v) (counted setting v) cell epoch ≡ entry_of (chosen_state setting w) (counted setting w) cell epoch
+  entry_same cell epoch =
+      ap (λ s. entry_by (counted setting v) cell epoch (authority s cell)) state_same
+      ∙ held_same cell epoch (authority (chosen_state setting w) cell)
 
-  -- ### Stores
+  frozen_same : (cell : Cell) → v.frozen cell ≡ w.frozen cell
+  frozen_same cell = frozen_stays setting w v same cell
 
-  state_back : (i : ℕ) (cell : Cell) → cell_link (server_state setting v i) cell ≡ None → cell_link (server_state setting w i) cell ≡ None
-  state_back = all_put w.servers n (blanked (w.servers n))
-      (λ i (x : Server). (cell : Cell) → cell_link (state_in setting.servers x.log) cell ≡ None → cell_link (server_state setting w i) cell ≡ None)
-      (λ i cell e. e) (λ cell e. e)
+  content_where_same : (o : Option DiskRow) (epoch b : ℕ)
+      → content_where (chosen_state setting v) (counted setting v) o epoch b ≡ content_where (chosen_state setting w) (counted setting w) o epoch b
+  content_where_same None epoch b = refl
+  content_where_same (Some row) epoch b =
+      ap bytes_of (entry_named (chosen_state setting v) (counted setting v) row epoch b
+      ∙ (λ i. entry_over (is_between row b) (entry_same (named_cell row b) epoch i)
+      (option_and_then (λ chain. entry_at chain epoch) (frozen_same (old_cell row b) i)))
+      ∙ sym (entry_named (chosen_state setting w) (counted setting w) row epoch b))
 
-  pub blank_born : OfStores w (HasOnlyKnown setting w) → OfStores v (HasOnlyKnown setting v)
-  blank_born born = record {
-    now = all_put w.servers n (blanked (w.servers n))
-        (λ i (x : Server). (cell : Cell) → cell_link (state_in setting.servers x.log) cell ≡ None → chain_in x.own.store.chains cell ≡ []) born.now
-        (λ cell none. ap (λ o. unwrap_or {T = Chain} o []) (at-empty cell_cmp cell));
-    before = λ i b is cell none.
-        before_after setting w (HasOnlyKnown setting w) n born.before (of_stores setting w (HasOnlyKnown setting w) born n) i b is cell
-        (state_back i cell none);
-  }
+  has_where_same : (o : Option DiskRow) (epoch b : ℕ)
+      → has_content_where (chosen_state setting v) (counted setting v) o epoch b ≡ has_content_where (chosen_state setting w) (counted setting w) o epoch b
+  has_where_same None epoch b = refl
+  has_where_same (Some row) epoch b =
+      has_named (chosen_state setting v) (counted setting v) row epoch b
+      ∙ (λ i. has_over (is_between row b) (is_some (authority (state_same i) (named_cell row b))) (entry_same (named_cell row b) epoch i)
+      (is_some (frozen_same (old_cell row b) i)))
+      ∙ sym (has_named (chosen_state setting w) (counted setting w) row epoch b)
+
+  content_same : (disk epoch b : ℕ) → content_at setting v disk epoch b ≡ content_at setting w disk epoch b
+  content_same disk epoch b =
+      ap (λ s. content_where (chosen_state setting v) (counted setting v) (disk_at s.disks.rows disk) epoch b) state_same
+      ∙ content_where_same (disk_at (chosen_state setting w).disks.rows disk) epoch b
+
+  has_same : (disk epoch b : ℕ) → has_content_at setting v disk epoch b ≡ has_content_at setting w disk epoch b
+  has_same disk epoch b =
+      ap (λ s. has_content_where (chosen_state setting v) (counted setting v) (disk_at s.disks.rows disk) epoch b) state_same
+      ∙ has_where_same (disk_at (chosen_state setting w).disks.rows disk) epoch b
 
   -- ### What is told
 
   module _ (firm : Firm setting w) where
     blank_takes : takes (change_by setting w v) ≡ Some []
-    blank_takes = no_takes (change_by setting w v) (λ row h b.
-        sym (ap (λ s. content_where s (counted setting v) (disk_at s.disks.rows row.id) row.epoch b) state_same
-        ∙ ap (λ o. content_where (chosen_state setting w) (counted setting v) o row.epoch b) ((disks_now setting w firm).at row h)
-        ∙ held_same (cell_of_block row b) row.epoch (authority (chosen_state setting w) (cell_of_block row b))))
+    blank_takes = no_takes (change_by setting w v) (λ row h b has.
+        let at = (disks_now setting w firm).at row h in (
+          sym (ap (λ o. has_content_where (chosen_state setting w) (counted setting w) o row.epoch b) at) ∙ sym (has_same row.id row.epoch b) ∙ has,
+          sym (ap (λ o. content_where (chosen_state setting w) (counted setting w) o row.epoch b) at) ∙ sym (content_same row.id row.epoch b),
+        ))
 
     blank_makes : makes (change_by setting w v) ≡ []
     blank_makes = ap (λ s. map make_of (drop (length (rows_in setting w)) s.disks.rows)) state_same ∙ ap (map make_of) (drop_all (rows_in setting w))
@@ -148,20 +163,20 @@ module _ (setting : Setting) (w : World) (n stamp : ℕ) where
             record {
               disk = k.disk;
               is = k.is;
-              same = λ b has. k.same b (ap (λ s. has_content s row b) (sym state_same) ∙ has) ∙ sym (content_same row row.epoch b);
-              snapshots = snapshots_on k.disk.snaps row.snaps (has_content (chosen_state setting w) row) (has_content (chosen_state setting v) row)
-                  (content_in (chosen_state setting w) (counted setting w) row) (content_in (chosen_state setting v) (counted setting v) row)
-                  (λ b has. ap (λ s. has_content s row b) (sym state_same) ∙ has) (λ snap i b has. sym (content_same row snap.epoch b)) k.snapshots;
+              same = λ b has. k.same b (sym (has_same row.id row.epoch b) ∙ has) ∙ sym (content_same row.id row.epoch b);
+              snapshots = snapshots_on k.disk.snaps row.snaps (has_content_at setting w row.id) (has_content_at setting v row.id)
+                  (content_at setting w row.id) (content_at setting v row.id)
+                  (λ snap i b has. (sym (has_same row.id snap.epoch b) ∙ has, sym (content_same row.id snap.epoch b))) k.snapshots;
             };
         unknown = follow.stores.unknown;
         mindful = follow.stores.mindful;
       };
       seats = follow.seats;
       letters = follow.letters;
-      pending = λ i cell op on is counts still.
+      pending = λ i cell op on is clients counts still.
           let e = as_before i on in
           follow.pending i cell op (ap (λ (x : Server). x.life.running) (sym e) ∙ on)
-          (ap (λ (x : Server). at cell_cmp x.own.pairs.pending cell) (sym e) ∙ is) (counted_back i cell op e counts) still;
+          (ap (λ (x : Server). at cell_cmp x.own.pairs.pending cell) (sym e) ∙ is) clients (counted_back i cell op e counts) still;
       finished = λ i c last on is.
           let e = as_before i on in
           follow.finished i c last (ap (λ (x : Server). x.life.running) (sym e) ∙ on)

@@ -1,6 +1,6 @@
 -- A job changes at most one chain: that of an operation that is pending here, of one whose lead asked to follow, or of a cell whose
 -- link the other server holds alone, and copies to this one.
-use Rattle.std.proofs.Common.{◌≡◌, ◌+◌, ℕ, List, true, Some, refl, sym, ap, ◌∙◌, ◌≢◌, ◌<◌, ◌∷◌, ◌⊎◌, inl, inr}
+use Rattle.std.proofs.Common.{◌≡◌, ◌+◌, ℕ, List, [], true, false, Some, refl, sym, ap, ◌∙◌, ◌≢◌, ◌<◌, ◌∷◌, ◌⊎◌, inl, inr}
 use Rattle.petal_base.specs.declared.cell.Cell.{Cell}
 use Rattle.petal_base.specs.declared.cell.Key.{Key}
 use Rattle.petal_base.specs.Cells.{cell_of, key_at}
@@ -9,28 +9,35 @@ use Rattle.petal_msg.specs.declared.body.Body.{Body}
 use Rattle.petal_msg.specs.declared.body.Body.TheVariants as body
 use Rattle.petal_msg.specs.declared.copying.Copying.{Copying}
 use Rattle.petal_msg.specs.declared.copying.LastCopy.{LastCopy}
+use Rattle.petal_msg.specs.declared.dead.Dead.{Dead}
+use Rattle.petal_msg.specs.declared.dead.Dead.TheVariants as dead
+use Rattle.petal_msg.specs.declared.operation.Ending.TheVariants.{Full, Written}
 use Rattle.petal_msg.specs.declared.operation.Far.TheVariants as far
 use Rattle.petal_msg.specs.declared.operation.Pending.{Pending}
+use Rattle.petal_msg.specs.declared.operation.Stage.{Stage}
 use Rattle.petal_rules.specs.Copies.{Entry, cell_holder, epochs_beyond}
 use Rattle.petal_rules.specs.Progress.{last_copy, with_last_copy}
-use Rattle.petal_rules.specs.State.{is_in, is_second}
+use Rattle.petal_rules.specs.State.{is_in, is_second, live}
+use Rattle.petal_rules.specs.Sweeping.{without_dead}
 use Rattle.petal_rules.specs.Store.{Chain, Store, Stored, chain_in, chains_with, version_of, without_entry}
 use Rattle.petal_rules.specs.Server.{Own, Here, Done}
-use Rattle.petal_rules.specs.Writes.{pending_on, last_on}
-use Rattle.law_steps.specs.DidLead.{DidLead, Asks_for, Repeats, Is_full, Gives_up, Opens, Marks, Puts, Unmarks, Closes, Opens_alone, Marks_alone, Puts_alone, Unmarks_alone, Closes_alone}
+use Rattle.petal_rules.specs.Writes.{gives_back, pending_on, last_on, without_pending}
+use Rattle.law_steps.specs.DidLead.{DidLead, Asks_for, Repeats, Is_full, Gives_up, Opens, Marks, Puts, Unmarks, Closes, Opens_alone, Marks_alone, Puts_alone, Unmarks_alone, Closes_alone, Opens_fill, Opens_fill_alone, Has_fill, Has_no_room, Goes_on_dead, Taken}
 use Rattle.law_steps.specs.DidSecond.{DidSecond, Sets_apart, Promises, Declines, Follows}
 use Rattle.law_steps.specs.DidHolder.{DidHolder, CopyStep, TakenCopy, Asks_to_trim, Sends, Unmarks_copied, Closes_copy, Copy_as_is, Copy_trimmed, Copy_synced, Asks_page, Turns_page, Begins_copy, Goes_on_copying, Finds_it_full, Tidies}
 use Rattle.law_steps.specs.DidOther.{DidOther, TrimStep, first_last, Is_trimmed, Drops_entry, Answers_page, Is_copied_to, Goes_on_trimming, Puts_entry, Has_entry, Has_no_slot}
-use Rattle.law_steps.specs.Did.{Did, Ignores, Refuses, By_read, By_lead, By_second, By_holder, By_other}
+use Rattle.law_steps.specs.Did.{Did, Ignores, Refuses, By_read, By_lead, By_second, By_holder, By_other, By_filler, By_sweep}
 use Rattle.law_steps.specs.Happens.{IsSeated}
-use Rattle.law_steps.proofs.Subjects.{of_read, told_own}
+use Rattle.law_steps.specs.DidSweep.{Sweeps, cell_swept}
+use Rattle.law_steps.proofs.Subjects.{of_ending, of_filler, of_read, told_own}
 use Rattle.law_steps.proofs.Taking.{taking}
-use Rattle.law_copies.proofs.Chains.{chain_apart, copied_chains, drop_apart, page_chains}
+use Rattle.law_copies.proofs.Chains.{chain_apart, copied_chains, drop_apart, drop_none, page_chains}
 
 -- an operation that is pending here was put
 pub record PutsOwn (own new : Own) : Type 0 where
   pub op : Pending
   pub is : pending_on own op.cell ≡ Some op
+  pub unput : op.stage.put ≡ false
   pub entry : Stored
   pub bytes : entry.bytes ≡ op.bytes
   pub chains : new.store.chains ≡ chains_with own.store.chains op.key entry
@@ -82,13 +89,26 @@ copied_apart heard own cell chains (Is_dropped_first number epochs epoch h newer
 copied_apart heard own cell chains (Is_dropped last epoch epochs is beyond same) q ne =
     ap (λ c. chain_in c q) same ∙ drop_apart own.store (key_at cell epoch) q ne
 
+-- something goes of a cell that is not live
+pub record Drops (here : Here) (own new : Own) : Type 0 where
+  pub cell : Cell
+  pub seat : is_in here.state here.me here.inc ≡ true
+  pub off : live here.state cell ≡ false
+  pub others : (q : Cell) → q ≢ cell → chain_in new.store.chains q ≡ chain_in own.store.chains q
+  pub none : (q : Cell) → chain_in own.store.chains q ≡ [] → chain_in new.store.chains q ≡ []
+
 pub data StoresSo (heard : Body → Type 0) (here : Here) (own new : Own) : Type 0 where
   Nothing_new : new.store.chains ≡ own.store.chains → StoresSo heard here own new
   An_own : PutsOwn own new → StoresSo heard here own new
   An_asked : PutsAsked heard here own new → StoresSo heard here own new
   A_copy : PutsCopy heard here own new → StoresSo heard here own new
+  Of_the_dead : Drops here own new → StoresSo heard here own new
 
-module _ (heard : Body → Type 0) (here : Here) (own : Own) where
+-- no operation of a cell that is not live goes on
+abbrev pub NeverDead : Here → Own → Type 0
+NeverDead here own = (now : Own) (op : Pending) → Taken own now op → live here.state op.cell ≡ false → ⊥
+
+module _ (heard : Body → Type 0) (here : Here) (own : Own) (never : NeverDead here own) where
   abbrev S : Own → Type 0
   S new = StoresSo heard here own new
 
@@ -98,13 +118,15 @@ module _ (heard : Body → Type 0) (here : Here) (own : Own) where
   seated_only done (inr apart) stores = Nothing_new (ap (λ (o : Own). o.store.chains) apart.same)
 
   abbrev pub lead_stores : (done : Done) → DidLead heard here own done → S done.own
-  lead_stores _ (Puts op is both stage) = An_own (record { op = op; is = is; entry = _; bytes = refl; chains = refl })
+  lead_stores _ (Puts op is both stage) =
+      An_own (record { op = op; is = is; unput = ap (λ (x : Stage). x.put) stage; entry = _; bytes = refl; chains = refl })
   lead_stores _ (Puts_alone now op taken alone stale put) =
       let k = taking own now op taken in
       let entry : Stored = record { version = version_of (chain_in now.store.chains op.cell) + 1; bytes = op.bytes } in
       An_own (record {
         op = k.old;
         is = ap (λ (o : Pending). pending_on own o.cell) (sym k.is) ∙ k.was;
+        unput = ap (λ (o : Pending). o.stage.put) (sym k.is) ∙ put;
         entry = entry;
         bytes = ap (λ (o : Pending). o.bytes) k.is;
         chains = λ i. chains_with (k.store i).chains (k.is i).key entry;
@@ -112,15 +134,24 @@ module _ (heard : Body → Type 0) (here : Here) (own : Own) where
   lead_stores _ (Asks_for posts h) = Nothing_new refl
   lead_stores _ (Repeats want last h lead is e) = Nothing_new refl
   lead_stores _ (Is_full want new no_room) = Nothing_new refl
-  lead_stores _ (Gives_up op h is reserved put) = Nothing_new refl
+  lead_stores _ (Gives_up op h is reserved put) =
+      Nothing_new (ap (λ (x : Store). x.chains) (of_ending here (gives_back (without_pending own op.cell)) op op.kind Full).store)
   lead_stores _ (Opens want new both) = Nothing_new refl
   lead_stores _ (Marks op h is both stage) = Nothing_new refl
   lead_stores _ (Unmarks op h is both stage) = Nothing_new refl
-  lead_stores _ (Closes op is both stage) = Nothing_new refl
+  lead_stores _ (Closes op is both stage) =
+      Nothing_new (ap (λ (x : Store). x.chains) (of_ending here (without_pending own op.cell) op op.kind Written).store)
   lead_stores _ (Opens_alone want new alone) = Nothing_new refl
   lead_stores _ (Marks_alone now op taken alone fresh) = Nothing_new (λ i. ((taking own now op taken).store i).chains)
   lead_stores _ (Unmarks_alone now op taken alone stale put busy) = Nothing_new (λ i. ((taking own now op taken).store i).chains)
-  lead_stores _ (Closes_alone now op taken alone stale put free) = Nothing_new (λ i. ((taking own now op taken).store i).chains)
+  lead_stores _ (Closes_alone now op taken alone stale put free) =
+      Nothing_new (ap (λ (x : Store). x.chains) (of_ending here (without_pending now op.cell) op op.kind Written).store
+      ∙ λ i. ((taking own now op taken).store i).chains)
+  lead_stores _ (Opens_fill moving new room both) = Nothing_new refl
+  lead_stores _ (Opens_fill_alone moving new room alone) = Nothing_new refl
+  lead_stores _ (Has_fill moving filled) = Nothing_new refl
+  lead_stores _ (Has_no_room moving new no_room) = Nothing_new refl
+  lead_stores _ (Goes_on_dead now op taken off) = absurd (never now op taken off)
 
   abbrev pub second_stores : (done : Done) → IsSeated here own done → DidSecond heard here own done → S done.own
   second_stores _ seated (Sets_apart number c tickets h s le) = Nothing_new refl
@@ -212,6 +243,18 @@ module _ (heard : Body → Type 0) (here : Here) (own : Own) where
   as_stores (inl same) = Nothing_new same
   as_stores (inr copy) = A_copy copy
 
+  -- a sweep drops an entry, or a mark
+  pub swept : (what : Dead) → is_in here.state here.me here.inc ≡ true → live here.state (cell_swept what) ≡ false
+      → Drops here own (record own { store = without_dead own.store what })
+  swept (dead.Key key) seat off = record {
+    cell = cell_of key;
+    seat = seat;
+    off = off;
+    others = λ q ne. drop_apart own.store key q ne;
+    none = λ q empty. drop_none own.store key q empty;
+  }
+  swept (dead.Mark kind cell) seat off = record { cell = cell; seat = seat; off = off; others = λ q ne. refl; none = λ q empty. empty }
+
   abbrev pub did_stores : (done : Done) → IsSeated here own done → Did heard here own done → S done.own
   did_stores _ seated Ignores = Nothing_new refl
   did_stores _ seated (Refuses to said is why back) = Nothing_new refl
@@ -220,3 +263,5 @@ module _ (heard : Body → Type 0) (here : Here) (own : Own) where
   did_stores _ seated (By_second done d) = second_stores done seated d
   did_stores _ seated (By_holder done d) = Nothing_new (holder_chains done d)
   did_stores _ seated (By_other done d) = as_stores (other_changes done seated d)
+  did_stores _ seated (By_filler done d) = Nothing_new (ap (λ (x : Store). x.chains) (of_filler heard here own done d).store)
+  did_stores _ seated (By_sweep _ (Sweeps what seat next off)) = Of_the_dead (swept what seat off)

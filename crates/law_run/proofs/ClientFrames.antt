@@ -1,5 +1,8 @@
 -- What a client's step has to show so that servers and clients stay tied to the plain machine.
 use Rattle.std.proofs.Common.{◌≡◌, ◌≢◌, ◌≤◌, ◌<◌, ◌+◌, ℕ, List, [], Bool, true, false, Some, refl, sym, ap, ◌∙◌, subst, ◌⊎◌, inl, inr, arith}
+use Rattle.petal_machine.specs.declared.event.Event.{Event}
+use Rattle.std.specs.List.{flat_map}
+use Rattle.petal_rules.specs.Writes.{is_clients}
 use Rattle.std.specs.Ordering.{nat_cmp}
 use Rattle.petal_base.specs.declared.cell.Cell.{Cell}
 use Rattle.std.specs.Prelude.{map}
@@ -22,7 +25,7 @@ use Rattle.petal_rules.specs.Server.{Post, letters_of}
 use Rattle.petal_rules.specs.Clients.{Client, Reaction, client_sender}
 use Rattle.petal_rules.specs.World.{Setting, World, reacts, stamped, chosen_state, counted, kept}
 use Rattle.petal_rules.proofs.ListLemmas.{in-append}
-use Rattle.petal_history.specs.Contents.{content_where}
+use Rattle.petal_history.specs.Contents.{content_where, has_content_where}
 use Rattle.petal_history.specs.Events.{open_write, write_asked, change_by, freezes, takes, makes, make_of, looks, look_of}
 use Rattle.petal_history.specs.declared.record.Record.{Record}
 use Rattle.law_steps.specs.Operations.{done_to}
@@ -38,15 +41,16 @@ use Rattle.law_run.specs.Onward.{IsMindful, held_in, is_held, Seat}
 use Rattle.law_run.specs.Follow.{Ground, HasCounted, Is_told, Is_followed, Is_counted, Follow}
 use Rattle.law_run.proofs.Along.{Along, rows_in, disks_now}
 use Rattle.law_run.proofs.Freezes.{no_freezes}
-use Rattle.law_run.proofs.Looks.{is_data, no_look}
+use Rattle.law_run.proofs.Looks.{is_looked, no_look}
 use Rattle.law_run.proofs.Makes.{drop_all}
 use Rattle.law_run.proofs.Members.{all_empty}
 use Rattle.law_run.proofs.Takes.{no_takes}
 
 -- ### What clients send has no data
 
-ask_data : (said : Body) → is_ask said ≡ true → is_data said ≡ false
+ask_data : (said : Body) → is_ask said ≡ true → is_looked said ≡ false
 ask_data (body.Data seq bytes) e = let f : false ≡ true = e in absurd cc
+ask_data (body.NotHere seq) e = let f : false ≡ true = e in absurd cc
 ask_data _ e = refl
 
 one_client : {c d : ℕ} → actor.Client c ≡ actor.Client d → c ≡ d
@@ -95,12 +99,16 @@ module _ (this : ClientStep) where
   abbrev pub after_turn : Reaction → World
   after_turn reacted = (reacts this.w this.c this.stamp reacted).world
 
-  pub no_looks : (in_call : Bool) (reacted : Reaction) → Turn in_call reacted → looks lines this.later (reacts this.w this.c this.stamp reacted).letters ≡ []
+  -- what is told of the letters that it sends
+  abbrev pub look_here : (reacted : Reaction) → Letter → List Event
+  look_here reacted letter = look_of this.setting this.w (after_turn reacted) (actor.Client this.c) this.later letter letter.body
+
+  pub no_looks : (in_call : Bool) (reacted : Reaction) → Turn in_call reacted → flat_map (look_here reacted) (reacts this.w this.c this.stamp reacted).letters ≡ []
   no_looks in_call reacted turned =
-      all_empty (λ letter. look_of lines this.later letter letter.body) (stamped this.stamp (letters_of (client_sender this.c reacted.client) 0 reacted.posts))
+      all_empty (look_here reacted) (stamped this.stamp (letters_of (client_sender this.c reacted.client) 0 reacted.posts))
       (λ letter h. let s = said (client_sender this.c reacted.client) this.stamp 0 reacted.posts letter h in
-      no_look lines this.later letter letter.body
-      (ap is_data s.body ∙ ask_data s.post.body (turned_asks _ this.setting.servers lines this.c client in_call reacted turned s.post s.there)))
+      no_look this.setting this.w (after_turn reacted) (actor.Client this.c) this.later letter letter.body
+      (ap is_looked s.body ∙ ask_data s.post.body (turned_asks _ this.setting.servers lines this.c client in_call reacted turned s.post s.there)))
 
   pub unwritten : (in_call : Bool) (reacted : Reaction) → Turn in_call reacted → (post : Post) → In post reacted.posts
       → (seq : ℕ) → post.body ≢ body.Written seq
@@ -109,9 +117,11 @@ module _ (this : ClientStep) where
 
   -- no content changes, and nothing is chosen
   pub nothing_taken : (reacted : Reaction) → takes (change_by this.setting this.w (after_turn reacted)) ≡ Some []
-  nothing_taken reacted = no_takes (change_by this.setting this.w (after_turn reacted)) (λ row h b.
-      sym (ap (λ o. content_where (chosen_state this.setting this.w) (counted this.setting this.w) o row.epoch b)
-      ((disks_now this.setting this.w this.along.firm).at row h)))
+  nothing_taken reacted = no_takes (change_by this.setting this.w (after_turn reacted)) (λ row h b has.
+      let at = (disks_now this.setting this.w this.along.firm).at row h in (
+        sym (ap (λ o. has_content_where (chosen_state this.setting this.w) (counted this.setting this.w) o row.epoch b) at) ∙ has,
+        sym (ap (λ o. content_where (chosen_state this.setting this.w) (counted this.setting this.w) o row.epoch b) at),
+      ))
 
   pub nothing_made : (reacted : Reaction) → makes (change_by this.setting this.w (after_turn reacted)) ≡ []
   nothing_made reacted = ap (map make_of) (drop_all rows)
@@ -122,7 +132,7 @@ module _ (this : ClientStep) where
   -- ### The frame
 
   -- a reply was to a request of a number that the client had reached
-  reply_old : (letter : Letter) (from to : Actor) (seq : ℕ) → EndKnownAt this.setting this.state (seen this.ground.lives this.w) seq letter.rev from to
+  reply_old : (letter : Letter) (from to : Actor) (seq : ℕ) → EndKnownAt this.setting (seen this.ground.lives this.w) seq letter.rev from to
       → to ≡ actor.Client this.c → seq ≤ client.seq
   reply_old letter (actor.Server n) (actor.Client c) seq known e = subst (λ i. seq ≤ (this.w.clients i).seq) (one_client e) known.old
   reply_old letter (actor.Server n) (actor.Server k) seq known e = absurd known
@@ -131,7 +141,7 @@ module _ (this : ClientStep) where
   written_old : (letter : Letter) (seq : ℕ) → In letter this.w.sent → letter.to ≡ actor.Client this.c → letter.body ≡ body.Written seq → seq ≤ client.seq
   written_old letter seq h to says =
       reply_old letter letter.from letter.to seq
-      (subst (λ (b : Body). Known this.setting this.state (seen this.ground.lives this.w) letter.from letter.to letter.rev b) says
+      (subst (λ (b : Body). Known this.setting (seen this.ground.lives this.w) letter.from letter.to letter.rev b) says
       (this.ground.asking.letters letter h)) to
 
   finished_old : (n : ℕ) (last : Finished) → at nat_cmp (owns_of this.w n).pairs.finished this.c ≡ Some last → last.seq ≤ client.seq
@@ -160,17 +170,17 @@ module _ (this : ClientStep) where
         (λ is still. held_still last.seq (finished_old n last is) still (this.follow.finished n this.c last on is how)) j is
 
     pending : (n : ℕ) (cell : Cell) (op : Pending) → (this.w.servers n).life.running ≡ true → at cell_cmp (owns_of this.w n).pairs.pending cell ≡ Some op
-        → HasCounted this.setting this.w n cell op (chain_in (kept this.setting this.w n).chains cell)
+        → is_clients op.kind ≡ true → HasCounted this.setting this.w n cell op (chain_in (kept this.setting this.w n).chains cell)
         → IsOpen ((after_turn reacted).clients op.client) op.seq → is_held k op.client ≡ true
-    pending n cell op on is counted still =
+    pending n cell op on is clients counted still =
         all_put_apart this.w.clients this.c reacted.client
         (λ i x. op.client ≡ i → IsOpen x op.seq → is_held k i ≡ true)
         (λ i ne e open_now. ap held_in (turn.others i ne)
-        ∙ subst (λ j. is_held this.m j ≡ true) e (this.follow.pending n cell op on is counted (subst (λ j. IsOpen (this.w.clients j) op.seq) (sym e) open_now)))
+        ∙ subst (λ j. is_held this.m j ≡ true) e (this.follow.pending n cell op on is clients counted (subst (λ j. IsOpen (this.w.clients j) op.seq) (sym e) open_now)))
         (λ e open_now.
-        let old : op.seq ≤ client.seq = subst (λ j. op.seq ≤ (this.w.clients j).seq) e (this.ground.asking.pending n cell op is).known.sent.old in
+        let old : op.seq ≤ client.seq = subst (λ j. op.seq ≤ (this.w.clients j).seq) e (this.ground.asking.pending n cell op is clients).known.sent.old in
         held_still op.seq old open_now (λ was. subst (λ j. is_held this.m j ≡ true) e
-        (this.follow.pending n cell op on is counted (subst (λ j. IsOpen (this.w.clients j) op.seq) (sym e) was))))
+        (this.follow.pending n cell op on is clients counted (subst (λ j. IsOpen (this.w.clients j) op.seq) (sym e) was))))
         op.client refl still
 
     -- the servers' part is as before, and so is what is chosen
@@ -197,6 +207,6 @@ module _ (this : ClientStep) where
             said (client_sender this.c reacted.client) this.stamp 0 reacted.posts letter new in absurd (unwritten s.post s.there seq (sym s.body ∙ says))
         | inr old ↦ letters letter j seq old to says still
       ];
-      pending = λ n cell op on is counted still. pending n cell op on is (counted_back n cell op _ counted) still;
+      pending = λ n cell op on is clients counted still. pending n cell op on is clients (counted_back n cell op _ counted) still;
       finished = finished;
     }

@@ -1,5 +1,7 @@
 -- What the machine is told of a client's step is allowed, and keeps it tied to the world.
 use Rattle.std.proofs.Common.{◌≡◌, ◌<◌, ◌+◌, ℕ, List, [], ◌∷◌, ◌++◌, Bool, true, false, Option, Some, None, refl, sym, ap, ◌∙◌, subst, ◌⊎◌, inl, inr, arith, is_some}
+use Rattle.petal_state.specs.CellState.{cell_asked}
+use Rattle.std.specs.List.{flat_map}
 use Rattle.std.specs.Prelude.{if◌then◌else◌, length}
 use Rattle.petal_machine.specs.declared.event.Event.{Event}
 use Rattle.petal_machine.specs.declared.event.Event.TheVariants.{Begin, End}
@@ -21,13 +23,13 @@ use Rattle.script_lines.specs.declared.request.Request.{Request}
 use Rattle.script_lines.specs.declared.request.Request.TheVariants as request
 use Rattle.petal_rules.specs.State.{State, find, lead}
 use Rattle.petal_rules.specs.Writes.{ended}
-use Rattle.petal_rules.specs.Clients.{Client, Asked, Reaction, answers, Sight, is_read, is_write, cell_on, command_of, refusal, write_refusal}
+use Rattle.petal_rules.specs.Clients.{Client, Asked, Reaction, answers, Sight, is_read, is_write, command_of, refusal, write_refusal}
 use Rattle.petal_rules.specs.World.{World, reacts, next_line}
 use Rattle.petal_rules.proofs.ListLemmas.{put_same}
 use Rattle.petal_history.specs.Events as events
 use Rattle.petal_history.specs.Events.{open_write, write_asked, write_by, begun, end_of, change_by, freezes, takes, makes, looks, told_with}
 use Rattle.law_steps.specs.Happens.{Heard}
-use Rattle.law_steps.specs.Turned.{StaysOpen, IsCalled, OnlySays, IsReason, By_verdict, By_witness, IsJudged, Goes_on, Begins, Reads, Ends, Shown, Judges, IsSeenAs, Stops_it, Starts_it, Blanks_it, Has_no_space, Is_settled, answer_of}
+use Rattle.law_steps.specs.Turned.{StaysOpen, IsCalled, OnlySays, IsReason, By_verdict, By_witness, IsJudged, Goes_on, Begins, Reads, Ends, Shown, Judges, IsSeenAs, Stops_it, Starts_it, Blanks_it, Has_no_space, Is_settled, answer_of, Is_told}
 use Rattle.petal_rules.proofs.Tests.{by_bool, same_some, none_some}
 use Rattle.law_requests.specs.Asked.{IsOpen}
 use Rattle.law_run.specs.Onward.{held_in, is_held, Seat}
@@ -35,7 +37,7 @@ use Rattle.law_run.specs.Follow.{Follow}
 use Rattle.law_run.proofs.Along.{rows_in}
 use Rattle.law_run.proofs.Machine.{disks_after, after_mindful, begin_seat, begin_others, end_seat, end_others}
 use Rattle.law_run.proofs.Takes.{open_own}
-use Rattle.law_run.proofs.ClientFrames.{ClientStep, TurnFollow, Turn, after_turn, no_looks, unwritten, nothing_taken, nothing_made, nothing_frozen, turn_follow}
+use Rattle.law_run.proofs.ClientFrames.{ClientStep, TurnFollow, Turn, after_turn, no_looks, unwritten, nothing_taken, nothing_made, nothing_frozen, turn_follow, look_here}
 
 -- no write of this request
 not_write : (c seq : ℕ) (asked : Request) → is_read asked ≡ true → write_by c seq asked ≡ None
@@ -80,16 +82,16 @@ stays_back rev old new seq stays h = by old.asked new.asked refl refl stays
 refused_end : (state : State) (o : Option DiskView) (block : ℕ) (given : Answer) (opened : List Open) (write : Write) → write_refusal state o block ≡ Some given
     → IsUnderWay opened write → MayEnd opened write (end_of given)
 refused_end state None block given opened write e under_way = subst (λ g. MayEnd opened write (end_of g)) (same_some e) under_way
-refused_end state (Some disk) block given opened write e under_way = by_bool (is_some (lead state (cell_on disk block)))
+refused_end state (Some disk) block given opened write e under_way = by_bool (is_some (lead state (cell_asked state disk block false)))
     (λ t. none_some (ap (λ b. if b then None else Some answer.Unavailable) t) e)
     (λ f. subst (λ g. MayEnd opened write (end_of g)) (same_some (sym (ap (λ b. if b then None else Some answer.Unavailable) f) ∙ e)) under_way)
 
-judged_end : (c seq : ℕ) (asked : Request) (write : Write) (given : Answer) (state : State) (opened : List Open) → write_by c seq asked ≡ Some write
-    → refusal state asked ≡ Some given → IsUnderWay opened write → MayEnd opened write (end_of given)
+judged_end : (c seq : ℕ) (told : Bool) (asked : Request) (write : Write) (given : Answer) (state : State) (opened : List Open) → write_by c seq asked ≡ Some write
+    → refusal state told asked ≡ Some given → IsUnderWay opened write → MayEnd opened write (end_of given)
 unfolding refusal
-judged_end c seq (request.Write name block pattern) write given state opened is e under_way =
+judged_end c seq told (request.Write name block pattern) write given state opened is e under_way =
     refused_end state (find state name) block given opened write e under_way
-judged_end c seq _ write given state opened is e under_way = none_some refl is
+judged_end c seq told _ write given state opened is e under_way = none_some refl is
 
 -- a write has no command of its own
 no_command : (c seq : ℕ) (asked : Request) (write : Write) → write_by c seq asked ≡ Some write → command_of c seq asked ≡ None
@@ -108,7 +110,7 @@ module _ (this : ClientStep) where
     pub es : List Event
     pub is : told_with (begins_by this.c in_call (after_turn this reacted)) (takes (change_by this.setting this.w (after_turn this reacted)))
         (makes (change_by this.setting this.w (after_turn this reacted)) ++ freezes (change_by this.setting this.w (after_turn this reacted))
-        ++ looks lines this.later (reacts this.w this.c this.stamp reacted).letters
+        ++ flat_map (look_here this reacted) (reacts this.w this.c this.stamp reacted).letters
         ++ events.ended (open_write this.w this.c) reacted.answer) ≡ Some es
     pub may : Obeys this.m es
     pub follows : Follow this.setting (rows_in this.setting this.w) (after_turn this reacted) (replay this.m es)
@@ -147,6 +149,22 @@ module _ (this : ClientStep) where
       (sym (stays_write (length reacted.client.applied) this.c client.asked reacted.client.asked stays)) (this.follow.seats this.c))
       (λ seq h. inl (stays_back (length reacted.client.applied) client reacted.client seq stays h, λ t. t)))
 
+  -- a read that was told that the new map has nothing stays open
+  told_told : (reacted : Reaction) (asked : Asked) (h : Heard this.w (actor.Client this.c) asked.rev (body.NotHere asked.seq))
+      (is : client.asked ≡ Some asked) (reads : is_read asked.request ≡ true) (seq : reacted.client.seq ≡ client.seq)
+      (stays : StaysOpen (length reacted.client.applied) (Some (record asked { told = true; old_way = true })) reacted.client.asked)
+      (only : OnlySays this.setting.servers this.c reacted) → ClientTold false reacted
+  told_told reacted asked h is reads seq stays only =
+      let turned : Asked = record asked { told = true; old_way = true } in
+      let rev = length reacted.client.applied in
+      silent false reacted (Is_told reacted asked h is reads seq stays only) refl (unanswered reacted only)
+      (quiet_turn reacted.client
+      (subst (λ o. Seat o (open_of this.m.opened this.c))
+      (ap (write_asked this.c) is ∙ sym (stays_write rev this.c (Some turned) reacted.client.asked stays)) (this.follow.seats this.c))
+      (λ number o.
+      let b = stays_back rev (record client { asked = Some turned }) reacted.client number stays o in
+      inl (record { asked = asked; is = is; same = ap (λ (a : Asked). a.seq) (same_some b.is) ∙ b.same }, λ t. t)))
+
   -- nothing was open
   no_write : client.asked ≡ None → open_write this.w this.c ≡ None
   no_write free = ap (write_asked this.c) free
@@ -158,7 +176,7 @@ module _ (this : ClientStep) where
   open_now reacted = ap (λ (x : Client). write_asked this.c x.asked) (put_same this.w.clients this.c reacted.client)
 
   begins_told : (reacted : Reaction) (line : Line) (asked : Asked) (is : next_line lines this.c client ≡ Some line) (free : client.asked ≡ None)
-      (seq : reacted.client.seq ≡ client.seq + 1) (there : reacted.client.asked ≡ Some asked) (called : IsCalled line (client.seq + 1) asked)
+      (seq : reacted.client.seq ≡ client.seq + 1) (there : reacted.client.asked ≡ Some asked) (called : IsCalled line (client.seq + 1) (length client.applied) asked)
       (only : OnlySays this.setting.servers this.c reacted) → ClientTold true reacted
   begins_told reacted line asked is free seq there called only = by (write_by this.c (client.seq + 1) line.request) refl
     where
@@ -270,7 +288,7 @@ module _ (this : ClientStep) where
           → MayEnd this.m.opened write (end_of given)
       may_so write e under_way state entry (By_verdict command own verdict) = none_some (no_command this.c asked.seq asked.request write e) own
       may_so write e under_way state entry (By_witness none own refused) =
-          judged_end this.c asked.seq asked.request write given state this.m.opened e refused under_way
+          judged_end this.c asked.seq asked.told asked.request write given state this.m.opened e refused under_way
 
       by : (o : Option Write) → write_by this.c asked.seq asked.request ≡ o → ClientTold false reacted
       by None e =
@@ -304,6 +322,7 @@ module _ (this : ClientStep) where
   pub turn_told : (in_call : Bool) (reacted : Reaction) → Turn this in_call reacted
       → ClientTold in_call reacted
   turn_told _ _ (Goes_on reacted seq stays only) = goes_on_told reacted seq stays only
+  turn_told _ _ (Is_told reacted asked h is reads seq stays only) = told_told reacted asked h is reads seq stays only
   turn_told _ _ (Begins reacted line asked is free seq there called only) = begins_told reacted line asked is free seq there called only
   turn_told _ _ (Reads asked bytes h is reads) = reads_told asked bytes h is reads
   turn_told _ _ (Ends asked how h is writes) = ends_told asked how h is writes

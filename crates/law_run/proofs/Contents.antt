@@ -9,17 +9,16 @@ use Rattle.petal_machine.specs.Run.{IsOpen as IsUnderWay, Obeys, replay}
 use Rattle.petal_rules.specs.Lists.{In}
 use Rattle.petal_rules.specs.World.{World, chosen_state, counted}
 use Rattle.petal_rules.proofs.Tests.{none_some, same_some}
-use Rattle.petal_history.specs.Contents.{content_in, has_content}
-use Rattle.petal_history.specs.Events.{Change, change_by, before_step, after_step, blocks_in, open_write, takes}
-use Rattle.law_state.proofs.Steady.{log_below}
+use Rattle.petal_history.specs.Contents.{content_at, content_where, has_content_at, has_content_where}
+use Rattle.petal_history.specs.Events.{Change, change_by, before_step, blocks_in, had_content, open_write, takes}
 use Rattle.law_run.specs.Onward.{held_in, Onward, Seat}
 use Rattle.law_run.specs.Follow.{Stores}
-use Rattle.law_run.proofs.Along.{rows_in, disks_now, after_is, had_content, has_is}
+use Rattle.law_run.proofs.Along.{rows_in, disks_now}
 use Rattle.law_run.proofs.Frames.{OwnFollow, SaysOk, CountsOk, own_follow}
 use Rattle.law_run.proofs.Machine.{IsTake, Nearly, AllTaken, all_taken, seat_onward, stands_held}
 use Rattle.law_run.proofs.Snapshots.{snapshots_on}
 use Rattle.law_run.proofs.Steps.{ServerStep, TakesTold, new, later_world}
-use Rattle.law_run.proofs.Takes.{Gives, AreTold, has_then, takes_told}
+use Rattle.law_run.proofs.Takes.{Gives, IsAsBefore, AreTold, takes_told}
 
 module _ (this : ServerStep) where
   abbrev v : World
@@ -31,16 +30,23 @@ module _ (this : ServerStep) where
   abbrev change : Change
   change = change_by this.setting this.w v
 
-  -- what counts before the step, and after it
+  -- the contents before the step and after it, and whether there are any
   abbrev pub was_kept : DiskRow → (epoch block : ℕ) → List ℕ
-  was_kept = content_in (chosen_state this.setting this.w) (counted this.setting this.w)
+  was_kept row = content_at this.setting this.w row.id
 
   abbrev pub now_kept : DiskRow → (epoch block : ℕ) → List ℕ
-  now_kept = content_in (chosen_state this.setting v) (counted this.setting v)
+  now_kept row = content_at this.setting v row.id
 
-  -- the block has a content after the step
-  abbrev pub now_has : DiskRow → ℕ → Bool
-  now_has = has_content (chosen_state this.setting v)
+  abbrev pub was_has : DiskRow → (epoch block : ℕ) → Bool
+  was_has row = has_content_at this.setting this.w row.id
+
+  abbrev pub now_has : DiskRow → (epoch block : ℕ) → Bool
+  now_has row = has_content_at this.setting v row.id
+
+  -- a block's content at an epoch stays, where it has one after the step
+  abbrev pub StaysAt : DiskRow → (epoch block : ℕ) → Type 0
+  StaysAt row epoch block =
+      now_has row epoch block ≡ true → (was_has row epoch block ≡ true) × (was_kept row epoch block ≡ now_kept row epoch block)
 
   -- a write under way gives a block its new content at the disk's epoch, and a server has an entry of the block; its contents at epochs below
   -- stay
@@ -51,11 +57,11 @@ module _ (this : ServerStep) where
     pub disk_is : write.disk ≡ row.name
     pub block_is : write.block ≡ block
     pub bytes_is : write.bytes ≡ now_kept row row.epoch block
-    pub below : (epoch : ℕ) → epoch < row.epoch → was_kept row epoch block ≡ now_kept row epoch block
+    pub below : (epoch : ℕ) → epoch < row.epoch → StaysAt row epoch block
     pub looked : In block (blocks_in this.setting (counted this.setting v))
 
   abbrev pub AreGiven : Type 0
-  AreGiven = (row : DiskRow) → In row rows → (b : ℕ) → now_has row b ≡ true → ((epoch : ℕ) → was_kept row epoch b ≡ now_kept row epoch b) ⊎ IsGiven row b
+  AreGiven = (row : DiskRow) → In row rows → (b : ℕ) → ((epoch : ℕ) → StaysAt row epoch b) ⊎ IsGiven row b
 
   -- the machine after the takes
   pub record Taken : Type 0 where
@@ -63,7 +69,7 @@ module _ (this : ServerStep) where
     pub is : takes change ≡ Some es
     pub may : Obeys this.m es
     pub onward : Onward this.m (replay this.m es)
-    pub stores : Stores (chosen_state this.setting v) rows (counted this.setting v) (replay this.m es)
+    pub stores : Stores this.setting rows v (replay this.m es)
 
   is_named : (row : DiskRow) → In row rows → named rows row.name ≡ Some row
   is_named row h = (disks_now this.setting this.w this.along.firm).named row h
@@ -72,23 +78,25 @@ module _ (this : ServerStep) where
   apart one other h g e = same_some (sym (is_named one h) ∙ ap (named rows) e ∙ is_named other g)
 
   module _ (given : AreGiven) where
-    after : (row : DiskRow) → In row rows → (b : ℕ) → after_step change row b ≡ now_kept row row.epoch b
-    after = after_is this.setting this.w v this.along.firm this.next.firm this.grown
+    -- before the step the disk is this row
+    before : (row : DiskRow) → In row rows → (b : ℕ) → before_step change row b ≡ was_kept row row.epoch b
+    before row h b = sym (ap (λ o. content_where (chosen_state this.setting this.w) (counted this.setting this.w) o row.epoch b)
+        ((disks_now this.setting this.w this.along.firm).at row h))
 
-    has : (row : DiskRow) → In row rows → (b : ℕ) → has_then change row b ≡ now_has row b
-    has = has_is this.setting this.w v this.along.firm this.next.firm this.grown
+    had_so : (row : DiskRow) → In row rows → (b : ℕ) → had_content change row b ≡ was_has row row.epoch b
+    had_so row h b = sym (ap (λ o. has_content_where (chosen_state this.setting this.w) (counted this.setting this.w) o row.epoch b)
+        ((disks_now this.setting this.w this.along.firm).at row h))
 
-    gives : (row : DiskRow) → In row rows → (b : ℕ) → has_then change row b ≡ true
-        → (before_step change row b ≡ after_step change row b) ⊎ Gives change row b
-    gives row h b there = elim (given row h b (sym (has row h b) ∙ there)) [
-      | inl same ↦ inl (same row.epoch ∙ sym (after row h b))
+    gives : (row : DiskRow) → In row rows → (b : ℕ) → now_has row row.epoch b ≡ true → IsAsBefore change row b ⊎ Gives change row b
+    gives row h b there = elim (given row h b) [
+      | inl same ↦ (let k = same row.epoch there in inl (had_so row h b ∙ k.0, before row h b ∙ k.1))
       | inr g ↦ inr (record {
         write = g.write;
         within = g.within;
         under_way = g.under_way;
         disk_is = g.disk_is;
         block_is = g.block_is;
-        bytes_is = g.bytes_is ∙ sym (after row h b);
+        bytes_is = g.bytes_is;
         looked = g.looked;
       })
     ]
@@ -102,7 +110,7 @@ module _ (this : ServerStep) where
         subst (λ o. Seat o (open_of this.m.opened write.client)) is (this.follow.seats write.client) in
         record { held = seat.0; is = seat.1 }
 
-    each : (e : Event) → In e told.es → IsTake rows apart now_has now_kept this.m e
+    each : (e : Event) → In e told.es → IsTake rows apart (λ r. now_has r) (λ r. now_kept r) this.m e
     each e h =
         let t = told.each e h in
         record {
@@ -114,26 +122,21 @@ module _ (this : ServerStep) where
           seat = under_way t.it.write t.it.under_way;
           disk_is = t.it.disk_is;
           block_is = t.it.block_is;
-          bytes_is = t.it.bytes_is ∙ after t.row t.there t.block;
+          bytes_is = t.it.bytes_is;
         }
 
-    had : (row : DiskRow) → In row rows → (b : ℕ) → now_has row b ≡ true → has_content (chosen_state this.setting this.w) row b ≡ true
-    had = had_content this.setting this.w v this.along.firm this.next.firm
-        (log_below this.setting.servers _ _ this.next.firm.plain this.grows)
-
     -- the contents at epochs below that of the disk stay
-    below : (row : DiskRow) → In row rows → (b : ℕ) → now_has row b ≡ true → (epoch : ℕ) → epoch < row.epoch
-        → was_kept row epoch b ≡ now_kept row epoch b
-    below row h b there epoch lt = elim (given row h b there) [ inl same ↦ same epoch | inr g ↦ g.below epoch lt ]
+    below : (row : DiskRow) → In row rows → (b epoch : ℕ) → epoch < row.epoch → StaysAt row epoch b
+    below row h b epoch lt = elim (given row h b) [ inl same ↦ same epoch | inr g ↦ g.below epoch lt ]
 
-    near : (row : DiskRow) → In row rows → Nearly rows apart now_has now_kept this.m told.es row
+    near : (row : DiskRow) → In row rows → Nearly rows apart (λ r. now_has r) (λ r. now_kept r) this.m told.es row
     near row h =
         let k = this.follow.stores.known row h in
         record {
           disk = k.disk;
           is = k.is;
-          same = λ b there. elim (told.all row h b (has row h b ∙ there)) [
-            | inl same ↦ inl (k.same b (had row h b there) ∙ same ∙ after row h b)
+          same = λ b there. elim (told.all row h b there) [
+            | inl same ↦ inl (k.same b (sym (had_so row h b) ∙ same.0) ∙ sym (before row h b) ∙ same.1)
             | inr come ↦ inr (record {
               write = come.2.write;
               there = subst (λ e. In e told.es) come.2.is come.1;
@@ -141,15 +144,14 @@ module _ (this : ServerStep) where
               block_is = come.2.block_is;
             })
           ];
-          snapshots = snapshots_on k.disk.snaps row.snaps (has_content (chosen_state this.setting this.w) row) (now_has row) (was_kept row) (now_kept row)
-              (had row h)
-              (λ snap i b there. below row h b there snap.epoch ((disks_now this.setting this.w this.along.firm).before row snap h i)) k.snapshots;
+          snapshots = snapshots_on k.disk.snaps row.snaps (was_has row) (now_has row) (was_kept row) (now_kept row)
+              (λ snap i b there. below row h b snap.epoch ((disks_now this.setting this.w this.along.firm).before row snap h i) there) k.snapshots;
         }
 
     pub all_given : Taken
     all_given =
-        let t : AllTaken rows apart now_has now_kept this.m told.es =
-        all_taken rows apart now_has now_kept told.es this.m this.follow.stores.mindful each near in
+        let t : AllTaken rows apart (λ r. now_has r) (λ r. now_kept r) this.m told.es =
+        all_taken rows apart (λ r. now_has r) (λ r. now_kept r) told.es this.m this.follow.stores.mindful each near in
         record {
           es = told.es;
           is = told.told;
@@ -163,8 +165,8 @@ module _ (this : ServerStep) where
         }
 
   -- a write of what its block then has has had its bytes
-  pub given_held : (k : Plain) → Onward this.m k → Stores (chosen_state this.setting v) rows (counted this.setting v) k → (row : DiskRow)
-      → In row rows → (block c : ℕ) (write : Write) → now_has row block ≡ true
+  pub given_held : (k : Plain) → Onward this.m k → Stores this.setting rows v k → (row : DiskRow)
+      → In row rows → (block c : ℕ) (write : Write) → now_has row row.epoch block ≡ true
       → open_write this.w c ≡ Some write → write.disk ≡ row.name → write.block ≡ block → write.bytes ≡ now_kept row row.epoch block
       → held_in (open_of k.opened c) ≡ true
   given_held k onward stores row h block c write has is disk_is block_is bytes_is =

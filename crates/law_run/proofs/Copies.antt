@@ -1,6 +1,6 @@
 -- A copy changes the chain of a cell only at a server whose copy doesn't count: the other server of the link holds it alone, and has the
 -- block left to copy.
-use Rattle.std.proofs.Common.{◌≡◌, ◌≢◌, ◌==◌, ◌||◌, ℕ, Bool, List, [], ◌∷◌, true, Option, Some, refl, sym, ap, ◌∙◌, subst, ◌⊎◌, inl, inr, arith}
+use Rattle.std.proofs.Common.{◌≡◌, ◌≢◌, ◌==◌, ◌||◌, ℕ, Bool, List, [], ◌∷◌, true, Option, Some, refl, sym, ap, ◌∙◌, subst, ◌⊎◌, inl, inr, arith, None}
 use Rattle.global_tables.specs.Link.{has_server, other_of}
 use Rattle.global_tables.specs.declared.link.LinkRow.{LinkRow}
 use Rattle.global_tables.specs.declared.link.LinkState.TheVariants.{Both, Only, Lost}
@@ -14,7 +14,7 @@ use Rattle.petal_msg.specs.declared.copying.LastCopy.{LastCopy}
 use Rattle.petal_history.specs.Claims.{IsPrefix}
 use Rattle.petal_rules.specs.Copies.{epochs_beyond}
 use Rattle.petal_rules.specs.Server.{Own}
-use Rattle.petal_rules.specs.State.{State, authority, id_of}
+use Rattle.petal_rules.specs.State.{State, authority, id_of, live}
 use Rattle.petal_rules.specs.Store.{Chain}
 use Rattle.petal_rules.specs.World.{Setting, World, chosen_log, chosen_state, kept, server_state}
 use Rattle.petal_rules.proofs.Tests.{by_bool, none_some, same_numbers, same_some}
@@ -22,21 +22,21 @@ use Rattle.law_state.specs.Firm.{Firm}
 use Rattle.law_state.specs.Rows.{IsLater}
 use Rattle.law_state.specs.Started.{is_flagged}
 use Rattle.law_state.proofs.Caughts.{alone_by}
-use Rattle.law_state.proofs.Cells.{alone_authority, lost_authority}
+use Rattle.law_state.proofs.Cells.{alone_authority, dead_authority, lost_authority}
 use Rattle.law_steps.specs.Happens.{Handled, own_place}
 use Rattle.law_steps.proofs.Fronts.{front_itself}
-use Rattle.law_steps.proofs.Histories.{chosen_steady, own_steady}
+use Rattle.law_steps.proofs.Histories.{own_steady}
 use Rattle.law_copies.specs.Copied.{AreCopying, IsCaught, IsLastCopy, IsLeft, IsTold, IsTrimming, HasSent, links_of}
 use Rattle.law_copies.specs.Pair.{owns_of}
 use Rattle.law_copies.specs.Steps.{IsLeftBy}
-use Rattle.law_copies.specs.Visits.{IsLinked, place_by}
+use Rattle.law_copies.specs.Visits.{IsLinked, place_by, AliveIn}
 use Rattle.law_copies.proofs.Lasts.{of_last, past_last, past_of}
 use Rattle.law_copies.proofs.Later.{alone_or_flagged, been_below, holder_is_one, other_than, unseen_beyond}
 use Rattle.law_copies.proofs.Others.{IsOther, held_by, other_apart}
-use Rattle.law_copies.proofs.Places.{fronts_meet, linked_on, one_row, places_up, rows_later}
+use Rattle.law_copies.proofs.Places.{fronts_meet, one_row, places_up, rows_later, alive_on, linked_alive}
 use Rattle.law_run.specs.Follow.{Ground}
 use Rattle.law_run.proofs.Chains.{CopiesSo, Is_put, Is_dropped, Is_dropped_first, PutsCopy}
-use Rattle.law_run.proofs.Seats.{IsSharing, visit_here}
+use Rattle.law_run.proofs.Seats.{IsSharing, visit_here, alive_here}
 
 -- ### The block is left to copy at the holder
 
@@ -78,9 +78,13 @@ nothing_left : {row : LinkRow} {cell : Cell} (own : Own) → IsCaught own row ce
 nothing_left own caught (inl marked) = caught.unmarked marked
 nothing_left own caught (inr whole) = caught.copied whole.0 whole.1
 
+-- a cell of which a copy counts is live
+pub counted_lives : (state : State) (cell : Cell) (n : ℕ) → authority state cell ≡ Some n → live state cell ≡ true
+counted_lives state cell n counts = by_bool (live state cell) (λ t. t) (λ f. none_some (dead_authority state cell f) counts)
+
 module _ (setting : Setting) (state : State) (w : World) (firm : Firm setting w) (ground : Ground setting state w) (n : ℕ)
     (runs : (w.servers n).life.running ≡ true) (new : Own)
-    (puts : PutsCopy (Handled w n) (own_place setting w n) (owns_of w n) new) where
+    (puts : PutsCopy (Handled w n) (own_place setting w n) (owns_of w n) new) (alive : AliveIn (chosen_state setting w) puts.cell) where
   abbrev chosen : List Command
   chosen = chosen_log setting w
 
@@ -117,6 +121,9 @@ module _ (setting : Setting) (state : State) (w : World) (firm : Firm setting w)
   abbrev place : ℕ
   place = place_by setting (own_front n) link
 
+  own_alive : AliveIn (server_state setting w n) cell
+  own_alive = alive_here setting state w firm ground n cell alive
+
   -- what the holder was at the place
   abbrev visit : Option Own
   visit = ground.good.visits h place cell
@@ -134,7 +141,7 @@ module _ (setting : Setting) (state : State) (w : World) (firm : Firm setting w)
   other = other_than h n link holds there.1.one_of (by_bool (h == n) (λ t. absurd (apart (same_numbers h n t))) (λ f. f))
 
   own_visit : ground.good.visits (other_of h link) place cell ≡ Some (owns_of w n)
-  own_visit = ap (λ k. ground.good.visits k place cell) other ∙ visit_here setting state w firm ground n cell link runs puts.seat there.1.is
+  own_visit = ap (λ k. ground.good.visits k place cell) other ∙ visit_here setting state w firm ground n cell link runs puts.seat there.1.is own_alive
 
   abbrev links : ℕ
   links = links_of (server_state setting w n) cell.map
@@ -146,7 +153,7 @@ module _ (setting : Setting) (state : State) (w : World) (firm : Firm setting w)
   told : (said : Body) → Handled w n said → (about said).cell ≡ Some cell → IsTold link visit (Some (owns_of w n)) said
   told said heard of =
       let front = own_front n in
-      let letter = (ground.good.letters heard.letter heard.sent front cell link (firm.servers n) (sym heard.at) there.1.is).alone h alone.0 alone.1 in
+      let letter = (ground.good.letters heard.letter heard.sent front cell link (firm.servers n) (sym heard.at) there.1.is own_alive).alone h alone.0 alone.1 in
       let both : Body → Type 0 = λ b. IsTold link visit (ground.good.visits (other_of h link) place cell) b in
       subst (λ o. IsTold link visit o said) own_visit (subst (λ (b : Body). (about b).cell ≡ Some cell → both b) heard.is letter of)
 
@@ -174,6 +181,7 @@ module _ (setting : Setting) (state : State) (w : World) (firm : Firm setting w)
   holds_still c more now one two end =
       elim (alone_or_flagged setting ground.records w (λ k. kept setting w k) firm ground.good ground.started
       (own_front n) more cell c.row now c.holder c.whole one two c.linked c.alone end
+      (alive_on setting chosen firm.plain more chosen cell two (front_itself chosen) alive)
       (λ place lt. ap (λ k. ground.good.visits k place cell) c.other
       ∙ unseen_beyond setting ground.records w (λ k. kept setting w k) firm ground.good n cell c.row c.linked place lt)) [
         | inl still ↦ inl (still.0, still.1)
@@ -193,13 +201,13 @@ module _ (setting : Setting) (state : State) (w : World) (firm : Firm setting w)
   pub copied_uncounted : authority (chosen_state setting w) cell ≡ Some n → ⊥
   copied_uncounted counts =
       let c = copied_to in
-      let now = linked_on setting chosen firm.plain (own_front n) chosen cell c.row (firm.servers n) (front_itself chosen) c.linked in
-      let steady = chosen_steady setting w firm in
+      let now = linked_alive setting chosen firm.plain (own_front n) chosen cell c.row (firm.servers n) (front_itself chosen) c.linked alive in
+      let lives = counted_lives (chosen_state setting w) cell n counts in
       elim (holds_still c chosen now.0 (firm.servers n) (front_itself chosen) now.1) [
         | inl only ↦
-            let holder = alone_authority (chosen_state setting w) cell now.0 now.1 (steady.linked cell now.0 now.1) c.holder only.0 only.1 in
+            let holder = alone_authority (chosen_state setting w) cell now.0 now.1 lives c.holder only.0 only.1 in
             c.apart (same_some (sym holder ∙ counts))
-        | inr lost ↦ none_some (lost_authority (chosen_state setting w) cell now.0 now.1 (steady.linked cell now.0 now.1) lost) counts
+        | inr lost ↦ none_some (lost_authority (chosen_state setting w) cell now.0 now.1 lives lost) counts
       ]
 
   -- and it is not the second one of a server that has the link in Both by its own state

@@ -17,11 +17,11 @@ use Rattle.law_steps.specs.Ready.{IsRising}
 over : (a b : ℕ) → b < a → nat_le a b ≡ false
 over a b lt = grind (arith, nat_tests, lt)
 
-within : (a b : ℕ) → a ≤ b → nat_le a b ≡ true
+pub within : (a b : ℕ) → a ≤ b → nat_le a b ≡ true
 within a b le = grind (arith, nat_tests, le)
 
 -- the entry of an epoch, by the first row
-abbrev first_so : Bool → Chain → (epoch : ℕ) → Stored → Option Stored
+abbrev pub first_so : Bool → Chain → (epoch : ℕ) → Stored → Option Stored
 first_so b later epoch entry = cond b (Some (or_else (entry_at later epoch) entry)) None
 
 -- where the rows are of later epochs there is none

@@ -19,7 +19,8 @@ use Rattle.petal_rules.specs.Log.{state_in}
 use Rattle.petal_rules.specs.State.{authority, in_both}
 use Rattle.petal_rules.specs.Store.{Chain, Store, cell_cmp, chain_in}
 use Rattle.petal_rules.specs.Server.{Own, Pairs, Server, no_pairs}
-use Rattle.petal_rules.specs.World.{World, chosen_log, chosen_state, counted, kept, server_state}
+use Rattle.petal_rules.specs.Writes.{is_clients}
+use Rattle.petal_rules.specs.World.{World, chosen_log, chosen_state, kept, server_state}
 use Rattle.petal_rules.proofs.ListLemmas.{in-append, put_same, put_apart}
 use Rattle.petal_rules.proofs.Tests.{none_some, same_or_apart, same_some}
 use Rattle.petal_history.specs.Claims.{IsPrefix}
@@ -30,13 +31,13 @@ use Rattle.law_steps.proofs.Fronts.{front_itself}
 use Rattle.law_steps.proofs.Histories.{own_steady}
 use Rattle.law_stores.specs.Waiting.{IsOwn}
 use Rattle.law_copies.specs.Pair.{owns_of}
-use Rattle.law_copies.specs.Visits.{IsLinked, place_by}
-use Rattle.law_copies.proofs.Places.{linked_on, one_row, places_up, rows_later}
+use Rattle.law_copies.specs.Visits.{IsLinked, place_by, AliveIn}
+use Rattle.law_copies.proofs.Places.{linked_between, one_row, places_up, rows_later}
 use Rattle.law_requests.specs.Asked.{IsOpen}
 use Rattle.law_run.specs.Onward.{is_held, Onward}
 use Rattle.law_run.specs.Follow.{HasCounted, Is_told, Is_followed, Is_counted, Follow, Stores}
 use Rattle.law_run.proofs.Leaving.{Leaves, As_it_was, In_place, Goes_further, Boots, serves_leaves}
-use Rattle.law_run.proofs.Seats.{IsSharing, op_seat, op_shared, shared_before}
+use Rattle.law_run.proofs.Seats.{IsSharing, op_seat, op_shared, shared_before, op_alive}
 use Rattle.law_run.proofs.Filled.{serving_same}
 use Rattle.law_run.proofs.Along.{rows_in}
 use Rattle.law_run.proofs.Machine.{seat_onward, held_onward}
@@ -64,11 +65,11 @@ module _ (this : ServerStep) (k : Plain) where
     pub finished : (c : ℕ) (last : Finished) → Runs this → at nat_cmp after.pairs.finished c ≡ Some last → last.ending ≡ ending.Written
         → IsOpen (this.w.clients c) last.seq → is_held k c ≡ true
     pub as_lead : (cell : Cell) (op : Pending) → Runs this → at cell_cmp after.pairs.pending cell ≡ Some op
-        → HasCounted this.setting this.w this.n cell op (chain_in after.store.chains cell) → IsOpen (this.w.clients op.client) op.seq
+        → is_clients op.kind ≡ true → HasCounted this.setting this.w this.n cell op (chain_in after.store.chains cell) → IsOpen (this.w.clients op.client) op.seq
         → is_held k op.client ≡ true
     pub as_second : joined_now this this.n ≡ joined_then this this.n → (cell : Cell) (p : ℕ) (op : Pending) (row : LinkRow)
         → IsSharing this.setting this.state this.w this.along.firm this.ground p cell row
-        → row.primary ≡ p → row.secondary ≡ this.n → at cell_cmp (owns_of this.w p).pairs.pending cell ≡ Some op → op.stage.put ≡ true
+        → row.primary ≡ p → row.secondary ≡ this.n → at cell_cmp (owns_of this.w p).pairs.pending cell ≡ Some op → is_clients op.kind ≡ true → op.stage.put ≡ true
         → IsOpen (this.w.clients op.client) op.seq
         → chain_in (kept this.setting this.w p).chains cell ≡ chain_in (kept this.setting v this.n).chains cell
         → (chain_in (kept this.setting this.w p).chains cell ≡ chain_in (kept this.setting this.w this.n).chains cell)
@@ -82,7 +83,7 @@ module _ (this : ServerStep) (k : Plain) where
   -- an operation that is put where the copy counts after the step was put where it counted before, or has had its bytes
   abbrev pub CountsOk : Type 0
   CountsOk = (i : ℕ) (cell : Cell) (op : Pending) → (v.servers i).life.running ≡ true
-      → at cell_cmp (owns_of v i).pairs.pending cell ≡ Some op → op.stage.put ≡ true
+      → at cell_cmp (owns_of v i).pairs.pending cell ≡ Some op → is_clients op.kind ≡ true → op.stage.put ≡ true
       → authority (chosen_state this.setting v) cell ≡ Some i → IsOpen (this.w.clients op.client) op.seq
       → (authority (chosen_state this.setting this.w) cell ≡ Some i) ⊎ (is_held k op.client ≡ true)
 
@@ -186,7 +187,8 @@ module _ (this : ServerStep) (k : Plain) where
         let b = both_row (chosen_state this.setting v) cell shared in
         let applied = (v.servers i).log.applied in
         let s = shared_before this.setting this.state v firm this.onward i cell op on is end b.row (firm.servers i) (front_itself end) b.is b.both in
-        let mid = linked_on this.setting end firm.plain applied top cell s.first.row (logs_within this i) this.grows s.first.shares.linked in
+        let mid = linked_between this.setting end firm.plain applied top end cell s.first.row b.row (logs_within this i) this.grows (front_itself end)
+        s.first.shares.linked b.is in
         let one = places_up this.setting end firm.plain applied top cell s.first.row mid.0 (logs_within this i) this.grows
         s.first.shares.linked mid.1 in
         let two = places_up this.setting end firm.plain top end cell mid.0 b.row this.grows (front_itself end) mid.1 b.is in
@@ -196,17 +198,18 @@ module _ (this : ServerStep) (k : Plain) where
         so_both (chosen_state this.setting this.w) cell mid.0 mid.1 (ap (λ (r : LinkRow). r.state) (sym row_is) ∙ b.both)
 
     second_same : (i : ℕ) (cell : Cell) (row : LinkRow) → IsLinked this.setting (v.servers i).log.applied cell row
-        → in_both (chosen_state this.setting v) cell ≡ true → joined_now this row.secondary ≡ joined_then this row.secondary
-    second_same i cell row linked shared =
+        → in_both (chosen_state this.setting v) cell ≡ true → AliveIn (chosen_state this.setting v) cell
+        → joined_now this row.secondary ≡ joined_then this row.secondary
+    second_same i cell row linked shared alive =
         let end = chosen_log this.setting v in
         let top = chosen_log this.setting this.w in
         let firm = this.next.firm in
         let b = both_row (chosen_state this.setting v) cell shared in
         let applied = (v.servers i).log.applied in
-        let mid = linked_on this.setting end firm.plain applied top cell row (logs_within this i) this.grows linked in
+        let mid = linked_between this.setting end firm.plain applied top end cell row b.row (logs_within this i) this.grows (front_itself end) linked b.is in
         let one = rows_later this.setting end firm.plain applied top cell row mid.0 (logs_within this i) this.grows linked mid.1 in
         let two = rows_later this.setting end firm.plain top end cell mid.0 b.row this.grows (front_itself end) mid.1 b.is in
-        serving_same this cell mid.0 b.row row.secondary mid.1 b.is (secondary_is_one mid.0 row.secondary one.secondary)
+        serving_same this cell mid.0 b.row row.secondary mid.1 b.is alive (secondary_is_one mid.0 row.secondary one.secondary)
         (ap (serves row.secondary b.row) b.both ∙ secondary_is_one b.row row.secondary (two.secondary ∙ one.secondary))
 
     -- a server that leads a cell in Both is not its second one
@@ -223,9 +226,9 @@ module _ (this : ServerStep) (k : Plain) where
 
     -- the operations of this server
     mine : (cell : Cell) (op : Pending) → (v.servers this.n).life.running ≡ true → at cell_cmp (owns_of v this.n).pairs.pending cell ≡ Some op
-        → HasCounted this.setting v this.n cell op (chain_now this.n cell) → IsOpen (this.w.clients op.client) op.seq
+        → is_clients op.kind ≡ true → HasCounted this.setting v this.n cell op (chain_now this.n cell) → IsOpen (this.w.clients op.client) op.seq
         → is_held k op.client ≡ true
-    mine cell op on there counted still = by counted
+    mine cell op on there clients counted still = by counted
       where
         runs : Runs this
         runs = runs_here this.n refl on
@@ -241,27 +244,28 @@ module _ (this : ServerStep) (k : Plain) where
         by (Is_told both paired) =
             let b = both_row (server_state this.setting v this.n) cell both in
             let was = was_shared cell op b.row leaves is (to_here b.row b.is) b.both in
-            job.as_lead cell op runs is (Is_told (so_both
+            job.as_lead cell op runs is clients (Is_told (so_both
             (server_state this.setting this.w this.n) cell was.old was.linked was.both) paired) still
         by (Is_followed row linked both shared put same) =
             let was = was_shared cell op row leaves is (to_here row linked) both in
-            let as_before = second_same this.n cell row linked shared in
+            let as_before = second_same this.n cell row linked shared
+            (op_alive this.setting this.state v this.next.firm this.onward this.n cell op on there) in
             elim (same_or_apart row.secondary this.n) [
               | inl mine ↦ not_second cell op on there row linked both mine
-              | inr ne ↦ job.as_lead cell op runs is (Is_followed was.old was.linked was.both
+              | inr ne ↦ job.as_lead cell op runs is clients (Is_followed was.old was.linked was.both
                   (shared_then this.n cell op row on there linked both shared) put
                   (sym (new_chain cell op on there) ∙ same ∙ same_chain row.secondary cell ne as_before
                   ∙ ap (λ q. chain_then q cell) was.second)) still
             ]
-        by (Is_counted put here) = elim (counts this.n cell op on there put here still) [
-          | inl before ↦ job.as_lead cell op runs is (Is_counted put before) still
+        by (Is_counted put here) = elim (counts this.n cell op on there clients put here still) [
+          | inl before ↦ job.as_lead cell op runs is clients (Is_counted put before) still
           | inr held ↦ held
         ]
 
     -- those of another server
     theirs : (i : ℕ) → i ≢ this.n → (cell : Cell) (op : Pending) → (v.servers i).life.running ≡ true → at cell_cmp (owns_of v i).pairs.pending cell ≡ Some op
-        → HasCounted this.setting v i cell op (chain_now i cell) → IsOpen (this.w.clients op.client) op.seq → is_held k op.client ≡ true
-    theirs i ne cell op on there counted still = by counted
+        → is_clients op.kind ≡ true → HasCounted this.setting v i cell op (chain_now i cell) → IsOpen (this.w.clients op.client) op.seq → is_held k op.client ≡ true
+    theirs i ne cell op on there clients counted still = by counted
       where
         runs : (this.w.servers i).life.running ≡ true
         runs = ran_other i ne on
@@ -270,7 +274,7 @@ module _ (this : ServerStep) (k : Plain) where
         is = sym (ap (λ (h : Own). at cell_cmp h.pairs.pending cell) (own_other this i ne)) ∙ there
 
         was : HasCounted this.setting this.w i cell op (chain_then i cell) → is_held k op.client ≡ true
-        was h = held_onward this.m k op.client onward (this.follow.pending i cell op runs is h still)
+        was h = held_onward this.m k op.client onward (this.follow.pending i cell op runs is clients h still)
 
         -- the server is as before
         same_server : v.servers i ≡ this.w.servers i
@@ -291,7 +295,8 @@ module _ (this : ServerStep) (k : Plain) where
             let there : IsLinked this.setting (this.w.servers i).log.applied cell row =
             subst (λ (x : Server). IsLinked this.setting x.log.applied cell row) same_server linked in
             let shared_was = shared_then i cell op row on there_now linked both shared in
-            let as_before = second_same i cell row linked shared in
+            let as_before = second_same i cell row linked shared
+            (op_alive this.setting this.state v this.next.firm this.onward i cell op on there_now) in
             elim (same_or_apart row.secondary this.n) [
               | inl e ↦
                   let own_state = server_state this.setting this.w i in
@@ -302,28 +307,28 @@ module _ (this : ServerStep) (k : Plain) where
                   sym (own_chain there_now) ∙ same ∙ ap (λ j. chain_now j cell) e in
                   let as_before' : joined_now this this.n ≡ joined_then this this.n =
                   subst (λ j. joined_now this j ≡ joined_then this j) e as_before in
-                  elim (job.as_second as_before' cell i op f.row f.shares f.first (ap (λ (r : LinkRow). r.secondary) one ∙ e) is put still same') [
+                  elim (job.as_second as_before' cell i op f.row f.shares f.first (ap (λ (r : LinkRow). r.secondary) one ∙ e) is clients put still same') [
                     | inl before ↦ was (Is_followed row there both shared_was put (before ∙ ap (λ j. chain_then j cell) (sym e)))
                     | inr held ↦ held
                   ]
               | inr ne' ↦ was (Is_followed row there both shared_was put
                   (sym (own_chain there_now) ∙ same ∙ same_chain row.secondary cell ne' as_before))
             ]
-        by (Is_counted put here) = elim (counts i cell op on there put here still) [
+        by (Is_counted put here) = elim (counts i cell op on there clients put here still) [
           | inl before ↦ was (Is_counted put before)
           | inr held ↦ held
         ]
 
     pending : (i : ℕ) (cell : Cell) (op : Pending) → (v.servers i).life.running ≡ true → at cell_cmp (owns_of v i).pairs.pending cell ≡ Some op
-        → HasCounted this.setting v i cell op (chain_now i cell) → IsOpen (this.w.clients op.client) op.seq → is_held k op.client ≡ true
-    pending i cell op on is counted still = elim (same_or_apart i this.n) [
+        → is_clients op.kind ≡ true → HasCounted this.setting v i cell op (chain_now i cell) → IsOpen (this.w.clients op.client) op.seq → is_held k op.client ≡ true
+    pending i cell op on is clients counted still = elim (same_or_apart i this.n) [
       | inl e ↦ subst (λ j. (v.servers j).life.running ≡ true → at cell_cmp (owns_of v j).pairs.pending cell ≡ Some op
           → HasCounted this.setting v j cell op (chain_now j cell) → is_held k op.client ≡ true) (sym e)
-          (λ on is counted. mine cell op on is counted still) on is counted
-      | inr ne ↦ theirs i ne cell op on is counted still
+          (λ on is counted. mine cell op on is clients counted still) on is counted
+      | inr ne ↦ theirs i ne cell op on is clients counted still
     ]
 
-    pub own_follow : SaysOk → Stores (chosen_state this.setting v) (rows_in this.setting this.w) (counted this.setting v) k
+    pub own_follow : SaysOk → Stores this.setting (rows_in this.setting this.w) v k
         → Follow this.setting (rows_in this.setting this.w) v k
     own_follow says stores = record {
       stores = stores;
@@ -352,18 +357,18 @@ module _ (this : ServerStep) (k : Plain) where
 
     pub kept_pending : (this.w.servers this.n).life.running ≡ true → (after : Own) → after.pairs.pending ≡ own.pairs.pending
         → (cell : Cell) → chain_in after.store.chains cell ≡ chain_in own.store.chains cell → (op : Pending)
-        → at cell_cmp after.pairs.pending cell ≡ Some op → HasCounted this.setting this.w this.n cell op (chain_in after.store.chains cell)
+        → at cell_cmp after.pairs.pending cell ≡ Some op → is_clients op.kind ≡ true → HasCounted this.setting this.w this.n cell op (chain_in after.store.chains cell)
         → IsOpen (this.w.clients op.client) op.seq → is_held k op.client ≡ true
-    kept_pending runs after pending cell chain op is counted still =
+    kept_pending runs after pending cell chain op is clients counted still =
         let was : at cell_cmp own.pairs.pending cell ≡ Some op = ap (λ t. at cell_cmp t cell) (sym pending) ∙ is in
-        held_onward this.m k op.client onward (this.follow.pending this.n cell op runs was
+        held_onward this.m k op.client onward (this.follow.pending this.n cell op runs was clients
         (subst (HasCounted this.setting this.w this.n cell op) (chain ∙ sym (own_counted runs cell op was)) counted) still)
 
     pub kept_own : (new this).store.chains ≡ own.store.chains → (Runs this → AreKept this) → OwnFollow (new this)
     kept_own chains kept = record {
       finished = λ c last on is how still. fin c last is how still (kept on);
-      as_lead = λ cell op on is counted still. lead cell op is counted still (kept on);
-      as_second = λ as_before cell p op row shares first second is put still same.
+      as_lead = λ cell op on is clients counted still. lead cell op is clients counted still (kept on);
+      as_second = λ as_before cell p op row shares first second is clients put still same.
           inl (same ∙ ap (λ c. chain_in c cell) (kept_here this chains as_before));
     }
       where
@@ -373,13 +378,13 @@ module _ (this : ServerStep) (k : Plain) where
         fin c last is how still (Anew none) =
             none_some (ap (λ (p : Pairs). at nat_cmp p.finished c) none ∙ at-empty nat_cmp c) is
 
-        lead : (cell : Cell) (op : Pending) → at cell_cmp (new this).pairs.pending cell ≡ Some op
+        lead : (cell : Cell) (op : Pending) → at cell_cmp (new this).pairs.pending cell ≡ Some op → is_clients op.kind ≡ true
             → HasCounted this.setting this.w this.n cell op (chain_in (new this).store.chains cell)
             → IsOpen (this.w.clients op.client) op.seq
             → AreKept this → is_held k op.client ≡ true
-        lead cell op is counted still (As_before runs finished pending) =
-            kept_pending runs (new this) pending cell (ap (λ c. chain_in c cell) chains) op is counted still
-        lead cell op is counted still (Anew none) =
+        lead cell op is clients counted still (As_before runs finished pending) =
+            kept_pending runs (new this) pending cell (ap (λ c. chain_in c cell) chains) op is clients counted still
+        lead cell op is clients counted still (Anew none) =
             none_some (ap (λ (p : Pairs). at cell_cmp p.pending cell) none ∙ at-empty cell_cmp cell) is
 
 -- an operation that is pending after such a step was pending before

@@ -1,5 +1,6 @@
 -- Snapshots that a step takes: of each disk those that it has after the step and had not before. And no event changes a snapshot.
 use Rattle.std.proofs.Common.{◌≡◌, ◌≢◌, ◌≤◌, ◌+◌, ℕ, suc, List, [], ◌∷◌, ◌++◌, Bool, true, Option, Some, refl, sym, ap, ◌∙◌, subst, inl, inr, arith, append_assoc, length}
+use Rattle.global_tables.specs.declared.map.MapRow.{MapRow}
 use Rattle.std.specs.Prelude.{drop, map, slice_get}
 use Rattle.std.specs.List.{flat_map}
 use Rattle.std.proofs.lemmas.List.{append-nil}
@@ -45,9 +46,9 @@ apart_by (row ∷ rows) h = (
 )
 
 -- the snapshots of a row are of one epoch after the other, and have names of their own
-next_by : (row : DiskRow) (place : ℕ) → IsRowAt place row → (done more : List Snapshot) → row.snaps ≡ done ++ more → AreNext done more
-next_by row place is done [] e = tt
-next_by row place is done (snap ∷ more) e =
+next_by : (maps : List MapRow) (row : DiskRow) (place : ℕ) → IsRowAt maps place row → (done more : List Snapshot) → row.snaps ≡ done ++ more → AreNext done more
+next_by maps row place is done [] e = tt
+next_by maps row place is done (snap ∷ more) e =
     let here : slice_get row.snaps (length done) ≡ Some snap = ap (λ s. slice_get s (length done)) e ∙ get_seam done snap more in (
       is.snaps (length done) snap here,
       λ other there same.
@@ -56,25 +57,27 @@ next_by row place is done (snap ∷ more) e =
           let lt = slice_get_within done at.0 other at.1 in
           let one = is.names at.0 (length done) other snap front here same in
           absurd (omega arith),
-      next_by row place is (done ++ snap ∷ []) more (e ∙ sym (append_assoc done (snap ∷ []) more)),
+      next_by maps row place is (done ++ snap ∷ []) more (e ∙ sym (append_assoc done (snap ∷ []) more)),
     )
   where
     get_seam : (xs : List Snapshot) (x : Snapshot) (ys : List Snapshot) → slice_get (xs ++ x ∷ ys) (length xs) ≡ Some x
     get_seam [] x ys = refl
     get_seam (z ∷ zs) x ys = get_seam zs x ys
 
-module _ (has : DiskRow → ℕ → Bool) (contents : DiskRow → (epoch block : ℕ) → List ℕ) (done : DiskRow → List Snapshot) where
+module _ (has : DiskRow → (epoch block : ℕ) → Bool) (contents : DiskRow → (epoch block : ℕ) → List ℕ) (done : DiskRow → List Snapshot) where
   -- what is told of a disk: a freeze for each snapshot behind the ones that it had
   abbrev pub freezes_of : DiskRow → List Event
   freezes_of row = map (freeze_of row) (drop (length (done row)) row.snaps)
 
   -- the disk's row, which has these snapshots more than before; its contents at later epochs are what they were
   pub record IsFrozenFrom (row : DiskRow) : Type 0 where
+    pub maps : List MapRow
     pub place : ℕ
-    pub is : IsRowAt place row
+    pub is : IsRowAt maps place row
     pub more : List Snapshot
     pub snaps : row.snaps ≡ done row ++ more
-    pub still : (epoch b : ℕ) → length (done row) ≤ epoch → has row b ≡ true → contents row epoch b ≡ contents row (length (done row)) b
+    pub still : (epoch b : ℕ) → length (done row) ≤ epoch
+        → (has row epoch b ≡ has row (length (done row)) b) × (contents row epoch b ≡ contents row (length (done row)) b)
 
   -- the machine after all of it
   pub record AllFrozen (m : Plain) (rows : List DiskRow) (es : List Event) : Type 0 where
@@ -93,7 +96,7 @@ module _ (has : DiskRow → ℕ → Bool) (contents : DiskRow → (epoch block :
       subst (λ snaps. Frozen row (has row) (contents row) m (map (freeze_of row) snaps) row.snaps) (sym behind)
       (subst (Frozen row (has row) (contents row) m (map (freeze_of row) f.more)) (sym f.snaps)
       (freeze_all row (has row) (contents row) (length (done row)) f.still m (done row) f.more (omega arith)
-      (next_by row f.place f.is (done row) f.more f.snaps) mindful h))
+      (next_by f.maps row f.place f.is (done row) f.more f.snaps) mindful h))
 
   -- the row is that with all its snapshots
   whole_row : (row : DiskRow) → IsFrozenFrom row → as_of row row.snaps ≡ row

@@ -1,11 +1,13 @@
 -- What the machine is told of a server's step, put together: takes, then disks that are made, then snapshots that are taken, then looks.
-use Rattle.std.proofs.Common.{◌≡◌, ◌≤◌, ◌==◌, ℕ, List, [], ◌++◌, Bool, true, Some, None, refl, sym, ap, ◌∙◌, subst, inl, inr, arith, length}
-use Rattle.std.specs.Prelude.{map, slice_get}
+use Rattle.std.proofs.Common.{◌≡◌, ◌≤◌, ◌==◌, ℕ, List, [], ◌++◌, Bool, true, false, Option, Some, None, is_some, refl, sym, ap, ◌∙◌, subst, inl, inr, arith, length}
+use Rattle.std.specs.Prelude.{map, option_and_then, slice_get}
 use Rattle.std.specs.List.{flat_map}
 use Rattle.std.proofs.lemmas.List.{append-nil}
 use Rattle.std.proofs.lemmas.Option.{slice_get_within}
 use Rattle.petal_base.specs.Block.{zero_block}
 use Rattle.global_tables.specs.Disk.{disk_at, is_disk, named, same_name}
+use Rattle.petal_base.specs.declared.cell.Cell.{Cell}
+use Rattle.petal_state.specs.CellState.{has_map, named_cell}
 use Rattle.global_tables.specs.declared.disk.DiskRow.{DiskRow}
 use Rattle.global_tables.specs.declared.disk.Snapshot.{Snapshot}
 use Rattle.petal_machine.specs.declared.event.Event.{Event}
@@ -13,26 +15,33 @@ use Rattle.petal_machine.specs.Machine.{Plain, disk_of}
 use Rattle.petal_machine.specs.Run.{Obeys, replay}
 use Rattle.petal_rules.specs.Lists.{In}
 use Rattle.petal_rules.specs.State.{State, authority}
-use Rattle.petal_rules.specs.World.{World, chosen_state, counted}
+use Rattle.petal_rules.specs.Store.{Chain, Stored, bytes_of, chain_in, entry_at}
+use Rattle.petal_rules.specs.World.{World, chosen_state, counted, kept}
 use Rattle.petal_rules.proofs.ListLemmas.{in-append, in_former, in_later}
-use Rattle.petal_rules.proofs.Tests.{by_bool, nat_lists_same, same_numbers, some_or_none}
-use Rattle.petal_history.specs.Claims.{Holds}
-use Rattle.petal_history.specs.Contents.{cell_of_block, content_in, has_content}
-use Rattle.petal_history.specs.Events.{make_of, looks, snapshots_of, told_with}
-use Rattle.law_state.specs.Epochs.{epoch_at}
+use Rattle.petal_rules.proofs.Tests.{by_bool, nat_lists_same, same_numbers, some_or_none, same_some}
+use Rattle.petal_history.specs.Claims.{AreSnapshots, Holds}
+use Rattle.petal_history.specs.Contents.{content_at, entry_before, entry_by, entry_of, first_entry, has_content_at, old_cell}
+use Rattle.petal_history.specs.Events.{make_of, snapshots_of, told_with}
+use Rattle.law_state.specs.Disks.{AreDisks}
+use Rattle.law_state.specs.Homes.{epoch_at, stage_at}
 use Rattle.law_state.specs.Tables.{IsLaterDisk, IsPlainState}
 use Rattle.law_state.proofs.Places.{find_none, found_at, get_in, in_get}
-use Rattle.law_state.proofs.Rows.{fresh_rows, later_place, later_rows, none_before, old_or_new, stays_row}
+use Rattle.law_state.proofs.Rows.{fresh_rows, later_place, later_rows, old_or_new, stays_row}
 use Rattle.law_run.specs.Follow.{Follow, Stores}
-use Rattle.law_run.proofs.Along.{rows_in, disks_now, plain_now, row_epoch}
+use Rattle.law_run.proofs.Along.{rows_in, content_is, disks_now, has_content_is, made_before, named_map_is, old_map_is, plain_now}
+use Rattle.law_run.proofs.Entries.{AreUpTo, entry_later}
+use Rattle.law_run.proofs.Named.{entry_over, has_over, is_between}
 use Rattle.law_run.proofs.Freezes.{AllFrozen, IsFrozenFrom, apart_by, freeze_rows, freezes_of}
-use Rattle.law_run.proofs.Grounds.{content_up}
 use Rattle.law_run.proofs.Machine.{Obeys-append, onward_joined, replay-append}
 use Rattle.law_run.proofs.Makes.{Made, fresh_made, made_all, made_same, new_row, unlike_named}
 use Rattle.law_run.proofs.Members.{into_map, of_map}
 use Rattle.law_run.proofs.Onwards.{follow_onward}
 use Rattle.law_run.proofs.Snapshots.{as_of}
-use Rattle.law_run.proofs.Steps.{ServerStep, ServerTold, TakesTold, LooksTold, below_at, later_world, letters, logs_within, unput, zero_content}
+use Rattle.law_run.proofs.Steps.{ServerStep, ServerTold, TakesTold, LooksTold, frozen_early, frozen_empty, later_world, looks_here, unput, unput_above}
+
+no_member : {A : Type 0} (x : A) → In x [] → ⊥
+unfolding In
+no_member x h = h
 
 module _ (this : ServerStep) where
   abbrev v : World
@@ -60,11 +69,58 @@ module _ (this : ServerStep) where
   two : IsPlainState this.setting.servers after
   two = plain_now this.setting v this.next.firm
 
-  abbrev has : DiskRow → ℕ → Bool
-  has = has_content after
+  abbrev has : DiskRow → (epoch block : ℕ) → Bool
+  has row = has_content_at this.setting v row.id
 
   abbrev contents : DiskRow → (epoch block : ℕ) → List ℕ
-  contents = content_in after (counted this.setting v)
+  contents row = content_at this.setting v row.id
+
+  -- ### Contents at epochs that no server knows of yet
+
+  -- where the entries of the cell under which a block is named, and what was frozen, are of no epoch above one, later epochs have the same
+  module _ (row : DiskRow) (there : In row new_rows) (b from : ℕ)
+      (low : (cell : Cell) → has_map cell.map row ≡ true → epoch_at before cell ≤ from)
+      (frozen : is_between row b ≡ true → (chain : Chain) → v.frozen (old_cell row b) ≡ Some chain → AreUpTo chain from) where
+    named_same : (epoch : ℕ) → from ≤ epoch
+        → entry_of after (counted this.setting v) (named_cell row b) epoch ≡ entry_of after (counted this.setting v) (named_cell row b) from
+    named_same epoch le = by (authority after (named_cell row b))
+      where
+        by : (o : Option ℕ) → entry_by (counted this.setting v) (named_cell row b) epoch o ≡ entry_by (counted this.setting v) (named_cell row b) from o
+        by None = refl
+        by (Some i) =
+            let up = low (named_cell row b) (named_map_is this.setting.servers after two (disks_now this.setting v this.next.firm) row there b) in
+            entry_later (chain_in (kept this.setting v i).chains (named_cell row b)) from epoch
+            (λ r h. let le = unput_above this (named_cell row b) i r h in omega arith) le
+
+    below_same : (epoch : ℕ) → from ≤ epoch → is_between row b ≡ true → entry_before v (old_cell row b) epoch ≡ entry_before v (old_cell row b) from
+    below_same epoch le between = elim (some_or_none (v.frozen (old_cell row b))) [
+      | inr none ↦ ap (option_and_then (λ chain. entry_at chain epoch)) none ∙ sym (ap (option_and_then (λ chain. entry_at chain from)) none)
+      | inl f ↦ ap (option_and_then (λ chain. entry_at chain epoch)) f.1 ∙ entry_later f.0 from epoch (frozen between f.0 f.1) le
+          ∙ sym (ap (option_and_then (λ chain. entry_at chain from)) f.1)
+    ]
+
+    still_so : (epoch : ℕ) → from ≤ epoch → (has row epoch b ≡ has row from b) × (contents row epoch b ≡ contents row from b)
+    still_so epoch le = by (is_between row b) refl
+      where
+        by : (between : Bool) → is_between row b ≡ between → (has row epoch b ≡ has row from b) × (contents row epoch b ≡ contents row from b)
+        by between e = (
+          has_content_is this.setting v this.next.firm row there epoch b
+              ∙ (λ i. has_over (is_between row b) (is_some (authority after (named_cell row b))) (named_same epoch le i)
+              (is_some (v.frozen (old_cell row b))))
+              ∙ sym (has_content_is this.setting v this.next.firm row there from b),
+          content_is this.setting v this.next.firm row there epoch b ∙ ap bytes_of (over_same between e)
+              ∙ sym (content_is this.setting v this.next.firm row there from b),
+        )
+          where
+            over_same : (between : Bool) → is_between row b ≡ between
+                → entry_over (is_between row b) (entry_of after (counted this.setting v) (named_cell row b) epoch) (entry_before v (old_cell row b) epoch)
+                ≡ entry_over (is_between row b) (entry_of after (counted this.setting v) (named_cell row b) from) (entry_before v (old_cell row b) from)
+            over_same false e =
+                ap (λ t. entry_over t (entry_of after (counted this.setting v) (named_cell row b) epoch) (entry_before v (old_cell row b) epoch)) e
+                ∙ named_same epoch le
+                ∙ sym (ap (λ t. entry_over t (entry_of after (counted this.setting v) (named_cell row b) from) (entry_before v (old_cell row b) from)) e)
+            over_same true e =
+                (λ i. entry_over (is_between row b) (named_same epoch le i) (below_same epoch le e i))
 
   -- the snapshots that a disk had before the step
   abbrev done : DiskRow → List Snapshot
@@ -79,33 +135,42 @@ module _ (this : ServerStep) where
     many_was : length was.snaps ≡ was.epoch
     many_was = let at = get_in old_rows was h in (one.rows at.0 was at.1).many
 
-    was_row : was ≡ as_of row (done row)
-    was_row = λ i. record {
-      id = sym so.id i;
-      name = sym so.name i;
-      map = sym so.map i;
-      epoch = (sym many_was ∙ ap (λ (s : List Snapshot). length s) (sym done_was)) i;
-      snaps = sym done_was i;
-      moving = sym so.moving i;
-    }
+    -- each cell of its maps had no later epoch
+    was_low : (there : In row new_rows) → (cell : Cell) → has_map cell.map row ≡ true → epoch_at before cell ≤ length (done row)
+    was_low there cell has_it =
+        let at = get_in new_rows row there in
+        let was_at = get_in old_rows was h in
+        let many = sym many_was ∙ ap (λ (x : List Snapshot). length x) (sym done_was) in
+        elim (made_before this.setting.servers before after one two this.grown at.0 row at.1 cell has_it) [
+          | inl none ↦ (let e = none.1 in omega arith)
+          | inr m ↦
+              let place : at.0 ≡ was_at.0 = sym (two.rows at.0 row at.1).id ∙ so.id ∙ (one.rows was_at.0 was was_at.1).id in
+              let same : m.was ≡ was = same_some (sym m.is ∙ ap (slice_get old_rows) place ∙ was_at.1) in
+              let e : epoch_at before cell ≡ length (done row) = m.epoch ∙ ap (λ (r : DiskRow). r.epoch) same ∙ many in
+              omega arith
+        ]
 
-    still_was : (epoch b : ℕ) → length (done row) ≤ epoch → has row b ≡ true → contents row epoch b ≡ contents row (length (done row)) b
-    still_was epoch b le there =
-        let cell = cell_of_block row b in
-        let top : epoch_at before cell ≡ length (done row) =
-        row_epoch this.setting this.w this.along.firm was h cell so.map ∙ sym many_was ∙ ap (λ (s : List Snapshot). length s) (sym done_was) in
-        content_up this.setting this.state v this.onward cell (authority after cell) (length (done row)) epoch
-        (λ i. let up = (below_at this.setting this.w this.along.firm _ (logs_within this i)).epochs cell in omega arith) le
+    still_was : (there : In row new_rows) (epoch b : ℕ) → length (done row) ≤ epoch
+        → (has row epoch b ≡ has row (length (done row)) b) × (contents row epoch b ≡ contents row (length (done row)) b)
+    still_was there epoch b le = still_so row there b (length (done row)) (was_low there) (frozen_low there b) epoch le
+      where
+        frozen_low : (there : In row new_rows) (b : ℕ) → is_between row b ≡ true → (chain : Chain) → v.frozen (old_cell row b) ≡ Some chain
+            → AreUpTo chain (length (done row))
+        frozen_low there b between chain is r there_row =
+            let low = was_low there (old_cell row b) (old_map_is this.setting.servers after two (disks_now this.setting v this.next.firm) row there b between) in
+            let up = frozen_early this (old_cell row b) chain is r there_row in
+            omega arith
 
     frozen_was : In row new_rows → IsFrozenFrom has contents done row
     frozen_was there =
         let at = get_in new_rows row there in
         record {
+          maps = after.maps;
           place = at.0;
           is = two.rows at.0 row at.1;
           more = so.more;
           snaps = so.snaps ∙ ap (λ s. s ++ so.more) (sym done_was);
-          still = still_was;
+          still = still_was there;
         }
 
   -- ### A disk that was made
@@ -129,20 +194,69 @@ module _ (this : ServerStep) where
         absurd (omega arith))
         (λ f. f)))
 
-    -- no server has put anything of it
+    -- its cells were not live before the step, so that no server has put anything of them, and nothing of them was frozen
+    new_zero : (cell : Cell) → has_map cell.map row ≡ true → stage_at before cell ≡ 0
+    new_zero cell has_it = elim (made_before this.setting.servers before after one two this.grown place.0 row place.1 cell has_it) [
+      | inl none ↦ none.0
+      | inr m ↦ (let lt = slice_get_within old_rows place.0 m.was m.is in let le = place.2 in absurd (omega arith))
+    ]
+
     empty_new : (epoch b : ℕ) → contents row epoch b ≡ zero_block
     empty_new epoch b =
-        let cell = cell_of_block row b in
-        zero_content (counted this.setting v) cell
-        (unput this cell (none_before this.setting.servers before after one two this.grown row h cell refl)) epoch (authority after cell)
+        content_is this.setting v this.next.firm row there_new epoch b ∙ ap bytes_of (nothing (is_between row b) refl)
+      where
+        new_disks : AreDisks after
+        new_disks = disks_now this.setting v this.next.firm
+
+        none_of : (o : Option ℕ) → entry_by (counted this.setting v) (named_cell row b) epoch o ≡ None
+        none_of None = refl
+        none_of (Some i) = ap (λ c. entry_at c epoch) (unput this (named_cell row b)
+            (new_zero (named_cell row b) (named_map_is this.setting.servers after two new_disks row there_new b)) i)
+
+        none_before_it : is_between row b ≡ true → entry_before v (old_cell row b) epoch ≡ None
+        none_before_it between = elim (some_or_none (v.frozen (old_cell row b))) [
+          | inr none ↦ ap (option_and_then (λ chain. entry_at chain epoch)) none
+          | inl f ↦ ap (option_and_then (λ chain. entry_at chain epoch)) f.1
+              ∙ ap (λ c. entry_at c epoch) (frozen_empty this (old_cell row b)
+              (new_zero (old_cell row b) (old_map_is this.setting.servers after two new_disks row there_new b between)) f.0 f.1)
+        ]
+
+        nothing : (between : Bool) → is_between row b ≡ between
+            → entry_over (is_between row b) (entry_of after (counted this.setting v) (named_cell row b) epoch) (entry_before v (old_cell row b) epoch) ≡ None
+        nothing false e =
+            ap (λ t. entry_over t (entry_of after (counted this.setting v) (named_cell row b) epoch) (entry_before v (old_cell row b) epoch)) e
+            ∙ none_of (authority after (named_cell row b))
+        nothing true e =
+            ap (λ t. entry_over t (entry_of after (counted this.setting v) (named_cell row b) epoch) (entry_before v (old_cell row b) epoch)) e
+            ∙ (λ i. first_entry (none_of (authority after (named_cell row b)) i) (none_before_it e i))
+
+    has_new : (epoch b : ℕ) → has row epoch b ≡ has row 0 b
+    has_new epoch b = (still_so row there_new b 0
+        (λ cell has_it. let zero = zero_epoch cell has_it in omega arith)
+        (λ between chain is r there_row. absurd (none_in chain is between r there_row)) epoch (omega arith)).0
+      where
+        zero_epoch : (cell : Cell) → has_map cell.map row ≡ true → epoch_at before cell ≡ 0
+        zero_epoch cell has_it = elim (made_before this.setting.servers before after one two this.grown place.0 row place.1 cell has_it) [
+          | inl none ↦ none.1
+          | inr m ↦ (let lt = slice_get_within old_rows place.0 m.was m.is in let le = place.2 in absurd (omega arith))
+        ]
+
+        none_in : (chain : Chain) → v.frozen (old_cell row b) ≡ Some chain → is_between row b ≡ true → (r : ℕ × Stored) → In r chain → ⊥
+        none_in chain is between r there_row =
+            let empty = frozen_empty this (old_cell row b)
+            (new_zero (old_cell row b) (old_map_is this.setting.servers after two (disks_now this.setting v this.next.firm) row there_new b between))
+            chain is in
+            no_member r (subst (λ (c : Chain). In r c) empty there_row)
 
     frozen_new : IsFrozenFrom has contents done row
     frozen_new = record {
+      maps = after.maps;
       place = place.0;
       is = two.rows place.0 row place.1;
       more = row.snaps;
       snaps = (λ i. sym done_new i ++ row.snaps);
-      still = λ epoch b le there. empty_new epoch b ∙ sym (empty_new (length (done row)) b);
+      still = λ epoch b le.
+          (has_new epoch b ∙ sym (has_new (length (done row)) b), empty_new epoch b ∙ sym (empty_new (length (done row)) b));
     }
 
   frozen_from : (row : DiskRow) → In row new_rows → IsFrozenFrom has contents done row
@@ -169,19 +283,35 @@ module _ (this : ServerStep) where
     abbrev k3 : Plain
     k3 = replay k2 fs
 
-    made : Made after (old_rows ++ map new_row more) (counted this.setting v) k1 ms
-    made = made_all after (counted this.setting v) old_rows (map new_row more) k1
+    made : Made this.setting (old_rows ++ map new_row more) v k1 ms
+    made = made_all this.setting v old_rows (map new_row more) k1
         (fresh_made old_rows more (fresh_rows this.setting.servers before after two this.grown)) taken.follows.stores
         (λ row h. let from = of_map new_row more row h in ap (λ (r : DiskRow). r.snaps) from.2)
         (λ row h b.
         let from = of_map new_row more row h in
-        subst (λ (r : DiskRow). contents r r.epoch b ≡ zero_block) (sym from.2) (empty_new from.0 from.1 0 b))
+        subst (λ (r : DiskRow). content_at this.setting v r.id r.epoch b ≡ zero_block) (sym from.2) (empty_new from.0 from.1 0 b))
+
+    held_was : (row was : DiskRow) (h : In was old_rows) → IsLaterDisk was row
+        → Holds k2.disks was (has_content_at this.setting v was.id) (content_at this.setting v was.id)
+        → Holds k2.disks (as_of row (done row)) (has row) (contents row)
+    held_was row was h so k =
+        let id : was.id ≡ row.id = sym so.id in
+        let snaps : was.snaps ≡ done row = sym (done_was row was h so) in
+        let epoch : was.epoch ≡ length (done row) = sym (many_was row was h so) ∙ ap (λ (x : List Snapshot). length x) snaps in
+        record {
+          disk = k.disk;
+          is = ap (disk_of k2.disks) so.name ∙ k.is;
+          same = λ b there.
+              k.same b ((λ i. has_content_at this.setting v (id i) (epoch i) b) ∙ there)
+              ∙ (λ i. content_at this.setting v (id i) (epoch i) b);
+          snapshots = subst (λ d. AreSnapshots k.disk.snaps (done row) (has_content_at this.setting v d) (content_at this.setting v d)) id
+              (subst (λ x. AreSnapshots k.disk.snaps x (has_content_at this.setting v was.id) (content_at this.setting v was.id)) snaps k.snapshots);
+        }
 
     -- each disk has what it had of snapshots before the step
     held_then : (row : DiskRow) → In row new_rows → Holds k2.disks (as_of row (done row)) (has row) (contents row)
     held_then row there = elim (old_or_new this.setting.servers before after one two this.grown row there) [
-      | inl old ↦ subst (λ (r : DiskRow). Holds k2.disks r (has r) (contents r)) (was_row row old.0 old.1 old.2)
-          (made.stores.known old.0 (in_former old.0 old_rows (map new_row more) old.1))
+      | inl old ↦ held_was row old.0 old.1 old.2 (made.stores.known old.0 (in_former old.0 old_rows (map new_row more) old.1))
       | inr new ↦ subst (λ snaps. Holds k2.disks (as_of row snaps) (has row) (contents row)) (sym (done_new row new))
           (made.stores.known (new_row row) (in_later (new_row row) old_rows (map new_row more) (into_map new_row more row new)))
     ]
@@ -222,11 +352,11 @@ module _ (this : ServerStep) where
       let frozen = all_frozen taken in
       let follow = following taken in
       let seen = look m3 follow in
-      let ls = looks this.setting.lines this.later (letters this) in
+      let ls = looks_here this in
       let m4 = replay m3 ls in
       let behind = ms taken ++ fs taken in
       let there : replay m1 behind ≡ m3 = replay-append m1 (ms taken) (fs taken) in
-      let stores : Stores after new_rows (counted this.setting v) m4 =
+      let stores : Stores this.setting new_rows v m4 =
       record {
         known = λ row h.
             let k = follow.stores.known row h in

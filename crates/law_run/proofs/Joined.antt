@@ -15,8 +15,9 @@ use Rattle.petal_state.specs.Place.{touches}
 use Rattle.petal_state.specs.State.{start}
 use Rattle.petal_rules.specs.Blanked.{blank_joins_from}
 use Rattle.petal_rules.specs.State.{State}
-use Rattle.petal_rules.proofs.Tests.{by_bool}
+use Rattle.petal_rules.proofs.Tests.{by_bool, none_some}
 use Rattle.petal_history.specs.Claims.{IsPrefix}
+use Rattle.law_state.specs.Below.{HasLater}
 use Rattle.law_state.specs.Joins.{HasJoinedSince}
 use Rattle.law_state.specs.Places.{By_leave, By_join, By_caught, IsCaughtStill, row_joined}
 use Rattle.law_state.specs.Plain.{IsPlainLog}
@@ -137,7 +138,11 @@ module _ (servers : ℕ) (whole : List Command) (all : IsPlainLog servers whole)
     pub serves_none : IsUncaught → (row now : LinkRow) → IsLinkedBy front row → IsLinkedBy whole now → has_server n row ≡ true
         → serves n now now.state ≡ false
     serves_none never row now is end has =
-        let until = (log_below servers front j.until (front_plain servers j.until whole all until_whole) j.behind).rows cell row is in
+        let until : HasLater (state_after servers front) (state_after servers j.until) cell row =
+        elim ((log_below servers front j.until (front_plain servers j.until whole all until_whole) j.behind).rows cell row is) [
+          | inl later ↦ later
+          | inr died ↦ none_some ((log_below servers j.until whole all until_whole).died cell died).0 end
+        ] in
         let has_until : has_server n until.now ≡ true = one_before row until.now n until.so ∙ has in
         let left = joined_row until.now until.is has_until in
         elim left.1 [

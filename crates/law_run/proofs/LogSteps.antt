@@ -2,7 +2,7 @@
 -- what its state device has, so that nothing more is chosen.
 use Rattle.std.proofs.Common.{◌≡◌, ◌+◌, ℕ, List, [], ◌∷◌, false, Option, Some, None, refl, ap, ◌∙◌}
 use Rattle.petal_command.specs.declared.command.Command.{Command}
-use Rattle.petal_msg.specs.Kinds.{is_ending, subject_of}
+use Rattle.petal_msg.specs.Kinds.{subject_of}
 use Rattle.petal_msg.specs.declared.letter.Actor.TheVariants as actor
 use Rattle.petal_msg.specs.declared.letter.Letter.{Letter}
 use Rattle.petal_rules.specs.Ballots.{first_wanted, starts}
@@ -26,16 +26,16 @@ use Rattle.law_steps.specs.Happens.{without_rev}
 use Rattle.law_steps.proofs.LogJobs.{LogFrame, letter_frame_of, start_frame_of, applied_entry, applied_none}
 use Rattle.law_requests.proofs.Stepping.{proposed_pairs}
 use Rattle.law_run.proofs.Grounds.{proposed_store}
-use Rattle.law_run.proofs.Says.{logged_unended, downs_unended}
+use Rattle.law_run.proofs.Says.{downs_unended, is_reply, logged_unended}
 use Rattle.law_steps.proofs.Letters.{said}
 
 -- what the step has done
 pub data IsOfKind (server : Server) (acted : Acted) : Type 0 where
   Of_the_log : acted.server.own.store ≡ server.own.store → acted.server.own.pairs ≡ server.own.pairs
-      → ((stamp : ℕ) (letter : Letter) → In letter (stamped stamp acted.letters) → is_ending (subject_of letter.body) ≡ false)
+      → ((stamp : ℕ) (letter : Letter) → In letter (stamped stamp acted.letters) → is_reply (subject_of letter.body) ≡ false)
       → IsOfKind server acted
   Of_a_boot : acted.server.own.store.chains ≡ server.own.store.chains → acted.server.own.pairs ≡ no_pairs
-      → ((stamp : ℕ) (letter : Letter) → In letter (stamped stamp acted.letters) → is_ending (subject_of letter.body) ≡ false)
+      → ((stamp : ℕ) (letter : Letter) → In letter (stamped stamp acted.letters) → is_reply (subject_of letter.body) ≡ false)
       → IsOfKind server acted
   Of_the_rest : acted.server.log.records ≡ server.log.records → IsOfKind server acted
 
@@ -49,7 +49,7 @@ module _ (state : State) (me : ℕ) (server : Server) where
   entered_kind : (what : Job) (rest : List Job) (done : LogDone) → LogFrame server.log what done → K (entered here server rest done)
   entered_kind what rest done frame =
       Of_the_log refl refl (λ stamp letter h. let s = said (sender here) stamp 0 done.posts letter h in
-      ap (λ b. is_ending (subject_of b)) s.body ∙ logged_unended s.post.body (frame.says s.post s.there))
+      ap (λ b. is_reply (subject_of b)) s.body ∙ logged_unended s.post.body (frame.says s.post s.there))
 
   applied_kind : (rest : List Job) (o : Option Command) → known server.log (next_place server.log) ≡ o → K (crossing here server rest o (applies server.log))
   applied_kind rest None none = Of_the_rest (ap (λ (d : LogDone). d.log.records) (applied_none server.log none))
@@ -64,6 +64,7 @@ module _ (state : State) (me : ℕ) (server : Server) where
   job_kind (job.Stage cell) rest = Of_the_rest refl
   job_kind job.Apply rest = applied_kind rest (known server.log (next_place server.log)) refl
   job_kind (job.Mend id) rest = Of_the_rest refl
+  job_kind job.Sweep rest = Of_the_rest refl
   job_kind job.Start rest =
       let wants = wanted_by here server in
       let first = first_wanted server.log.phase (rev_of server.log) wants in
@@ -71,7 +72,7 @@ module _ (state : State) (me : ℕ) (server : Server) where
       let frame = start_frame_of (voter_of here) server.log wants in
       Of_the_log (proposed_store here.state server.own first) (proposed_pairs here.state server.own first)
       (λ stamp letter h. let s = said (sender here) stamp 0 done.posts letter h in
-      ap (λ b. is_ending (subject_of b)) s.body ∙ logged_unended s.post.body (frame.says s.post s.there))
+      ap (λ b. is_reply (subject_of b)) s.body ∙ logged_unended s.post.body (frame.says s.post s.there))
 
   works_kind : (queue : List Job) → K (works here server queue)
   works_kind [] = Of_the_rest refl
@@ -81,10 +82,10 @@ module _ (state : State) (me : ℕ) (server : Server) where
 
   -- a server that stops tells the others, whatever it has done, and so does one that boots
   downs_quiet : (who : Sender) (stamp : ℕ) (letter : Letter) → In letter (stamped stamp (letters_of who 0 (down_posts me server.life.inc (servers_of state))))
-      → is_ending (subject_of letter.body) ≡ false
+      → is_reply (subject_of letter.body) ≡ false
   downs_quiet who stamp letter h =
       let s = said who stamp 0 (down_posts me server.life.inc (servers_of state)) letter h in
-      ap (λ b. is_ending (subject_of b)) s.body ∙ downs_unended me server.life.inc (servers_of state) s.post s.there
+      ap (λ b. is_reply (subject_of b)) s.body ∙ downs_unended me server.life.inc (servers_of state) s.post s.there
 
   stopped_kind : (acted : Acted) → K acted → K (stops here acted.server)
   stopped_kind acted (Of_the_rest same) = Of_the_rest same

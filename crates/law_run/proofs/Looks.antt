@@ -1,4 +1,6 @@
 -- A read looks where its data are sent: whoever accepts them later had asked for this.
+use Rattle.petal_history.specs.Claims.{IsPrefix}
+use Rattle.petal_rules.specs.World.{chosen_log, Setting, World, step, client_state, MayActor}
 use Rattle.std.proofs.Common.{◌≡◌, ◌==◌, ◌&&◌, ℕ, zero, suc, List, [], ◌∷◌, Bool, true, false, Option, Some, None, refl, sym, ap, ◌∙◌, subst, ◌⊎◌, inl, inr}
 use Rattle.std.specs.Prelude.{slice_get, if◌then◌else◌}
 use Rattle.petal_machine.specs.declared.event.Event.{Event}
@@ -17,7 +19,6 @@ use Rattle.script_lines.specs.declared.request.Request.TheVariants as request
 use Rattle.petal_rules.specs.Lists.{In}
 use Rattle.petal_rules.specs.State.{State}
 use Rattle.petal_rules.specs.Clients.{Client, Asked, heard, hears, hears_any, hears_of, counts, is_read}
-use Rattle.petal_rules.specs.World.{Setting, World, step, client_state, MayActor}
 use Rattle.petal_rules.specs.declared.step.Step.{Step}
 use Rattle.petal_rules.specs.declared.step.Step.TheVariants.{Deliver}
 use Rattle.petal_rules.proofs.ListLemmas.{in_later, in-append}
@@ -84,10 +85,17 @@ some_first : (one two : Option ℕ) (number : ℕ) → first_of one two ≡ Some
 some_first None two number e = inr e
 some_first (Some k) two number e = inl e
 
--- the ground holds at each world on the way
+-- the ground holds at each world on the way, and what is chosen only grows
 abbrev pub AreGrounded : Setting → State → World → List Record → Type 0
 AreGrounded setting state w [] = Ground setting state w
-AreGrounded setting state w (own ∷ later) = Ground setting state w × AreGrounded setting state (stepped setting w own).world later
+AreGrounded setting state w (own ∷ later) =
+    Ground setting state w × IsPrefix (chosen_log setting w) (chosen_log setting (stepped setting w own).world)
+    × AreGrounded setting state (stepped setting w own).world later
+
+-- at the first of them
+pub ground_now : (setting : Setting) (state : State) (w : World) (records : List Record) → AreGrounded setting state w records → Ground setting state w
+ground_now setting state w [] grounded = grounded
+ground_now setting state w (own ∷ later) grounded = grounded.0
 
 module _ (setting : Setting) (state : State) where
   abbrev lines : List Line
@@ -163,7 +171,7 @@ module _ (setting : Setting) (state : State) where
       elim (some_first (accepts letter own.step own.answer) (accepted later letter) number e) [
         | inl now ↦ record_accepts w grounded.0 own.actor own.step letter own.stamp seq bytes number follows.may.may h says
             (subst (λ o. accepts letter own.step o ≡ Some number) follows.answer now)
-        | inr behind ↦ who_accepts next later grounded.1 legal.1 letter seq bytes number (sent_later w own.actor own.step own.stamp letter h) says behind
+        | inr behind ↦ who_accepts next later grounded.2 legal.1 letter seq bytes number (sent_later w own.actor own.step own.stamp letter h) says behind
       ]
 
 -- ### What is told of a letter
@@ -206,10 +214,14 @@ letter_looks lines numbered letter seq client name snap block bytes line to is a
     one_client : {c d : ℕ} → actor.Client c ≡ actor.Client d → c ≡ d
     one_client e = cc
 
-abbrev pub is_data : Body → Bool
-is_data (body.Data seq bytes) = true
-is_data _ = false
+-- a letter of these kinds may tell of a look: it answers a read, or says that the new map has nothing
+abbrev pub is_looked : Body → Bool
+is_looked (body.Data seq bytes) = true
+is_looked (body.NotHere seq) = true
+is_looked _ = false
 
-pub no_look : (lines : List Line) (later : List Record) (letter : Letter) (said : Body) → is_data said ≡ false → look_of lines later letter said ≡ []
-no_look known_lines later letter (body.Data seq bytes) e = true_false refl e
-no_look known_lines later letter _ e = refl
+pub no_look : (setting : Setting) (w next : World) (who : Actor) (later : List Record) (letter : Letter) (said : Body) → is_looked said ≡ false
+    → look_of setting w next who later letter said ≡ []
+no_look setting w next who later letter (body.Data seq bytes) e = true_false refl e
+no_look setting w next who later letter (body.NotHere seq) e = true_false refl e
+no_look setting w next who later letter _ e = refl

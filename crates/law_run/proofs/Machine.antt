@@ -272,7 +272,7 @@ take_onward m w = onward_by m (after m (Take w)) (changed m (Take w)).disks (ope
 
 -- takes that give blocks of these disks the contents that they are to have, where they are to have one
 module _ (rows : List DiskRow) (apart : (one other : DiskRow) → In one rows → In other rows → one.name ≡ other.name → one ≡ other)
-    (has : DiskRow → ℕ → Bool) (to : DiskRow → (epoch block : ℕ) → List ℕ) where
+    (has : DiskRow → (epoch block : ℕ) → Bool) (to : DiskRow → (epoch block : ℕ) → List ℕ) where
   -- the event takes a write under way of what the block is to have
   pub record IsTake (m : Plain) (e : Event) : Type 0 where
     pub row : DiskRow
@@ -296,7 +296,7 @@ module _ (rows : List DiskRow) (apart : (one other : DiskRow) → In one rows �
   pub record Nearly (m : Plain) (es : List Event) (row : DiskRow) : Type 0 where
     pub disk : Disk
     pub is : disk_of m.disks row.name ≡ Some disk
-    pub same : (b : ℕ) → has row b ≡ true → (content disk.now b ≡ to row row.epoch b) ⊎ IsToCome es row b
+    pub same : (b : ℕ) → has row row.epoch b ≡ true → (content disk.now b ≡ to row row.epoch b) ⊎ IsToCome es row b
     pub snapshots : AreSnapshots disk.snaps row.snaps (has row) (to row)
 
   -- the machine after the takes

@@ -12,12 +12,11 @@ use Rattle.petal_machine.specs.declared.event.Event.TheVariants.{Make}
 use Rattle.petal_machine.specs.Machine.{Plain, content}
 use Rattle.petal_machine.specs.Run.{Obeys, after, replay}
 use Rattle.petal_rules.specs.Lists.{In}
-use Rattle.petal_rules.specs.State.{State}
-use Rattle.petal_rules.specs.World.{World}
+use Rattle.petal_rules.specs.World.{Setting, World}
 use Rattle.petal_rules.proofs.ListLemmas.{in-append}
 use Rattle.petal_rules.proofs.Tests.{by_bool, none_some, some_or_none, true_false}
 use Rattle.petal_history.specs.Claims.{AreSnapshots, Holds}
-use Rattle.petal_history.specs.Contents.{content_in, has_content}
+use Rattle.petal_history.specs.Contents.{content_at, has_content_at}
 use Rattle.petal_history.specs.Events.{make_of}
 use Rattle.law_state.proofs.Rows.{AreFresh}
 use Rattle.law_state.proofs.Places.{find_front, find_behind, get_in, none_find, text_itself}
@@ -74,14 +73,14 @@ made_same [] = refl
 made_same (row ∷ more) = ap (λ es. make_of row ∷ es) (made_same more)
 
 -- the machine after the disks were made
-pub record Made (chosen : State) (rows : List DiskRow) (v : World) (m : Plain) (es : List Event) : Type 0 where
+pub record Made (setting : Setting) (rows : List DiskRow) (v : World) (m : Plain) (es : List Event) : Type 0 where
   pub may : Obeys m es
-  pub stores : Stores chosen rows v (replay m es)
+  pub stores : Stores setting rows v (replay m es)
   pub onward : Onward m (replay m es)
 
-module _ (chosen : State) (v : World) where
-  made_stores : (rows : List DiskRow) (row : DiskRow) (m : Plain) → named rows row.name ≡ None → Stores chosen rows v m
-      → row.snaps ≡ [] → ((b : ℕ) → content_in chosen v row row.epoch b ≡ zero_block) → Stores chosen (rows ++ row ∷ []) v (after m (Make row.name))
+module _ (setting : Setting) (v : World) where
+  made_stores : (rows : List DiskRow) (row : DiskRow) (m : Plain) → named rows row.name ≡ None → Stores setting rows v m
+      → row.snaps ≡ [] → ((b : ℕ) → content_at setting v row.id row.epoch b ≡ zero_block) → Stores setting (rows ++ row ∷ []) v (after m (Make row.name))
   unfolding In
   made_stores rows row m fresh stores none zeros = record {
     known = λ other h. elim (in-append other rows (row ∷ []) h) [
@@ -94,11 +93,11 @@ module _ (chosen : State) (v : World) where
             snapshots = k.snapshots;
           }
       | inr new ↦ elim new [
-        | inl e ↦ subst (λ (r : DiskRow). Holds (after m (Make row.name)).disks r (has_content chosen r) (content_in chosen v r)) (sym e) (record {
+        | inl e ↦ subst (λ (r : DiskRow). Holds (after m (Make row.name)).disks r (has_content_at setting v r.id) (content_at setting v r.id)) (sym e) (record {
           disk = new_disk row.name;
           is = make_same m row.name (stores.unknown row.name fresh);
           same = λ b has. empty_content b ∙ sym (zeros b);
-          snapshots = subst (λ snaps. AreSnapshots [] snaps (has_content chosen row) (content_in chosen v row)) (sym none) tt;
+          snapshots = subst (λ snaps. AreSnapshots [] snaps (has_content_at setting v row.id) (content_at setting v row.id)) (sym none) tt;
         })
         | inr none ↦ absurd none
       ]
@@ -112,18 +111,18 @@ module _ (chosen : State) (v : World) where
     mindful = after_mindful m (Make row.name);
   }
 
-  pub made_all : (rows more : List DiskRow) (m : Plain) → AreFresh rows more → Stores chosen rows v m
+  pub made_all : (rows more : List DiskRow) (m : Plain) → AreFresh rows more → Stores setting rows v m
       → ((row : DiskRow) → In row more → row.snaps ≡ [])
-      → ((row : DiskRow) → In row more → (b : ℕ) → content_in chosen v row row.epoch b ≡ zero_block) → Made chosen (rows ++ more) v m (map make_of more)
+      → ((row : DiskRow) → In row more → (b : ℕ) → content_at setting v row.id row.epoch b ≡ zero_block) → Made setting (rows ++ more) v m (map make_of more)
   unfolding In
   made_all rows [] m fresh stores none zeros =
-      record { may = tt; stores = subst (λ rs. Stores chosen rs v m) (sym (append-nil rows)) stores; onward = onward_itself m }
+      record { may = tt; stores = subst (λ rs. Stores setting rs v m) (sym (append-nil rows)) stores; onward = onward_itself m }
   made_all rows (row ∷ more) m fresh stores none zeros =
       let k = after m (Make row.name) in
       let now = made_stores rows row m fresh.0 stores (none row (inl refl)) (zeros row (inl refl)) in
       let rest = made_all (rows ++ row ∷ []) more k fresh.1 now (λ other h. none other (inr h)) (λ other h. zeros other (inr h)) in
       record {
         may = (stores.unknown row.name fresh.0, rest.may);
-        stores = subst (λ rs. Stores chosen rs v (replay k (map make_of more))) (append_assoc rows (row ∷ []) more) rest.stores;
+        stores = subst (λ rs. Stores setting rs v (replay k (map make_of more))) (append_assoc rows (row ∷ []) more) rest.stores;
         onward = onward_joined m k (replay k (map make_of more)) (make_onward m row.name) rest.onward;
       }

@@ -21,7 +21,7 @@ use Rattle.law_steps.proofs.Letters.{said}
 use Rattle.petal_rules.proofs.Tests.{both_true, same_numbers, all_put}
 use Rattle.law_run.specs.Follow.{Named}
 
-one_actor : (a b : Actor) → same_actor a b ≡ true → a ≡ b
+pub one_actor : (a b : Actor) → same_actor a b ≡ true → a ≡ b
 one_actor (actor.Server n) (actor.Server k) e = ap actor.Server (same_numbers n k e)
 one_actor (actor.Client c) (actor.Client d) e = ap actor.Client (same_numbers c d e)
 one_actor (actor.Server n) (actor.Client c) e = let f : false ≡ true = e in absurd cc

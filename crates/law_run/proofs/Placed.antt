@@ -1,9 +1,8 @@
 -- A pending operation whose request is open is its client's write of a block of a disk that is chosen.
-use Rattle.std.proofs.Common.{◌≡◌, ◌<◌, ℕ, Some, refl, sym, ap, ◌∙◌}
+use Rattle.std.proofs.Common.{◌≡◌, ◌<◌, ℕ, false, Some, refl, sym, ap, ◌∙◌}
 use Rattle.petal_base.specs.declared.cell.Cell.{Cell}
 use Rattle.global_tables.specs.declared.disk.DiskRow.{DiskRow}
-use Rattle.global_tables.specs.declared.link.LinkRow.{LinkRow}
-use Rattle.petal_state.specs.CellState.{cell_link}
+use Rattle.petal_state.specs.CellState.{cell_asked, named_cell}
 use Rattle.petal_machine.specs.declared.event.Write.{Write}
 use Rattle.petal_msg.specs.declared.operation.Pending.{Pending}
 use Rattle.script_lines.specs.Pattern.{pattern_block}
@@ -11,12 +10,12 @@ use Rattle.script_lines.specs.declared.request.Line.{Line}
 use Rattle.script_lines.specs.declared.request.Request.TheVariants as request
 use Rattle.petal_rules.specs.Lists.{In}
 use Rattle.petal_rules.specs.World.{chosen_state}
-use Rattle.petal_history.specs.Contents.{cell_of_block}
 use Rattle.petal_history.specs.Events.{open_write, write_asked, write_by}
 use Rattle.law_steps.specs.Turned.{line_by}
 use Rattle.petal_rules.proofs.Tests.{same_some}
 use Rattle.law_requests.specs.Asked.{IsOpen, IsWrite}
-use Rattle.law_run.proofs.Along.{rows_in, row_here}
+use Rattle.law_run.proofs.Along.{rows_in, disks_now, found_row, plain_now}
+use Rattle.law_run.proofs.Named.{asked_named}
 use Rattle.law_run.proofs.Steps.{ServerStep}
 
 module _ (this : ServerStep) where
@@ -25,7 +24,7 @@ module _ (this : ServerStep) where
     pub row : DiskRow
     pub there : In row (rows_in this.setting this.w)
     pub block : ℕ
-    pub at_block : cell ≡ cell_of_block row block
+    pub at_block : cell ≡ named_cell row block
     pub write : Write
     pub under_way : open_write this.w op.client ≡ Some write
     pub within : op.client < 9
@@ -34,24 +33,25 @@ module _ (this : ServerStep) where
     pub block_is : write.block ≡ block
     pub bytes_is : write.bytes ≡ op.bytes
 
-  pub placed : (cell : Cell) (op : Pending) (link : LinkRow) → cell_link (chosen_state this.setting this.w) cell ≡ Some link
-      → IsWrite this.state this.setting.lines op.client op.seq cell op.bytes → IsOpen (this.w.clients op.client) op.seq → Placed op cell
-  placed cell op link is wr still =
+  pub placed : (cell : Cell) (op : Pending) → IsWrite (chosen_state this.setting this.w) this.setting.lines op.client op.seq cell op.bytes
+      → IsOpen (this.w.clients op.client) op.seq → Placed op cell
+  placed cell op wr still =
+      let chosen = chosen_state this.setting this.w in
       let a = this.ground.asking.asked op.client still.asked still.is in
-      let under : wr.disk.map ≡ cell.map = sym (ap (λ (c : Cell). c.map) wr.cell_is) in
-      let has = row_here this.setting this.state this.w this.along cell link is wr.name wr.disk wr.found under in
+      let found = found_row this.setting.servers chosen (plain_now this.setting this.w this.along.firm) wr.name wr.disk wr.found in
+      let at = (disks_now this.setting this.w this.along.firm).at found.row found.there in
       let line : a.line ≡ wr.line = same_some (sym a.is ∙ ap (λ i. line_by this.setting.lines op.client i) still.same ∙ wr.is) in
       let asks : still.asked.request ≡ request.Write wr.name wr.block wr.pattern = a.asks ∙ ap (λ (l : Line). l.request) line ∙ wr.asks in
       record {
-        row = has.row;
-        there = has.there;
+        row = found.row;
+        there = found.there;
         block = wr.block;
-        at_block = wr.cell_is ∙ (λ i. record { map = (under ∙ sym has.map_is) i; block = wr.block });
+        at_block = wr.cell_is ∙ ap (λ d. cell_asked chosen d wr.block false) (sym found.view) ∙ asked_named chosen found.row at wr.block;
         write = record { client = op.client; seq = still.asked.seq; disk = wr.name; block = wr.block; bytes = pattern_block wr.pattern };
         under_way = ap (write_asked op.client) still.is ∙ ap (write_by op.client still.asked.seq) asks;
         within = a.within;
         own = refl;
-        disk_is = sym has.name_is;
+        disk_is = sym found.name_is;
         block_is = refl;
         bytes_is = sym wr.bytes_is;
       }

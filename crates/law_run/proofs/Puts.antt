@@ -1,5 +1,18 @@
 -- A server's put of the copy that counts gives a block the bytes of a write under way; one of another copy changes no content.
-use Rattle.std.proofs.Common.{◌≡◌, ◌≢◌, ◌<◌, ℕ, true, Some, is_some, sym, ap, ◌∙◌, subst, ◌⊎◌, inl, inr}
+use Rattle.std.proofs.Common.{◌≡◌, ◌≢◌, ◌<◌, ℕ, true, Some, is_some, sym, ap, ◌∙◌, subst, ◌⊎◌, inl, inr, ◌≤◌, ◌&&◌, ◌||◌, Bool, List, Option, None, false, refl, arith}
+use Rattle.law_steps.proofs.Coming.{stage_facts}
+use Rattle.std.specs.Prelude.{option_and_then}
+use Rattle.law_steps.proofs.Staged.{same_cell_or_apart}
+use Rattle.petal_rules.specs.Lists.{In}
+use Rattle.petal_rules.specs.Writes.{is_clients}
+use Rattle.law_moves.specs.Fills.{IsFrozen}
+use Rattle.law_state.specs.Homes.{stage_at, epoch_at}
+use Rattle.law_state.specs.Tables.{IsPlainState}
+use Rattle.law_state.specs.Disks.{AreDisks}
+use Rattle.law_run.proofs.Fills.{fill_there}
+use Rattle.law_run.proofs.Sources.{source_stays}
+use Rattle.law_run.proofs.Overlay.{IsFill, fill_same}
+use Rattle.law_run.proofs.Named.{entry_over, has_over, is_between}
 use Rattle.std.specs.Ordering.{nat_cmp}
 use Rattle.petal_base.specs.declared.cell.Cell.{Cell}
 use Rattle.petal_base.specs.declared.cell.Key.{Key}
@@ -11,19 +24,17 @@ use Rattle.petal_machine.specs.Machine.{Plain}
 use Rattle.petal_machine.specs.Run.{replay}
 use Rattle.petal_msg.specs.declared.body.Body.{Body}
 use Rattle.petal_msg.specs.declared.operation.Pending.{Pending}
-use Rattle.petal_state.specs.CellState.{cell_link}
+use Rattle.petal_state.specs.CellState.{named_cell}
 use Rattle.petal_state.specs.Command.{state_after}
 use Rattle.petal_rules.specs.State.{State, authority, is_second}
 use Rattle.petal_rules.specs.Store.{Chain, Store, Stored, cell_cmp, chain_in, chains_with, entry_at, bytes_of}
 use Rattle.petal_rules.specs.Server.{Own, Here}
 use Rattle.petal_rules.specs.World.{World, blank_joins_in, chosen_log, chosen_state, counted, kept}
 use Rattle.petal_rules.proofs.CellTables.{cell_same}
-use Rattle.petal_rules.proofs.Tests.{same_or_apart, same_some, some_or_none, none_some, is_the_one}
-use Rattle.petal_history.specs.Contents.{cell_of_block, content_by, content_in}
+use Rattle.petal_rules.proofs.Tests.{same_or_apart, same_some, some_or_none, none_some, is_the_one, by_bool, true_false}
+use Rattle.petal_history.specs.Contents.{entry_before, entry_by, entry_of, first_entry, old_cell}
 use Rattle.petal_history.specs.Events.{change_by, open_write}
-use Rattle.law_state.specs.Below.{HoldsAlone}
-use Rattle.law_state.specs.Epochs.{epoch_at}
-use Rattle.law_state.proofs.Alone.{led_row}
+use Rattle.law_state.specs.Below.{HoldsAlone, IsSecondary}
 use Rattle.law_state.proofs.Cells.{both_authority, alone_authority, second_by}
 use Rattle.law_state.proofs.Roles.{log_roles}
 use Rattle.law_steps.specs.Happens.{Handled, own_place}
@@ -32,25 +43,25 @@ use Rattle.law_steps.proofs.Fronts.{front_on}
 use Rattle.law_steps.proofs.Histories.{chosen_steady, own_steady, runs_now}
 use Rattle.law_stores.specs.Waiting.{IsOwn}
 use Rattle.law_copies.specs.Pair.{owns_of}
-use Rattle.law_copies.specs.Visits.{IsLinked, place_by}
+use Rattle.law_copies.specs.Visits.{IsLinked, place_by, AliveIn}
 use Rattle.law_copies.proofs.Chains.{chain_apart, chain_put}
-use Rattle.law_copies.proofs.Places.{one_row}
+use Rattle.law_copies.proofs.Places.{one_row, dead_not}
 use Rattle.law_requests.specs.Asked.{IsOpen}
 use Rattle.law_requests.specs.Known.{asked_for}
 use Rattle.law_requests.proofs.Beside.{open_beside}
 use Rattle.law_requests.proofs.Running.{open_running, pending_here}
 use Rattle.law_run.specs.Onward.{is_held, Onward}
-use Rattle.law_run.proofs.Along.{own_link, row_epoch, same_row}
-use Rattle.law_run.proofs.Chains.{StoresSo, Nothing_new, An_own, An_asked, A_copy, PutsAsked, PutsCopy, copied_apart}
+use Rattle.law_run.proofs.Along.{HasDisk, cell_comes, cell_named, content_is, disk_here, disks_now, has_content_is, named_epoch, named_high, named_map_is, one_row_of, plain_now, rows_in}
+use Rattle.law_run.proofs.Chains.{StoresSo, Nothing_new, An_own, An_asked, A_copy, PutsAsked, PutsCopy, copied_apart, Drops, Of_the_dead}
 use Rattle.law_run.proofs.Copies.{copied_uncounted}
-use Rattle.law_run.proofs.Contents.{IsGiven, AreGiven, Taken, all_given, given_held, takes_of, was_kept, now_has, now_kept}
+use Rattle.law_run.proofs.Contents.{IsGiven, AreGiven, Taken, all_given, given_held, takes_of, was_kept, now_has, now_kept, StaysAt, was_has}
 use Rattle.law_run.proofs.Entries.{entry_below, entry_put}
 use Rattle.law_run.proofs.Frames.{OwnFollow, SaysOk, CountsOk}
-use Rattle.law_run.proofs.Grounds.{Followed, followed, followed_epoch, followed_recalled, pending_epoch, remembered, write_of}
+use Rattle.law_run.proofs.Grounds.{Followed, followed, followed_epoch, followed_recalled, remembered, write_of, alive_or_dead, dropped_same, followed_comes, followed_frozen, followed_lacks, followed_timely, pending_timely, pending_write}
 use Rattle.law_run.proofs.Placed.{Placed, placed}
 use Rattle.law_run.proofs.ServerJobs.{PutHeld}
-use Rattle.law_run.proofs.Seats.{op_seat}
-use Rattle.law_run.proofs.Steps.{ServerStep, TakesTold, new, later_world, joined_now, joined_then, kept_here, own_after, same_content}
+use Rattle.law_run.proofs.Seats.{op_seat, lives_now, second_shares}
+use Rattle.law_run.proofs.Steps.{ServerStep, TakesTold, new, later_world, joined_now, joined_then, kept_here, own_after, frozen_same, same_entry}
 use Rattle.law_run.proofs.Takes.{block_there}
 
 module _ (this : ServerStep) (same : chosen_log this.setting (later_world this) ≡ chosen_log this.setting this.w) where
@@ -76,38 +87,103 @@ module _ (this : ServerStep) (same : chosen_log this.setting (later_world this) 
   pub joined_same : (i : ℕ) → joined_now this i ≡ joined_then this i
   joined_same i = ap (λ log. blank_joins_in this.setting log i) same
 
+  rows_same : (row : DiskRow) → In row (rows_in this.setting this.w) → In row (rows_in this.setting v)
+  rows_same row h = subst (λ (s : State). In row s.disks.rows) (sym chosen_is) h
+
+  -- the entry of the cell that requests name
+  was_entry : (row : DiskRow) (epoch b : ℕ) → Option Stored
+  was_entry row epoch b = entry_of chosen (counted this.setting this.w) (named_cell row b) epoch
+
+  now_entry : (row : DiskRow) (epoch b : ℕ) → Option Stored
+  now_entry row epoch b = entry_of (chosen_state this.setting v) (counted this.setting v) (named_cell row b) epoch
+
+  -- the block's contents after the step, by what was frozen before it
+  now_is : (row : DiskRow) → In row (rows_in this.setting this.w) → (epoch b : ℕ)
+      → now_kept this row epoch b
+      ≡ bytes_of (entry_over (is_between row b) (entry_of (chosen_state this.setting v) (counted this.setting v) (named_cell row b) epoch)
+      (entry_before this.w (old_cell row b) epoch))
+  now_is row h epoch b =
+      content_is this.setting v this.next.firm row (rows_same row h) epoch b
+      ∙ ap (λ o. bytes_of (entry_over (is_between row b) (entry_of (chosen_state this.setting v) (counted this.setting v) (named_cell row b) epoch)
+      (option_and_then (λ chain. entry_at chain epoch) o))) (frozen_same this same (old_cell row b))
+
+  now_has_is : (row : DiskRow) → In row (rows_in this.setting this.w) → (epoch b : ℕ)
+      → now_has this row epoch b
+      ≡ has_over (is_between row b) (is_some (authority (chosen_state this.setting v) (named_cell row b)))
+      (entry_of (chosen_state this.setting v) (counted this.setting v) (named_cell row b) epoch) (is_some (this.w.frozen (old_cell row b)))
+  now_has_is row h epoch b =
+      has_content_is this.setting v this.next.firm row (rows_same row h) epoch b
+      ∙ ap (λ o. has_over (is_between row b) (is_some (authority (chosen_state this.setting v) (named_cell row b)))
+      (entry_of (chosen_state this.setting v) (counted this.setting v) (named_cell row b) epoch) (is_some o)) (frozen_same this same (old_cell row b))
+
+  was_is : (row : DiskRow) → In row (rows_in this.setting this.w) → (epoch b : ℕ)
+      → was_kept this row epoch b
+      ≡ bytes_of (entry_over (is_between row b) (entry_of chosen (counted this.setting this.w) (named_cell row b) epoch)
+      (entry_before this.w (old_cell row b) epoch))
+  was_is row h epoch b = content_is this.setting this.w this.along.firm row h epoch b
+
+  was_has_is : (row : DiskRow) → In row (rows_in this.setting this.w) → (epoch b : ℕ)
+      → was_has this row epoch b
+      ≡ has_over (is_between row b) (is_some (authority chosen (named_cell row b)))
+      (entry_of chosen (counted this.setting this.w) (named_cell row b) epoch) (is_some (this.w.frozen (old_cell row b)))
+  was_has_is row h epoch b = has_content_is this.setting this.w this.along.firm row h epoch b
+
+  counts_same : (cell : Cell) → is_some (authority chosen cell) ≡ is_some (authority (chosen_state this.setting v) cell)
+  counts_same cell = ap (λ s. is_some (authority s cell)) (sym chosen_is)
+
+  -- the block's content at an epoch, and whether it has one, are as before
+  pub record IsSame (row : DiskRow) (epoch b : ℕ) : Type 0 where
+    pub has : was_has this row epoch b ≡ now_has this row epoch b
+    pub bytes : was_kept this row epoch b ≡ now_kept this row epoch b
+
+  stays_by : (row : DiskRow) (epoch b : ℕ) → IsSame row epoch b → StaysAt this row epoch b
+  stays_by row epoch b k there = (k.has ∙ there, k.bytes)
+
+  -- where the entry of the cell that requests name is as before, all of it is
+  same_by : (row : DiskRow) → In row (rows_in this.setting this.w) → (epoch b : ℕ)
+      → entry_of chosen (counted this.setting this.w) (named_cell row b) epoch
+      ≡ entry_of (chosen_state this.setting v) (counted this.setting v) (named_cell row b) epoch → IsSame row epoch b
+  same_by row h epoch b e = record {
+    has = was_has_is row h epoch b
+        ∙ (λ i. has_over (is_between row b) (counts_same (named_cell row b) i) (e i) (is_some (this.w.frozen (old_cell row b))))
+        ∙ sym (now_has_is row h epoch b);
+    bytes = was_is row h epoch b
+        ∙ ap (λ o. bytes_of (entry_over (is_between row b) o (entry_before this.w (old_cell row b) epoch))) e
+        ∙ sym (now_is row h epoch b);
+  }
+
   -- what counts is another's copy, or this server's, which has the same chain
-  pub unchanged : (row : DiskRow) (b : ℕ)
-      → (authority chosen (cell_of_block row b) ≡ Some this.n
-      → chain_in (kept this.setting v this.n).chains (cell_of_block row b) ≡ chain_in (kept this.setting this.w this.n).chains (cell_of_block row b))
-      → (epoch : ℕ) → was_kept this row epoch b ≡ now_kept this row epoch b
-  unchanged row b h epoch =
-      same_content this same (cell_of_block row b) epoch (authority chosen (cell_of_block row b)) h
-      ∙ ap (λ s. content_in s (counted this.setting v) row epoch b) (sym chosen_is)
+  pub unchanged : (row : DiskRow) → In row (rows_in this.setting this.w) → (b : ℕ)
+      → (authority chosen (named_cell row b) ≡ Some this.n
+      → chain_in (kept this.setting v this.n).chains (named_cell row b) ≡ chain_in (kept this.setting this.w this.n).chains (named_cell row b))
+      → (epoch : ℕ) → IsSame row epoch b
+  unchanged row there b h epoch = same_by row there epoch b
+      (same_entry this same (named_cell row b) epoch (authority chosen (named_cell row b)) h
+      ∙ ap (λ s. entry_of s (counted this.setting v) (named_cell row b) epoch) (sym chosen_is))
 
   -- by the server's own store, where that counts
-  own_unchanged : IsOwn this.setting this.w this.n → (row : DiskRow) (b : ℕ)
-      → (authority chosen (cell_of_block row b) ≡ Some this.n
-      → chain_in (new this).store.chains (cell_of_block row b) ≡ chain_in own.store.chains (cell_of_block row b))
-      → (epoch : ℕ) → was_kept this row epoch b ≡ now_kept this row epoch b
-  own_unchanged counts row b h = unchanged row b (λ mine.
-      ap (λ (s : Store). chain_in s.chains (cell_of_block row b)) (own_after this counts (joined_same this.n))
-      ∙ h mine ∙ ap (λ (s : Store). chain_in s.chains (cell_of_block row b)) (sym (counts own.store)))
+  own_unchanged : IsOwn this.setting this.w this.n → (row : DiskRow) → In row (rows_in this.setting this.w) → (b : ℕ)
+      → (authority chosen (named_cell row b) ≡ Some this.n
+      → chain_in (new this).store.chains (named_cell row b) ≡ chain_in own.store.chains (named_cell row b))
+      → (epoch : ℕ) → IsSame row epoch b
+  own_unchanged counts row there b h = unchanged row there b (λ mine.
+      ap (λ (s : Store). chain_in s.chains (named_cell row b)) (own_after this counts (joined_same this.n))
+      ∙ h mine ∙ ap (λ (s : Store). chain_in s.chains (named_cell row b)) (sym (counts own.store)))
 
   -- nothing counts elsewhere than before
   counts : (k : Plain) → CountsOk this k
-  counts k i cell op on is put now still = inl (ap (λ s. authority s cell) (sym chosen_is) ∙ now)
+  counts k i cell op on is clients put now still = inl (ap (λ s. authority s cell) (sym chosen_is) ∙ now)
 
   -- no content changes
-  calm_given : ((row : DiskRow) (b epoch : ℕ) → was_kept this row epoch b ≡ now_kept this row epoch b) → AreGiven this
-  calm_given h row there b has = inl (h row b)
+  calm_given : ((row : DiskRow) → In row (rows_in this.setting this.w) → (b epoch : ℕ) → IsSame row epoch b) → AreGiven this
+  calm_given h row there b = inl (λ epoch. stays_by row epoch b (h row there b epoch))
 
   -- a step that changes no chain
   pub calm_told : (new this).store.chains ≡ own.store.chains → ((k : Plain) → Onward this.m k → OwnFollow this k (new this))
       → ((k : Plain) → Onward this.m k → SaysOk this k) → TakesTold this
   calm_told chains job says =
-      let taken = all_given this (calm_given (λ row b. unchanged row b (λ mine.
-      ap (λ c. chain_in c (cell_of_block row b)) (kept_here this chains (joined_same this.n))))) in
+      let taken = all_given this (calm_given (λ row there b. unchanged row there b (λ mine.
+      ap (λ c. chain_in c (named_cell row b)) (kept_here this chains (joined_same this.n))))) in
       let k = replay this.m taken.es in
       takes_of this taken (job k taken.onward) (counts k) (says k taken.onward)
 
@@ -120,51 +196,66 @@ module _ (this : ServerStep) (same : chosen_log this.setting (later_world this) 
     abbrev chain : Chain
     chain = put nat_cmp (chain_in own.store.chains (cell_of key)) key.epoch entry
 
+    chosen_disks : AreDisks chosen
+    chosen_disks = disks_now this.setting this.w this.along.firm
+
     -- the key's epoch is the disk's
     at_epoch : place.row.epoch ≡ key.epoch
     at_epoch =
-        sym (row_epoch this.setting this.w this.along.firm place.row place.there (cell_of key) (ap (λ (c : Cell). c.map) place.at_block)) ∙ epoch
+        sym (named_epoch this.setting.servers chosen (plain_now this.setting this.w this.along.firm) chosen_disks place.row place.there place.block)
+        ∙ ap (epoch_at chosen) (sym place.at_block) ∙ epoch
 
-    -- the content of the block at an epoch, by the server's own chain
-    now_here : (e : ℕ) → now_kept this place.row e place.block ≡ bytes_of (entry_at chain e)
+    -- the entry of the cell, by the server's own chain
+    now_here : (e : ℕ) → entry_of (chosen_state this.setting v) (counted this.setting v) (named_cell place.row place.block) e ≡ entry_at chain e
     now_here e =
-        ap (λ (c : Cell). content_by (counted this.setting v) c e (authority (chosen_state this.setting v) c)) (sym place.at_block)
-        ∙ ap (content_by (counted this.setting v) (cell_of key) e) (ap (λ s. authority s (cell_of key)) chosen_is ∙ mine)
-        ∙ ap (λ (s : Store). bytes_of (entry_at (chain_in s.chains (cell_of key)) e)) (own_after this own_counts (joined_same this.n))
-        ∙ ap (λ c. bytes_of (entry_at (chain_in c (cell_of key)) e)) chains
-        ∙ ap (λ c. bytes_of (entry_at c e)) (chain_put own.store.chains (cell_of key) chain)
+        ap (λ (c : Cell). entry_by (counted this.setting v) c e (authority (chosen_state this.setting v) c)) (sym place.at_block)
+        ∙ ap (entry_by (counted this.setting v) (cell_of key) e) (ap (λ s. authority s (cell_of key)) chosen_is ∙ mine)
+        ∙ ap (λ (s : Store). entry_at (chain_in s.chains (cell_of key)) e) (own_after this own_counts (joined_same this.n))
+        ∙ ap (λ c. entry_at (chain_in c (cell_of key)) e) chains
+        ∙ ap (λ c. entry_at c e) (chain_put own.store.chains (cell_of key) chain)
 
-    was_here : (e : ℕ) → was_kept this place.row e place.block ≡ bytes_of (entry_at (chain_in own.store.chains (cell_of key)) e)
+    was_here : (e : ℕ) → entry_of chosen (counted this.setting this.w) (named_cell place.row place.block) e
+        ≡ entry_at (chain_in own.store.chains (cell_of key)) e
     was_here e =
-        ap (λ (c : Cell). content_by (counted this.setting this.w) c e (authority chosen c)) (sym place.at_block)
-        ∙ ap (content_by (counted this.setting this.w) (cell_of key) e) mine
-        ∙ ap (λ (s : Store). bytes_of (entry_at (chain_in s.chains (cell_of key)) e)) (own_counts own.store)
+        ap (λ (c : Cell). entry_by (counted this.setting this.w) c e (authority chosen c)) (sym place.at_block)
+        ∙ ap (entry_by (counted this.setting this.w) (cell_of key) e) mine
+        ∙ ap (λ (s : Store). entry_at (chain_in s.chains (cell_of key)) e) (own_counts own.store)
 
     rising : IsRising nat_cmp (chain_in own.store.chains (cell_of key))
     rising = subst (λ (s : Store). IsRising nat_cmp (chain_in s.chains (cell_of key))) (own_counts own.store)
         (this.ground.good.rising this.n (cell_of key))
 
+    entry_here : entry_of (chosen_state this.setting v) (counted this.setting v) (named_cell place.row place.block) place.row.epoch ≡ Some entry
+    entry_here =
+        ap (entry_of (chosen_state this.setting v) (counted this.setting v) (named_cell place.row place.block)) at_epoch ∙ now_here key.epoch
+        ∙ entry_put (chain_in own.store.chains (cell_of key)) key.epoch entry rising
+
     put_here : now_kept this place.row place.row.epoch place.block ≡ op.bytes
     put_here =
-        ap (λ e. now_kept this place.row e place.block) at_epoch ∙ now_here key.epoch
-        ∙ ap bytes_of (entry_put (chain_in own.store.chains (cell_of key)) key.epoch entry rising)
+        now_is place.row place.there place.row.epoch place.block
+        ∙ ap (λ o. bytes_of (entry_over (is_between place.row place.block) o (entry_before this.w (old_cell place.row place.block) place.row.epoch))) entry_here
+        ∙ over_first (is_between place.row place.block)
         ∙ bytes
+      where
+        over_first : (between : Bool) → bytes_of (entry_over between (Some entry) (entry_before this.w (old_cell place.row place.block) place.row.epoch)) ≡ entry.bytes
+        over_first true = refl
+        over_first false = refl
 
-    put_below : (e : ℕ) → e < place.row.epoch → was_kept this place.row e place.block ≡ now_kept this place.row e place.block
-    put_below e lt =
-        was_here e
-        ∙ ap bytes_of (sym (entry_below (chain_in own.store.chains (cell_of key)) key.epoch entry e (subst (λ k. e < k) at_epoch lt)))
-        ∙ sym (now_here e)
+    put_below : (e : ℕ) → e < place.row.epoch → StaysAt this place.row e place.block
+    put_below e lt = stays_by place.row e place.block (same_by place.row place.there e place.block
+        (was_here e
+        ∙ sym (entry_below (chain_in own.store.chains (cell_of key)) key.epoch entry e (subst (λ k. e < k) at_epoch lt))
+        ∙ sym (now_here e)))
 
-    beside : (row : DiskRow) (b : ℕ) → cell_of_block row b ≢ cell_of key → (e : ℕ) → was_kept this row e b ≡ now_kept this row e b
-    beside row b ne = own_unchanged own_counts row b (λ mine. ap (λ c. chain_in c (cell_of_block row b)) chains
-        ∙ chain_apart own.store.chains (cell_of key) chain (cell_of_block row b) ne)
+    beside : (row : DiskRow) → In row (rows_in this.setting this.w) → (b : ℕ) → named_cell row b ≢ cell_of key → (e : ℕ) → IsSame row e b
+    beside row there b ne = own_unchanged own_counts row there b (λ mine. ap (λ c. chain_in c (named_cell row b)) chains
+        ∙ chain_apart own.store.chains (cell_of key) chain (named_cell row b) ne)
 
     given_here : IsGiven this place.row place.block
     given_here =
-        let stored : at cell_cmp (kept this.setting v this.n).chains (cell_of_block place.row place.block) ≡ Some chain =
-        ap (λ (s : Store). at cell_cmp s.chains (cell_of_block place.row place.block)) (own_after this own_counts (joined_same this.n))
-        ∙ ap (λ c. at cell_cmp c (cell_of_block place.row place.block)) chains
+        let stored : at cell_cmp (kept this.setting v this.n).chains (named_cell place.row place.block) ≡ Some chain =
+        ap (λ (s : Store). at cell_cmp s.chains (named_cell place.row place.block)) (own_after this own_counts (joined_same this.n))
+        ∙ ap (λ c. at cell_cmp c (named_cell place.row place.block)) chains
         ∙ ap (at cell_cmp (chains_with own.store.chains key entry)) (sym place.at_block) ∙ cell_same own.store.chains (cell_of key) chain in
         record {
           write = place.write;
@@ -174,63 +265,166 @@ module _ (this : ServerStep) (same : chosen_log this.setting (later_world this) 
           block_is = place.block_is;
           bytes_is = place.bytes_is ∙ sym put_here;
           below = put_below;
-          looked = block_there (change_by this.setting this.w v) this.n place.row place.block chain this.within stored;
+          looked = block_there (change_by this.setting this.w v) this.n (named_cell place.row place.block).map place.block chain this.within stored;
         }
 
     given_put : AreGiven this
-    given_put row h b has = elim (same_or_apart b place.block) [
-      | inr ne ↦ inl (beside row b (λ e. ne (ap (λ (c : Cell). c.block) (e ∙ place.at_block))))
-      | inl e ↦ elim (same_or_apart row.map place.row.map) [
-        | inr ne ↦ inl (beside row b (λ f. ne (ap (λ (c : Cell). c.map) (f ∙ place.at_block))))
-        | inl one ↦
-            let row_is : row ≡ place.row = same_row this.setting this.w this.along.firm row place.row h place.there one in
-            inr (subst (λ (r : DiskRow). IsGiven this r b) (sym row_is) (subst (IsGiven this place.row) (sym e) given_here))
-      ]
+    given_put row h b = elim (same_cell_or_apart (named_cell row b) (cell_of key)) [
+      | inr ne ↦ inl (λ e. stays_by row e b (beside row h b ne e))
+      | inl is ↦
+          let at = is ∙ place.at_block in
+          let row_is : row ≡ place.row = one_row_of chosen chosen_disks row place.row h place.there
+          (named_map_is this.setting.servers chosen (plain_now this.setting this.w this.along.firm) chosen_disks row h b)
+          (named_map_is this.setting.servers chosen (plain_now this.setting this.w this.along.firm) chosen_disks place.row place.there place.block)
+          (ap (λ (c : Cell). c.map) at) in
+          let block_is : b ≡ place.block = ap (λ (c : Cell). c.block) at in
+          inr (subst (λ (r : DiskRow). IsGiven this r b) (sym row_is) (subst (IsGiven this place.row) (sym block_is) given_here))
     ]
 
     -- the block has a content, since the server's copy counts
-    has_put : now_has this place.row place.block ≡ true
-    has_put = ap (λ (c : Cell). is_some (authority (chosen_state this.setting v) c)) (sym place.at_block)
-        ∙ ap is_some (ap (λ s. authority s (cell_of key)) chosen_is ∙ mine)
+    has_put : now_has this place.row place.row.epoch place.block ≡ true
+    has_put =
+        now_has_is place.row place.there place.row.epoch place.block
+        ∙ (λ i. has_over (is_between place.row place.block) (here i) (entry_here i) (is_some (this.w.frozen (old_cell place.row place.block))))
+        ∙ over_has (is_between place.row place.block)
+      where
+        here : is_some (authority (chosen_state this.setting v) (named_cell place.row place.block)) ≡ true
+        here = ap (λ (c : Cell). is_some (authority (chosen_state this.setting v) c)) (sym place.at_block)
+            ∙ ap is_some (ap (λ s. authority s (cell_of key)) chosen_is ∙ mine)
+
+        over_has : (between : Bool) → has_over between true (Some entry) (is_some (this.w.frozen (old_cell place.row place.block))) ≡ true
+        over_has true = refl
+        over_has false = refl
 
     put_held : (taken : Taken this) → is_held (replay this.m taken.es) op.client ≡ true
     put_held taken =
         given_held this (replay this.m taken.es) taken.onward taken.stores place.row place.there place.block op.client place.write has_put
         place.under_way place.disk_is place.block_is (place.bytes_is ∙ sym put_here)
 
+  -- ### A fill
+
+  -- the cell that requests name of a disk's block is not dead
+  named_alive : (row : DiskRow) → In row (rows_in this.setting this.w) → (b : ℕ) → AliveIn chosen (named_cell row b)
+  named_alive row there b =
+      let high = named_high this.setting.servers chosen (plain_now this.setting this.w this.along.firm)
+      (disks_now this.setting this.w this.along.firm) row there b in
+      omega (arith, high)
+
+  dead_apart : {B : Type 0} (row : DiskRow) → In row (rows_in this.setting this.w) → (b : ℕ) → stage_at chosen (named_cell row b) ≡ 4 → B
+  dead_apart row there b dead =
+      let high = named_high this.setting.servers chosen (plain_now this.setting this.w this.along.firm)
+      (disks_now this.setting this.w this.along.firm) row there b in
+      absurd (omega arith)
+
+  -- a fill of the copy that counts changes no content
+  module _ (key : Key) (entry : Stored) (filled : List ℕ) (bytes : entry.bytes ≡ filled)
+      (chains : (new this).store.chains ≡ chains_with own.store.chains key entry)
+      (own_counts : IsOwn this.setting this.w this.n) (mine : authority chosen (cell_of key) ≡ Some this.n)
+      (one : stage_at chosen (cell_of key) ≡ 1) (rev : ℕ) (frozen : IsFrozen this.setting this.w rev key filled)
+      (lacks : at nat_cmp (chain_in own.store.chains (cell_of key)) key.epoch ≡ None) where
+    abbrev cell : Cell
+    cell = cell_of key
+
+    abbrev was_chain : Chain
+    was_chain = chain_in own.store.chains cell
+
+    plain_chosen : IsPlainState this.setting.servers chosen
+    plain_chosen = plain_now this.setting this.w this.along.firm
+
+    disks : AreDisks chosen
+    disks = disks_now this.setting this.w this.along.firm
+
+    disk : HasDisk this.setting.servers chosen plain_chosen disks cell
+    disk = disk_here this.setting.servers chosen plain_chosen disks cell (omega (arith, one)) (omega (arith, one))
+
+    between : is_between disk.row cell.block ≡ true
+    between = cell_comes this.setting.servers chosen plain_chosen disks disk.row disk.there cell disk.has one
+
+    named : cell ≡ named_cell disk.row cell.block
+    named = cell_named this.setting.servers chosen plain_chosen disks disk.row disk.there cell disk.has (omega (arith, one)) (omega (arith, one))
+
+    -- what was frozen is of the cell of the old map
+    old_is : frozen.old ≡ old_cell disk.row cell.block
+    old_is = source_stays this.setting.servers frozen.front (chosen_log this.setting this.w) this.along.firm.plain frozen.lies cell frozen.old
+        frozen.from disk.row disk.there disk.has one
+
+    frozen_here : this.w.frozen (old_cell disk.row cell.block) ≡ Some frozen.before
+    frozen_here = ap this.w.frozen (sym old_is) ∙ frozen.frozen
+
+    is_fill : IsFill was_chain frozen.before key.epoch filled
+    is_fill = fill_there this.setting this.state this.w this.along.firm this.ground key filled one rev frozen disk.row disk.there disk.has this.n mine
+        was_chain (ap (λ (s : Store). chain_in s.chains cell) (own_counts own.store)) lacks
+
+    now_fill : (e : ℕ) → entry_of (chosen_state this.setting v) (counted this.setting v) cell e ≡ entry_at (put nat_cmp was_chain key.epoch entry) e
+    now_fill e =
+        ap (entry_by (counted this.setting v) cell e) (ap (λ s. authority s cell) chosen_is ∙ mine)
+        ∙ ap (λ (s : Store). entry_at (chain_in s.chains cell) e) (own_after this own_counts (joined_same this.n))
+        ∙ ap (λ c. entry_at (chain_in c cell) e) chains
+        ∙ ap (λ c. entry_at c e) (chain_put own.store.chains cell (put nat_cmp was_chain key.epoch entry))
+
+    was_fill : (e : ℕ) → entry_of chosen (counted this.setting this.w) cell e ≡ entry_at was_chain e
+    was_fill e =
+        ap (entry_by (counted this.setting this.w) cell e) mine
+        ∙ ap (λ (s : Store). entry_at (chain_in s.chains cell) e) (own_counts own.store)
+
+    before_fill : (e : ℕ) → entry_before this.w (old_cell disk.row cell.block) e ≡ entry_at frozen.before e
+    before_fill e = ap (option_and_then (λ chain. entry_at chain e)) frozen_here
+
+    fill_here : (e : ℕ) → IsSame disk.row e cell.block
+    fill_here e = record {
+      has = was_has_is disk.row disk.there e cell.block
+          ∙ (λ i. has_over (between i) (counts_same (named_cell disk.row cell.block) i)
+          (entry_of chosen (counted this.setting this.w) (named_cell disk.row cell.block) e) (is_some (frozen_here i)))
+          ∙ over_frozen (is_some (authority (chosen_state this.setting v) (named_cell disk.row cell.block)))
+          (entry_of chosen (counted this.setting this.w) (named_cell disk.row cell.block) e)
+          (entry_of (chosen_state this.setting v) (counted this.setting v) (named_cell disk.row cell.block) e)
+          ∙ sym (λ i. has_over (between i) (is_some (authority (chosen_state this.setting v) (named_cell disk.row cell.block)))
+          (entry_of (chosen_state this.setting v) (counted this.setting v) (named_cell disk.row cell.block) e) (is_some (frozen_here i)))
+          ∙ sym (now_has_is disk.row disk.there e cell.block);
+      bytes = was_is disk.row disk.there e cell.block
+          ∙ (λ i. bytes_of (entry_over (between i) (entry_of chosen (counted this.setting this.w) (sym named i) e) (before_fill e i)))
+          ∙ ap (λ o. bytes_of (first_entry o (entry_at frozen.before e))) (was_fill e)
+          ∙ fill_same was_chain frozen.before key.epoch entry filled bytes is_fill e
+          ∙ ap (λ o. bytes_of (first_entry o (entry_at frozen.before e))) (sym (now_fill e))
+          ∙ sym (λ i. bytes_of (entry_over (between i) (entry_of (chosen_state this.setting v) (counted this.setting v) (sym named i) e) (before_fill e i)))
+          ∙ sym (now_is disk.row disk.there e cell.block);
+    }
+      where
+        over_frozen : (c : Bool) (one other : Option Stored) → (c && (is_some one || true)) ≡ (c && (is_some other || true))
+        over_frozen true None None = refl
+        over_frozen true None (Some y) = refl
+        over_frozen true (Some x) None = refl
+        over_frozen true (Some x) (Some y) = refl
+        over_frozen false one other = refl
+
+    fill_given : AreGiven this
+    fill_given row h b = inl (λ e. stays_by row e b (elim (same_cell_or_apart (named_cell row b) cell) [
+      | inr ne ↦ own_unchanged own_counts row h b (λ counted. ap (λ c. chain_in c (named_cell row b)) chains
+          ∙ chain_apart own.store.chains cell _ (named_cell row b) ne) e
+      | inl is ↦
+          let at = is ∙ named in
+          let row_is : row ≡ disk.row = one_row_of chosen disks row disk.row h disk.there
+          (named_map_is this.setting.servers chosen plain_chosen disks row h b) disk.has (ap (λ (c : Cell). c.map) is) in
+          let block_is : b ≡ cell.block = ap (λ (c : Cell). c.block) is in
+          subst (λ (r : DiskRow). IsSame r e b) (sym row_is) (subst (IsSame disk.row e) (sym block_is) (fill_here e))
+    ]))
+
   -- ### The second server that runs
 
-  -- by what is chosen it still is the second, or holds the cell alone
+  -- by what is chosen it still is the second, or holds the cell alone, so that its copy counts
   after_second : (runs : (this.w.servers this.n).life.running ≡ true) (a : PutsAsked hears here own (new this))
-      → (is_second chosen this.n (cell_of a.key) ≡ true) ⊎ HoldsAlone chosen this.n (cell_of a.key)
-  after_second runs a =
+      → AliveIn chosen (cell_of a.key) → authority chosen (cell_of a.key) ≡ Some this.n
+  after_second runs a alive =
       let firm = this.along.firm in
+      let cell = cell_of a.key in
       let roles = log_roles this.setting.servers (this.w.servers this.n).log.applied (chosen_log this.setting this.w) firm.plain (firm.servers this.n) in
-      roles.seconds this.n (this.w.servers this.n).life.inc (cell_of a.key) a.seat
-      (runs_now this.setting this.w firm this.n runs a.seat) a.seconds
-
-  -- its copy is the one that counts, of a cell that has a link
-  pub record IsServing (cell : Cell) : Type 0 where
-    pub counts : authority chosen cell ≡ Some this.n
-    pub link : LinkRow
-    pub linked : cell_link chosen cell ≡ Some link
-
-  serving : (cell : Cell) → (is_second chosen this.n cell ≡ true) ⊎ HoldsAlone chosen this.n cell → IsServing cell
-  serving cell role =
-      let steady = chosen_steady this.setting this.w this.along.firm in
-      elim role [
-        | inl still ↦
-            let b = second_by chosen steady cell this.n (is_the_one _ this.n still) in
-            record {
-              counts = both_authority chosen cell b.0.row b.0.is b.0.linked b.0.so ∙ ap Some b.1;
-              link = b.0.row;
-              linked = b.0.is;
-            }
-        | inr alone ↦ record {
-          counts = alone_authority chosen cell alone.row alone.is (steady.linked cell alone.row alone.is) this.n alone.whole alone.alone;
-          link = alone.row;
-          linked = alone.is;
-        }
+      let s = second_shares this.setting this.state this.w firm this.ground this.n cell runs a.seat a.seconds alive in
+      let lives = lives_now this.setting this.state this.w firm this.ground this.n cell s.shares.low alive in
+      let second : IsSecondary here.state this.n cell = record { row = s.row; is = s.shares.linked; both = s.shares.both; second = s.second } in
+      elim (roles.seconds this.n (this.w.servers this.n).life.inc cell a.seat (runs_now this.setting this.w firm this.n runs a.seat) second) [
+        | inl still ↦ both_authority chosen cell still.row still.is lives still.both ∙ ap Some still.second
+        | inr (inl alone) ↦ alone_authority chosen cell alone.row alone.is lives this.n alone.whole alone.alone
+        | inr (inr died) ↦ absurd (dead_not chosen cell died alive)
       ]
 
   abbrev FollowedHere : PutsAsked hears here own (new this) → Type 0
@@ -241,21 +435,22 @@ module _ (this : ServerStep) (same : chosen_log this.setting (later_world this) 
   spot a f = place_by this.setting (this.w.servers this.n).log.applied f.row
 
   asked_open : (runs : (this.w.servers this.n).life.running ≡ true) (a : PutsAsked hears here own (new this)) (f : FollowedHere a)
-      → IsOpen (this.w.clients f.putting.op.client) f.putting.op.seq
-  asked_open runs a f =
+      → is_clients f.putting.op.kind ≡ true → IsOpen (this.w.clients f.putting.op.client) f.putting.op.seq
+  asked_open runs a f clients =
       let cell = cell_of a.key in
       let firm = this.along.firm in
-      let known = remembered this.setting this.state this.w this.ground.lives this.ground.asking f.row.primary (spot a f) cell f.putting.op
-      (followed_recalled this.setting this.state this.along.steady this.w firm this.ground this.n a.number a.key a.bytes f) in
+      let known = remembered this.setting this.w this.ground.lives this.ground.asking f.row.primary (spot a f) cell f.putting.op clients
+      (followed_recalled this.setting this.state this.along.steady this.w firm this.ground this.n a.number a.key a.bytes f clients) in
+      let timely = followed_timely this.setting this.state this.along.steady this.w firm this.ground this.n a.number a.key a.bytes f clients in
       let upto = front_on known.known.upto _ _ known.known.applied (firm.servers f.row.primary) in
       let one : known.row ≡ f.row = one_row this.setting (chosen_log this.setting this.w) firm.plain
       (this.w.servers this.n).log.applied known.known.upto cell
       f.row known.row (firm.servers this.n) upto f.shares.linked known.linked (sym known.at) in
-      open_beside this.setting this.w firm this.ground.lives this.state f.row.primary known.inc
+      open_beside this.setting this.w firm this.ground.lives f.row.primary known.inc
       (asked_for cell f.putting.op) f.putting.op.rev known.known
       this.n runs a.seat f.row f.shares.linked f.shares.has f.shares.both
       (subst (λ r. IsLinked this.setting known.known.upto cell r) one known.linked)
-      (sym known.at ∙ ap (place_by this.setting known.known.upto) one)
+      (sym known.at ∙ ap (place_by this.setting known.known.upto) one) timely.stays
 
   -- ### What is told
 
@@ -268,14 +463,14 @@ module _ (this : ServerStep) (same : chosen_log this.setting (later_world this) 
         let k = replay this.m taken.es in
         takes_of this taken (job k taken.onward held) (counts k) (says k taken.onward)
 
-    own_told : (op : Pending) (is : at cell_cmp own.pairs.pending op.cell ≡ Some op) (entry : Stored) (bytes : entry.bytes ≡ op.bytes)
+    own_told : (op : Pending) (is : at cell_cmp own.pairs.pending op.cell ≡ Some op) (unput : op.stage.put ≡ false) (entry : Stored) (bytes : entry.bytes ≡ op.bytes)
         (chains : (new this).store.chains ≡ chains_with own.store.chains op.key entry)
-        → Jobs (An_own (record { op = op; is = is; entry = entry; bytes = bytes; chains = chains })) → TakesTold this
-    own_told op is entry bytes chains job = elim (some_or_none (authority chosen op.cell)) [
+        → Jobs (An_own (record { op = op; is = is; unput = unput; entry = entry; bytes = bytes; chains = chains })) → TakesTold this
+    own_told op is unput entry bytes chains job = elim (some_or_none (authority chosen op.cell)) [
       | inr none ↦ other (λ e. none_some none e)
       | inl some ↦ elim (same_or_apart some.0 this.n) [
         | inr ne ↦ other (λ e. absurd (ne (same_some (sym some.1 ∙ e))))
-        | inl e ↦ mine (some.1 ∙ ap Some e)
+        | inl e ↦ by_bool (is_clients op.kind) (λ clients. mine clients (some.1 ∙ ap Some e)) (λ fill. fills fill (some.1 ∙ ap Some e))
       ]
     ]
       where
@@ -287,49 +482,49 @@ module _ (this : ServerStep) (same : chosen_log this.setting (later_world this) 
 
         other : ((authority chosen op.cell ≡ Some this.n) → ⊥) → TakesTold this
         other never =
-            let taken = all_given this (calm_given (λ row b. own_unchanged own_counts row b (λ mine. ap (λ c. chain_in c (cell_of_block row b)) chains
-            ∙ chain_apart own.store.chains (cell_of op.key) _ (cell_of_block row b)
+            let taken = all_given this (calm_given (λ row there b. own_unchanged own_counts row there b
+            (λ mine. ap (λ c. chain_in c (named_cell row b)) chains
+            ∙ chain_apart own.store.chains (cell_of op.key) _ (named_cell row b)
             (λ e. never (ap (authority chosen) (sym keyed ∙ sym e) ∙ mine))))) in
-            told_of taken (An_own (record { op = op; is = is; entry = entry; bytes = bytes; chains = chains })) job (λ e. absurd (never e))
+            told_of taken (An_own (record { op = op; is = is; unput = unput; entry = entry; bytes = bytes; chains = chains })) job (λ clients e. absurd (never e))
 
-        mine : authority chosen op.cell ≡ Some this.n → TakesTold this
-        mine counted =
+        mine : is_clients op.kind ≡ true → authority chosen op.cell ≡ Some this.n → TakesTold this
+        mine clients counted =
             let lives = this.ground.lives in
-            let staged = (this.ground.ready.rests.pending this.n).staged op.cell op is in
             let firm = this.along.firm in
-            let row = led_row here.state (own_steady this.setting this.w firm this.n) this.n op.cell staged.lead in
-            let link = own_link this.setting this.w firm this.n op.cell row.0 row.1 in
-            let epoch : epoch_at chosen (cell_of op.key) ≡ op.key.epoch =
-            ap (epoch_at chosen) keyed ∙ pending_epoch this.setting this.state this.along.steady this.w firm this.ground this.n this.n op.cell op runs is in
-            let known = this.ground.asking.pending this.n op.cell op is in
-            let still = open_running this.setting this.w firm lives this.state this.n (asked_for op.cell op) op.rev
-            (pending_here this.setting this.w firm lives this.state this.ground.ready.rests this.ground.asking this.n op.cell op is)
+            let timely = pending_timely this.setting this.state this.along.steady this.w firm this.ground this.n this.n op.cell op runs is clients in
+            let epoch : epoch_at chosen (cell_of op.key) ≡ op.key.epoch = ap (epoch_at chosen) keyed ∙ timely.epoch in
+            let still = open_running this.setting this.w firm lives this.n (asked_for op.cell op) op.rev
+            (pending_here this.setting this.w firm lives this.ground.ready.rests this.ground.asking this.ground.reports this.n op.cell op is clients)
             (this.ground.asking.lived.ran this.n runs) runs in
             let place : Placed this op (cell_of op.key) =
-            subst (Placed this op) (sym keyed) (placed this op.cell op link.0 link.1 known.known.sent.write still) in
+            subst (Placed this op) (sym keyed) (placed this op.cell op
+            (pending_write this.setting this.state this.along.steady this.w firm this.ground this.n this.n op.cell op runs is clients) still) in
             let here_mine : authority chosen (cell_of op.key) ≡ Some this.n = ap (authority chosen) keyed ∙ counted in
             let taken = all_given this (given_put op.key entry epoch chains own_counts here_mine op bytes place) in
-            told_of taken (An_own (record { op = op; is = is; entry = entry; bytes = bytes; chains = chains })) job
-            (λ e. put_held op.key entry epoch chains own_counts here_mine op bytes place taken)
+            told_of taken (An_own (record { op = op; is = is; unput = unput; entry = entry; bytes = bytes; chains = chains })) job
+            (λ clients e. put_held op.key entry epoch chains own_counts here_mine op bytes place taken)
+
+        -- a fill
+        fills : is_clients op.kind ≡ false → authority chosen op.cell ≡ Some this.n → TakesTold this
+        fills fill counted =
+            let here_mine : authority chosen (cell_of op.key) ≡ Some this.n = ap (authority chosen) keyed ∙ counted in
+            let one : stage_at chosen (cell_of op.key) ≡ 1 = ap (stage_at chosen) keyed ∙ this.ground.moves.fills.opened this.n op.cell op runs is fill in
+            let lacks : at nat_cmp (chain_in own.store.chains (cell_of op.key)) op.key.epoch ≡ None =
+            ap (λ (c : Cell). at nat_cmp (chain_in own.store.chains c) op.key.epoch) keyed
+            ∙ this.ground.moves.fills.lacks this.n op.cell op runs is fill unput in
+            let taken = all_given this (fill_given op.key entry op.bytes bytes chains own_counts here_mine one op.rev
+            (this.ground.moves.fills.asked this.n op.cell op is fill) lacks) in
+            told_of taken (An_own (record { op = op; is = is; unput = unput; entry = entry; bytes = bytes; chains = chains })) job
+            (λ clients e. true_false clients fill)
 
     asked_told : (a : PutsAsked hears here own (new this)) → Jobs (An_asked a) → TakesTold this
-    asked_told a job =
-        let firm = this.along.firm in
-        let f = followed this.setting this.state this.along.steady this.w firm this.ground this.n runs (new this) a in
-        let recalled = followed_recalled this.setting this.state this.along.steady this.w firm this.ground this.n a.number a.key
-        a.bytes f in
-        let epoch = followed_epoch this.setting this.state this.along.steady this.w firm this.ground this.n a.number a.key a.bytes f in
-        let serves = serving (cell_of a.key) (after_second runs a) in
-        let bytes : a.entry.bytes ≡ f.putting.op.bytes = a.put ∙ sym f.putting.bytes_is in
-        let still = asked_open runs a f in
-        let place = placed this (cell_of a.key) f.putting.op serves.link serves.linked
-        (write_of this.setting this.state this.along.steady this.w firm this.ground this.n f.row.primary (spot a f)
-        (cell_of a.key) f.putting.op recalled) still in
-        let own_counts = this.ground.own this.n runs a.seat in
-        let taken = all_given this (given_put a.key a.entry epoch a.chains own_counts serves.counts f.putting.op bytes place) in
-        told_of taken (An_asked a) job (λ g.
-        ap (λ (o : Pending). is_held (replay this.m taken.es) o.client) (sym (same_op a f g))
-        ∙ put_held a.key a.entry epoch a.chains own_counts serves.counts f.putting.op bytes place taken)
+    asked_told a job = elim (alive_or_dead chosen (cell_of a.key) (stage_facts this.setting.servers (chosen_log this.setting this.w) this.along.firm.plain (cell_of a.key)).most) [
+      | inr dead ↦ dead_told a job dead
+      | inl alive ↦
+          let f = followed this.setting this.state this.along.steady this.w this.along.firm this.ground this.n runs (new this) a alive in
+          by_bool (is_clients f.putting.op.kind) (λ clients. write_told a alive f clients job) (λ fill. fill_told a alive f fill job)
+    ]
       where
         same_op : (a : PutsAsked hears here own (new this)) (f g : FollowedHere a) → f.putting.op ≡ g.putting.op
         same_op a f g =
@@ -339,18 +534,68 @@ module _ (this : ServerStep) (same : chosen_log this.setting (later_world this) 
             (cell_of a.key)) ∙ g.visited) in
             same_some (sym f.putting.is ∙ (λ i. at cell_cmp (own i).pairs.pending (cell_of a.key)) ∙ g.putting.is)
 
+        -- of a cell that is dead by what is chosen nothing counts
+        dead_told : (a : PutsAsked hears here own (new this)) → Jobs (An_asked a) → stage_at chosen (cell_of a.key) ≡ 4 → TakesTold this
+        dead_told a job dead =
+            let taken = all_given this (calm_given (λ row there b. own_unchanged (this.ground.own this.n runs a.seat) row there b (λ mine.
+            ap (λ c. chain_in c (named_cell row b)) a.chains ∙ chain_apart own.store.chains (cell_of a.key) _ (named_cell row b)
+            (λ e. dead_apart row there b (ap (stage_at chosen) e ∙ dead))))) in
+            told_of taken (An_asked a) job (λ g clients. let alive = g.shares.alive in absurd (omega (arith, alive, dead)))
+
+        write_told : (a : PutsAsked hears here own (new this)) → AliveIn chosen (cell_of a.key) → (f : FollowedHere a)
+            → is_clients f.putting.op.kind ≡ true → Jobs (An_asked a) → TakesTold this
+        write_told a alive f clients job =
+            let firm = this.along.firm in
+            let timely = followed_timely this.setting this.state this.along.steady this.w firm this.ground this.n a.number a.key a.bytes f clients in
+            let recalled = followed_recalled this.setting this.state this.along.steady this.w firm this.ground this.n a.number a.key
+            a.bytes f clients in
+            let epoch = followed_epoch this.setting this.state this.along.steady this.w firm this.ground this.n a.number a.key a.bytes f clients in
+            let counts_here = after_second runs a alive in
+            let bytes : a.entry.bytes ≡ f.putting.op.bytes = a.put ∙ sym f.putting.bytes_is in
+            let still = asked_open runs a f clients in
+            let place = placed this (cell_of a.key) f.putting.op
+            (write_of this.setting this.state this.along.steady this.w firm this.ground this.n f.row.primary (spot a f)
+            (cell_of a.key) f.putting.op clients recalled timely) still in
+            let own_counts = this.ground.own this.n runs a.seat in
+            let taken = all_given this (given_put a.key a.entry epoch a.chains own_counts counts_here f.putting.op bytes place) in
+            told_of taken (An_asked a) job (λ g clients.
+            ap (λ (o : Pending). is_held (replay this.m taken.es) o.client) (sym (same_op a f g))
+            ∙ put_held a.key a.entry epoch a.chains own_counts counts_here f.putting.op bytes place taken)
+
+        fill_told : (a : PutsAsked hears here own (new this)) → AliveIn chosen (cell_of a.key) → (f : FollowedHere a)
+            → is_clients f.putting.op.kind ≡ false → Jobs (An_asked a) → TakesTold this
+        fill_told a alive f fill job =
+            let own_counts = this.ground.own this.n runs a.seat in
+            let firm = this.along.firm in
+            let one = followed_comes this.setting this.state this.along.steady this.w firm this.ground this.n a.number a.key a.bytes f fill in
+            let frozen = followed_frozen this.setting this.state this.along.steady this.w firm this.ground this.n a.number a.key a.bytes f fill in
+            let lacks = followed_lacks this.setting this.state this.along.steady this.w firm this.ground this.n a.number a.key a.bytes f fill in
+            let taken = all_given this (fill_given a.key a.entry a.bytes a.put a.chains own_counts (after_second runs a alive) one f.putting.op.rev
+            frozen lacks) in
+            told_of taken (An_asked a) job (λ g clients. true_false (ap (λ (o : Pending). is_clients o.kind) (same_op a f g) ∙ clients) fill)
+
     -- a copy is to a server whose copy doesn't count
     copy_told : (c : PutsCopy hears here own (new this)) → Jobs (A_copy c) → TakesTold this
     copy_told c job =
-        let taken = all_given this (calm_given (λ row b. own_unchanged (this.ground.own this.n runs c.seat) row b
-        (λ mine. copied_apart hears own c.cell (new this).store.chains c.how (cell_of_block row b)
+        let taken = all_given this (calm_given (λ row there b. own_unchanged (this.ground.own this.n runs c.seat) row there b
+        (λ mine. copied_apart hears own c.cell (new this).store.chains c.how (named_cell row b)
         (λ e. copied_uncounted this.setting this.state this.w this.along.firm this.ground this.n runs (new this) c
+        (subst (AliveIn chosen) e (named_alive row there b))
         (ap (authority chosen) (sym e) ∙ mine))))) in
         told_of taken (A_copy c) job tt
+
+    -- a sweep is of a cell that is dead by what is chosen, or has nothing
+    dead_drops : (d : Drops here own (new this)) → Jobs (Of_the_dead d) → TakesTold this
+    dead_drops d job =
+        let taken = all_given this (calm_given (λ row there b. own_unchanged (this.ground.own this.n runs d.seat) row there b
+        (λ mine. dropped_same this.setting this.state this.along.steady this.w this.along.firm this.ground this.n (new this) d (named_cell row b)
+        (named_alive row there b)))) in
+        told_of taken (Of_the_dead d) job tt
 
     -- a job that changes at most one chain
     pub stored_told : (s : StoresSo hears here own (new this)) → Jobs s → TakesTold this
     stored_told (Nothing_new chains) job = calm_told chains (λ k onward. job k onward tt) says
-    stored_told (An_own p) job = own_told p.op p.is p.entry p.bytes p.chains job
+    stored_told (An_own p) job = own_told p.op p.is p.unput p.entry p.bytes p.chains job
     stored_told (An_asked a) job = asked_told a job
     stored_told (A_copy c) job = copy_told c job
+    stored_told (Of_the_dead d) job = dead_drops d job

@@ -39,9 +39,10 @@ ok_is P r x h e = subst (EachOk P) e h
 
 -- ### Requests name proper tuples
 
--- a disk is over a tuple of the servers
+-- a disk is over a tuple of the servers, and is moved to one
 abbrev IsFit : ℕ → Request → Type 0
 IsFit servers (request.Disk name tuple) = is_tuple servers tuple ≡ true
+IsFit servers (request.Move name tuple) = is_tuple servers tuple ≡ true
 IsFit servers _ = Unit {0}
 
 module _ (servers : ℕ) where
@@ -74,7 +75,9 @@ module _ (servers : ℕ) where
 
   move_fits : (words : List Word) → Fit (move_of servers words)
   unfolding move_of
-  move_fits words = then_ok _ (spread_of servers words) _ (λ parts e. tt)
+  move_fits words =
+      then_ok _ (spread_of servers words) _ (λ parts e. ok_is (λ (x : List ℕ × List ℕ). is_tuple servers x.1 ≡ true) (spread_of servers words) parts
+      (spread_fits words) e)
 
   filled_fits : (disk place : Word) (how : ℕ → Pattern) (x : Word) → Fit (filled_of disk place how x)
   unfolding filled_of
@@ -152,6 +155,9 @@ module _ (servers : ℕ) where
 fit_disk : (servers : ℕ) (asked : Request) (name tuple : List ℕ) → asked ≡ request.Disk name tuple → IsFit servers asked → is_tuple servers tuple ≡ true
 fit_disk servers asked name tuple e h = subst (IsFit servers) e h
 
+fit_move : (servers : ℕ) (asked : Request) (name tuple : List ℕ) → asked ≡ request.Move name tuple → IsFit servers asked → is_tuple servers tuple ≡ true
+fit_move servers asked name tuple e h = subst (IsFit servers) e h
+
 -- ### Lines behind the servers line
 
 -- the same servers and lines
@@ -225,6 +231,7 @@ record IsSoFar (s : Script) (above : ℕ) : Type 0 where
   below : (line : Line) → In line s.lines → line.number ≤ above
   few : s.servers ≤ 256
   spread : (line : Line) (name tuple : List ℕ) → In line s.lines → line.request ≡ request.Disk name tuple → is_tuple s.servers tuple ≡ true
+  moved : (line : Line) (name tuple : List ℕ) → In line s.lines → line.request ≡ request.Move name tuple → is_tuple s.servers tuple ≡ true
 
 like_so_far : (s t : Script) (above : ℕ) → IsLike s t → IsSoFar s above → IsSoFar t above
 like_so_far s t above like h = record {
@@ -232,10 +239,12 @@ like_so_far s t above like h = record {
   below = λ line i. h.below line (subst (In line) like.lines i);
   few = let e = like.servers in let few = h.few in omega arith;
   spread = λ line name tuple i e. subst (λ n. is_tuple n tuple ≡ true) (sym like.servers) (h.spread line name tuple (subst (In line) like.lines i) e);
+  moved = λ line name tuple i e. subst (λ n. is_tuple n tuple ≡ true) (sym like.servers) (h.moved line name tuple (subst (In line) like.lines i) e);
 }
 
 higher : (s : Script) (low high : ℕ) → low ≤ high → IsSoFar s low → IsSoFar s high
-higher s low high le h = record { numbered = h.numbered; below = λ line i. let b = h.below line i in omega arith; few = h.few; spread = h.spread }
+higher s low high le h =
+    record { numbered = h.numbered; below = λ line i. let b = h.below line i in omega arith; few = h.few; spread = h.spread; moved = h.moved }
 
 more_so_far : (s t : Script) (above : ℕ) (line : Line) → above < line.number → t.servers ≡ s.servers → t.lines ≡ s.lines ++ line ∷ []
     → IsFit s.servers line.request → IsSoFar s above → IsSoFar t line.number
@@ -266,6 +275,13 @@ more_so_far s t above line lt servers lines fit h = record {
       | inr none ↦ absurd none
     ]
   ];
+  moved = λ other name tuple i e. elim (in-append other s.lines (line ∷ []) (subst (In other) lines i)) [
+    | inl old ↦ subst (λ n. is_tuple n tuple ≡ true) (sym servers) (h.moved other name tuple old e)
+    | inr new ↦ elim new [
+      | inl is ↦ subst (λ n. is_tuple n tuple ≡ true) (sym servers) (fit_move s.servers line.request name tuple (ap (λ (l : Line). l.request) (sym is) ∙ e) fit)
+      | inr none ↦ absurd none
+    ]
+  ];
 }
   where
     apart : (one other : Line) → In one s.lines → other.number ≡ line.number → one.number ≡ other.number → ⊥
@@ -280,6 +296,7 @@ does_so_far s told t above (waits first spelled is same) lt h = subst (λ x. IsS
   below = λ line i. let b = h.below line i in omega arith;
   few = h.few;
   spread = h.spread;
+  moved = h.moved;
 })
 does_so_far s told t above (asks first words client asked spelled asks_for few many same) lt h =
     more_so_far s t above (line_at s told.number client asked) lt (ap (λ (x : Script). x.servers) same) (ap (λ (x : Script). x.lines) same)
@@ -287,7 +304,8 @@ does_so_far s told t above (asks first words client asked spelled asks_for few m
 
 follows_so_far : (lines : List TextLine) (s t : Script) (above : ℕ) → Follows s lines t → AreAbove above lines → AreRising lines → IsSoFar s above → IsSound t
 unfolding In
-follows_so_far [] s t above follows high rises h = subst IsSound (sym follows) (record { numbered = h.numbered; spread = h.spread; told_apart = h.few })
+follows_so_far [] s t above follows high rises h =
+    subst IsSound (sym follows) (record { numbered = h.numbered; spread = h.spread; moved = h.moved; told_apart = h.few })
 follows_so_far (told ∷ more) s t above follows high rises h =
     follows_so_far more follows.0 t told.number follows.2 rises.0 rises.1 (does_so_far s told follows.0 above follows.1 (high told (inl refl)) h)
 
@@ -315,4 +333,5 @@ read_sound text script e =
       below = λ line i. absurd (subst (In line) empty i);
       few = begun.few;
       spread = λ line name tuple i e. absurd (subst (In line) empty i);
+      moved = λ line name tuple i e. absurd (subst (In line) empty i);
     })

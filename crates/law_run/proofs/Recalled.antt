@@ -1,6 +1,10 @@
 -- Of what a server has had at the places that count, each operation that was pending is so still, or was known of at an incarnation
 -- that has ended.
 use Rattle.std.proofs.Common.{◌≡◌, ◌<◌, ℕ, true, Some, refl, sym, ap, ◌∙◌, subst, inl, inr, arith, ◌≤◌, List, ◌⊎◌}
+use Rattle.petal_state.specs.Command.{state_after}
+use Rattle.petal_rules.specs.Writes.{is_clients}
+use Rattle.law_steps.proofs.Coming.{stage_facts}
+use Rattle.law_state.specs.Homes.{HasStage, stage_at}
 use Rattle.global_tables.specs.declared.link.LinkRow.{LinkRow}
 use Rattle.global_tables.specs.declared.link.LinkState.TheVariants.{Both}
 use Rattle.petal_base.specs.declared.cell.Cell.{Cell}
@@ -21,11 +25,11 @@ use Rattle.law_state.proofs.Cells.{led_by}
 use Rattle.law_state.proofs.Roles.{primary_is_one}
 use Rattle.law_steps.specs.Ready.{Rests}
 use Rattle.law_steps.proofs.Fronts.{front_itself, front_on}
-use Rattle.law_steps.proofs.Histories.{own_steady}
+use Rattle.law_steps.proofs.Histories.{own_steady, own_plain}
 use Rattle.law_copies.specs.Good.{Good}
 use Rattle.law_copies.specs.Pair.{owns_of}
-use Rattle.law_copies.specs.Visits.{IsLast, IsLinked, place_by}
-use Rattle.law_copies.proofs.Places.{fronts_meet, linked_on, one_row, places_up}
+use Rattle.law_copies.specs.Visits.{IsLast, IsLinked, place_by, AliveIn}
+use Rattle.law_copies.proofs.Places.{fronts_meet, linked_alive, linked_between, one_row, places_up}
 use Rattle.law_requests.specs.Known.{AskingBy, Has_pending, PendingFor, asked_for, lives_after, seen}
 use Rattle.law_requests.proofs.Later.{pending_further}
 use Rattle.law_requests.proofs.Lives.{no_earlier, ran_now}
@@ -62,13 +66,13 @@ module _ (setting : Setting) (state : State) (w : World) (firm : Firm setting w)
     (then : Firm setting v)
     (grows : IsPrefix (chosen_log setting w) (chosen_log setting v)) (more : List Record)
     (next : Good setting more (chosen_log setting v) (counted setting v))
-    (from : GoesOnFrom setting ground.records more w v ground.good next) (on : GoesOn setting state w v ground.lives)
-    (rests : Rests setting v) (asking : AskingBy setting state v (lives_after ground.lives v)) where
+    (from : GoesOnFrom setting ground.records more w v ground.good next) (on : GoesOn setting w v ground.lives)
+    (rests : Rests setting v) (asking : AskingBy setting v (lives_after ground.lives v)) where
   logs : (n : ℕ) → IsPrefix (w.servers n).log.applied (v.servers n).log.applied
   logs = on.later.logs
 
   abbrev R : (n place : ℕ) → Cell → Pending → Type 0
-  R n place cell op = IsRemembered setting state v (lives_after ground.lives v) n place cell op
+  R n place cell op = IsRemembered setting v (lives_after ground.lives v) n place cell op
 
   -- ### Before the step
 
@@ -77,41 +81,40 @@ module _ (setting : Setting) (state : State) (w : World) (firm : Firm setting w)
       → IsLinked setting front cell row
       → row.state ≡ Both → IsLast ground.good.reached setting front cell row
       → ground.good.visits n (place_by setting front row) cell ≡ Some own
-      → (op : Pending) → at cell_cmp own.pairs.pending cell ≡ Some op
-      → IsRemembered setting state w ground.lives n (place_by setting front row) cell op
-  was_there front cell row n own prefix is both last visit op there =
+      → (op : Pending) → at cell_cmp own.pairs.pending cell ≡ Some op → is_clients op.kind ≡ true
+      → IsRemembered setting w ground.lives n (place_by setting front row) cell op
+  was_there front cell row n own prefix is both last visit op there clients =
       elim (fronts_meet front (chosen_log setting w) (chosen_log setting v) prefix grows) [
-        | inl before ↦ ground.recalled front cell row n own op before is both last visit there
+        | inl before ↦ ground.recalled front cell row n own op before is both last visit there clients
         | inr behind ↦
             let been = ground.good.been n (place_by setting front row) cell own visit in
-            let old = linked_on setting (chosen_log setting w) firm.plain (w.servers n).log.applied
-            (chosen_log setting w) cell been.row (firm.servers n)
-            (front_itself (chosen_log setting w)) been.linked in
-            let up = places_up setting (chosen_log setting w) firm.plain (w.servers n).log.applied
-            (chosen_log setting w) cell been.row old.0 (firm.servers n)
-            (front_itself (chosen_log setting w)) been.linked old.1 in
+            let been_front = front_on been.front _ (chosen_log setting w) been.within (firm.servers n) in
+            let old = linked_between setting (chosen_log setting v) then.plain been.front (chosen_log setting w) front cell been.row row
+            been_front behind prefix been.linked is in
+            let up = places_up setting (chosen_log setting w) firm.plain been.front
+            (chosen_log setting w) cell been.row old.0 been_front (front_itself (chosen_log setting w)) been.linked old.1 in
             let on_row = places_up setting (chosen_log setting v) then.plain
             (chosen_log setting w) front cell old.0 row behind prefix old.1 is in
-            let past = been.past in
+            let at = been.at in
             let same : place_by setting front row ≡ place_by setting (chosen_log setting w) old.0 = omega arith in
             let one : old.0 ≡ row = one_row setting (chosen_log setting v) then.plain front
             (chosen_log setting w) cell row old.0 prefix grows is old.1 same in
             let place : place_by setting front row ≡ place_by setting (chosen_log setting w) row = same
             ∙ ap (place_by setting (chosen_log setting w)) one in
-            subst (λ p. IsRemembered setting state w ground.lives n p cell op) (sym place)
+            subst (λ p. IsRemembered setting w ground.lives n p cell op) (sym place)
             (ground.recalled (chosen_log setting w) cell row n own op (front_itself (chosen_log setting w))
             (subst (IsLinked setting (chosen_log setting w) cell) one old.1) both
-            (subst (λ p. ground.good.reached cell ≤ p) place last) (subst (λ p. ground.good.visits n p cell ≡ Some own) place visit) there)
+            (subst (λ p. ground.good.reached cell ≤ p) place last) (subst (λ p. ground.good.visits n p cell ≡ Some own) place visit) there clients)
       ]
 
   -- what was known of at an incarnation that has ended is known of later
   ended_so : (n place : ℕ) (cell : Cell) (op : Pending) (inc : ℕ) → inc < (lives_after ground.lives v).ran n
-      → (p : PendingFor setting state (seen ground.lives w) n inc (asked_for cell op) op.rev) → (row : LinkRow)
+      → (p : PendingFor setting (seen ground.lives w) n inc (asked_for cell op) op.rev) → (row : LinkRow)
       → IsLinked setting p.upto cell row
       → place_by setting p.upto row ≡ place → R n place cell op
   ended_so n place cell op inc later p row linked at =
-      let un = (ended_later setting state w v ground.lives ground.asking.lived on n inc (asked_for cell op) op.rev later p).unfinished in
-      let q = pending_further setting state (seen ground.lives w) (seen (lives_after ground.lives v) v) on.later n inc
+      let un = (ended_later setting w v ground.lives ground.asking.lived on n inc (asked_for cell op) op.rev later p).unfinished in
+      let q = pending_further setting (seen ground.lives w) (seen (lives_after ground.lives v) v) on.later n inc
       (asked_for cell op) op.rev p un p.upto
       (front_itself p.upto) (front_on p.upto _ _ p.applied (on.later.logs n))
       (λ log more lies. p.along log (front_on _ p.upto log p.opened more) lies) in
@@ -119,7 +122,7 @@ module _ (setting : Setting) (state : State) (w : World) (firm : Firm setting w)
       (ap (λ log. place_by setting log row) q.1 ∙ at)
 
   -- what was so at an incarnation that had ended stays so
-  ended : (n place : ℕ) (cell : Cell) (op : Pending) → IsRemembered setting state w ground.lives n place cell op
+  ended : (n place : ℕ) (cell : Cell) (op : Pending) → IsRemembered setting w ground.lives n place cell op
       → (at cell_cmp (owns_of w n).pairs.pending cell ≡ Some op → (row : LinkRow) → IsLinked setting (w.servers n).log.applied cell row
       → place_by setting (w.servers n).log.applied row ≡ place → R n place cell op)
       → R n place cell op
@@ -130,21 +133,29 @@ module _ (setting : Setting) (state : State) (w : World) (firm : Firm setting w)
 
   -- ### The server's own part
 
+  own_stage : (n : ℕ) (cell : Cell) → HasStage (server_state setting v n) cell
+  own_stage n cell = stage_facts setting.servers (v.servers n).log.applied (own_plain setting v then n) cell
+
   -- where its place counts still, it is the same place
   pending_still : (front : List Command) (cell : Cell) (row : LinkRow) (n : ℕ) (op : Pending) → IsLast next.reached setting front cell row
-      → at cell_cmp (owns_of v n).pairs.pending cell ≡ Some op → is_in (server_state setting v n) n (v.servers n).life.inc ≡ true
+      → at cell_cmp (owns_of v n).pairs.pending cell ≡ Some op → is_clients op.kind ≡ true
+      → is_in (server_state setting v n) n (v.servers n).life.inc ≡ true
       → (old : LinkRow) → IsLinked setting (w.servers n).log.applied cell old
       → place_by setting (w.servers n).log.applied old ≡ place_by setting front row
       → R n (place_by setting front row) cell op
-  pending_still front cell row n op last there seat old linked at =
+  pending_still front cell row n op last there clients seat old linked spot =
       let top = chosen_log setting v in
       let applied = (v.servers n).log.applied in
-      let now = linked_on setting top then.plain (w.servers n).log.applied applied cell old (logs n) (then.servers n) linked in
+      let p = asking.pending n cell op there clients in
+      let led = subst (λ log. is_lead (state_after setting.servers log) n cell ≡ true) (asking.come n cell op there clients)
+      (p.along p.upto p.opened (front_itself p.upto)).leads in
+      let high = (own_stage n cell).leads n led in
+      let alive : AliveIn (server_state setting v n) cell = omega (arith, high.1, high.2) in
+      let now = linked_alive setting top then.plain (w.servers n).log.applied applied cell old (logs n) (then.servers n) linked alive in
       let up = places_up setting top then.plain (w.servers n).log.applied applied cell old now.0 (logs n) (then.servers n) linked now.1 in
-      let lead = ((rests.pending n).staged cell op there).lead in
-      let here = next.here n cell now.0 now.1 seat in
+      let here = next.here n cell now.0 now.1 seat alive in
       let le = next.reaching.below applied cell now.0 n here.own (then.servers n) now.1
-      (lead_serves (server_state setting v n) (own_steady setting v then n) n cell lead now.0 now.1) here.is in
+      (lead_serves (server_state setting v n) (own_steady setting v then n) n cell led now.0 now.1) here.is in
       Is_pending there now.0 now.1 (omega arith)
 
   -- who runs, or did so before the step, has run last as the incarnation that it is
@@ -154,47 +165,57 @@ module _ (setting : Setting) (state : State) (w : World) (firm : Firm setting w)
       (ground.lives.ran n)
       (λ t. refl) (λ f. ground.asking.lived.ran n runs ∙ sym same)
 
+  -- what a client had pending was on a cell that takes writes by the server's entries
+  still_alive : (n : ℕ) (cell : Cell) (op : Pending) → at cell_cmp (owns_of w n).pairs.pending cell ≡ Some op → is_clients op.kind ≡ true
+      → (v.servers n).log.applied ≡ (w.servers n).log.applied → AliveIn (server_state setting v n) cell
+  still_alive n cell op was clients applied =
+      let p = ground.asking.pending n cell op was clients in
+      let led = subst (λ log. is_lead (state_after setting.servers log) n cell ≡ true) (ground.asking.come n cell op was clients ∙ sym applied)
+      (p.along p.upto p.opened (front_itself p.upto)).leads in
+      let high = (own_stage n cell).leads n led in
+      omega (arith, high.1, high.2)
+
   still : (front : List Command) (cell : Cell) (row : LinkRow) (n : ℕ) (own : Own) (op : Pending)
       → IsLast next.reached setting front cell row
-      → next.visits n (place_by setting front row) cell ≡ Some own → at cell_cmp own.pairs.pending cell ≡ Some op
+      → next.visits n (place_by setting front row) cell ≡ Some own → at cell_cmp own.pairs.pending cell ≡ Some op → is_clients op.kind ≡ true
       → Leaves setting n (w.servers n) (v.servers n) → at cell_cmp (owns_of w n).pairs.pending cell ≡ Some op
       → (old : LinkRow) → IsLinked setting (w.servers n).log.applied cell old
       → place_by setting (w.servers n).log.applied old ≡ place_by setting front row
       → R n (place_by setting front row) cell op
-  still front cell row n own op last visit there (As_it_was pending applied) was old linked spot =
+  still front cell row n own op last visit there clients (As_it_was pending applied) was old linked spot =
       Is_pending (ap (λ t. at cell_cmp t cell) pending ∙ was) old (subst (λ log. IsLinked setting log cell old) (sym applied) linked)
       (ap (λ log. place_by setting log old) applied ∙ spot)
-  still front cell row n own op last visit there (In_place applied seat) was old linked spot =
+  still front cell row n own op last visit there clients (In_place applied seat) was old linked spot =
       let linked' = subst (λ log. IsLinked setting log cell old) (sym applied) linked in
       let at' : place_by setting (v.servers n).log.applied old ≡ place_by setting front row = ap
       (λ log. place_by setting log old) applied ∙ spot in
-      let here = next.here n cell old linked' seat in
+      let here = next.here n cell old linked' seat (still_alive n cell op was clients applied) in
       let same : own.pairs ≡ (owns_of v n).pairs =
       ap (λ (o : Own). o.pairs) (same_some (sym visit ∙ ap (λ p. next.visits n p cell) (sym at') ∙ here.is) ∙ here.same) in
       Is_pending (ap (λ (p : Pairs). at cell_cmp p.pending cell) (sym same) ∙ there) old linked' at'
-  still front cell row n own op last visit there (Goes_further runs inc pending) was old linked spot =
+  still front cell row n own op last visit there clients (Goes_further runs inc pending) was old linked spot =
       let is : at cell_cmp (owns_of v n).pairs.pending cell ≡ Some op = ap (λ t. at cell_cmp t cell) pending ∙ was in
-      pending_still front cell row n op last is
+      pending_still front cell row n op last is clients
       (subst (λ i. is_in (server_state setting v n) n i ≡ true) (ran_as n runs inc)
       (asking.used n (Has_pending cell op is))) old linked spot
-  still front cell row n own op last visit there (Boots runs inc none) was old linked spot =
+  still front cell row n own op last visit there clients (Boots runs inc none) was old linked spot =
       let known = ground.asking.lived in
       let now : (lives_after ground.lives v).ran n ≡ (v.servers n).life.inc = ran_now ground.lives w v known on.steps n runs in
       let begun = known.begun n in
       let later : ground.lives.ran n < (lives_after ground.lives v).ran n = omega arith in
-      let come = ground.asking.come n cell op was in
-      ended_so n (place_by setting front row) cell op (ground.lives.ran n) later (ground.asking.pending n cell op was) old
+      let come = ground.asking.come n cell op was clients in
+      ended_so n (place_by setting front row) cell op (ground.lives.ran n) later (ground.asking.pending n cell op was clients) old
       (subst (λ log. IsLinked setting log cell old) (sym come) linked) (ap (λ log. place_by setting log old) come ∙ spot)
 
   -- ### After the step
 
   pub remembered_next : ((n : ℕ) → Leaves setting n (w.servers n) (v.servers n))
-      → AreRemembered setting state v (lives_after ground.lives v) next.visits next.reached
-  remembered_next leaves front cell row n own op prefix is both last visit there =
+      → AreRemembered setting v (lives_after ground.lives v) next.visits next.reached
+  remembered_next leaves front cell row n own op prefix is both last visit there clients =
       elim (from.visits n (place_by setting front row) cell own visit) [
         | inl old ↦
             let up = from.reached cell in
-            ended n (place_by setting front row) cell op (was_there front cell row n own prefix is both (omega arith) old op there)
-            (λ was row' linked at. still front cell row n own op last visit there (leaves n) was row' linked at)
+            ended n (place_by setting front row) cell op (was_there front cell row n own prefix is both (omega arith) old op there clients)
+            (λ was row' linked at. still front cell row n own op last visit there clients (leaves n) was row' linked at)
         | inr now ↦ Is_pending (ap (λ (p : Pairs). at cell_cmp p.pending cell) (sym now.same) ∙ there) now.row now.linked (sym now.at)
       ]

@@ -25,8 +25,7 @@ use Rattle.petal_rules.specs.declared.step.Step.{Step}
 use Rattle.petal_rules.specs.declared.step.Step.TheVariants.{Blank, Call}
 use Rattle.petal_rules.proofs.Tests.{by_test, none_some, same_some}
 use Rattle.petal_history.specs.Claims.{AreHeld, IsPrefix, IsStill, Law, Requests, SnapshotsStay, machine_after}
-use Rattle.petal_history.specs.Contents.{content_at, content_in, has_content}
-use Rattle.petal_history.specs.Events.{begins, ended, ends, open_write, change_by, freezes, takes, makes, looks, told, told_from, told_with, joined, events_of, IsRunOf}
+use Rattle.petal_history.specs.Events.{begins, ended, ends, open_write, change_by, freezes, takes, makes, looks, told, told_from, told_with, joined, events_of, IsRunOf, look_of}
 use Rattle.petal_history.specs.Legal.{Follows, IsLegal, IsLegalFrom, stepped, world_after}
 use Rattle.petal_history.specs.Sound.{IsSound}
 use Rattle.petal_history.specs.declared.record.Record.{Record}
@@ -42,7 +41,7 @@ use Rattle.law_steps.proofs.Fronts.{front_itself, front_on}
 use Rattle.law_steps.proofs.Histories.{own_steady, rests_next, happens, firm_now, firm_after, firm_way, front_legal, start_rests, world_more}
 use Rattle.law_steps.proofs.Serving.{server_serves}
 use Rattle.law_steps.proofs.Turning.{is_call, client_turns}
-use Rattle.law_steps.specs.Waking.{AllMayWake}
+use Rattle.law_steps.specs.Waking.{AllMayWake, WakeAlong}
 use Rattle.law_stores.specs.Waiting.{IsOwn}
 use Rattle.law_stores.proofs.Histories.{always_empty, in_counts, in_own}
 use Rattle.law_copies.specs.Good.{Good}
@@ -52,36 +51,38 @@ use Rattle.law_copies.proofs.Histories.{KeepsOn, start_good, start_visits, step_
 use Rattle.law_copies.proofs.Later.{AllStarted}
 use Rattle.law_copies.proofs.Rules.{copies_after, covered_after}
 use Rattle.law_copies.proofs.Visited.{at_by, seen}
-use Rattle.law_steps.specs.Waking.{WakeAlong}
 use Rattle.law_steps.proofs.Waking.{wake_along}
-use Rattle.law_requests.specs.Known.{lives_after}
-use Rattle.law_requests.proofs.Histories.{first_lives, requests_after, start_asking}
+use Rattle.law_requests.specs.Known.{KnowsReports, lives_after}
+use Rattle.law_stores.proofs.Ways.{At}
+use Rattle.law_requests.proofs.Histories.{AskingAlong, first_lives, more_lives, one_more, reports_known, requests_after, start_along, start_asking, start_lives}
 use Rattle.law_requests.proofs.Stepping.{happens_asking, happens_later}
 use Rattle.law_log.proofs.Histories.{chosen_caught_was, history_agrees, history_is_firm, history_grows}
-use Rattle.law_epochs.proofs.Histories.{early_after, pending_epoch, place_epoch, second_epoch}
-use Rattle.law_run.specs.Follow.{Follow, Ground, HasOnlyKnown, KnowEpochs, OfStores}
-use Rattle.law_run.proofs.Along.{Along, rows_in, content_number}
+use Rattle.law_epochs.proofs.Histories.{early_after, pending_timely, place_timely, second_timely}
+use Rattle.law_run.specs.Follow.{Follow, Ground, KnowEpochs, KnowMoves}
+use Rattle.law_moves.proofs.Afterwards.{rule_after}
+use Rattle.law_run.proofs.MovesKnown.{moves_known}
+use Rattle.petal_msg.specs.declared.letter.Letter.{Letter}
+use Rattle.law_run.proofs.Along.{Along, rows_in}
 use Rattle.law_run.proofs.ClientFrames.{ClientStep}
 use Rattle.law_run.proofs.ClientSteps.{begins_by, turn_told}
 use Rattle.law_run.proofs.Leaving.{happens_leaves}
 use Rattle.law_run.proofs.LogSteps.{step_kind}
-use Rattle.law_run.proofs.Looks.{AreGrounded, who_accepts}
+use Rattle.law_run.proofs.Looks.{AreGrounded}
 use Rattle.law_run.proofs.Machine.{Obeys-append, replay-append}
 use Rattle.law_run.proofs.Names.{happens_named, start_named}
 use Rattle.law_run.proofs.Recalled.{GoesOnFrom, IsVisit, remembered_next}
 use Rattle.law_run.proofs.ServerSteps.{ServesAt, step_told}
-use Rattle.law_run.proofs.Blanks.{blank_born, blank_follow, blank_told}
-use Rattle.law_run.proofs.Snapshots.{snapshots_on}
-use Rattle.law_run.proofs.Steps.{IsMiddle, born_kept}
+use Rattle.law_run.proofs.Blanks.{blank_follow, blank_told}
+use Rattle.law_run.proofs.Steps.{IsMiddle}
 use Rattle.law_run.proofs.Still.{contents_still}
 
 -- what is known of epochs after each legal history
 epochs_after : (script : Script) (records : List Record) → IsSound script → IsLegal script records
     → KnowEpochs (setting_of script) records (world_after (setting_of script) (start (setting_of script)) records)
 epochs_after script records sound legal = record {
-  pending = pending_epoch script records sound legal;
-  place = place_epoch script records sound legal;
-  second = second_epoch script records sound legal;
+  pending = pending_timely script records sound legal;
+  place = place_timely script records sound legal;
+  second = second_timely script records sound legal;
   early = early_after script records sound legal;
 }
 
@@ -109,22 +110,18 @@ module _ (script : Script) (sound : IsSound script) (whole : List Command) (all 
   grown_at : (w v : World) → Firm setting v → IsPrefix (chosen_log setting w) (chosen_log setting v) → IsGrown (chosen_state setting w) (chosen_state setting v)
   grown_at w v firm grows = log_grown setting.servers _ _ firm.plain grows
 
-  -- what a server stores is of disks that it knows
-  born_at : (w : World) → Along setting state w → Ground setting state w → (who : Actor) (what : Step) (stamp : ℕ) → MayActor who what setting w
-      → Along setting state (step who what setting w stamp).world
-      → OfStores (step who what setting w stamp).world (HasOnlyKnown setting (step who what setting w stamp).world)
-  unfolding step
-  born_at w along ground (actor.Server n) Blank stamp may next = blank_born setting w n stamp ground.born
-  born_at w along ground (actor.Server n) what stamp may next =
-      let acted = server_step what (server_state setting w n) n (w.servers n) in
-      let serving = server_serves setting w ground.ready.rests along.firm n
-      (own_steady setting w along.firm n) stamp what refl may.1 next.firm in
-      born_kept setting w ground.wake along.firm ground.ready.rests ground.born n stamp what acted refl serving next.firm
-  born_at w along ground (actor.Client c) what stamp may next = record { now = ground.born.now; before = ground.born.before }
+  -- the ground, with what is known of requests on the way to it
+  pub record Footing (w : World) : Type 0 where
+    pub ground : Ground setting state w
+    pub known : AskingAlong setting ground.records (At script ground.records)
+    pub lives_are : ground.lives ≡ known.asks.lives
 
   -- ### The ground is kept
 
-  module _ (w : World) (own : Record) (ground : Ground setting state w) (legal : IsLegal script (ground.records ++ own ∷ [])) where
+  module _ (w : World) (own : Record) (footing : Footing w) (legal : IsLegal script (footing.ground.records ++ own ∷ [])) where
+    abbrev ground : Ground setting state w
+    ground = footing.ground
+
     abbrev v : World
     v = (stepped setting w own).world
 
@@ -133,6 +130,18 @@ module _ (script : Script) (sound : IsSound script) (whole : List Command) (all 
 
     then_is : world_after setting (start setting) records ≡ v
     then_is = world_more setting (start setting) ground.records own ∙ ap (λ u. (stepped setting u own).world) ground.come
+
+    -- requests
+    abbrev known_next : AskingAlong setting records (At script records)
+    known_next = one_more script sound ground.records own legal footing.known
+
+    lives_next : lives_after ground.lives v ≡ known_next.asks.lives
+    lives_next = (λ i. lives_after (footing.lives_are i) (sym then_is i)) ∙ sym (more_lives script sound ground.records own legal footing.known)
+
+    reports_next : KnowsReports setting v (lives_after ground.lives v)
+    reports_next =
+        subst (λ l. KnowsReports setting v l) (sym lives_next)
+        (subst (λ u. KnowsReports setting u known_next.asks.lives) then_is (reports_known script sound records legal known_next))
 
     -- the store of who runs and is In as itself counts, and its Joins stand before
     abbrev OwnCounts : World → Type 0
@@ -178,8 +187,8 @@ module _ (script : Script) (sound : IsSound script) (whole : List Command) (all 
       ground_next : Ground setting state v
       ground_next =
           let h : Happens setting state w v = happens setting w own ground.ready.rests along.firm follows next.firm state next.below in
-          let asking = happens_asking setting state steady w v ground.lives ground.ready ground.wake ground.asking h in
-          let on = happens_later setting state steady w v ground.lives ground.ready ground.wake ground.asking h in
+          let asking = happens_asking setting state w v ground.lives ground.ready ground.wake ground.asking ground.reports h in
+          let on = happens_later setting state w v ground.lives ground.ready ground.wake ground.asking ground.reports h in
           let rests = rests_next setting w own ground.ready.rests along.firm follows next.firm in
           record {
             ready = record { rests = rests; firm = next.firm; below = next.below };
@@ -192,21 +201,22 @@ module _ (script : Script) (sound : IsSound script) (whole : List Command) (all 
             started = subst (λ u. AllStarted setting records u) then_is (chosen_caught_was script records sound legal);
             lives = lives_after ground.lives v;
             asking = asking;
+            reports = reports_next;
             recalled = remembered_next setting state w along.firm ground v next.firm grows records goes_from.good from_there on rests asking
                 (happens_leaves setting state w v h);
             named = happens_named setting state w ground.named v h;
             epochs = subst (λ u. KnowEpochs setting records u) then_is (epochs_after script records sound legal);
-            born = born_at w along ground own.actor own.step own.stamp follows.may.may next;
+            moves = subst (λ u. KnowMoves setting records u) then_is (moves_known script records sound legal);
           }
 
       pub record NextGround : Type 0 where
-        pub now : Ground setting state v
-        pub records_are : now.records ≡ records
-        pub middle : IsMiddle setting w v now.records now.good.visits
+        pub now : Footing v
+        pub records_are : now.ground.records ≡ records
+        pub middle : IsMiddle setting w v now.ground.records now.ground.good.visits
 
       pub next_ground : NextGround
       unfolding ground_next
-      next_ground = record { now = ground_next; records_are = refl; middle = middle }
+      next_ground = record { now = record { ground = ground_next; known = known_next; lives_are = lives_next }; records_are = refl; middle = middle }
 
   -- what is chosen on the way is at the front of what is chosen at the end
   reaches : (w : World) (records : List Record) → AreFirm setting w records → IsPrefix (chosen_log setting (world_after setting w records)) whole
@@ -220,8 +230,8 @@ module _ (script : Script) (sound : IsSound script) (whole : List Command) (all 
   wake_now w (own ∷ later) wakes = wakes.0
 
   -- the records so far and one more
-  one_more : (done later : List Record) (own : Record) → IsLegal script (done ++ own ∷ later) → IsLegal script (done ++ own ∷ [])
-  one_more done later own legal =
+  first_legal : (done later : List Record) (own : Record) → IsLegal script (done ++ own ∷ later) → IsLegal script (done ++ own ∷ [])
+  first_legal done later own legal =
       (front_legal setting (start setting) (done ++ own ∷ []) later
       (subst (IsLegal script) (sym (append_assoc done (own ∷ []) later)) legal)).0
 
@@ -231,21 +241,22 @@ module _ (script : Script) (sound : IsSound script) (whole : List Command) (all 
       subst (λ ds. IsLegal script (ds ++ later)) (sym e) (subst (IsLegal script) (sym (append_assoc done (own ∷ []) later)) legal)
 
   grounded : (w : World) (records : List Record) → AreFirm setting w records → WakeAlong setting w records
-      → IsPrefix (chosen_log setting (world_after setting w records)) whole → (ground : Ground setting state w)
-      → IsLegal script (ground.records ++ records)
+      → IsPrefix (chosen_log setting (world_after setting w records)) whole → (footing : Footing w)
+      → IsLegal script (footing.ground.records ++ records)
       → IsLegalFrom setting w records
       → AreGrounded setting state w records
-  grounded w [] firm wakes end ground all_legal legal = ground
-  grounded w (own ∷ later) firm wakes end ground all_legal legal =
+  grounded w [] firm wakes end footing all_legal legal = footing.ground
+  grounded w (own ∷ later) firm wakes end footing all_legal legal =
       let v = (stepped setting w own).world in
       let then = firm_now setting v later firm.2 in
       let front = reaches v later firm.2 end in
-      let next = next_ground w own ground (one_more ground.records later own all_legal)
+      let next = next_ground w own footing (first_legal footing.ground.records later own all_legal)
       (along_at w firm.0 (front_on _ _ _ firm.1 front)) (along_at v then front) firm.1
       (wake_now v later wakes.1) legal.0 in (
-        ground,
+        footing.ground,
+        firm.1,
         grounded v later firm.2 wakes.1 end next.now
-            (legal_on ground.records next.now.records later own next.records_are all_legal) legal.1,
+            (legal_on footing.ground.records next.now.ground.records later own next.records_are all_legal) legal.1,
       )
 
   -- what is told is allowed, and keeps the machine tied to the world
@@ -275,12 +286,17 @@ module _ (script : Script) (sound : IsSound script) (whole : List Command) (all 
       grounds : AreGrounded setting state v later
       legal : IsLegalFrom setting v later
 
+    -- what is told of a letter that was sent
+    abbrev look_told : Actor → World → Letter → List Event
+    look_told who v letter = look_of setting w v who later letter letter.body
+
     -- a step of an actor, with the letters that it sent and the answer that it gave
     step_tells : (who : Actor) (what : Step) → MayActor who what setting w → Onwards (step who what setting w stamp).world
         → Tells m (step who what setting w stamp).world
         (told_with (begins what who (step who what setting w stamp).world) (takes (change_by setting w (step who what setting w stamp).world))
         (makes (change_by setting w (step who what setting w stamp).world) ++ freezes (change_by setting w (step who what setting w stamp).world)
-        ++ looks setting.lines later (step who what setting w stamp).letters ++ ends who w (step who what setting w stamp).answer))
+        ++ flat_map (look_told who (step who what setting w stamp).world) (step who what setting w stamp).letters
+        ++ ends who w (step who what setting w stamp).answer))
     unfolding step
     step_tells (actor.Server n) Blank may next = record {
       es = [];
@@ -316,12 +332,12 @@ module _ (script : Script) (sound : IsSound script) (whole : List Command) (all 
           grown = grown_at w v next.after.firm next.grows;
           middle = next.middle;
         }) (step_kind (server_state setting w n) n (w.servers n) what)
-        (λ letter seq bytes number sent says e. who_accepts setting state v later next.grounds next.legal letter seq bytes number sent says e) in
+        (record { grounds = next.grounds; legal = next.legal }) in
         record {
           es = t.es;
           is = ap (λ b. told_with b (takes (change_by setting w v))
-              (makes (change_by setting w v) ++ freezes (change_by setting w v) ++ looks setting.lines later (acts setting w n what stamp acted).letters
-              ++ []))
+              (makes (change_by setting w v) ++ freezes (change_by setting w v)
+              ++ flat_map (look_told (actor.Server n) v) (acts setting w n what stamp acted).letters ++ []))
               (server_begins what n v) ∙ t.is;
           may = t.may;
           follows = t.follows;
@@ -335,7 +351,8 @@ module _ (script : Script) (sound : IsSound script) (whole : List Command) (all 
           es = t.es;
           is = ap (λ b. told_with b (takes (change_by setting w (reacts w c stamp reacted).world))
               (makes (change_by setting w (reacts w c stamp reacted).world) ++ freezes (change_by setting w (reacts w c stamp reacted).world)
-              ++ looks setting.lines later (reacts w c stamp reacted).letters ++ ended (open_write w c) reacted.answer))
+              ++ flat_map (look_told (actor.Client c) (reacts w c stamp reacted).world) (reacts w c stamp reacted).letters
+              ++ ended (open_write w c) reacted.answer))
               (client_begins c what (reacts w c stamp reacted).world) ∙ t.is;
           may = t.may;
           follows = t.follows;
@@ -356,7 +373,8 @@ module _ (script : Script) (sound : IsSound script) (whole : List Command) (all 
       record {
         es = t.es;
         is = (λ i. told_with (begins own.step own.actor v) (takes (change_by setting w v))
-            (makes (change_by setting w v) ++ freezes (change_by setting w v) ++ looks setting.lines later (follows.sent i)
+            (makes (change_by setting w v) ++ freezes (change_by setting w v)
+            ++ flat_map (λ (letter : Letter). look_of setting w v own.actor later letter letter.body) (follows.sent i)
             ++ ends own.actor w (follows.answer i))) ∙ t.is;
         may = t.may;
         follows = t.follows;
@@ -364,40 +382,40 @@ module _ (script : Script) (sound : IsSound script) (whole : List Command) (all 
 
   -- after the first of these records
   record IsStepped (w : World) (m : Plain) (own : Record) (later : List Record) : Type 0 where
-    ground : Ground setting state (stepped setting w own).world
-    legal : IsLegal script (ground.records ++ later)
+    footing : Footing (stepped setting w own).world
+    legal : IsLegal script (footing.ground.records ++ later)
     tells : Tells m (stepped setting w own).world (told setting w own later)
 
   first_step : (w : World) (m : Plain) (own : Record) (later : List Record) → AreFirm setting w (own ∷ later) → WakeAlong setting w (own ∷ later)
-      → IsPrefix (chosen_log setting (world_after setting w (own ∷ later))) whole → (ground : Ground setting state w)
-      → IsLegal script (ground.records ++ own ∷ later)
+      → IsPrefix (chosen_log setting (world_after setting w (own ∷ later))) whole → (footing : Footing w)
+      → IsLegal script (footing.ground.records ++ own ∷ later)
       → Follow setting (rows_in setting w) w m → IsLegalFrom setting w (own ∷ later) → IsStepped w m own later
-  first_step w m own later firm wakes end ground all_legal follow legal =
+  first_step w m own later firm wakes end footing all_legal follow legal =
       let v = (stepped setting w own).world in
       let then = firm_now setting v later firm.2 in
       let front = reaches v later firm.2 end in
       let along = along_at w firm.0 (front_on _ _ _ firm.1 front) in
-      let next = next_ground w own ground (one_more ground.records later own all_legal) along (along_at v then front) firm.1
+      let next = next_ground w own footing (first_legal footing.ground.records later own all_legal) along (along_at v then front) firm.1
       (wake_now v later wakes.1) legal.0 in
-      let on = legal_on ground.records next.now.records later own next.records_are all_legal in
+      let on = legal_on footing.ground.records next.now.ground.records later own next.records_are all_legal in
       record {
-        ground = next.now;
+        footing = next.now;
         legal = on;
-        tells = record_tells w m along ground follow own later legal.0 (along_at v then front)
-            firm.1 next.now next.middle (grounded v later firm.2 wakes.1 end next.now on legal.1) legal.1;
+        tells = record_tells w m along footing.ground follow own later legal.0 (along_at v then front)
+            firm.1 next.now.ground next.middle (grounded v later firm.2 wakes.1 end next.now on legal.1) legal.1;
       }
 
   pub history_tells : (w : World) (m : Plain) (records : List Record) → AreFirm setting w records → WakeAlong setting w records
-      → IsPrefix (chosen_log setting (world_after setting w records)) whole → (ground : Ground setting state w)
-      → IsLegal script (ground.records ++ records)
+      → IsPrefix (chosen_log setting (world_after setting w records)) whole → (footing : Footing w)
+      → IsLegal script (footing.ground.records ++ records)
       → Follow setting (rows_in setting w) w m → IsLegalFrom setting w records
       → Tells m (world_after setting w records) (told_from setting w records)
-  history_tells w m [] firm wakes end ground all_legal follow legal = record { es = []; is = refl; may = tt; follows = follow }
-  history_tells w m (own ∷ later) firm wakes end ground all_legal follow legal =
+  history_tells w m [] firm wakes end footing all_legal follow legal = record { es = []; is = refl; may = tt; follows = follow }
+  history_tells w m (own ∷ later) firm wakes end footing all_legal follow legal =
       let v = (stepped setting w own).world in
-      let first = first_step w m own later firm wakes end ground all_legal follow legal in
+      let first = first_step w m own later firm wakes end footing all_legal follow legal in
       let now = first.tells in
-      let rest = history_tells v (replay m now.es) later firm.2 wakes.1 end first.ground first.legal now.follows legal.1 in
+      let rest = history_tells v (replay m now.es) later firm.2 wakes.1 end first.footing first.legal now.follows legal.1 in
       record {
         es = now.es ++ rest.es;
         is = (λ i. joined (now.is i) (rest.is i));
@@ -414,15 +432,15 @@ module _ (script : Script) (sound : IsSound script) (whole : List Command) (all 
     pub now : Follow setting (rows_in setting last) last (replay m es)
 
   pub on_the_way : (w : World) (m : Plain) (front back : List Record) → AreFirm setting w (front ++ back) → WakeAlong setting w (front ++ back)
-      → IsPrefix (chosen_log setting (world_after setting w (front ++ back))) whole → (ground : Ground setting state w)
-      → IsLegal script (ground.records ++ (front ++ back))
+      → IsPrefix (chosen_log setting (world_after setting w (front ++ back))) whole → (footing : Footing w)
+      → IsLegal script (footing.ground.records ++ (front ++ back))
       → Follow setting (rows_in setting w) w m → IsLegalFrom setting w (front ++ back)
       → IsOnTheWay (world_after setting w front) (world_after setting w (front ++ back))
-  on_the_way w m [] back firm wakes end ground all_legal follow legal =
-      let t = history_tells w m back firm wakes end ground all_legal follow legal in record { m = m; then = follow; es = t.es; now = t.follows }
-  on_the_way w m (own ∷ front) back firm wakes end ground all_legal follow legal =
-      let first = first_step w m own (front ++ back) firm wakes end ground all_legal follow legal in
-      on_the_way (stepped setting w own).world (replay m first.tells.es) front back firm.2 wakes.1 end first.ground first.legal
+  on_the_way w m [] back firm wakes end footing all_legal follow legal =
+      let t = history_tells w m back firm wakes end footing all_legal follow legal in record { m = m; then = follow; es = t.es; now = t.follows }
+  on_the_way w m (own ∷ front) back firm wakes end footing all_legal follow legal =
+      let first = first_step w m own (front ++ back) firm wakes end footing all_legal follow legal in
+      on_the_way (stepped setting w own).world (replay m first.tells.es) front back firm.2 wakes.1 end first.footing first.legal
       first.tells.follows legal.1
 
 -- ### The beginning
@@ -445,7 +463,7 @@ start_follow script =
       stores = record { known = λ row h. absurd h; unknown = λ name none. refl; mindful = λ c o is. none_some refl is };
       seats = λ c. refl;
       letters = λ letter c seq h to says still. absurd h;
-      pending = λ n cell op on is counted still. none_some (at-empty cell_cmp cell) is;
+      pending = λ n cell op on is clients counted still. none_some (at-empty cell_cmp cell) is;
       finished = λ n c last on is how still. none_some (at-empty nat_cmp c) is;
     })
 
@@ -464,8 +482,9 @@ start_ground state script sound ready wake =
       started = λ front of link holder inc other other_inc prefix.
           no_prefix front _ (subst (IsPrefix (front ++ Caught of link holder inc other other_inc ∷ [])) (none_chosen setting) prefix);
       lives = first_lives;
-      asking = start_asking state script;
-      recalled = λ front cell row n own op prefix is both last visit there.
+      asking = start_asking script;
+      reports = subst (λ l. KnowsReports setting (start setting) l) (start_lives script) (reports_known script sound [] tt (start_along script));
+      recalled = λ front cell row n own op prefix is both last visit there clients.
           none_some (start_visits setting n (place_by setting front row) cell) visit;
       named = start_named script;
       own = λ n runs seat store. refl;
@@ -473,12 +492,9 @@ start_ground state script sound ready wake =
           ap (λ log. blank_joins_in setting log n) (no_front front (subst (IsPrefix front) (none_chosen setting) prefix)
           ∙ sym (none_chosen setting));
       epochs = epochs_after script [] sound tt;
-      born = record { now = λ n cell none. none_stored cell; before = λ n before is. none_some refl is };
+      moves = moves_known script [] sound tt;
     }
   where
-    none_stored : (cell : Cell) → chain_in [] cell ≡ []
-    none_stored cell = ap (λ o. unwrap_or {T = Chain} o []) (at-empty cell_cmp cell)
-
     no_front : (front : List Command) → IsPrefix front [] → front ≡ []
     no_front [] p = refl
     no_front (x ∷ front) p = let f : [] ≡ x ∷ (front ++ p.later) = p.is in absurd cc
@@ -491,11 +507,18 @@ start_ground state script sound ready wake =
 record FirstGround (state : State) (script : Script) : Type 0 where
   now : Ground (setting_of script) state (start (setting_of script))
   records_are : now.records ≡ []
+  known : AskingAlong (setting_of script) now.records (At script now.records)
+  lives_are : now.lives ≡ known.asks.lives
 
 first_ground : (state : State) (script : Script) → IsSound script → Ready (setting_of script) state (start (setting_of script))
     → AllMayWake (setting_of script) (start (setting_of script)) → FirstGround state script
 unfolding start_ground
-first_ground state script sound ready wake = record { now = start_ground state script sound ready wake; records_are = refl }
+first_ground state script sound ready wake = record {
+  now = start_ground state script sound ready wake;
+  records_are = refl;
+  known = start_along script;
+  lives_are = sym (start_lives script);
+}
 
 -- ### The law
 
@@ -532,14 +555,17 @@ module _ (script : Script) (records : List Record) (sound : IsSound script) (leg
       (record { rests = start_rests script; firm = first_along.firm; below = first_along.below })
       (wake_now script sound whole last_firm.plain begun records wakes)
 
-  first_legal : IsLegal script (first.now.records ++ records)
-  first_legal = subst (λ done. IsLegal script (done ++ records)) (sym first.records_are) legal
+  abbrev footing : Footing script sound whole last_firm.plain begun
+  footing = record { ground = first.now; known = first.known; lives_are = first.lives_are }
+
+  begun_legal : IsLegal script (footing.ground.records ++ records)
+  begun_legal = subst (λ done. IsLegal script (done ++ records)) (sym first.records_are) legal
 
   abbrev T : Type 0
   T = Tells script sound whole last_firm.plain blank last_world (events_of script records)
 
   tells : T
-  tells = history_tells script sound whole last_firm.plain begun blank records firm wakes (front_itself whole) first.now first_legal
+  tells = history_tells script sound whole last_firm.plain begun blank records firm wakes (front_itself whole) footing begun_legal
       (start_follow script) legal
 
   pub run_after : IsRunOf (events_of script records)
@@ -548,20 +574,7 @@ module _ (script : Script) (records : List Record) (sound : IsSound script) (leg
   pub held_after : AreHeld of_script last_world (machine_after (events_of script records)).disks
   held_after =
       let stores = tells.follows.stores in
-      let chosen = chosen_state of_script last_world in
-      subst (λ o. AreHeld of_script last_world (machine_after o).disks) (sym tells.is) (record {
-        known = λ row h.
-            let k = stores.known row h in
-            record {
-              disk = k.disk;
-              is = k.is;
-              same = λ b has. k.same b has ∙ sym (content_number of_script last_world last_firm row h row.epoch b);
-              snapshots = snapshots_on k.disk.snaps row.snaps (has_content chosen row) (has_content chosen row)
-                  (content_in chosen (counted of_script last_world) row) (content_at of_script last_world row.id) (λ b has. has)
-                  (λ snap i b has. sym (content_number of_script last_world last_firm row h snap.epoch b)) k.snapshots;
-            };
-        unknown = stores.unknown;
-      })
+      subst (λ o. AreHeld of_script last_world (machine_after o).disks) (sym tells.is) (record { known = stores.known; unknown = stores.unknown })
 
 -- snapshots never change on the way
 still_after : (script : Script) (front back : List Record) → IsSound script → IsLegal script (front ++ back)
@@ -575,7 +588,7 @@ still_after script front back sound legal =
     let last = last_firm script records sound legal in
     let log = whole script records sound legal in
     let way = on_the_way script sound log last.plain begun blank front back (firm script records sound legal) (wakes script records sound legal)
-    (front_itself log) (first script records sound legal).now (first_legal script records sound legal) (start_follow script) legal in
+    (front_itself log) (footing script records sound legal) (begun_legal script records sound legal) (start_follow script) legal in
     contents_still setting middle (world_after setting begun records)
     (history_is_firm script front sound (front_legal setting begun front back legal).0) last
     (history_grows script records sound legal front back refl) way.m way.es way.then.stores way.now.stores
@@ -600,6 +613,7 @@ law_with requests script records sound legal = record {
     covered = covered_after script records sound legal;
     empty = λ n fresh. let e = always_empty script records sound legal n fresh in (e.chains, e.marks);
     requests = requests script records sound legal;
+    moves = rule_after script records sound legal;
   };
   grows = history_grows script records sound legal;
   marks = marks_first script records sound legal;

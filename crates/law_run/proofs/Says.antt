@@ -5,7 +5,8 @@ use Rattle.std.specs.List.{range_with_len}
 use Rattle.std.specs.Ordering.{nat_cmp}
 use Rattle.petal_table.specs.Table.{at}
 use Rattle.petal_machine.specs.Machine.{Plain}
-use Rattle.petal_msg.specs.Kinds.{Glanced, about, is_ending, is_logged, subject_of}
+use Rattle.petal_base.specs.Cells.{cell_of}
+use Rattle.petal_msg.specs.Kinds.{Subject, Answered, Glanced, Refused, about, is_logged, is_refused, subject_of}
 use Rattle.petal_msg.specs.declared.body.Body.{Body}
 use Rattle.petal_msg.specs.declared.body.Body.TheVariants as body
 use Rattle.petal_msg.specs.declared.letter.Actor.{Actor}
@@ -13,25 +14,29 @@ use Rattle.petal_msg.specs.declared.letter.Actor.TheVariants as actor
 use Rattle.petal_msg.specs.declared.letter.Letter.{Letter}
 use Rattle.petal_msg.specs.declared.operation.Ending.{Ending}
 use Rattle.petal_msg.specs.declared.operation.Ending.TheVariants as ending
+use Rattle.petal_msg.specs.declared.operation.OpKind.{OpKind}
+use Rattle.petal_msg.specs.declared.operation.OpKind.TheVariants as kind
+use Rattle.petal_msg.specs.declared.operation.Pending.{Pending}
 use Rattle.petal_rules.specs.Ballots.{post_of}
 use Rattle.petal_rules.specs.Jobs.{down_posts}
 use Rattle.petal_rules.specs.Lists.{In}
 use Rattle.petal_rules.specs.Server.{Own, Here, Post, Sender, Done, letters_of, post_to}
 use Rattle.petal_rules.specs.State.{second}
-use Rattle.petal_rules.specs.Writes.{ended}
+use Rattle.petal_rules.specs.Writes.{ended, ends, gives_back, is_clients, old_lead, without_pending}
 use Rattle.petal_rules.specs.World.{stamped}
 use Rattle.petal_rules.proofs.Tests.{same_some, true_false}
-use Rattle.law_steps.specs.DidLead.{DidLead, Asks, A_slot, A_copy, A_trim, A_copied_entry, A_page, Of_the_log, Asks_for, Repeats, Is_full, Gives_up, Opens, Marks, Puts, Unmarks, Closes, Opens_alone, Marks_alone, Puts_alone, Unmarks_alone, Closes_alone}
+use Rattle.law_steps.specs.DidLead.{DidLead, Asks, A_slot, A_copy, A_trim, A_copied_entry, A_page, An_entry_to_move, Of_the_log, Asks_for, Repeats, Is_full, Gives_up, Opens, Marks, Puts, Unmarks, Closes, Opens_alone, Marks_alone, Puts_alone, Unmarks_alone, Closes_alone, Opens_fill, Opens_fill_alone, Has_fill, Has_no_room, Goes_on_dead}
 use Rattle.law_steps.specs.DidSecond.{DidSecond}
-use Rattle.law_steps.specs.Did.{Did, Ignores, Refuses, By_read, By_lead, By_second, By_holder, By_other}
+use Rattle.law_steps.specs.Did.{Did, IsRefusal, Ignores, Refuses, By_read, By_lead, By_second, By_holder, By_other, By_filler, By_sweep}
 use Rattle.law_steps.proofs.CopyFrames.{of_holder, of_other}
 use Rattle.law_steps.specs.Happens.{Handled, own_place}
 use Rattle.law_steps.proofs.Letters.{said, one_post, posted}
-use Rattle.law_steps.proofs.Subjects.{of_read, of_second}
+use Rattle.law_steps.proofs.Subjects.{of_filler, of_read, of_second, of_sweep}
 use Rattle.law_copies.specs.Pair.{owns_of}
 use Rattle.law_requests.specs.Asked.{IsOpen}
 use Rattle.law_run.specs.Onward.{is_held, Onward}
-use Rattle.law_run.proofs.Looks.{is_data}
+use Rattle.law_run.proofs.Chains.{NeverDead}
+use Rattle.law_run.proofs.Looks.{is_looked}
 use Rattle.law_run.proofs.Machine.{held_onward}
 use Rattle.law_run.proofs.ServerJobs.{closed_held, closed_alone}
 use Rattle.law_run.proofs.Steps.{ServerStep}
@@ -43,30 +48,48 @@ is_written _ = false
 
 -- ### What a letter is about
 
--- what ends no request has no data, and ends no write
-pub unended_data : (said : Body) → is_ending (subject_of said) ≡ false → is_data said ≡ false
+-- it is no reply to a client
+abbrev pub is_reply : Subject → Bool
+is_reply Answered = true
+is_reply Refused = true
+is_reply _ = false
+
+-- what is no reply tells of no look, and ends no write
+pub unended_data : (said : Body) → is_reply (subject_of said) ≡ false → is_looked said ≡ false
 unended_data (body.Data seq bytes) e = true_false refl e
+unended_data (body.NotHere seq) e = true_false refl e
 unended_data _ e = refl
 
-pub unended_written : (said : Body) → is_ending (subject_of said) ≡ false → is_written said ≡ false
+pub unended_written : (said : Body) → is_reply (subject_of said) ≡ false → is_written said ≡ false
 unended_written (body.Written seq) e = true_false refl e
 unended_written _ e = refl
 
--- a letter ends no request
-abbrev pub IsUnended : Post → Type 0
-IsUnended post = is_ending (subject_of post.body) ≡ false
+-- a refusal tells of no look but where it says that the new map has nothing, and ends no write
+refused_looks : (said : Body) → IsRefusal said → is_looked said ≡ false
+refused_looks (body.Data seq bytes) r = let f : false ≡ true = ap is_refused r.refused in absurd cc
+refused_looks (body.NotHere seq) r = true_false refl r.other
+refused_looks _ r = refl
 
-pub logged_unended : (said : Body) → is_logged (subject_of said) ≡ true → is_ending (subject_of said) ≡ false
-logged_unended (body.Written seq) e = true_false e refl
-logged_unended (body.Full seq) e = true_false e refl
-logged_unended (body.Data seq bytes) e = true_false e refl
-logged_unended (body.NotHere seq) e = true_false e refl
-logged_unended _ e = refl
+refused_written : (said : Body) → IsRefusal said → is_written said ≡ false
+refused_written (body.Written seq) r = let f : false ≡ true = ap is_refused r.refused in absurd cc
+refused_written _ r = refl
+
+-- a letter is no reply
+abbrev pub IsUnended : Post → Type 0
+IsUnended post = is_reply (subject_of post.body) ≡ false
+
+pub logged_unended : (said : Body) → is_logged (subject_of said) ≡ true → is_reply (subject_of said) ≡ false
+logged_unended said e = by (subject_of said) e
+  where
+    by : (of : Subject) → is_logged of ≡ true → is_reply of ≡ false
+    by Answered e = true_false e refl
+    by Refused e = true_false e refl
+    by _ e = refl
 
 pub unended_no_data : (who : Sender) (stamp : ℕ) (posts : List Post) → ((post : Post) → In post posts → IsUnended post) → (letter : Letter)
-    → In letter (stamped stamp (letters_of who 0 posts)) → is_data letter.body ≡ false
+    → In letter (stamped stamp (letters_of who 0 posts)) → is_looked letter.body ≡ false
 unended_no_data who stamp posts all letter h =
-    let s = said who stamp 0 posts letter h in ap is_data s.body ∙ unended_data s.post.body (all s.post s.there)
+    let s = said who stamp 0 posts letter h in ap is_looked s.body ∙ unended_data s.post.body (all s.post s.there)
 
 pub unended_no_end : (who : Sender) (stamp : ℕ) (posts : List Post) → ((post : Post) → In post posts → IsUnended post) → (letter : Letter)
     → In letter (stamped stamp (letters_of who 0 posts)) → is_written letter.body ≡ false
@@ -77,14 +100,14 @@ unended_no_end who stamp posts all letter h =
 downs : (me inc : ℕ) (others : List ℕ) (post : Post) → In post (map (post_of (body.Down me inc)) others) → IsUnended post
 unfolding In
 downs me inc [] post h = absurd h
-downs me inc (n ∷ others) post (inl e) = ap (λ (p : Post). is_ending (subject_of p.body)) e
+downs me inc (n ∷ others) post (inl e) = ap (λ (p : Post). is_reply (subject_of p.body)) e
 downs me inc (n ∷ others) post (inr h) = downs me inc others post h
 
 pub downs_unended : (me inc servers : ℕ) (post : Post) → In post (down_posts me inc servers) → IsUnended post
 downs_unended me inc servers post h = downs me inc (filter (λ n. not (n == me)) (range_with_len 0 servers)) post h
 
 pub glances_unended : (post : Post) → subject_of post.body ≡ Glanced → IsUnended post
-glances_unended post e = ap is_ending e
+glances_unended post e = ap is_reply e
 
 -- ### A job
 
@@ -99,42 +122,59 @@ asks_unended here own _ (A_trim cell copy to is fresh e) = refl
 asks_unended here own _ (A_copied_entry cell copy row to is trimmed spot e) = refl
 asks_unended here own _ (A_page row to on e fresh) = refl
 asks_unended here own _ (Of_the_log post e) = logged_unended post.body e
+asks_unended here own _ (An_entry_to_move post fill) = ap (λ (p : Post). is_reply (subject_of p.body)) fill.is
 
-ended_data : (seq : ℕ) (how : Ending) → is_data (ended seq how) ≡ false
+ended_data : (seq : ℕ) (how : Ending) → is_looked (ended seq how) ≡ false
 ended_data seq ending.Written = refl
 ended_data seq ending.Full = refl
 
-module _ (heard : Body → Type 0) (here : Here) (own : Own) where
-  lead_data : (done : Done) → DidLead heard here own done → (post : Post) → In post done.posts → is_data post.body ≡ false
+-- how an operation ends
+ends_data : (here : Here) (own : Own) (op : Pending) (of : OpKind) (how : Ending) (post : Post) → In post (ends here own op of how).posts
+    → is_looked post.body ≡ false
+unfolding In
+ends_data here own op kind.Write how post i = ap is_looked (one_post _ _ post i).1 ∙ ended_data op.seq how
+ends_data here own op kind.Fill ending.Written post i = ap is_looked (posted (old_lead here.state op.cell) (body.Filled op.key) post i)
+ends_data here own op kind.Fill ending.Full post i = ap is_looked (posted (old_lead here.state op.cell) (body.FillFull op.key) post i)
+ends_data here own op kind.Copy how post i = absurd i
+
+module _ (heard : Body → Type 0) (here : Here) (own : Own) (never : NeverDead here own) where
+  lead_data : (done : Done) → DidLead heard here own done → (post : Post) → In post done.posts → is_looked post.body ≡ false
   unfolding In
   lead_data _ (Asks_for posts h) post i = unended_data post.body (asks_unended here own post (h post i))
-  lead_data _ (Repeats want last h lead is e) post i = ap is_data (one_post _ _ post i).1 ∙ ended_data want.seq last.ending
-  lead_data _ (Is_full want new no_room) post i = ap is_data (one_post _ _ post i).1
-  lead_data _ (Gives_up op h is reserved put) post i = ap is_data (one_post _ _ post i).1
-  lead_data _ (Opens want new both) post i = ap is_data (posted _ _ post i)
+  lead_data _ (Repeats want last h lead is e) post i = ap is_looked (one_post _ _ post i).1 ∙ ended_data want.seq last.ending
+  lead_data _ (Is_full want new no_room) post i = ap is_looked (one_post _ _ post i).1
+  lead_data _ (Gives_up op h is reserved put) post i = ends_data here (gives_back (without_pending own op.cell)) op op.kind ending.Full post i
+  lead_data _ (Opens want new both) post i = ap is_looked (posted _ _ post i)
   lead_data _ (Marks op h is both stage) post i = absurd i
   lead_data _ (Puts op is both stage) post i = absurd i
   lead_data _ (Unmarks op h is both stage) post i = absurd i
-  lead_data _ (Closes op is both stage) post i = ap is_data (one_post _ _ post i).1
+  lead_data _ (Closes op is both stage) post i = ends_data here (without_pending own op.cell) op op.kind ending.Written post i
   lead_data _ (Opens_alone want new alone) post i = absurd i
   lead_data _ (Marks_alone now op taken alone fresh) post i = absurd i
   lead_data _ (Puts_alone now op taken alone stale put) post i = absurd i
   lead_data _ (Unmarks_alone now op taken alone stale put busy) post i = absurd i
-  lead_data _ (Closes_alone now op taken alone stale put free) post i = ap is_data (one_post _ _ post i).1
+  lead_data _ (Closes_alone now op taken alone stale put free) post i = ends_data here (without_pending now op.cell) op op.kind ending.Written post i
+  lead_data _ (Opens_fill moving new room both) post i = ap is_looked (posted _ _ post i)
+  lead_data _ (Opens_fill_alone moving new room alone) post i = absurd i
+  lead_data _ (Has_fill moving filled) post i = ap is_looked (posted _ _ post i)
+  lead_data _ (Has_no_room moving new no_room) post i = ap is_looked (posted _ _ post i)
+  lead_data _ (Goes_on_dead now op taken off) post i = absurd (never now op taken off)
 
   second_unended : (done : Done) → DidSecond heard here own done → (post : Post) → In post done.posts → IsUnended post
-  second_unended done d post i = ap is_ending ((of_second heard here own done d).says post i)
+  second_unended done d post i = ap is_reply ((of_second heard here own done d).says post i)
 
   -- only a read's job sends data
-  pub quiet_data : (done : Done) (d : Did heard here own done) → IsQuiet d → (post : Post) → In post done.posts → is_data post.body ≡ false
+  pub quiet_data : (done : Done) (d : Did heard here own done) → IsQuiet d → (post : Post) → In post done.posts → is_looked post.body ≡ false
   unfolding In
   quiet_data _ Ignores quiet post i = absurd i
-  quiet_data _ (Refuses to what is why back) quiet post i = ap is_data (one_post to what post i).1 ∙ unended_data what (ap is_ending is)
+  quiet_data _ (Refuses to what is why back) quiet post i = ap is_looked (one_post to what post i).1 ∙ refused_looks what is
   quiet_data _ (By_read done d) quiet post i = absurd quiet
   quiet_data _ (By_lead done d) quiet post i = lead_data done d post i
   quiet_data _ (By_second done d) quiet post i = unended_data post.body (second_unended done d post i)
-  quiet_data _ (By_holder done d) quiet post i = unended_data post.body (ap is_ending ((of_holder heard here own done d).says post i))
-  quiet_data _ (By_other done d) quiet post i = unended_data post.body (ap is_ending ((of_other heard here own done d).says post i))
+  quiet_data _ (By_holder done d) quiet post i = unended_data post.body (ap is_reply ((of_holder heard here own done d).says post i))
+  quiet_data _ (By_other done d) quiet post i = unended_data post.body (ap is_reply ((of_other heard here own done d).says post i))
+  quiet_data _ (By_filler done d) quiet post i = unended_data post.body (ap is_reply ((of_filler heard here own done d).says post i))
+  quiet_data _ (By_sweep done d) quiet post i = absurd ((of_sweep heard here own done d).silent post i)
 
 -- ### Writes that end as written
 
@@ -149,7 +189,8 @@ ended_seq : (seq : ℕ) (how : Ending) (other : ℕ) → ended seq how ≡ body.
 ended_seq seq ending.Written other e = same_some (ap (λ b. (about b).seq) e)
 ended_seq seq ending.Full other e = true_false {b = is_written (body.Written other)} refl (ap is_written (sym e))
 
-module _ (this : ServerStep) (k : Plain) (runs : (this.w.servers this.n).life.running ≡ true) (onward : Onward this.m k) where
+module _ (this : ServerStep) (k : Plain) (runs : (this.w.servers this.n).life.running ≡ true) (onward : Onward this.m k)
+    (never : NeverDead (own_place this.setting this.w this.n) (owns_of this.w this.n)) where
   abbrev here : Here
   here = own_place this.setting this.w this.n
 
@@ -183,6 +224,21 @@ module _ (this : ServerStep) (k : Plain) (runs : (this.w.servers this.n).life.ru
   unfolding In
   none_says post i = absurd i
 
+  -- how an operation ends
+  ends_says : (own_then : Own) (op : Pending) (of : OpKind) (how : Ending)
+      → (how ≡ ending.Written → is_clients of ≡ true → IsOpen (this.w.clients op.client) op.seq → is_held k op.client ≡ true)
+      → PostsOk (ends here own_then op of how).posts
+  ends_says own_then op kind.Write ending.Written held = one_held op.client op.seq (held refl refl)
+  ends_says own_then op kind.Write ending.Full held = one_unwritten (actor.Client op.client) (ended op.seq ending.Full) refl
+  ends_says own_then op kind.Fill ending.Written held =
+      unwritten (post_to (old_lead here.state op.cell) (body.Filled op.key)) (λ post i. ap is_written (posted _ _ post i))
+  ends_says own_then op kind.Fill ending.Full held =
+      unwritten (post_to (old_lead here.state op.cell) (body.FillFull op.key)) (λ post i. ap is_written (posted _ _ post i))
+  ends_says own_then op kind.Copy how held = none_says
+
+  never_full : {B : Type 0} → ending.Full ≡ ending.Written → B
+  never_full e = cc
+
   lead_says : (done : Done) → DidLead hears here own done → PostsOk done.posts
   lead_says _ (Asks_for posts h) = unwritten posts (λ post i. unended_written post.body (asks_unended here own post (h post i)))
   lead_says _ (Repeats want last h lead is e) = λ post i c seq to says still.
@@ -194,27 +250,44 @@ module _ (this : ServerStep) (k : Plain) (runs : (this.w.servers this.n).life.ru
       held_onward this.m k c onward
       (this.follow.finished this.n c last runs (ap (at nat_cmp own.pairs.finished) (sym same_client) ∙ is) how (subst (IsOpen (this.w.clients c)) number still))
   lead_says _ (Is_full want new no_room) = one_unwritten (actor.Client want.client) (ended want.seq ending.Full) refl
-  lead_says _ (Gives_up op h is reserved put) = one_unwritten (actor.Client op.client) (ended op.seq ending.Full) refl
+  lead_says _ (Gives_up op h is reserved put) =
+      ends_says (gives_back (without_pending own op.cell)) op op.kind ending.Full (λ e clients still. never_full e)
   lead_says _ (Opens want new both) =
       unwritten (post_to (second here.state want.cell) (body.Reserve own.pairs.next want.cell)) (λ post i. ap is_written (posted _ _ post i))
   lead_says _ (Marks op h is both stage) = none_says
   lead_says _ (Puts op is both stage) = none_says
   lead_says _ (Unmarks op h is both stage) = none_says
-  lead_says _ (Closes op is both stage) = one_held op.client op.seq (closed_held this k runs onward op is both stage)
+  lead_says _ (Closes op is both stage) =
+      ends_says (without_pending own op.cell) op op.kind ending.Written (λ e. closed_held this k runs onward never op is both stage)
   lead_says _ (Opens_alone want new alone) = none_says
   lead_says _ (Marks_alone now op taken alone fresh) = none_says
   lead_says _ (Puts_alone now op taken alone stale put) = none_says
   lead_says _ (Unmarks_alone now op taken alone stale put busy) = none_says
-  lead_says _ (Closes_alone now op taken alone stale put free) = one_held op.client op.seq (closed_alone this k runs onward now op taken alone put)
+  lead_says _ (Closes_alone now op taken alone stale put free) =
+      ends_says (without_pending now op.cell) op op.kind ending.Written (λ e. closed_alone this k runs onward never now op taken alone put)
+  lead_says _ (Opens_fill moving new room both) =
+      unwritten (post_to (second here.state (cell_of moving.key)) (body.Reserve own.pairs.next (cell_of moving.key)))
+      (λ post i. ap is_written (posted _ _ post i))
+  lead_says _ (Opens_fill_alone moving new room alone) = none_says
+  lead_says _ (Has_fill moving filled) =
+      unwritten (post_to (old_lead here.state (cell_of moving.key)) (body.Filled moving.key)) (λ post i. ap is_written (posted _ _ post i))
+  lead_says _ (Has_no_room moving new no_room) =
+      unwritten (post_to (old_lead here.state (cell_of moving.key)) (body.FillFull moving.key)) (λ post i. ap is_written (posted _ _ post i))
+  lead_says _ (Goes_on_dead now op taken off) = absurd (never now op taken off)
 
   pub did_says : (done : Done) → Did hears here own done → PostsOk done.posts
   did_says _ Ignores = none_says
-  did_says _ (Refuses to what is why back) = one_unwritten to what (unended_written what (ap is_ending is))
-  did_says _ (By_read done d) =
-      unwritten done.posts (λ post i. ap is_written ((of_read hears here own done d).says post i).is)
+  did_says _ (Refuses to what is why back) = one_unwritten to what (refused_written what is)
+  did_says _ (By_read done d) = unwritten done.posts (λ post i. elim ((of_read hears here own done d).says post i) [
+    | inl h ↦ ap is_written h.is
+    | inr h ↦ ap is_written h.is
+  ])
   did_says _ (By_lead done d) = lead_says done d
-  did_says _ (By_second done d) = unwritten done.posts (λ post i. unended_written post.body (second_unended hears here own done d post i))
+  did_says _ (By_second done d) = unwritten done.posts (λ post i. unended_written post.body (second_unended hears here own never done d post i))
   did_says _ (By_holder done d) =
-      unwritten done.posts (λ post i. unended_written post.body (ap is_ending ((of_holder hears here own done d).says post i)))
+      unwritten done.posts (λ post i. unended_written post.body (ap is_reply ((of_holder hears here own done d).says post i)))
   did_says _ (By_other done d) =
-      unwritten done.posts (λ post i. unended_written post.body (ap is_ending ((of_other hears here own done d).says post i)))
+      unwritten done.posts (λ post i. unended_written post.body (ap is_reply ((of_other hears here own done d).says post i)))
+  did_says _ (By_filler done d) =
+      unwritten done.posts (λ post i. unended_written post.body (ap is_reply ((of_filler hears here own done d).says post i)))
+  did_says _ (By_sweep done d) = unwritten done.posts (λ post i. absurd ((of_sweep hears here own done d).silent post i))

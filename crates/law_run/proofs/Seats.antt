@@ -1,6 +1,6 @@
 -- What a server that runs relies on at its own place of a cell's link: that no server that serves the link has been further, and what the
 -- other server has in memory of the place.
-use Rattle.std.proofs.Common.{◌≡◌, ◌++◌, ◌&&◌, ℕ, List, [], ◌∷◌, true, Option, Some, None, refl, sym, ap, ◌∙◌, subst, ◌⊎◌, inl, inr, arith}
+use Rattle.std.proofs.Common.{◌≡◌, ◌≤◌, ◌<◌, ◌++◌, ◌&&◌, ℕ, List, [], ◌∷◌, true, Option, Some, None, refl, sym, ap, ◌∙◌, subst, ◌⊎◌, inl, inr, arith}
 use Rattle.global_tables.specs.Link.{has_server}
 use Rattle.global_tables.specs.declared.link.LinkRow.{LinkRow}
 use Rattle.global_tables.specs.declared.link.LinkState.TheVariants.{Both, Only}
@@ -15,12 +15,14 @@ use Rattle.petal_msg.specs.declared.operation.Pending.{Pending}
 use Rattle.petal_state.specs.CellState.{lead, serves}
 use Rattle.petal_history.specs.Claims.{IsPrefix}
 use Rattle.petal_rules.specs.Server.{Own}
-use Rattle.petal_rules.specs.State.{State, authority, in_both, is_alone_on, is_in, is_lead, is_second, second}
+use Rattle.petal_rules.specs.State.{State, authority, in_both, is_alone_on, is_in, is_lead, is_second, live, second}
 use Rattle.petal_rules.specs.Progress.{has_proposed}
 use Rattle.petal_rules.specs.Store.{Store, cell_cmp, chain_in}
 use Rattle.petal_rules.specs.World.{Setting, World, blank_joins_in, chosen_log, chosen_state, kept, server_state}
-use Rattle.petal_rules.proofs.Tests.{is_the_one, none_some, true_false}
+use Rattle.petal_rules.specs.Writes.{is_clients}
+use Rattle.petal_rules.proofs.Tests.{by_bool, is_the_one, none_some, true_false}
 use Rattle.law_state.specs.Firm.{Firm}
+use Rattle.law_state.specs.Homes.{HasStage, stage_at}
 use Rattle.law_state.specs.Plain.{IsPlainLog}
 use Rattle.law_state.proofs.Alone.{alone_not_both, both_row, so_alone, so_both}
 use Rattle.law_state.proofs.Cells.{IsHeldBy, alone_authority, led_by, second_by}
@@ -29,13 +31,15 @@ use Rattle.law_state.proofs.Roles.{primary_is_one, secondary_is_one}
 use Rattle.law_steps.specs.Happens.{Handled}
 use Rattle.law_steps.specs.Operations.{IsStaged}
 use Rattle.law_steps.proofs.Fronts.{front_itself, front_more, front_on}
-use Rattle.law_steps.proofs.Histories.{chosen_steady, own_steady, ready_chosen}
+use Rattle.law_steps.proofs.Coming.{stage_facts}
+use Rattle.law_steps.proofs.Histories.{own_below, own_plain, own_steady, ready_chosen, runs_now}
+use Rattle.law_steps.proofs.Leading.{dead_second, live_stage}
 use Rattle.law_steps.proofs.Minds.{held_as_flag}
 use Rattle.law_copies.specs.Good.{AreTwins, pair_at}
 use Rattle.law_copies.specs.Pair.{AreCopies, Known, Pair, PairOk, far, owns_of, pair_of}
-use Rattle.law_copies.specs.Visits.{IsLast, IsLinked, half, place_by}
+use Rattle.law_copies.specs.Visits.{AliveIn, IsLast, IsLinked, half, place_by}
 use Rattle.law_copies.proofs.Later.{both_last, both_since, holds_since, reached_here}
-use Rattle.law_copies.proofs.Places.{linked_on, one_row, place_of_later, place_touched, places_up, rows_later}
+use Rattle.law_copies.proofs.Places.{alive_on, linked_alive, linked_between, one_row, place_of_later, place_touched, places_up, rows_later}
 use Rattle.law_run.specs.Follow.{Ground}
 use Rattle.law_run.proofs.Joined.{more_joins}
 
@@ -78,10 +82,10 @@ place_joins setting whole all front cell row now prefix is end same n has = elim
       let until = j.1.until in
       let behind = until ++ Join n j.0 true ∷ [] in
       let until_whole = front_on until behind whole (front_more until (Join n j.0 true)) j.1.stands in
-      let mid = linked_on setting whole all front until cell row j.1.behind until_whole is in
+      let mid = linked_between setting whole all front until whole cell row now j.1.behind until_whole (front_itself whole) is end in
       let later = rows_later setting whole all front until cell row mid.0 j.1.behind until_whole is mid.1 in
       let has_mid : has_server n mid.0 ≡ true = one_before row mid.0 n later ∙ has in
-      let next = linked_on setting whole all until behind cell mid.0 (front_more until (Join n j.0 true)) j.1.stands mid.1 in
+      let next = linked_between setting whole all until behind whole cell mid.0 now (front_more until (Join n j.0 true)) j.1.stands (front_itself whole) mid.1 end in
       let one = places_up setting whole all front until cell row mid.0 j.1.behind until_whole is mid.1 in
       let two = place_touched setting until (Join n j.0 true) mid.0 (λ i. j.1.may i && has_mid i) in
       let three = place_of_later setting whole all until behind behind cell mid.0 next.0 (front_more until (Join n j.0 true)) j.1.stands mid.1 next.1 in
@@ -105,9 +109,10 @@ module _ (setting : Setting) (state : State) (w : World) (firm : Firm setting w)
   -- what it was at its own place it is now
   pub visit_here : (n : ℕ) (cell : Cell) (row : LinkRow) → (w.servers n).life.running ≡ true
       → is_in (server_state setting w n) n (w.servers n).life.inc ≡ true
-      → IsLinked setting (own_front n) cell row → ground.good.visits n (place_of n row) cell ≡ Some (owns_of w n)
-  visit_here n cell row runs seat is =
-      let h = ground.good.here n cell row is seat in
+      → IsLinked setting (own_front n) cell row → AliveIn (server_state setting w n) cell
+      → ground.good.visits n (place_of n row) cell ≡ Some (owns_of w n)
+  visit_here n cell row runs seat is alive =
+      let h = ground.good.here n cell row is seat alive in
       let own = owns_of w n in
       h.is ∙ ap Some (h.same ∙ (λ i. record own { store = ground.own n runs seat own.store i }))
 
@@ -131,19 +136,26 @@ module _ (setting : Setting) (state : State) (w : World) (firm : Firm setting w)
         omega arith
   ]
 
-  pub chosen_twins : (cell : Cell) (row : LinkRow) → IsLinked setting chosen cell row → row.state ≡ Both
+  pub chosen_twins : (cell : Cell) (row : LinkRow) → IsLinked setting chosen cell row → row.state ≡ Both → AliveIn (chosen_state setting w) cell
       → AreTwins chosen_store ground.good.visits (place_by setting chosen row) cell row.primary row.secondary
-  chosen_twins cell row is both = (ground.good.both chosen cell row (front_itself chosen) is both).twins (chosen_last cell row is)
+  chosen_twins cell row is both alive = (ground.good.both chosen cell row (front_itself chosen) is both).twins alive (chosen_last cell row is)
+
+  -- a cell that is not dead by what is chosen is not by a server's own state
+  pub alive_here : (n : ℕ) (cell : Cell) → AliveIn (chosen_state setting w) cell → AliveIn (server_state setting w n) cell
+  alive_here n cell alive = let le = (own_below setting w firm n).stages cell in omega arith
 
   -- ### In Both by its own state
 
-  -- the server runs, and by its own state it is In and one of the two of a link in Both
+  -- the server runs, and by its own state it is In and one of the two of a link in Both, of a cell that is live by it, and not dead by what is
+  -- chosen
   pub record IsSharing (n : ℕ) (cell : Cell) (row : LinkRow) : Type 0 where
     pub runs : (w.servers n).life.running ≡ true
     pub seat : is_in (server_state setting w n) n (w.servers n).life.inc ≡ true
     pub linked : IsLinked setting (own_front n) cell row
     pub both : row.state ≡ Both
     pub has : has_server n row ≡ true
+    pub low : 1 ≤ stage_at (server_state setting w n) cell
+    pub alive : AliveIn (chosen_state setting w) cell
 
   pub sharing_last : (n : ℕ) (cell : Cell) (row : LinkRow) → IsSharing n cell row
       → IsLast ground.good.reached setting (own_front n) cell row
@@ -155,8 +167,10 @@ module _ (setting : Setting) (state : State) (w : World) (firm : Firm setting w)
   one_place_of n m cell row other s t =
       let one = sharing_last n cell row s in
       let two = sharing_last m cell other t in
-      let up = reached_here setting ground.records w stores firm ground.good n cell row s.seat s.linked (ap (serves n row) s.both ∙ s.has) in
-      let also = reached_here setting ground.records w stores firm ground.good m cell other t.seat t.linked (ap (serves m other) t.both ∙ t.has) in
+      let up = reached_here setting ground.records w stores firm ground.good n cell row s.seat s.linked (alive_here n cell s.alive)
+      (ap (serves n row) s.both ∙ s.has) in
+      let also = reached_here setting ground.records w stores firm ground.good m cell other t.seat t.linked (alive_here m cell t.alive)
+      (ap (serves m other) t.both ∙ t.has) in
       let same : place_of n row ≡ place_of m other = omega arith in (
         same,
         one_row setting chosen firm.plain (own_front n) (own_front m) cell row other (firm.servers n)
@@ -166,14 +180,14 @@ module _ (setting : Setting) (state : State) (w : World) (firm : Firm setting w)
   pub shared_ok : (n : ℕ) (cell : Cell) (row : LinkRow) → IsSharing n cell row
       → PairOk (pair_at (store_there n) ground.good.visits (place_of n row) cell row.primary row.secondary)
   shared_ok n cell row s =
-      ((ground.good.both (own_front n) cell row (firm.servers n) s.linked s.both).twins (sharing_last n cell row s)).pair
+      ((ground.good.both (own_front n) cell row (firm.servers n) s.linked s.both).twins s.alive (sharing_last n cell row s)).pair
 
   -- what the server's peer has in memory of the place
   abbrev pub peer : (n m : ℕ) → Cell → LinkRow → Own
   peer n m cell row = half (ground.good.visits m (place_of n row) cell) (store_there n m)
 
   -- the store of a server that runs and is In as itself is its own by its own entries, too
-  own_there : (n : ℕ) → (w.servers n).life.running ≡ true → is_in (server_state setting w n) n (w.servers n).life.inc ≡ true
+  pub own_there : (n : ℕ) → (w.servers n).life.running ≡ true → is_in (server_state setting w n) n (w.servers n).life.inc ≡ true
       → store_there n n ≡ (owns_of w n).store
   own_there n runs seat =
       ap (ground.good.stores n) (ground.joined n (own_front n) (firm.servers n) seat) ∙ ground.good.now n ∙ ground.own n runs seat (owns_of w n).store
@@ -184,24 +198,30 @@ module _ (setting : Setting) (state : State) (w : World) (firm : Firm setting w)
       let own = owns_of w n in
       subst (λ (x : Store). PairOk (pair_of (record own { store = x }) (peer n row.secondary cell row) cell)) (own_there n s.runs s.seat)
       (subst (λ o. PairOk (pair_of (half o (store_there n n)) (peer n row.secondary cell row) cell))
-      (visit_here n cell row s.runs s.seat s.linked)
+      (visit_here n cell row s.runs s.seat s.linked (alive_here n cell s.alive))
       (subst (λ k. PairOk (pair_of (half (ground.good.visits k (place_of n row) cell) (store_there n k))
       (peer n row.secondary cell row) cell)) first
       (shared_ok n cell row s)))
+
+  -- the cell is live by what is chosen, where it is by some state before and not dead since
+  pub lives_now : (n : ℕ) (cell : Cell) → 1 ≤ stage_at (server_state setting w n) cell → AliveIn (chosen_state setting w) cell
+      → live (chosen_state setting w) cell ≡ true
+  lives_now n cell low alive =
+      let le = (own_below setting w firm n).stages cell in
+      (stage_facts setting.servers chosen firm.plain cell).alive (omega arith) (omega arith)
 
   -- the link is in Both by what is chosen, or the server's copy counts
   pub shared_or_alone : (n : ℕ) (cell : Cell) (row : LinkRow) → IsSharing n cell row
       → (in_both (chosen_state setting w) cell ≡ true) ⊎ (authority (chosen_state setting w) cell ≡ Some n)
   shared_or_alone n cell row s =
-      let now = linked_on setting chosen firm.plain (own_front n) chosen cell row (firm.servers n) (front_itself chosen) s.linked in
+      let now = linked_alive setting chosen firm.plain (own_front n) chosen cell row (firm.servers n) (front_itself chosen) s.linked s.alive in
       elim (both_since setting ground.records w stores firm ground.good n s.runs s.seat cell row s.linked s.both s.has chosen now.0
-      (firm.servers n) (front_itself chosen) now.1) [
+      (firm.servers n) (front_itself chosen) now.1 s.alive) [
         | inl same ↦
             let one = one_row setting chosen firm.plain (own_front n) chosen cell row now.0 (firm.servers n) (front_itself chosen)
             s.linked now.1 (sym same) in
             inl (so_both (chosen_state setting w) cell now.0 now.1 (ap (λ (r : LinkRow). r.state) one ∙ s.both))
-        | inr only ↦ inr (alone_authority (chosen_state setting w) cell now.0 now.1
-            ((chosen_steady setting w firm).linked cell now.0 now.1) n only.0 only.1)
+        | inr only ↦ inr (alone_authority (chosen_state setting w) cell now.0 now.1 (lives_now n cell s.low s.alive) n only.0 only.1)
       ]
 
   -- while it is so, the stores of the link's servers are those that count
@@ -211,7 +231,7 @@ module _ (setting : Setting) (state : State) (w : World) (firm : Firm setting w)
       let b = both_row (chosen_state setting w) cell shared in
       let same : blank_joins_in setting chosen m ≡ blank_joins_in setting (own_front n) m =
       elim (both_since setting ground.records w stores firm ground.good n s.runs s.seat cell row s.linked s.both s.has chosen b.row
-      (firm.servers n) (front_itself chosen) b.is) [
+      (firm.servers n) (front_itself chosen) b.is s.alive) [
         | inl place ↦ place_joins setting chosen firm.plain (own_front n) cell row b.row (firm.servers n) s.linked b.is (sym place) m has
         | inr only ↦ (let f : Only n only.0 ≡ Both = sym only.1 ∙ b.both in absurd cc)
       ] in
@@ -222,9 +242,10 @@ module _ (setting : Setting) (state : State) (w : World) (firm : Firm setting w)
       → (about said).cell ≡ Some cell
       → Known (pair_at (store_there n) ground.good.visits (place_of n row) cell row.primary row.secondary) said
   heard_shared n cell row s said h of =
+      let own_alive = alive_here n cell s.alive in
       subst (λ (b : Body). (about b).cell ≡ Some cell
       → Known (pair_at (store_there n) ground.good.visits (place_of n row) cell row.primary row.secondary) b) h.is
-      ((ground.good.letters h.letter h.sent (own_front n) cell row (firm.servers n) (sym h.at) s.linked).both s.both
+      ((ground.good.letters h.letter h.sent (own_front n) cell row (firm.servers n) (sym h.at) s.linked own_alive).both s.alive s.both
       (sharing_last n cell row s)) of
 
   -- the second server
@@ -233,15 +254,29 @@ module _ (setting : Setting) (state : State) (w : World) (firm : Firm setting w)
     pub shares : IsSharing n cell row
     pub second : row.secondary ≡ n
 
+  -- a cell that has a second server is live
+  second_low : (n : ℕ) (cell : Cell) → is_second (server_state setting w n) n cell ≡ true → 1 ≤ stage_at (server_state setting w n) cell
+  second_low n cell e = by_bool (live (server_state setting w n) cell)
+      (λ lives. (live_stage (server_state setting w n) cell lives).0)
+      (λ dead. none_some (dead_second (server_state setting w n) cell dead) (is_the_one (second (server_state setting w n) cell) n e))
+
   pub second_shares : (n : ℕ) (cell : Cell) → (w.servers n).life.running ≡ true
       → is_in (server_state setting w n) n (w.servers n).life.inc ≡ true
-      → is_second (server_state setting w n) n cell ≡ true → IsSharedSecond n cell
-  second_shares n cell runs seat e =
+      → is_second (server_state setting w n) n cell ≡ true → AliveIn (chosen_state setting w) cell → IsSharedSecond n cell
+  second_shares n cell runs seat e alive =
       let b = second_by (server_state setting w n) (own_steady setting w firm n) cell n
       (is_the_one (second (server_state setting w n) cell) n e) in
       record {
         row = b.0.row;
-        shares = record { runs = runs; seat = seat; linked = b.0.is; both = b.0.so; has = secondary_is_one b.0.row n b.1 };
+        shares = record {
+          runs = runs;
+          seat = seat;
+          linked = b.0.is;
+          both = b.0.so;
+          has = secondary_is_one b.0.row n b.1;
+          low = second_low n cell e;
+          alive = alive;
+        };
         second = b.1;
       }
 
@@ -255,6 +290,36 @@ module _ (setting : Setting) (state : State) (w : World) (firm : Firm setting w)
     pub op_seat : is_in (server_state setting w n) n (w.servers n).life.inc ≡ true
     op_seat = ground.ready.rests.seated n cell op runs is
 
+    -- its cell is live by what is chosen, and not leaving: a client's write is in time, and a fill's cell is coming
+    pub op_high : stage_at (chosen_state setting w) cell ≤ 2
+    op_high = by_bool (is_clients op.kind)
+        (λ clients.
+        let k = ground.asking.pending n cell op is clients in
+        let opened = k.known.sent.at in
+        let ran = ground.asking.lived.ran n runs in
+        let seat = runs_now setting w firm n runs op_seat in
+        (ground.epochs.pending n (ground.lives.ran n) cell op opened.front chosen is clients
+        (front_on opened.front k.upto chosen k.opened (front_on k.upto _ chosen k.applied (firm.servers n)))
+        (front_itself chosen) opened.long (k.along opened.front (front_itself opened.front) k.opened).seated
+        (subst (λ i. is_in (chosen_state setting w) n i ≡ true) (sym ran) seat)).stays)
+        (λ fill. let one = ground.moves.fills.opened n cell op runs is fill in omega arith)
+
+    op_own_high : stage_at (server_state setting w n) cell ≤ 2
+    op_own_high = let le = (own_below setting w firm n).stages cell in let high = op_high in omega arith
+
+    pub op_alive : AliveIn (chosen_state setting w) cell
+    op_alive = let high = op_high in omega arith
+
+    op_facts : HasStage (server_state setting w n) cell
+    op_facts = stage_facts setting.servers (own_front n) (own_plain setting w firm n) cell
+
+    pub op_lives : live (server_state setting w n) cell ≡ true
+    op_lives = let high = op_own_high in op_facts.alive staged.born (omega arith)
+
+    -- the server leads it
+    pub op_lead : is_lead (server_state setting w n) n cell ≡ true
+    op_lead = op_facts.led n (staged.leads op_lives) staged.born op_own_high
+
     -- who leads the cell where an operation is pending: the first server in Both, or the holder
     pub record IsSharedFirst : Type 0 where
       pub row : LinkRow
@@ -263,10 +328,18 @@ module _ (setting : Setting) (state : State) (w : World) (firm : Firm setting w)
 
     pub op_place : IsSharedFirst ⊎ IsHeldBy (server_state setting w n) cell n
     op_place = elim (led_by (server_state setting w n) (own_steady setting w firm n) cell n
-        (is_the_one (lead (server_state setting w n) cell) n staged.lead)) [
+        (is_the_one (lead (server_state setting w n) cell) n op_lead)) [
           | inl b ↦ inl (record {
             row = b.0.row;
-            shares = record { runs = runs; seat = op_seat; linked = b.0.is; both = b.0.so; has = primary_is_one b.0.row n b.1 };
+            shares = record {
+              runs = runs;
+              seat = op_seat;
+              linked = b.0.is;
+              both = b.0.so;
+              has = primary_is_one b.0.row n b.1;
+              low = staged.born;
+              alive = op_alive;
+            };
             first = b.1;
           })
           | inr held ↦ inr held
@@ -281,7 +354,11 @@ module _ (setting : Setting) (state : State) (w : World) (firm : Firm setting w)
 
     -- the server leads the cell by what is chosen, too
     pub op_leads : is_lead (chosen_state setting w) n cell ≡ true
-    op_leads = ((ready_chosen setting w firm ground.ready.rests n runs).staged cell op is).lead
+    op_leads =
+        let facts = stage_facts setting.servers chosen firm.plain cell in
+        let at = (ready_chosen setting w firm ground.ready.rests n runs).staged cell op is in
+        let high = op_high in
+        facts.led n (at.leads (facts.alive at.born (omega arith))) at.born high
 
     -- and holds it alone by what is chosen, where it does so by its own state
     pub op_alone : is_alone_on (server_state setting w n) n cell ≡ true → authority (chosen_state setting w) cell ≡ Some n
@@ -289,12 +366,11 @@ module _ (setting : Setting) (state : State) (w : World) (firm : Firm setting w)
       | inl first ↦ true_false (so_both (server_state setting w n) cell first.row first.shares.linked first.shares.both)
           (alone_not_both (server_state setting w n) n cell alone)
       | inr held ↦
-          let now = linked_on setting chosen firm.plain (own_front n) chosen cell held.row (firm.servers n) (front_itself chosen) held.is in
+          let now = linked_alive setting chosen firm.plain (own_front n) chosen cell held.row (firm.servers n) (front_itself chosen) held.is op_alive in
           elim (holds_since setting ground.records w stores firm ground.good n runs op_seat cell held.row held.is ground.started
-          held.whole held.so chosen now.0 (firm.servers n) (front_itself chosen) now.1) [
-            | inl only ↦ alone_authority (chosen_state setting w) cell now.0 now.1
-                ((chosen_steady setting w firm).linked cell now.0 now.1) n only.0 only.1
-            | inr flagged ↦ true_false (held_as_flag (server_state setting w n) (owns_of w n) cell held.row held.is ∙ flagged) staged.unheld
+          held.whole held.so chosen now.0 (firm.servers n) (front_itself chosen) now.1 op_alive) [
+            | inl only ↦ alone_authority (chosen_state setting w) cell now.0 now.1 (lives_now n cell staged.born op_alive) n only.0 only.1
+            | inr flagged ↦ true_false (held_as_flag (server_state setting w n) (owns_of w n) cell held.row held.is ∙ flagged) (staged.unheld op_lives)
           ]
     ]
 
@@ -305,16 +381,18 @@ module _ (setting : Setting) (state : State) (w : World) (firm : Firm setting w)
 
     pub shared_before : (front : List Command) (now : LinkRow) → IsPrefix (own_front n) front
         → IsPrefix front chosen → IsLinked setting front cell now → now.state ≡ Both → IsSharedAt front now
-    shared_before front now one two there both = elim op_place [
-      | inl first ↦ elim (both_since setting ground.records w stores firm ground.good n runs op_seat cell first.row first.shares.linked
-          first.shares.both
-          first.shares.has front now one two there) [
-            | inl same ↦ record { first = first; at = same }
-            | inr only ↦ (let f : Only n only.0 ≡ Both = sym only.1 ∙ both in absurd cc)
-          ]
-      | inr held ↦ elim (holds_since setting ground.records w stores firm ground.good n runs op_seat cell held.row held.is ground.started
-          held.whole held.so front now one two there) [
-            | inl only ↦ (let f : Only n only.0 ≡ Both = sym only.1 ∙ both in absurd cc)
-            | inr flagged ↦ true_false (held_as_flag (server_state setting w n) (owns_of w n) cell held.row held.is ∙ flagged) staged.unheld
-          ]
-    ]
+    shared_before front now one two there both =
+        let alive = alive_on setting chosen firm.plain front chosen cell two (front_itself chosen) op_alive in
+        elim op_place [
+          | inl first ↦ elim (both_since setting ground.records w stores firm ground.good n runs op_seat cell first.row first.shares.linked
+              first.shares.both
+              first.shares.has front now one two there alive) [
+                | inl same ↦ record { first = first; at = same }
+                | inr only ↦ (let f : Only n only.0 ≡ Both = sym only.1 ∙ both in absurd cc)
+              ]
+          | inr held ↦ elim (holds_since setting ground.records w stores firm ground.good n runs op_seat cell held.row held.is ground.started
+              held.whole held.so front now one two there alive) [
+                | inl only ↦ (let f : Only n only.0 ≡ Both = sym only.1 ∙ both in absurd cc)
+                | inr flagged ↦ true_false (held_as_flag (server_state setting w n) (owns_of w n) cell held.row held.is ∙ flagged) (staged.unheld op_lives)
+              ]
+        ]

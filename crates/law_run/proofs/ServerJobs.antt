@@ -1,5 +1,10 @@
 -- Each kind of job shows what it has to, where the write of what it has put where it counts has had its bytes.
 use Rattle.std.proofs.Common.{◌≡◌, ◌≢◌, ◌≤◌, ◌+◌, ℕ, Bool, true, false, Some, refl, sym, ap, ◌∙◌, subst, ◌⊎◌, inl, inr, Option, None}
+use Rattle.petal_rules.specs.Fills.{fill_operation}
+use Rattle.law_steps.proofs.Leading.{lead_links}
+use Rattle.law_steps.specs.DidSweep.{Sweeps}
+use Rattle.petal_msg.specs.declared.operation.OpKind.TheVariants as kind
+use Rattle.petal_msg.specs.declared.operation.OpKind.{OpKind}
 use Rattle.std.specs.Ordering.{nat_cmp}
 use Rattle.busy_marks.specs.declared.marks.MarkKind.TheVariants.{Busy, Stale}
 use Rattle.global_tables.specs.declared.link.LinkRow.{LinkRow}
@@ -17,10 +22,10 @@ use Rattle.petal_msg.specs.declared.operation.Ending.TheVariants as ending
 use Rattle.petal_msg.specs.declared.operation.Finished.{Finished}
 use Rattle.petal_msg.specs.declared.operation.Pending.{Pending}
 use Rattle.petal_msg.specs.declared.operation.Stage.{Stage}
-use Rattle.petal_rules.specs.State.{authority, in_both, is_lead, is_second, is_alone_on}
+use Rattle.petal_rules.specs.State.{authority, in_both, is_lead, is_second, is_alone_on, live}
 use Rattle.petal_rules.specs.Store.{Chain, Store, Stored, cell_cmp, chain_in, chains_with, version_of}
-use Rattle.petal_rules.specs.Server.{Own, Here, Done}
-use Rattle.petal_rules.specs.Writes.{operation, puts, with_reserved, with_paired, with_mark_at}
+use Rattle.petal_rules.specs.Server.{Own, Here, Done, Pairs}
+use Rattle.petal_rules.specs.Writes.{operation, puts, with_reserved, with_paired, with_mark_at, is_clients, gives_back, ends, without_pending}
 use Rattle.petal_rules.specs.World.{chosen_state, kept}
 use Rattle.petal_rules.proofs.CellTables.{cell_same, cell_apart}
 use Rattle.petal_rules.proofs.Tests.{is_the_one, same_or_apart, same_some, true_false}
@@ -29,33 +34,33 @@ use Rattle.law_state.proofs.Alone.{alone_not_both, so_both}
 use Rattle.law_state.proofs.Cells.{led_by, second_by}
 use Rattle.law_state.proofs.Roles.{secondary_is_one}
 use Rattle.law_steps.specs.Operations.{answering, putting}
-use Rattle.law_steps.specs.DidLead.{DidLead, Taken, Asks_for, Repeats, Is_full, Gives_up, Opens, Marks, Puts, Unmarks, Closes, Opens_alone, Marks_alone, Puts_alone, Unmarks_alone, Closes_alone}
+use Rattle.law_steps.specs.DidLead.{DidLead, Taken, Asks_for, Repeats, Is_full, Gives_up, Opens, Marks, Puts, Unmarks, Closes, Opens_alone, Marks_alone, Puts_alone, Unmarks_alone, Closes_alone, Opens_fill, Opens_fill_alone, Has_fill, Has_no_room, Goes_on_dead}
 use Rattle.law_steps.specs.DidSecond.{DidSecond, Sets_apart, Promises, Declines, Follows}
 use Rattle.law_steps.specs.DidOther.{DidOther}
-use Rattle.law_steps.specs.Did.{Did, Ignores, Refuses, By_read, By_lead, By_second, By_holder, By_other}
+use Rattle.law_steps.specs.Did.{Did, Ignores, Refuses, By_read, By_lead, By_second, By_holder, By_other, By_filler, By_sweep}
 use Rattle.law_steps.specs.Happens.{Handled, IsSeated, own_place}
 use Rattle.law_steps.proofs.CopyFrames.{of_holder, of_other}
 use Rattle.law_steps.proofs.Histories.{own_steady}
 use Rattle.law_steps.proofs.Restages.{stood}
 use Rattle.law_steps.proofs.Staged.{same_cell_or_apart}
-use Rattle.law_steps.proofs.Subjects.{of_read, of_second}
+use Rattle.law_steps.proofs.Subjects.{of_read, of_second, of_ending, of_filler, of_sweep}
 use Rattle.law_steps.proofs.Taking.{taking}
 use Rattle.law_stores.specs.Waiting.{IsOwn}
 use Rattle.law_copies.specs.Pair.{AreCopies, PairOk, Working, far, owns_of, pair_of}
-use Rattle.law_copies.specs.Visits.{IsLinked, half}
+use Rattle.law_copies.specs.Visits.{IsLinked, half, AliveIn}
 use Rattle.law_copies.proofs.Chains.{chain_apart, chain_put}
 use Rattle.law_copies.proofs.Others.{held_not_lead}
 use Rattle.law_requests.proofs.Leads.{one_lead}
 use Rattle.law_requests.specs.Asked.{IsOpen}
 use Rattle.law_run.specs.Onward.{is_held, Onward}
 use Rattle.law_run.specs.Follow.{HasCounted, Is_told, Is_followed, Is_counted}
-use Rattle.law_run.proofs.Chains.{StoresSo, Nothing_new, An_own, An_asked, A_copy, OtherStores, PutsAsked, PutsCopy, PutsOwn, copied_apart, did_stores, holder_chains, lead_stores, other_changes, second_stores}
+use Rattle.law_run.proofs.Chains.{Drops, NeverDead, StoresSo, Nothing_new, An_own, An_asked, A_copy, Of_the_dead, OtherStores, PutsAsked, PutsCopy, PutsOwn, copied_apart, did_stores, holder_chains, lead_stores, other_changes, second_stores, swept}
 use Rattle.law_run.proofs.Copies.{copied_unfollowed}
 use Rattle.law_run.proofs.Frames.{OwnFollow, kept_finished, own_counted}
 use Rattle.law_run.proofs.Entries.{not_ahead}
-use Rattle.law_run.proofs.Grounds.{Followed, followed}
+use Rattle.law_run.proofs.Grounds.{Followed, dropped_same, followed}
 use Rattle.law_run.proofs.Machine.{held_onward}
-use Rattle.law_run.proofs.Seats.{IsSharing, first_ok, heard_shared, one_place_of, op_alone, op_leads, op_seat, op_shared, peer, place_of, shared_or_alone, shared_store, store_there, visit_here}
+use Rattle.law_run.proofs.Seats.{IsSharing, first_ok, heard_shared, one_place_of, op_alone, op_lead, op_leads, op_seat, op_shared, peer, place_of, shared_or_alone, shared_store, store_there, visit_here, alive_here}
 use Rattle.law_run.proofs.Steps.{ServerStep, joined_now, joined_then, kept_here, later_world, new as own_left, own_after}
 
 module _ (this : ServerStep) (k : Plain) where
@@ -69,7 +74,7 @@ module _ (this : ServerStep) (k : Plain) where
   hears = Handled this.w this.n
 
   abbrev Held : Pending → Type 0
-  Held op = IsOpen (this.w.clients op.client) op.seq → is_held k op.client ≡ true
+  Held op = is_clients op.kind ≡ true → IsOpen (this.w.clients op.client) op.seq → is_held k op.client ≡ true
 
   abbrev Counted : Cell → Pending → Chain → Type 0
   Counted cell op chain = HasCounted this.setting this.w this.n cell op chain
@@ -80,17 +85,18 @@ module _ (this : ServerStep) (k : Plain) where
   -- what was put where it counts has had its bytes
   abbrev pub PutHeld : {new : Own} → StoresSo hears here own new → Type 0
   PutHeld (Nothing_new same) = Unit {0}
-  PutHeld (An_own p) = authority (chosen_state this.setting this.w) p.op.cell ≡ Some this.n → is_held k p.op.client ≡ true
+  PutHeld (An_own p) = is_clients p.op.kind ≡ true → authority (chosen_state this.setting this.w) p.op.cell ≡ Some this.n → is_held k p.op.client ≡ true
   PutHeld (An_asked a) =
       (f : Followed this.setting this.state this.along.steady this.w this.along.firm this.ground this.n a.number a.key a.bytes)
-      → is_held k f.putting.op.client ≡ true
+      → is_clients f.putting.op.kind ≡ true → is_held k f.putting.op.client ≡ true
   PutHeld (A_copy c) = Unit {0}
+  PutHeld (Of_the_dead d) = Unit {0}
 
-  module _ (runs : (this.w.servers this.n).life.running ≡ true) (onward : Onward this.m k) where
+  module _ (runs : (this.w.servers this.n).life.running ≡ true) (onward : Onward this.m k) (never : NeverDead here own) where
     -- an operation that was pending
     was_held : (cell : Cell) (op : Pending) → at cell_cmp own.pairs.pending cell ≡ Some op → Counted cell op (mine cell) → Held op
-    was_held cell op is counted still =
-        held_onward this.m k op.client onward (this.follow.pending this.n cell op runs is
+    was_held cell op is counted clients still =
+        held_onward this.m k op.client onward (this.follow.pending this.n cell op runs is clients
         (subst (Counted cell op) (sym (own_counted this k runs cell op is)) counted) still)
 
     -- the same in another stage
@@ -194,9 +200,9 @@ module _ (this : ServerStep) (k : Plain) where
 
     -- a new operation
     fresh_held : (cell : Cell) (op : Pending) (chain : Chain) → op.stage.paired ≡ false → op.stage.put ≡ false → Counted cell op chain → Held op
-    fresh_held cell op chain unpaired unput (Is_told both e) = true_false e unpaired
-    fresh_held cell op chain unpaired unput (Is_counted e counts) = true_false e unput
-    fresh_held cell op chain unpaired unput (Is_followed row linked both shared e same) = true_false e unput
+    fresh_held cell op chain unpaired unput (Is_told both e) clients = true_false e unpaired
+    fresh_held cell op chain unpaired unput (Is_counted e counts) clients = true_false e unput
+    fresh_held cell op chain unpaired unput (Is_followed row linked both shared e same) clients = true_false e unput
 
     -- ### Alone
 
@@ -204,19 +210,20 @@ module _ (this : ServerStep) (k : Plain) where
     not_both cell alone both = true_false both (alone_not_both here.state this.n cell alone)
 
     -- an operation that is taken up has had its bytes once it is put
-    taken_held : (now : Own) (op new : Pending) → Taken own now op → is_alone_on here.state this.n op.cell ≡ true → new.client ≡ op.client → new.seq ≡ op.seq
+    taken_held : (now : Own) (op new : Pending) → Taken own now op → is_alone_on here.state this.n op.cell ≡ true → new.kind ≡ op.kind → new.client ≡ op.client → new.seq ≡ op.seq
         → (new.stage.put ≡ true → op.stage.put ≡ true) → (chain : Chain) → Counted op.cell new chain → Held new
-    taken_held now op new taken alone client seq put chain (Is_told both e) still = not_both op.cell alone both
-    taken_held now op new taken alone client seq put chain (Is_followed row linked both shared e same) still =
+    taken_held now op new taken alone kind client seq put chain (Is_told both e) clients still = not_both op.cell alone both
+    taken_held now op new taken alone kind client seq put chain (Is_followed row linked both shared e same) clients still =
         not_both op.cell alone (so_both here.state op.cell row linked both)
-    taken_held now op new taken alone client seq put chain (Is_counted e counts) still =
+    taken_held now op new taken alone kind client seq put chain (Is_counted e counts) clients still =
         let t = taking own now op taken in
         let old_put : t.old.stage.put ≡ true = ap (λ (o : Pending). o.stage.put) (sym t.is) ∙ put e in
         let c : new.client ≡ t.old.client = client ∙ ap (λ (o : Pending). o.client) t.is in
         let s : new.seq ≡ t.old.seq = seq ∙ ap (λ (o : Pending). o.seq) t.is in
         let still' : IsOpen (this.w.clients t.old.client) t.old.seq = subst (IsOpen (this.w.clients t.old.client)) s
         (subst (λ i. IsOpen (this.w.clients i) new.seq) c still) in
-        subst (λ i. is_held k i ≡ true) (sym c) (was_held op.cell t.old t.was (Is_counted old_put counts) still')
+        subst (λ i. is_held k i ≡ true) (sym c) (was_held op.cell t.old t.was (Is_counted old_put counts)
+        (ap (λ (o : Pending). is_clients o.kind) (sym t.is) ∙ ap is_clients (sym kind) ∙ clients) still')
 
     others_taken : (now : Own) (op : Pending) (taken : Taken own now op) (q : Cell) → q ≢ op.cell
         → at cell_cmp now.pairs.pending q ≡ at cell_cmp own.pairs.pending q
@@ -243,13 +250,13 @@ module _ (this : ServerStep) (k : Plain) where
 
     -- an operation that is put in Both
     puts_held : (op : Pending) (there : at cell_cmp own.pairs.pending op.cell ≡ Some op) → in_both here.state op.cell ≡ true → op.stage ≡ putting
-        → (authority (chosen_state this.setting this.w) op.cell ≡ Some this.n → is_held k op.client ≡ true)
+        → (is_clients op.kind ≡ true → authority (chosen_state this.setting this.w) op.cell ≡ Some this.n → is_held k op.client ≡ true)
         → Counted op.cell (record op { version = version_of (mine op.cell) + 1; stage = record op.stage { put = true } })
         (chain_in (puts own op).own.store.chains op.cell)
         → Held (record op { version = version_of (mine op.cell) + 1; stage = record op.stage { put = true } })
-    puts_held op there both stage held (Is_told here_both e) still = was_held op.cell op there (Is_told here_both e) still
-    puts_held op there both stage held (Is_counted e counts) still = held counts
-    puts_held op there both stage held (Is_followed row linked in_it shared e same) still =
+    puts_held op there both stage held (Is_told here_both e) clients still = was_held op.cell op there (Is_told here_both e) clients still
+    puts_held op there both stage held (Is_counted e counts) clients still = held clients counts
+    puts_held op there both stage held (Is_followed row linked in_it shared e same) clients still =
         let keyed = ((this.ground.ready.rests.pending this.n).staged op.cell op there).keyed in
         let cell = cell_of op.key in
         let entry : Stored = record { version = version_of (mine op.cell) + 1; bytes = op.bytes } in
@@ -260,12 +267,29 @@ module _ (this : ServerStep) (k : Plain) where
         let next : entry.version ≡ version_of (mine cell) + 1 = ap (λ (c : Cell). version_of (mine c) + 1) (sym keyed) in
         absurd (not_ahead (mine cell) op.key.epoch entry next equal)
 
-    lead_pending : (done : Done) (d : DidLead hears here own done) → PutHeld (lead_stores hears here own done d) → (cell : Cell) (o : Pending)
+    -- what stays pending where an operation is closed by the one that holds the link alone
+    closed_pending : (now : Own) (op : Pending) → Taken own now op → is_alone_on here.state this.n op.cell ≡ true → (cell : Cell) (o : Pending)
+        → at cell_cmp now.pairs.pending cell ≡ Some o → Counted cell o (chain_in now.store.chains cell) → Held o
+    closed_pending now op taken alone cell o there = elim (same_cell_or_apart cell op.cell) [
+      | inl e ↦
+          let t = taking own now op taken in
+          let same : op ≡ o = same_some (sym t.there ∙ ap (at cell_cmp now.pairs.pending) (sym e) ∙ there) in
+          subst (λ (c : Cell). Counted c o (chain_in now.store.chains c) → Held o) (sym e)
+          (subst (λ (x : Pending). Counted op.cell x (chain_in now.store.chains op.cell) → Held x) same
+          (taken_held now op op taken alone refl refl refl (λ e. e) (chain_in now.store.chains op.cell)))
+      | inr ne ↦ (λ counted. was_held cell o (sym (others_taken now op taken cell ne) ∙ there)
+          (subst (Counted cell o) (ap (λ c. chain_in c cell) (chains_taken now op taken)) counted))
+    ]
+
+    lead_pending : (done : Done) (d : DidLead hears here own done) → PutHeld (lead_stores hears here own never done d) → (cell : Cell) (o : Pending)
         → at cell_cmp done.own.pairs.pending cell ≡ Some o → Counted cell o (chain_in done.own.store.chains cell) → Held o
     lead_pending _ (Asks_for posts h) held = λ cell o is. was_held cell o is
     lead_pending _ (Repeats want last h lead there e) held = λ cell o is. was_held cell o is
     lead_pending _ (Is_full want new no_room) held = λ cell o is. was_held cell o is
-    lead_pending _ (Gives_up op h there reserved put) held = λ cell o is. was_held cell o (stood own.pairs.pending op.cell cell o is)
+    lead_pending _ (Gives_up op h there reserved put) held = λ cell o is counted.
+        let ended = of_ending here (gives_back (without_pending own op.cell)) op op.kind ending.Full in
+        was_held cell o (stood own.pairs.pending op.cell cell o (sym (ap (λ t. at cell_cmp t cell) ended.pending) ∙ is))
+        (subst (λ (x : Store). Counted cell o (chain_in x.chains cell)) ended.store counted)
     lead_pending _ (Opens want new both) held =
         put_lead own.pairs.pending own.store.chains want.cell (operation here own.pairs.next want) (λ q ne. refl) (λ q ne. refl)
         (fresh_held want.cell (operation here own.pairs.next want) (mine want.cell) refl refl)
@@ -284,7 +308,10 @@ module _ (this : ServerStep) (k : Plain) where
         put_lead (put cell_cmp own.pairs.pending op.cell (with_paired op)) own.store.chains op.cell (with_mark_at (with_paired op) Busy false)
         (beside own.pairs.pending op.cell (with_paired op)) (λ q ne. refl)
         (λ counted. paired_held op h there both (ap (λ (s : Stage). s.put) stage))
-    lead_pending _ (Closes op there both stage) held = λ cell o is. was_held cell o (stood own.pairs.pending op.cell cell o is)
+    lead_pending _ (Closes op there both stage) held = λ cell o is counted.
+        let ended = of_ending here (without_pending own op.cell) op op.kind ending.Written in
+        was_held cell o (stood own.pairs.pending op.cell cell o (sym (ap (λ t. at cell_cmp t cell) ended.pending) ∙ is))
+        (subst (λ (x : Store). Counted cell o (chain_in x.chains cell)) ended.store counted)
     lead_pending _ (Opens_alone want new alone) held =
         let op = operation here own.pairs.next want in
         put_lead (put cell_cmp own.pairs.pending want.cell op) own.store.chains want.cell (with_mark_at op Stale true)
@@ -292,7 +319,7 @@ module _ (this : ServerStep) (k : Plain) where
         (fresh_held want.cell (with_mark_at op Stale true) (mine want.cell) refl refl)
     lead_pending _ (Marks_alone now op taken alone fresh) held =
         put_lead now.pairs.pending now.store.chains op.cell (with_mark_at op Stale true) (others_taken now op taken) (still_taken now op taken)
-        (taken_held now op (with_mark_at op Stale true) taken alone refl refl (λ e. e) (chain_in now.store.chains op.cell))
+        (taken_held now op (with_mark_at op Stale true) taken alone refl refl refl (λ e. e) (chain_in now.store.chains op.cell))
     lead_pending _ (Puts_alone now op taken alone stale put) held =
         let t = taking own now op taken in
         let keyed = taken_keyed now op taken in
@@ -301,28 +328,34 @@ module _ (this : ServerStep) (k : Plain) where
         (λ q ne.
         put_beside now.store.chains op.key (record { version = version_of (chain_in now.store.chains op.cell) + 1; bytes = op.bytes }) op.cell keyed q ne
         ∙ still_taken now op taken q ne)
-        (λ counted still. elim counted [
+        (λ counted clients still. elim counted [
           | Is_told both e ↦ not_both op.cell alone both
           | Is_followed row linked both shared e same ↦ not_both op.cell alone (so_both here.state op.cell row linked both)
           | Is_counted e counts ↦
               subst (λ i. is_held k i ≡ true) (sym (ap (λ (o : Pending). o.client) t.is))
-              (held (ap (λ (o : Pending). authority (chosen_state this.setting this.w) o.cell) (sym t.is) ∙ counts))
+              (held (ap (λ (o : Pending). is_clients o.kind) (sym t.is) ∙ clients)
+              (ap (λ (o : Pending). authority (chosen_state this.setting this.w) o.cell) (sym t.is) ∙ counts))
         ])
     lead_pending _ (Unmarks_alone now op taken alone stale put busy) held =
         put_lead now.pairs.pending now.store.chains op.cell (with_mark_at op Busy false) (others_taken now op taken) (still_taken now op taken)
-        (taken_held now op (with_mark_at op Busy false) taken alone refl refl (λ e. e) (chain_in now.store.chains op.cell))
-    lead_pending _ (Closes_alone now op taken alone stale put free) held = λ cell o is.
-        let there : at cell_cmp now.pairs.pending cell ≡ Some o = stood now.pairs.pending op.cell cell o is in
-        elim (same_cell_or_apart cell op.cell) [
-          | inl e ↦
-              let t = taking own now op taken in
-              let same : op ≡ o = same_some (sym t.there ∙ ap (at cell_cmp now.pairs.pending) (sym e) ∙ there) in
-              subst (λ (c : Cell). Counted c o (chain_in now.store.chains c) → Held o) (sym e)
-              (subst (λ (x : Pending). Counted op.cell x (chain_in now.store.chains op.cell) → Held x) same
-              (taken_held now op op taken alone refl refl (λ e. e) (chain_in now.store.chains op.cell)))
-          | inr ne ↦ (λ counted. was_held cell o (sym (others_taken now op taken cell ne) ∙ there)
-              (subst (Counted cell o) (ap (λ c. chain_in c cell) (chains_taken now op taken)) counted))
-        ]
+        (taken_held now op (with_mark_at op Busy false) taken alone refl refl refl (λ e. e) (chain_in now.store.chains op.cell))
+    lead_pending _ (Closes_alone now op taken alone stale put free) held = λ cell o is counted.
+        let ended = of_ending here (without_pending now op.cell) op op.kind ending.Written in
+        closed_pending now op taken alone cell o (stood now.pairs.pending op.cell cell o (sym (ap (λ t. at cell_cmp t cell) ended.pending) ∙ is))
+        (subst (λ (x : Store). Counted cell o (chain_in x.chains cell)) ended.store counted)
+    lead_pending _ (Opens_fill moving new room both) held =
+        let op = fill_operation here own.pairs.next moving in
+        put_lead own.pairs.pending own.store.chains (cell_of moving.key) op (λ q ne. refl) (λ q ne. refl)
+        (fresh_held (cell_of moving.key) op (mine (cell_of moving.key)) refl refl)
+    lead_pending _ (Opens_fill_alone moving new room alone) held =
+        let op = fill_operation here own.pairs.next moving in
+        let cell = cell_of moving.key in
+        put_lead (put cell_cmp own.pairs.pending cell op) own.store.chains cell (with_mark_at op Stale true)
+        (beside own.pairs.pending cell op) (λ q ne. refl)
+        (fresh_held cell (with_mark_at op Stale true) (mine cell) refl refl)
+    lead_pending _ (Has_fill moving filled) held = λ cell o is. was_held cell o is
+    lead_pending _ (Has_no_room moving new no_room) held = λ cell o is. was_held cell o is
+    lead_pending _ (Goes_on_dead now op taken off) held = absurd (never now op taken off)
 
     -- ### What is finished
 
@@ -345,6 +378,15 @@ module _ (this : ServerStep) (k : Plain) where
       | inr ne ↦ old_finished c last (ap (λ u. at nat_cmp u c) (sym same) ∙ sym (at_apart t client _ c ne) ∙ is) written still
     ]
 
+    -- how an operation ends
+    ends_finish : (own_then : Own) (op : Pending) (of : OpKind) (how : Ending) → own_then.pairs.finished ≡ own.pairs.finished
+        → (how ≡ ending.Written → is_clients of ≡ true → IsOpen (this.w.clients op.client) op.seq → is_held k op.client ≡ true)
+        → (c : ℕ) (last : Finished) → at nat_cmp (ends here own_then op of how).own.pairs.finished c ≡ Some last
+        → last.ending ≡ ending.Written → IsOpen (this.w.clients c) last.seq → is_held k c ≡ true
+    ends_finish own_then op kind.Write how same held = finish own_then.pairs.finished op.client op.seq how same (λ e. held e refl)
+    ends_finish own_then op kind.Fill how same held = kept_finished this k onward runs own_then same
+    ends_finish own_then op kind.Copy how same held = kept_finished this k onward runs own_then same
+
     full_unwritten : {B : Type 0} → ending.Full ≡ ending.Written → B
     full_unwritten e = cc
 
@@ -356,7 +398,7 @@ module _ (this : ServerStep) (k : Plain) where
     pub closed_alone : (now : Own) (op : Pending) → Taken own now op → is_alone_on here.state this.n op.cell ≡ true → op.stage.put ≡ true → Held op
     closed_alone now op taken alone put =
         let t = taking own now op taken in
-        taken_held now op op taken alone refl refl (λ e. e) (mine op.cell)
+        taken_held now op op taken alone refl refl refl (λ e. e) (mine op.cell)
         (Is_counted put (op_alone this.setting this.state this.w this.along.firm this.ground this.n op.cell t.old runs t.was alone))
 
     lead_finished : (done : Done) → DidLead hears here own done → (c : ℕ) (last : Finished) → at nat_cmp done.own.pairs.finished c ≡ Some last
@@ -364,19 +406,25 @@ module _ (this : ServerStep) (k : Plain) where
     lead_finished _ (Asks_for posts h) = old_finished
     lead_finished _ (Repeats want last h lead there e) = old_finished
     lead_finished _ (Is_full want new no_room) = finish own.pairs.finished want.client want.seq ending.Full refl full_unwritten
-    lead_finished _ (Gives_up op h there reserved put) = finish own.pairs.finished op.client op.seq ending.Full refl full_unwritten
+    lead_finished _ (Gives_up op h there reserved put) =
+        ends_finish (gives_back (without_pending own op.cell)) op op.kind ending.Full refl full_unwritten
     lead_finished _ (Opens want new both) = old_finished
     lead_finished _ (Marks op h there both stage) = old_finished
     lead_finished _ (Puts op there both stage) = old_finished
     lead_finished _ (Unmarks op h there both stage) = old_finished
     lead_finished _ (Closes op there both stage) =
-        finish own.pairs.finished op.client op.seq ending.Written refl (λ e. closed_held op there both stage)
+        ends_finish (without_pending own op.cell) op op.kind ending.Written refl (λ e. closed_held op there both stage)
     lead_finished _ (Opens_alone want new alone) = old_finished
     lead_finished _ (Marks_alone now op taken alone fresh) = kept_finished this k onward runs now (taking own now op taken).finished
     lead_finished _ (Puts_alone now op taken alone stale put) = kept_finished this k onward runs now (taking own now op taken).finished
     lead_finished _ (Unmarks_alone now op taken alone stale put busy) = kept_finished this k onward runs now (taking own now op taken).finished
     lead_finished _ (Closes_alone now op taken alone stale put free) =
-        finish now.pairs.finished op.client op.seq ending.Written (taking own now op taken).finished (λ e. closed_alone now op taken alone put)
+        ends_finish (without_pending now op.cell) op op.kind ending.Written (taking own now op taken).finished (λ e. closed_alone now op taken alone put)
+    lead_finished _ (Opens_fill moving new room both) = old_finished
+    lead_finished _ (Opens_fill_alone moving new room alone) = old_finished
+    lead_finished _ (Has_fill moving filled) = old_finished
+    lead_finished _ (Has_no_room moving new no_room) = old_finished
+    lead_finished _ (Goes_on_dead now op taken off) = absurd (never now op taken off)
 
     -- ### As a second server
 
@@ -416,6 +464,7 @@ module _ (this : ServerStep) (k : Plain) where
     led_chain new (An_own p) none cell lead = absurd none
     led_chain new (An_asked a) none cell lead = asked_beside new a cell lead
     led_chain new (A_copy c) none cell lead = copy_beside new c cell lead
+    led_chain new (Of_the_dead d) none cell lead = d.others cell (λ e. true_false (lead_links here.state this.n cell lead).0 (ap (live here.state) e ∙ d.off))
 
     -- operations that stay pending
     stays_pending : (new : Own) (s : StoresSo hears here own new) → IsNoOwn s → new.pairs.pending ≡ own.pairs.pending
@@ -423,13 +472,14 @@ module _ (this : ServerStep) (k : Plain) where
         → at cell_cmp new.pairs.pending cell ≡ Some o → Counted cell o (chain_in new.store.chains cell) → Held o
     stays_pending new s none kept cell o is counted =
         let was : at cell_cmp own.pairs.pending cell ≡ Some o = sym (ap (λ t. at cell_cmp t cell) kept) ∙ is in
-        let lead = ((this.ground.ready.rests.pending this.n).staged cell o was).lead in
+        let lead = op_lead this.setting this.state this.w this.along.firm this.ground this.n cell o runs was in
         was_held cell o was (subst (Counted cell o) (led_chain new s none cell lead) counted)
 
     -- another server, which has put, and has the link in Both with this one
     module _ (cell : Cell) (p : ℕ) (op : Pending) (row : LinkRow)
         (shares : IsSharing this.setting this.state this.w this.along.firm this.ground p cell row)
-        (first : row.primary ≡ p) (second : row.secondary ≡ this.n) (is : at cell_cmp (owns_of this.w p).pairs.pending cell ≡ Some op) where
+        (first : row.primary ≡ p) (second : row.secondary ≡ this.n) (is : at cell_cmp (owns_of this.w p).pairs.pending cell ≡ Some op)
+        (clients : is_clients op.kind ≡ true) where
       not_itself : p ≢ this.n
       not_itself e = ((own_steady this.setting this.w this.along.firm p).linked cell row shares.linked).apart (first ∙ e ∙ sym second)
 
@@ -454,7 +504,7 @@ module _ (this : ServerStep) (k : Plain) where
       asked_second new a held same = elim (same_cell_or_apart cell (cell_of a.key)) [
         | inr ne ↦ inl (same ∙ ap (λ c. chain_in c cell) a.chains ∙ chain_apart own.store.chains (cell_of a.key) _ cell ne)
         | inl e ↦
-            let f = followed this.setting this.state this.along.steady this.w this.along.firm this.ground this.n runs new a in
+            let f = followed this.setting this.state this.along.steady this.w this.along.firm this.ground this.n runs new a (subst (AliveIn (chosen_state this.setting this.w)) e shares.alive) in
             let shares' : IsSharing this.setting this.state this.w this.along.firm this.ground p (cell_of a.key) row =
             subst (λ (c : Cell). IsSharing this.setting this.state this.w this.along.firm this.ground p c row) e shares in
             let at_one = one_place_of this.setting this.state this.w this.along.firm this.ground this.n p
@@ -463,18 +513,24 @@ module _ (this : ServerStep) (k : Plain) where
             let visit : this.ground.good.visits p (place_of this.setting this.state this.w this.along.firm this.ground p row)
             (cell_of a.key)
             ≡ Some (owns_of this.w p) = visit_here this.setting this.state this.w this.along.firm this.ground p
-            (cell_of a.key) row shares'.runs shares'.seat shares'.linked in
+            (cell_of a.key) row shares'.runs shares'.seat shares'.linked
+            (alive_here this.setting this.state this.w this.along.firm this.ground p (cell_of a.key) shares'.alive) in
             let own_is : f.own ≡ owns_of this.w p =
             same_some (sym f.visited ∙ (λ i. this.ground.good.visits (who i) (at_one.0 i) (cell_of a.key)) ∙ visit) in
             let op_is : op ≡ f.putting.op =
             same_some (sym is ∙ (λ i. at cell_cmp (sym own_is i).pairs.pending (e i)) ∙ f.putting.is) in
-            inr (ap (λ (o : Pending). is_held k o.client) op_is ∙ held f)
+            inr (ap (λ (o : Pending). is_held k o.client) op_is ∙ held f (ap (λ (o : Pending). is_clients o.kind) (sym op_is) ∙ clients))
       ]
 
       copy_second : (new : Own) (c : PutsCopy hears here own new) → Followed_or_held new
       copy_second new c same = inl (same ∙ copied_apart hears own c.cell new.store.chains c.how cell
-          (λ e. copied_unfollowed this.setting this.state this.w this.along.firm this.ground this.n runs new c p row
+          (λ e. copied_unfollowed this.setting this.state this.w this.along.firm this.ground this.n runs new c
+          (subst (AliveIn (chosen_state this.setting this.w)) e shares.alive) p row
           (subst (λ (q : Cell). IsSharing this.setting this.state this.w this.along.firm this.ground p q row) e shares) not_itself))
+
+      dead_second : (new : Own) → Drops here own new → Followed_or_held new
+      dead_second new d same = inl (same ∙ dropped_same this.setting this.state this.along.steady this.w this.along.firm this.ground this.n new d cell
+          shares.alive)
 
       -- by the stores that count
       abbrev Followed_now : Type 0
@@ -502,6 +558,8 @@ module _ (this : ServerStep) (k : Plain) where
           by_own new_own is_new as_before (this.ground.own this.n runs a.seat) (asked_second new_own a held) same
       did_second new_own is_new as_before (A_copy c) held same =
           by_own new_own is_new as_before (this.ground.own this.n runs c.seat) (copy_second new_own c) same
+      did_second new_own is_new as_before (Of_the_dead d) held same =
+          by_own new_own is_new as_before (this.ground.own this.n runs d.seat) (dead_second new_own d) same
 
     -- ### All of it
 
@@ -515,22 +573,25 @@ module _ (this : ServerStep) (k : Plain) where
     did_finished _ (By_second done d) = kept_finished this k onward runs done.own (of_second hears here own done d).finished
     did_finished _ (By_holder done d) = kept_finished this k onward runs done.own (of_holder hears here own done d).finished
     did_finished _ (By_other done d) = kept_finished this k onward runs done.own (of_other hears here own done d).finished
+    did_finished _ (By_filler done d) =
+        kept_finished this k onward runs done.own (ap (λ (p : Pairs). p.finished) (of_filler hears here own done d).pairs)
+    did_finished _ (By_sweep done d) = kept_finished this k onward runs done.own (ap (λ (p : Pairs). p.finished) (of_sweep hears here own done d).pairs)
 
     second_no_own : (done : Done) (seated : IsSeated here own done) (d : DidSecond hears here own done)
-        → IsNoOwn (second_stores hears here own done seated d)
+        → IsNoOwn (second_stores hears here own never done seated d)
     second_no_own _ seated (Sets_apart number c tickets h s le) = tt
     second_no_own _ seated (Promises number c how s is) = tt
     second_no_own _ seated (Declines number c h s no_room) = tt
     second_no_own done (inl seat) (Follows number key version bytes h s is) = tt
     second_no_own done (inr apart) (Follows number key version bytes h s is) = tt
 
-    other_pending : (done : Done) → DidOther hears here own done → OtherStores hears here own done.own → (cell : Cell) (o : Pending)
+    other_pending : (done : Done) → DidOther hears here own done → OtherStores hears here own never done.own → (cell : Cell) (o : Pending)
         → at cell_cmp done.own.pairs.pending cell ≡ Some o → Counted cell o (chain_in done.own.store.chains cell) → Held o
     other_pending done d (inl same) = stays_pending done.own (Nothing_new same) tt (of_other hears here own done d).pending
     other_pending done d (inr copy) = stays_pending done.own (A_copy copy) tt (of_other hears here own done d).pending
 
     did_pending : (done : Done) (seated : IsSeated here own done) (d : Did hears here own done)
-        → PutHeld (did_stores hears here own done seated d)
+        → PutHeld (did_stores hears here own never done seated d)
         → (cell : Cell) (o : Pending)
         → at cell_cmp done.own.pairs.pending cell ≡ Some o → Counted cell o (chain_in done.own.store.chains cell) → Held o
     did_pending _ seated Ignores held = λ cell o is. was_held cell o is
@@ -540,18 +601,23 @@ module _ (this : ServerStep) (k : Plain) where
         stays_pending done.own (Nothing_new (ap (λ (x : Own). x.store.chains) same)) tt (ap (λ (x : Own). x.pairs.pending) same)
     did_pending _ seated (By_lead done d) held = lead_pending done d held
     did_pending _ seated (By_second done d) held =
-        stays_pending done.own (second_stores hears here own done seated d) (second_no_own done seated d)
+        stays_pending done.own (second_stores hears here own never done seated d) (second_no_own done seated d)
         (of_second hears here own done d).pending
     did_pending _ seated (By_holder done d) held =
-        stays_pending done.own (Nothing_new (holder_chains hears here own done d)) tt (of_holder hears here own done d).pending
-    did_pending _ seated (By_other done d) held = other_pending done d (other_changes hears here own done seated d)
+        stays_pending done.own (Nothing_new (holder_chains hears here own never done d)) tt (of_holder hears here own done d).pending
+    did_pending _ seated (By_other done d) held = other_pending done d (other_changes hears here own never done seated d)
+    did_pending _ seated (By_filler done d) held =
+        let f = of_filler hears here own done d in
+        stays_pending done.own (Nothing_new (ap (λ (x : Store). x.chains) f.store)) tt (ap (λ (p : Pairs). p.pending) f.pairs)
+    did_pending _ seated (By_sweep _ (Sweeps what seat next off)) held =
+        stays_pending _ (Of_the_dead (swept hears here own never what seat off)) tt refl
 
     pub did_job : (done : Done) (seated : IsSeated here own done) (d : Did hears here own done)
-        → PutHeld (did_stores hears here own done seated d)
+        → PutHeld (did_stores hears here own never done seated d)
         → own_left this ≡ done.own → OwnFollow this k done.own
     did_job done seated d held is_new = record {
       finished = λ c last on. did_finished done d c last;
-      as_lead = λ cell op on is counted still. did_pending done seated d held cell op is counted still;
-      as_second = λ as_before cell p op row shares first second is put still same.
-          did_second cell p op row shares first second is done.own is_new as_before (did_stores hears here own done seated d) held same;
+      as_lead = λ cell op on is clients counted still. did_pending done seated d held cell op is counted clients still;
+      as_second = λ as_before cell p op row shares first second is clients put still same.
+          did_second cell p op row shares first second is clients done.own is_new as_before (did_stores hears here own never done seated d) held same;
     }

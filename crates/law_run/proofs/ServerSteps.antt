@@ -1,4 +1,11 @@
 -- What the machine is told of a server's step is allowed, and keeps it tied to the world.
+use Rattle.law_run.proofs.Grounds.{never_dead, proposed_store}
+use Rattle.law_run.proofs.NotHere.{not_here_told}
+use Rattle.law_steps.specs.DidRead.{Not_here, Shows}
+use Rattle.law_run.proofs.Shows.{AreCalm, data_of, show_told}
+use Rattle.law_run.proofs.Steps.{later_world, new, IsMiddle, ServerStep, ServerTold, LooksTold, letters, kept_here, quiet_looks}
+use Rattle.petal_history.specs.Legal.{IsLegalFrom}
+use Rattle.petal_state.specs.CellState.{named_cell}
 use Rattle.std.proofs.Common.{◌≡◌, ◌<◌, ◌+◌, ℕ, List, [], true, Some, refl, sym, ap, ◌∙◌, subst, inl, ◌||◌, false, Option, None}
 use Rattle.std.specs.Prelude.{is_some}
 use Rattle.petal_base.specs.declared.cell.Cell.{Cell}
@@ -31,7 +38,6 @@ use Rattle.petal_history.specs.Contents.{cell_of_block}
 use Rattle.petal_history.specs.Events.{accepted}
 use Rattle.petal_history.specs.declared.record.Record.{Record}
 use Rattle.law_state.specs.Tables.{IsGrown}
-use Rattle.law_steps.specs.DidRead.{Shows}
 use Rattle.law_steps.specs.Did.{Did, By_read}
 use Rattle.law_steps.specs.Happens.{Handled, Worked, By_job, By_ballot, By_entry, IsSeated, Serving, Goes, Ends, Stays, Wakes, Fails, own_place, without_rev, served_so, stopped_so}
 use Rattle.law_steps.proofs.Letters.{said}
@@ -40,18 +46,15 @@ use Rattle.law_copies.specs.Pair.{owns_of}
 use Rattle.law_run.specs.Follow.{Ground, Follow}
 use Rattle.law_run.specs.Onward.{Onward}
 use Rattle.law_run.proofs.Along.{Along, rows_in}
-use Rattle.law_run.proofs.Chains.{did_stores}
+use Rattle.law_run.proofs.Chains.{did_stores, NeverDead}
 use Rattle.law_run.proofs.Frames.{AreKept, As_before, Anew, OwnFollow, Runs, SaysOk, kept_own}
 use Rattle.law_run.proofs.LogSteps.{IsOfKind, Of_the_log, Of_a_boot, Of_the_rest}
-use Rattle.law_run.proofs.Looks.{Accepts, is_data}
+use Rattle.law_run.proofs.Looks.{is_looked, AreGrounded, who_accepts}
 use Rattle.law_run.proofs.Puts.{calm_told, joined_same, stored_told, unchanged}
 use Rattle.law_requests.proofs.Stepping.{proposed_pairs}
-use Rattle.law_run.proofs.Grounds.{proposed_store}
 use Rattle.law_run.proofs.Says.{IsUnended, is_written, did_says, downs_unended, glances_unended, logged_unended, quiet_data, unended_no_data, unended_no_end}
 use Rattle.law_run.proofs.ServerJobs.{did_job}
-use Rattle.law_run.proofs.Shows.{data_of, show_told}
 use Rattle.law_run.proofs.Freezing.{assembled}
-use Rattle.law_run.proofs.Steps.{IsMiddle, ServerStep, ServerTold, LooksTold, letters, kept_here, quiet_looks}
 use Rattle.law_run.proofs.Votes.{votes_told}
 
 -- letters that end no request
@@ -141,23 +144,34 @@ module _ (at : ServesAt) where
   downs_end = downs_unended at.n (at.w.servers at.n).life.inc (servers_of (server_state at.setting at.w at.n))
 
   module _ (numbered : (one other : Line) → In one at.setting.lines → In other at.setting.lines → one.number ≡ other.number → one ≡ other) where
-    -- a letter with data that is accepted was asked for
-    abbrev AreAccepted : World → Type 0
-    AreAccepted v = (letter : Letter) (seq : ℕ) (bytes : List ℕ) (number : ℕ) → In letter v.sent → letter.body ≡ body.Data seq bytes
-        → accepted at.later letter ≡ Some number → Accepts at.setting.lines letter seq number
+    -- of the records that follow: the ground holds on the way, and they are legal
+    pub record HasLater (v : World) : Type 0 where
+      pub grounds : AreGrounded at.setting at.state v at.later
+      pub legal : IsLegalFrom at.setting v at.later
+
+    never : (at.w.servers at.n).life.running ≡ true → NeverDead here own
+    never = never_dead at.setting at.state at.along.steady at.w at.along.firm at.ground at.n
 
     abbrev IsSame : Acted → Type 0
     IsSame acted = chosen_log at.setting (after_step acted) ≡ chosen_log at.setting at.w
 
     -- a job of the pairs
+    -- where nothing is chosen and no chain changes, the contents are as before
+    calm : (this : ServerStep) → chosen_log this.setting (later_world this) ≡ chosen_log this.setting this.w
+        → (new this).store.chains ≡ (owns_of this.w this.n).store.chains → AreCalm this
+    calm this same chains row there b epoch =
+        let is = unchanged this same row there b
+        (λ mine. ap (λ c. chain_in c (named_cell row b)) (kept_here this chains (joined_same this same this.n))) epoch in
+        (is.has, is.bytes)
+
     module _ (log : Log) (runs : (at.w.servers at.n).life.running ≡ true) where
       job_looks : (done : Done) (did : Did hears here own done) (queue : List Job)
           (serving : Serving at.setting at.w at.n at.what (served_so at.setting at.w at.n log done queue))
           (next : Next (served_so at.setting at.w at.n log done queue)) → IsSame (served_so at.setting at.w at.n log done queue)
-          → AreAccepted (after_step (served_so at.setting at.w at.n log done queue))
+          → HasLater (after_step (served_so at.setting at.w at.n log done queue))
           → LooksTold (step_of (served_so at.setting at.w at.n log done queue) serving next)
       unfolding In
-      job_looks _ (By_read _ (Shows client seq cell epoch h seat r free)) queue serving next same accepts =
+      job_looks _ (By_read _ (Shows client seq cell epoch readable there)) queue serving next same later =
           let this = step_of _ serving next in
           let letter : Letter =
           record {
@@ -169,30 +183,42 @@ module _ (at : ServesAt) where
             nth = 0;
             body = body.Data seq (data_of this cell epoch);
           } in
-          show_told this numbered runs client seq cell epoch h seat r
-          (λ lead. none_pending own cell (free lead)) letter refl refl refl same
-          (λ row b. unchanged this same row b
-          (λ mine. ap (λ c. chain_in c (cell_of_block row b)) (kept_here this refl (joined_same this same at.n))))
-          (λ number e. accepts letter seq _ number (inl refl) refl e)
-      job_looks done d queue serving next same accepts =
+          show_told this numbered runs client seq cell epoch readable there
+          (λ lead. none_pending own cell (readable.idle lead)) letter refl refl refl same (calm this same refl)
+          (λ number e. who_accepts at.setting at.state (later_world this) at.later later.grounds later.legal letter seq _ number (inl refl) refl e)
+      job_looks _ (By_read _ (Not_here client seq cell epoch readable comes none)) queue serving next same later =
+          let this = step_of _ serving next in
+          let letter : Letter =
+          record {
+            from = actor.Server at.n;
+            inc = (at.w.servers at.n).life.inc;
+            to = actor.Client client;
+            rev = (server_state at.setting at.w at.n).rev;
+            stamp = at.stamp;
+            nth = 0;
+            body = body.NotHere seq;
+          } in
+          not_here_told this numbered runs client seq cell epoch readable comes none
+          (λ lead. none_pending own cell (readable.idle lead)) letter refl refl refl refl same (calm this same refl) later.grounds later.legal
+      job_looks done d queue serving next same later =
           let this = step_of _ serving next in
           quiet_looks this (λ letter i.
           let s = said (sender here) at.stamp 0 done.posts letter i in
-          ap is_data s.body ∙ quiet_data hears here own done d tt s.post s.there)
+          ap is_looked s.body ∙ quiet_data hears here own (never runs) done d tt s.post s.there)
 
       job_told : (done : Done) (seated : IsSeated here own done) (did : Did hears here own done) (queue : List Job)
           (serving : Serving at.setting at.w at.n at.what (served_so at.setting at.w at.n log done queue))
           (next : Next (served_so at.setting at.w at.n log done queue)) → IsSame (served_so at.setting at.w at.n log done queue)
-          → AreAccepted (after_step (served_so at.setting at.w at.n log done queue))
+          → HasLater (after_step (served_so at.setting at.w at.n log done queue))
           → ServerTold (step_of (served_so at.setting at.w at.n log done queue) serving next)
-      job_told done seated did queue serving next same accepts =
+      job_told done seated did queue serving next same later =
           let this = step_of _ serving next in
           let says : (k : Plain) → Onward at.m k → SaysOk this k = λ k onward letter i c seq to says still.
           let s = said (sender here) at.stamp 0 done.posts letter i in
-          did_says this k runs onward done did s.post s.there c seq (sym s.to ∙ to) (sym s.body ∙ says) still in
-          assembled this (stored_told this same runs says (did_stores hears here own done seated did)
-          (λ k onward held. did_job this k runs onward done seated did held refl))
-          (job_looks done did queue serving next same accepts)
+          did_says this k runs onward (never runs) done did s.post s.there c seq (sym s.to ∙ to) (sym s.body ∙ says) still in
+          assembled this (stored_told this same runs says (did_stores hears here own (never runs) done seated did)
+          (λ k onward held. did_job this k runs onward (never runs) done seated did held refl))
+          (job_looks done did queue serving next same later)
 
       -- the server stops once its commit is made
       job_stopped : (done : Done) (seated : IsSeated here own done) (did : Did hears here own done)
@@ -202,8 +228,8 @@ module _ (at : ServesAt) where
       job_stopped done seated did serving next same =
           let this = step_of _ serving next in
           let says : (k : Plain) → Onward at.m k → SaysOk this k = λ k onward. unended_says this (without_rev here) downs refl downs_end k in
-          assembled this (stored_told this same runs says (did_stores hears here own done seated did)
-          (λ k onward held. did_job this k runs onward done seated did held refl))
+          assembled this (stored_told this same runs says (did_stores hears here own (never runs) done seated did)
+          (λ k onward held. did_job this k runs onward (never runs) done seated did held refl))
           (unended_looks this (without_rev here) downs refl downs_end)
 
     no_posts : (post : Post) → In post [] → IsUnended post
@@ -228,18 +254,18 @@ module _ (at : ServesAt) where
     goes_told : (log : Log) (done : Done) (queue : List Job) (runs : (at.w.servers at.n).life.running ≡ true)
         → Worked at.setting at.w at.n log done → (serving : Serving at.setting at.w at.n at.what (served_so at.setting at.w at.n log done queue))
         (next : Next (served_so at.setting at.w at.n log done queue)) → IsSame (served_so at.setting at.w at.n log done queue)
-        → AreAccepted (after_step (served_so at.setting at.w at.n log done queue))
+        → HasLater (after_step (served_so at.setting at.w at.n log done queue))
         → ServerTold (step_of (served_so at.setting at.w at.n log done queue) serving next)
-    goes_told _ _ queue runs (By_job log done applied did seat) serving next same accepts = job_told log runs done seat did queue
-        serving next same accepts
-    goes_told _ _ queue runs (By_ballot log started posts applied starts says) serving next same accepts =
+    goes_told _ _ queue runs (By_job log done applied did seat) serving next same later = job_told log runs done seat did queue
+        serving next same later
+    goes_told _ _ queue runs (By_ballot log started posts applied starts says) serving next same later =
         let pairs = proposed_pairs (server_state at.setting at.w at.n) own started in
         calm_step _ serving next same (ap (λ (s : Store). s.chains) (proposed_store (server_state at.setting at.w at.n) own started))
         (λ k onward. kept_own (step_of _ serving next) k onward
         (ap (λ (s : Store). s.chains) (proposed_store (server_state at.setting at.w at.n) own started))
         (λ on. As_before runs (ap (λ (p : Pairs). p.finished) pairs) (ap (λ (p : Pairs). p.pending) pairs)))
         (sender here) posts refl (λ post i. logged_unended post.body (says post i))
-    goes_told _ _ queue runs (By_entry log entry more front) serving next same accepts =
+    goes_told _ _ queue runs (By_entry log entry more front) serving next same later =
         let settled = entry_settled entry in
         calm_step _ serving next same settled.chains
         (λ k onward. kept_own (step_of _ serving next) k onward settled.chains
@@ -265,18 +291,18 @@ module _ (at : ServesAt) where
         (λ on. As_before runs (ap (λ (p : Pairs). p.finished) settled.pairs) (ap (λ (p : Pairs). p.pending) settled.pairs)))
         (without_rev here) downs refl downs_end
 
-    rest_told : (acted : Acted) (serving of_it : Serving at.setting at.w at.n at.what acted) (next : Next acted) → IsSame acted → AreAccepted (after_step acted)
+    rest_told : (acted : Acted) (serving of_it : Serving at.setting at.w at.n at.what acted) (next : Next acted) → IsSame acted → HasLater (after_step acted)
         → ServerTold (step_of acted of_it next)
-    rest_told _ (Goes log done queue runs worked queued works) of_it next same accepts = goes_told log done queue runs worked of_it next same accepts
-    rest_told _ (Ends log done runs worked) of_it next same accepts = ends_told log done runs worked of_it next same
-    rest_told _ (Stays who posts from shown) of_it next same accepts =
+    rest_told _ (Goes log done queue runs worked queued works) of_it next same later = goes_told log done queue runs worked of_it next same later
+    rest_told _ (Ends log done runs worked) of_it next same later = ends_told log done runs worked of_it next same
+    rest_told _ (Stays who posts from shown) of_it next same later =
         calm_step _ of_it next same refl (λ k onward. kept_own (step_of _ of_it next) k onward refl (λ on. As_before on refl refl))
         who posts refl (λ post i. glances_unended post (shown post i))
-    rest_told _ (Wakes booted asleep) of_it next same accepts =
+    rest_told _ (Wakes booted asleep) of_it next same later =
         calm_step _ of_it next same refl (λ k onward. kept_own (step_of _ of_it next) k onward refl (λ on. Anew refl))
         (record { from = actor.Server at.n; inc = (at.w.servers at.n).life.inc + 1; rev = rev_of (awake (raised (at.w.servers at.n))).log })
         downs refl downs_end
-    rest_told _ (Fails booted asleep) of_it next same accepts =
+    rest_told _ (Fails booted asleep) of_it next same later =
         calm_step _ of_it next same refl (λ k onward. kept_own (step_of _ of_it next) k onward refl (λ on. true_false on asleep))
         (without_rev here) [] refl no_posts
 
@@ -294,11 +320,11 @@ module _ (at : ServesAt) where
 
     -- each kind of step
     pub step_told : (acted : Acted) (serving : Serving at.setting at.w at.n at.what acted) (next : Next acted) → IsOfKind (at.w.servers at.n) acted
-        → AreAccepted (after_step acted) → ServerTold (step_of acted serving next)
-    step_told acted serving next (Of_the_log store pairs quiet) accepts =
+        → HasLater (after_step acted) → ServerTold (step_of acted serving next)
+    step_told acted serving next (Of_the_log store pairs quiet) later =
         votes_told (step_of acted serving next) (ap (λ (s : Store). s.chains) store) (serves_kept acted serving serving next pairs)
         (quiet at.stamp)
-    step_told acted serving next (Of_a_boot chains none quiet) accepts =
+    step_told acted serving next (Of_a_boot chains none quiet) later =
         votes_told (step_of acted serving next) chains (λ on. Anew none) (quiet at.stamp)
-    step_told acted serving next (Of_the_rest records) accepts =
-        rest_told acted serving serving next (chosen_same at.setting at.w at.n at.stamp at.what acted records) accepts
+    step_told acted serving next (Of_the_rest records) later =
+        rest_told acted serving serving next (chosen_same at.setting at.w at.n at.stamp at.what acted records) later

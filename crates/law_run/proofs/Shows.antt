@@ -1,10 +1,29 @@
 -- A read's data are those that the machine has.
-use Rattle.std.proofs.Common.{◌≡◌, ◌≤◌, ◌==◌, ℕ, List, [], ◌∷◌, ◌++◌, Bool, true, Option, Some, None, is_some, refl, sym, ap, ◌∙◌, subst, inl, inr, arith}
-use Rattle.std.specs.Prelude.{option_and_then, option_map}
+use Rattle.std.proofs.Common.{◌≡◌, ◌≤◌, ◌==◌, ℕ, List, [], ◌∷◌, ◌++◌, Bool, true, Option, Some, None, is_some, refl, sym, ap, ◌∙◌, subst, inl, inr, arith, ◌⊎◌, ◌<◌, false}
+use Rattle.std.specs.List.{flat_map}
+use Rattle.std.proofs.lemmas.Bool.{cases_lt}
+use Rattle.petal_state.specs.CellState.{has_map, named_cell, serves}
+use Rattle.petal_rules.specs.Reads.{is_all_held}
+use Rattle.global_tables.specs.declared.link.LinkState.TheVariants.{Both}
+use Rattle.law_state.specs.Firm.{Firm}
+use Rattle.law_state.specs.Tables.{IsPlainState}
+use Rattle.law_state.specs.Disks.{AreDisks}
+use Rattle.law_state.specs.Homes.{HasStage, epoch_at, stage_at}
+use Rattle.law_state.specs.Rows.{ByBoth, ByOne, ByNone}
+use Rattle.law_copies.proofs.Later.{holder_is_one}
+use Rattle.law_steps.proofs.Coming.{stage_facts}
+use Rattle.law_steps.specs.DidRead.{IsReadable}
+use Rattle.petal_machine.specs.declared.event.Event.{Event}
+use Rattle.petal_machine.specs.Machine.{Plain}
+use Rattle.law_run.specs.Follow.{Follow}
+use Rattle.law_run.specs.Onward.{IsMindful}
+use Rattle.law_run.proofs.Machine.{onward_itself}
+use Rattle.law_run.proofs.Named.{entry_over, has_over, is_between}
+use Rattle.law_run.proofs.Reading.{AsksFor, IsAskedAt, IsKnownRead, IsOfDisk, known_read, may_look, of_disk, own_epoch, own_up_to, reader_serves, reads_old_is, same_disk}
+use Rattle.std.specs.Prelude.{option_and_then, option_map, if◌then◌else◌}
 use Rattle.petal_base.specs.declared.cell.Cell.{Cell}
 use Rattle.petal_command.specs.declared.command.Command.{Command}
 use Rattle.petal_table.specs.Table.{at}
-use Rattle.global_tables.specs.Disk.{snapshot_named}
 use Rattle.global_tables.specs.declared.disk.DiskRow.{DiskRow}
 use Rattle.global_tables.specs.declared.disk.Snapshot.{Snapshot}
 use Rattle.global_tables.specs.declared.link.LinkRow.{LinkRow}
@@ -20,41 +39,46 @@ use Rattle.petal_state.specs.declared.answer.DiskView.{DiskView}
 use Rattle.script_lines.specs.declared.request.Line.{Line}
 use Rattle.script_lines.specs.declared.request.Request.TheVariants as request
 use Rattle.petal_rules.specs.Lists.{In}
-use Rattle.petal_rules.specs.State.{State, authority, is_in, is_lead, readable, snapshot}
-use Rattle.petal_rules.specs.Store.{Store, cell_cmp, chain_in, entry_at, bytes_of}
+use Rattle.petal_rules.specs.State.{State, authority, is_in, is_lead, readable, snapshot, coming, held, leads_link, leaving, live}
+use Rattle.petal_rules.specs.Store.{Store, cell_cmp, Chain, chain_in, entry_at, bytes_of, Stored}
 use Rattle.petal_rules.specs.Server.{Own}
 use Rattle.petal_rules.specs.Clients.{epoch_for}
 use Rattle.petal_rules.specs.World.{chosen_state, chosen_log, counted, server_state}
 use Rattle.petal_rules.proofs.ListLemmas.{in-append}
-use Rattle.petal_rules.proofs.Tests.{by_bool, is_the_so, none_some, same_numbers, same_some, some_or_none}
+use Rattle.petal_rules.proofs.Tests.{by_bool, is_the_so, none_some, same_numbers, same_some, some_or_none, number_itself, true_false}
 use Rattle.petal_history.specs.Claims.{Holds}
-use Rattle.petal_history.specs.Contents.{cell_of_block, content_by}
-use Rattle.petal_history.specs.Events.{look_for, look_of, looks, accepted}
-use Rattle.law_state.specs.Below.{HasLaterView, IsBelow}
-use Rattle.law_state.specs.Epochs.{epoch_at}
-use Rattle.law_state.specs.Plain.{IsPlainLog}
-use Rattle.law_state.proofs.Cells.{IsInBoth, alone_authority, both_authority, both_lead, read_by}
-use Rattle.law_state.proofs.Disks.{log_disks}
-use Rattle.law_state.proofs.Entries.{log_plain}
+use Rattle.petal_history.specs.Contents.{entry_before, entry_by, entry_of, old_cell}
+use Rattle.petal_history.specs.Events.{look_for, look_of, looks, accepted, asks_old, job_asks_old, reads_old}
+use Rattle.law_state.specs.Below.{IsServing}
+use Rattle.law_state.proofs.Cells.{alone_authority, both_authority, both_leads, dead_reader, read_by}
 use Rattle.law_state.proofs.Leaves.{either_true}
 use Rattle.law_state.proofs.Roles.{log_roles}
-use Rattle.law_state.proofs.Steady.{front_plain}
-use Rattle.law_steps.specs.Happens.{Handled}
+use Rattle.law_steps.specs.Happens.{Handled, own_place}
 use Rattle.law_steps.proofs.Fronts.{front_itself, front_on, one_front}
-use Rattle.law_steps.proofs.Histories.{chosen_steady, own_below, own_steady, runs_now}
+use Rattle.law_steps.proofs.Histories.{chosen_steady, own_below, own_steady, runs_now, own_plain}
 use Rattle.law_copies.specs.Pair.{PairOk, owns_of, pair_of}
-use Rattle.law_copies.specs.Visits.{half, place_by}
-use Rattle.law_copies.proofs.Places.{one_row, places_up}
+use Rattle.law_copies.specs.Visits.{half, place_by, AliveIn, IsLinked}
+use Rattle.law_copies.proofs.Places.{one_row, places_up, dead_not, linked_between}
 use Rattle.law_requests.specs.Asked.{IsRead}
 use Rattle.law_requests.specs.Known.{Known, ReadKnown, seen}
-use Rattle.law_run.proofs.Seats.{chosen_store, chosen_twins, equal_pair, visit_here}
-use Rattle.law_run.proofs.Along.{IsFound, disk_epoch, disks_now, found_row, plain_now, rows_in}
+use Rattle.law_run.proofs.Seats.{chosen_store, chosen_twins, equal_pair, visit_here, alive_here}
+use Rattle.law_run.proofs.Along.{HasDisk, cell_named, content_is, disk_here, disks_now, has_content_is, named_comes, plain_now, rows_in}
 use Rattle.law_run.proofs.Looks.{AllLooks, Looked, looked, Accepts, letter_looks}
-use Rattle.law_run.proofs.Contents.{was_kept, now_has, now_kept}
+use Rattle.law_run.proofs.Contents.{was_kept, now_has, now_kept, was_has}
 use Rattle.law_run.proofs.Entries.{AreUpTo, entry_later}
 use Rattle.law_run.proofs.Grounds.{kept_up_to}
-use Rattle.law_run.proofs.Snapshots.{snapshot_found}
-use Rattle.law_run.proofs.Steps.{ServerStep, LooksTold, letters, later_world}
+use Rattle.law_run.proofs.Steps.{ServerStep, LooksTold, letters, later_world, look_here}
+
+-- looks that are allowed, one after another
+pub all_looked : (k : Plain) (name : List ℕ) (snap : Option (List ℕ)) (block : ℕ) (bytes : List ℕ) → MayLook k.disks name snap block bytes → IsMindful k
+    → (es : List Event) → AllLooks name snap block bytes es → Looked k (es ++ [])
+unfolding In
+all_looked k name snap block bytes may mindful es all = looked k name snap block bytes may mindful (es ++ [])
+    (λ e i. elim (in-append e es [] i) [ inl j ↦ all e j | inr j ↦ absurd j ])
+
+-- nothing is looked at
+pub nothing_looked : (this : ServerStep) (k : Plain) → Follow this.setting (rows_in this.setting (later_world this)) (later_world this) k → Looked k []
+nothing_looked this k following = record { may = tt; disks = refl; mindful = following.stores.mindful; onward = onward_itself k }
 
 module _ (this : ServerStep) where
   abbrev own_state : State
@@ -76,238 +100,282 @@ module _ (this : ServerStep) where
   abbrev top : List Command
   top = chosen_log this.setting this.w
 
-  -- the first server of a cell in Both has nothing pending where it was at the place: by its own state it leads the cell
-  first_none : (this.w.servers this.n).life.running ≡ true → is_in own_state this.n (this.w.servers this.n).life.inc ≡ true → (cell : Cell)
-      → (is_lead own_state this.n cell ≡ true → at cell_cmp own.pairs.pending cell ≡ None)
-      → (b : IsInBoth chosen cell) → b.row.primary ≡ this.n → (visit : Own)
-      → this.ground.good.visits this.n (place_by this.setting top b.row) cell ≡ Some visit → at cell_cmp visit.pairs.pending cell ≡ None
-  first_none runs seat cell none b mine visit is =
-      let firm = this.along.firm in
-      let applied = (this.w.servers this.n).log.applied in
-      let been = this.ground.good.been this.n (place_by this.setting top b.row) cell visit is in
-      let up = places_up this.setting top firm.plain applied top cell been.row b.row (firm.servers this.n)
-      (front_itself top) been.linked b.is in
-      let past = been.past in
-      let same : place_by this.setting applied been.row ≡ place_by this.setting top b.row = omega arith in
-      let one : b.row ≡ been.row =
-      one_row this.setting top firm.plain applied top cell been.row b.row (firm.servers this.n) (front_itself top) been.linked b.is same in
-      let link = (own_steady this.setting this.w firm this.n).linked cell been.row been.linked in
-      let lead : is_lead own_state this.n cell ≡ true =
-      is_the_so _ this.n (both_lead own_state cell been.row been.linked link (ap (λ (r : LinkRow). r.state) (sym one) ∙ b.so)
-      ∙ ap Some (ap (λ (r : LinkRow). r.primary) (sym one) ∙ mine)) in
-      let here = visit_here this.setting this.state this.w firm this.ground this.n cell been.row runs seat been.linked in
-      let own_is : visit ≡ own = same_some (sym is ∙ ap (λ p. this.ground.good.visits this.n p cell) (sym same) ∙ here) in
-      ap (λ (o : Own). at cell_cmp o.pairs.pending cell) own_is ∙ none lead
+  -- ### A server that may read a cell which is not leaving
 
-  -- so it has what counts
-  first_is : (epoch : ℕ) → (this.w.servers this.n).life.running ≡ true → is_in own_state this.n (this.w.servers this.n).life.inc ≡ true → (cell : Cell)
-      → (is_lead own_state this.n cell ≡ true → at cell_cmp own.pairs.pending cell ≡ None)
-      → (b : IsInBoth chosen cell) → b.row.primary ≡ this.n
-      → content_by (counted this.setting this.w) cell epoch (authority chosen cell) ≡ bytes_of (entry_at (chain_in own.store.chains cell) epoch)
-  first_is epoch runs seat cell none b mine =
-      let q = b.row.secondary in
-      let place = place_by this.setting top b.row in
-      let visits = this.ground.good.visits in
-      let stores = chosen_store this.setting this.state this.w this.along.firm this.ground in
-      let twins = chosen_twins this.setting this.state this.w this.along.firm this.ground cell b.row b.is b.so in
-      let pair : PairOk (pair_of (half (visits this.n place cell) (stores this.n)) (half (visits q place cell) (stores q)) cell) =
-      subst (λ k. PairOk (pair_of (half (visits k place cell) (stores k)) (half (visits q place cell) (stores q)) cell)) mine twins.pair in
-      let equal = equal_pair (visits this.n place cell) (visits q place cell) (stores this.n) (stores q) cell pair
-      (first_none runs seat cell none b mine) in
-      ap (content_by (counted this.setting this.w) cell epoch) (both_authority chosen cell b.row b.is b.linked b.so)
-      ∙ ap (λ (s : Store). bytes_of (entry_at (chain_in s.chains cell) epoch)) (sym (this.ground.good.now q))
-      ∙ ap (λ c. bytes_of (entry_at c epoch)) (sym equal)
-      ∙ ap (λ (s : Store). bytes_of (entry_at (chain_in s.chains cell) epoch)) (this.ground.good.now this.n ∙ this.ground.own this.n runs seat own.store)
+  -- a read that may be answered, of a cell that is not leaving by the server's own state
+  pub record IsReading (cell : Cell) : Type 0 where
+    pub runs : (this.w.servers this.n).life.running ≡ true
+    pub seat : is_in own_state this.n (this.w.servers this.n).life.inc ≡ true
+    pub may : readable own_state this.n cell ≡ true
+    pub unheld : is_all_held (held own_state cell) ≡ false
+    pub idle : is_lead own_state this.n cell ≡ true → at cell_cmp own.pairs.pending cell ≡ None
+    pub stays : leaving own_state cell ≡ false
 
-  -- what a server that may read a cell has is what counts
-  read_is : (epoch : ℕ) → (this.w.servers this.n).life.running ≡ true → is_in own_state this.n (this.w.servers this.n).life.inc ≡ true → (cell : Cell)
-      → readable own_state this.n cell ≡ true
-      → (is_lead own_state this.n cell ≡ true → at cell_cmp own.pairs.pending cell ≡ None)
-      → content_by (counted this.setting this.w) cell epoch (authority chosen cell) ≡ bytes_of (entry_at (chain_in own.store.chains cell) epoch)
-  read_is epoch runs seat cell may none =
-      let firm = this.along.firm in
-      let steady = chosen_steady this.setting this.w firm in
-      let roles = log_roles this.setting.servers (this.w.servers this.n).log.applied (chosen_log this.setting this.w) firm.plain (firm.servers this.n) in
-      let now = roles.reads this.n (this.w.servers this.n).life.inc cell seat (runs_now this.setting this.w firm this.n runs seat) may in
-      elim (read_by chosen steady cell this.n now).1 [
-        | inr held ↦
-            ap (content_by (counted this.setting this.w) cell epoch)
-            (alone_authority chosen cell held.row held.is held.linked this.n held.whole held.so) ∙ own_held
-        | inl both ↦
-            let b = both.0 in
-            by_bool (b.row.primary == this.n)
-            (λ t. first_is epoch runs seat cell none b (same_numbers b.row.primary this.n t))
+  module _ (cell : Cell) (r : IsReading cell) where
+    abbrev firm : Firm this.setting this.w
+    firm = this.along.firm
+
+    own_facts : HasStage own_state cell
+    own_facts = stage_facts this.setting.servers (this.w.servers this.n).log.applied (own_plain this.setting this.w firm this.n) cell
+
+    own_lives : live own_state cell ≡ true
+    own_lives = by_bool (live own_state cell) (λ t. t) (λ f. true_false r.may (dead_reader own_state cell f this.n))
+
+    own_low : 1 ≤ stage_at own_state cell
+    own_low = (own_facts.lives own_lives).0
+
+    own_high : stage_at own_state cell ≤ 2
+    own_high = elim (cases_lt (stage_at own_state cell) 3) [
+      | inl lt ↦ omega arith
+      | inr le ↦ (let most = (own_facts.lives own_lives).1 in true_false (own_facts.left (omega arith)) r.stays)
+    ]
+
+    -- it is not leaving by what is chosen either, since the server would have to report to the fence first
+    pub now_high : stage_at chosen cell ≤ 2
+    now_high = this.ground.moves.unread this.n cell r.runs r.seat r.unheld own_low own_high
+
+    pub now_low : 1 ≤ stage_at chosen cell
+    now_low = let low = own_low in let up = (own_below this.setting this.w firm this.n).stages cell in omega arith
+
+    alive : AliveIn chosen cell
+    alive = let high = now_high in omega arith
+
+    now_lives : live chosen cell ≡ true
+    now_lives = let high = now_high in (stage_facts this.setting.servers top firm.plain cell).alive now_low (omega arith)
+
+    serving : IsServing own_state this.n cell
+    serving = reader_serves this.setting this.state this.w firm this.ground this.n cell r.may
+
+    pub serving_now : IsServing chosen this.n cell
+    serving_now =
+        let roles = log_roles this.setting.servers (this.w.servers this.n).log.applied top firm.plain (firm.servers this.n) in
+        elim (roles.reads this.n (this.w.servers this.n).life.inc cell r.seat (runs_now this.setting this.w firm this.n r.runs r.seat) serving) [
+          | inl now ↦ now
+          | inr died ↦ absurd (dead_not chosen cell died alive)
+        ]
+
+    -- ### What it has is what counts
+
+    -- the first server of a link in Both has nothing pending where it was at the place: by its own state it leads the cell
+    first_none : (b : LinkRow) → IsLinked this.setting top cell b → b.state ≡ Both → b.primary ≡ this.n → (visit : Own)
+        → this.ground.good.visits this.n (place_by this.setting top b) cell ≡ Some visit → at cell_cmp visit.pairs.pending cell ≡ None
+    first_none b b_is both mine visit is =
+        let applied = (this.w.servers this.n).log.applied in
+        let been = this.ground.good.been this.n (place_by this.setting top b) cell visit is in
+        let mid = linked_between this.setting top firm.plain been.front applied top cell been.row b been.within (firm.servers this.n) (front_itself top)
+        been.linked b_is in
+        let one = places_up this.setting top firm.plain been.front applied cell been.row mid.0 been.within (firm.servers this.n) been.linked mid.1 in
+        let two = places_up this.setting top firm.plain applied top cell mid.0 b (firm.servers this.n) (front_itself top) mid.1 b_is in
+        let there = been.at in
+        let same : place_by this.setting applied mid.0 ≡ place_by this.setting top b = omega arith in
+        let row_is : b ≡ mid.0 =
+        one_row this.setting top firm.plain applied top cell mid.0 b (firm.servers this.n) (front_itself top) mid.1 b_is same in
+        let link : leads_link own_state this.n cell ≡ true =
+        is_the_so _ this.n (both_leads own_state cell mid.0 mid.1 (ap (λ (x : LinkRow). x.state) (sym row_is) ∙ both)
+        ∙ ap Some (ap (λ (x : LinkRow). x.primary) (sym row_is) ∙ mine)) in
+        let lead = own_facts.led this.n link own_low own_high in
+        let here = visit_here this.setting this.state this.w firm this.ground this.n cell mid.0 r.runs r.seat mid.1
+        (alive_here this.setting this.state this.w firm this.ground this.n cell alive) in
+        let own_is : visit ≡ own = same_some (sym is ∙ ap (λ p. this.ground.good.visits this.n p cell) (sym same) ∙ here) in
+        ap (λ (o : Own). at cell_cmp o.pairs.pending cell) own_is ∙ r.idle lead
+
+    own_entry : (e : ℕ) → entry_by (counted this.setting this.w) cell e (Some this.n) ≡ entry_at (chain_in own.store.chains cell) e
+    own_entry e = ap (λ (x : Store). entry_at (chain_in x.chains cell) e) (this.ground.own this.n r.runs r.seat own.store)
+
+    -- so it has what the second server has
+    first_is : (e : ℕ) (b : LinkRow) → IsLinked this.setting top cell b → b.state ≡ Both → b.primary ≡ this.n
+        → entry_of chosen (counted this.setting this.w) cell e ≡ entry_at (chain_in own.store.chains cell) e
+    first_is e b b_is both mine =
+        let q = b.secondary in
+        let place = place_by this.setting top b in
+        let visits = this.ground.good.visits in
+        let stores = chosen_store this.setting this.state this.w firm this.ground in
+        let twins = chosen_twins this.setting this.state this.w firm this.ground cell b b_is both alive in
+        let pair : PairOk (pair_of (half (visits this.n place cell) (stores this.n)) (half (visits q place cell) (stores q)) cell) =
+        subst (λ k. PairOk (pair_of (half (visits k place cell) (stores k)) (half (visits q place cell) (stores q)) cell)) mine twins.pair in
+        let equal = equal_pair (visits this.n place cell) (visits q place cell) (stores this.n) (stores q) cell pair
+        (first_none b b_is both mine) in
+        ap (entry_by (counted this.setting this.w) cell e) (both_authority chosen cell b b_is now_lives both)
+        ∙ ap (λ (x : Store). entry_at (chain_in x.chains cell) e) (sym (this.ground.good.now q))
+        ∙ ap (λ c. entry_at c e) (sym equal)
+        ∙ ap (λ (x : Store). entry_at (chain_in x.chains cell) e) (this.ground.good.now this.n) ∙ own_entry e
+
+    -- and whoever serves the link has what counts
+    pub record Counts : Type 0 where
+      pub some : is_some (authority chosen cell) ≡ true
+      pub entry : (e : ℕ) → entry_of chosen (counted this.setting this.w) cell e ≡ entry_at (chain_in own.store.chains cell) e
+
+    counts : Counts
+    counts = elim ((chosen_steady this.setting this.w firm).linked cell serving_now.row serving_now.is).served [
+      | ByBoth so one other ↦ record {
+        some = ap is_some (both_authority chosen cell serving_now.row serving_now.is now_lives so);
+        entry = λ e. by_bool (serving_now.row.primary == this.n)
+            (λ t. first_is e serving_now.row serving_now.is so (same_numbers serving_now.row.primary this.n t))
             (λ f.
-            let mine = same_numbers b.row.secondary this.n (either_true (b.row.primary == this.n) (b.row.secondary == this.n) both.1 f) in
-            ap (content_by (counted this.setting this.w) cell epoch) (both_authority chosen cell b.row b.is b.linked b.so ∙ ap Some mine) ∙ own_held)
-      ]
-    where
-      -- the server's own store counts
-      own_held : content_by (counted this.setting this.w) cell epoch (Some this.n) ≡ bytes_of (entry_at (chain_in own.store.chains cell) epoch)
-      own_held = ap (λ (s : Store). bytes_of (entry_at (chain_in s.chains cell) epoch)) (this.ground.own this.n runs seat own.store)
-
-  -- so it has a content
-  read_has : (this.w.servers this.n).life.running ≡ true → is_in own_state this.n (this.w.servers this.n).life.inc ≡ true → (cell : Cell)
-      → readable own_state this.n cell ≡ true → is_some (authority chosen cell) ≡ true
-  read_has runs seat cell may =
-      let firm = this.along.firm in
-      let steady = chosen_steady this.setting this.w firm in
-      let roles = log_roles this.setting.servers (this.w.servers this.n).log.applied (chosen_log this.setting this.w) firm.plain (firm.servers this.n) in
-      let now = roles.reads this.n (this.w.servers this.n).life.inc cell seat (runs_now this.setting this.w firm this.n runs seat) may in
-      elim (read_by chosen steady cell this.n now).1 [
-        | inr held ↦ ap is_some (alone_authority chosen cell held.row held.is held.linked this.n held.whole held.so)
-        | inl both ↦ ap is_some (both_authority chosen cell both.0.row both.0.is both.0.linked both.0.so)
-      ]
-
-  -- ### Which content a read asks for
-
-  own_plain : IsPlainLog this.setting.servers (this.w.servers this.n).log.applied
-  own_plain = front_plain this.setting.servers (this.w.servers this.n).log.applied top this.along.firm.plain (this.along.firm.servers this.n)
-
-  -- that of the disk, at the epoch that it has by the server's own state, or that of a snapshot
-  pub data AsksFor (row : DiskRow) (cell : Cell) (epoch : ℕ) : Option (List ℕ) → Type 0 where
-    The_disk : epoch_at own_state cell ≡ epoch → epoch ≤ row.epoch → AsksFor row cell epoch None
-    A_snapshot : (name : List ℕ) (snap : Snapshot) → snapshot_named row.snaps name ≡ Some snap → snap.epoch ≡ epoch
-        → AsksFor row cell epoch (Some name)
-
-  -- the snapshot of a disk that is chosen
-  snapshot_of : (row : DiskRow) → In row (rows_in this.setting this.w) → (name : List ℕ) (epoch : ℕ) → snapshot chosen row.id name ≡ Some epoch
-      → (snap : Snapshot) × (snapshot_named row.snaps name ≡ Some snap) × (snap.epoch ≡ epoch)
-  snapshot_of row there name epoch is =
-      let known : option_map (λ (s : Snapshot). s.epoch) (snapshot_named row.snaps name) ≡ Some epoch =
-      ap (option_and_then (λ (r : DiskRow). option_map (λ (s : Snapshot). s.epoch) (snapshot_named r.snaps name)))
-      (sym ((disks_now this.setting this.w this.along.firm).at row there)) ∙ is in
-      elim (some_or_none (snapshot_named row.snaps name)) [
-        | inl s ↦ (s.0, s.1, same_some (ap (option_map (λ (x : Snapshot). x.epoch)) (sym s.1) ∙ known))
-        | inr none ↦ none_some (ap (option_map (λ (x : Snapshot). x.epoch)) none) known
-      ]
-
-  -- the data that a server sends, where somebody accepts them
-  pub record Shown (cell : Cell) (epoch : ℕ) (letter : Letter) (bytes : List ℕ) : Type 0 where
-    pub row : DiskRow
-    pub there : In row (rows_in this.setting this.w)
-    pub block : ℕ
-    pub at_block : cell ≡ cell_of_block row block
-    pub snap : Option (List ℕ)
-    pub asks : AsksFor row cell epoch snap
-    pub all : AllLooks row.name snap block bytes (look_for lines (accepted this.later letter) bytes)
-
-  show_looks : (numbered : (one other : Line) → In one lines → In other lines → one.number ≡ other.number → one ≡ other) (client seq : ℕ)
-      (cell : Cell) (epoch : ℕ) (letter : Letter) (bytes : List ℕ) → IsRead own_state lines client seq cell epoch
-      → letter.to ≡ actor.Client client
-      → ((number : ℕ) → accepted this.later letter ≡ Some number → Accepts lines letter seq number) → Shown cell epoch letter bytes
-  show_looks numbered client seq cell epoch letter bytes read to accepts = record {
-    row = now.row;
-    there = now.there;
-    block = read.block;
-    at_block = read.cell_is ∙ (λ i. record { map = sym map_is i; block = read.block });
-    snap = read.snap;
-    asks = asks_for read.snap read.epoch_is;
-    all = letter_looks lines numbered letter seq client now.row.name read.snap read.block bytes read.line to read.is
-        (read.asks ∙ λ i. request.Read (sym now.name_is i) read.snap read.block) (accepted this.later letter) accepts;
-  }
-    where
-      below : IsBelow own_state chosen
-      below = own_below this.setting this.w this.along.firm this.n
-
-      later : HasLaterView chosen read.name read.disk
-      later = below.finds read.name read.disk read.found
-
-      now : IsFound chosen read.name later.now
-      now = found_row this.setting.servers chosen (plain_now this.setting this.w this.along.firm) read.name later.now later.is
-
-      map_is : now.row.map ≡ read.disk.map
-      map_is = ap (λ (d : DiskView). d.map) now.view ∙ later.map_is
-
-      asks_for : (snap : Option (List ℕ)) → epoch_for own_state read.disk snap ≡ Some epoch → AsksFor now.row cell epoch snap
-      asks_for None is =
-          let was = found_row this.setting.servers own_state (log_plain this.setting.servers (this.w.servers this.n).log.applied own_plain)
-          read.name read.disk read.found in
-          let disks = log_disks this.setting.servers (this.w.servers this.n).log.applied own_plain in
-          let own_epoch : was.row.epoch ≡ epoch = ap (λ (d : DiskView). d.epoch) was.view ∙ same_some is in
-          let at_own : epoch_at own_state cell ≡ was.row.epoch =
-          disk_epoch own_state disks was.row was.there cell (ap (λ (c : Cell). c.map) read.cell_is ∙ ap (λ (d : DiskView). d.map) (sym was.view)) in
-          let le = later.onward in
-          let view : now.row.epoch ≡ later.now.epoch = ap (λ (d : DiskView). d.epoch) now.view in
-          let of : read.disk.epoch ≡ epoch = same_some is in
-          The_disk (at_own ∙ own_epoch) (omega arith)
-      asks_for (Some name) is =
-          let id : now.row.id ≡ read.disk.disk = ap (λ (d : DiskView). d.disk) now.view ∙ later.disk_is in
-          let s = snapshot_of now.row now.there name epoch
-          (ap (λ (i : ℕ). snapshot chosen i name) id ∙ below.snaps read.disk.disk name epoch is) in
-          A_snapshot name s.0 s.1 s.2
-
-  -- the machine has it
-  may_look : (this.w.servers this.n).life.running ≡ true → is_in own_state this.n (this.w.servers this.n).life.inc ≡ true → (cell : Cell) (epoch : ℕ)
-      → readable own_state this.n cell ≡ true → (is_lead own_state this.n cell ≡ true → at cell_cmp own.pairs.pending cell ≡ None)
-      → (row : DiskRow) (block : ℕ) → cell ≡ cell_of_block row block → (disks : List Disk)
-      → (now : DiskRow → (epoch block : ℕ) → List ℕ) (has : DiskRow → ℕ → Bool) → has row block ≡ true
-      → ((e : ℕ) → was_kept this row e block ≡ now row e block) → Holds disks row (has row) (now row)
-      → (snap : Option (List ℕ)) → AsksFor row cell epoch snap → MayLook disks row.name snap block (data_of cell epoch)
-  may_look runs seat cell epoch r none row block at_block disks now has there calm holds = by
-    where
-      -- what counts at an epoch is what the server has
-      counts : (e : ℕ) → now row e block ≡ data_of cell e
-      counts e =
-          sym (calm e) ∙ ap (λ (c : Cell). content_by (counted this.setting this.w) c e (authority chosen c)) (sym at_block)
-          ∙ read_is e runs seat cell r none
-
-      -- the server's entries are of no epoch above the one that it knows
-      up_to : (e : ℕ) → epoch_at own_state cell ≡ e → AreUpTo (chain_in own.store.chains cell) e
-      up_to e is =
-          subst (λ (s : Store). AreUpTo (chain_in s.chains cell) e) (this.ground.own this.n runs seat own.store)
-          (kept_up_to this.setting this.state this.w this.ground this.n cell e (omega arith))
-
-      by : (snap : Option (List ℕ)) → AsksFor row cell epoch snap → MayLook disks row.name snap block (data_of cell epoch)
-      by _ (The_disk is le) = record {
-        known = record { disk = holds.disk; is = holds.is };
-        blocks = holds.disk.now;
-        is = refl;
-        has = holds.same block there ∙ counts row.epoch
-            ∙ ap bytes_of (entry_later (chain_in own.store.chains cell) epoch row.epoch (up_to epoch is) le);
+            let mine = same_numbers serving_now.row.secondary this.n
+            (either_true (serving_now.row.primary == this.n) (serving_now.row.secondary == this.n) serving_now.one_of f) in
+            ap (entry_by (counted this.setting this.w) cell e) (both_authority chosen cell serving_now.row serving_now.is now_lives so ∙ ap Some mine)
+            ∙ own_entry e);
       }
-      by _ (A_snapshot name snap is at_epoch) =
-          let found = snapshot_found (has row) (now row) holds.disk.snaps row.snaps name snap holds.snapshots is in
+      | ByOne holder other whole so pair out ↦
+          let mine : holder ≡ this.n = same_numbers holder this.n (sym (ap (serves this.n serving_now.row) so) ∙ serving_now.so) in
+          let held = alone_authority chosen cell serving_now.row serving_now.is now_lives holder whole so in
           record {
-            known = record { disk = holds.disk; is = holds.is };
-            blocks = found.0.blocks;
-            is = ap (option_map (λ (s : machine.Snapshot). s.blocks)) found.1;
-            has = found.2.1 block there ∙ ap (λ e. now row e block) at_epoch ∙ counts epoch;
+            some = ap is_some held;
+            entry = λ e. ap (entry_by (counted this.setting this.w) cell e) (held ∙ ap Some mine) ∙ own_entry e;
           }
+      | ByNone one other lost pair out ↦ true_false serving_now.so (ap (serves this.n serving_now.row) lost)
+    ]
+
+    -- ### The block's content
+
+    module _ (row : DiskRow) (there : In row (rows_in this.setting this.w)) (has : has_map cell.map row ≡ true) where
+      plain_chosen : IsPlainState this.setting.servers chosen
+      plain_chosen = plain_now this.setting this.w firm
+
+      disks : AreDisks chosen
+      disks = disks_now this.setting this.w firm
+
+      pub named : cell ≡ named_cell row cell.block
+      named = cell_named this.setting.servers chosen plain_chosen disks row there cell has now_low now_high
+
+      pub entry_is : (e : ℕ) → entry_of chosen (counted this.setting this.w) (named_cell row cell.block) e ≡ entry_at (chain_in own.store.chains cell) e
+      entry_is e = ap (λ (c : Cell). entry_of chosen (counted this.setting this.w) c e) (sym named) ∙ counts.entry e
+
+      pub some_is : is_some (authority chosen (named_cell row cell.block)) ≡ true
+      some_is = ap (λ (c : Cell). is_some (authority chosen c)) (sym named) ∙ counts.some
+
+      -- an entry of the cell is the block's, also between two maps
+      pub shown_entry : (e : ℕ) (x : Stored) → entry_at (chain_in own.store.chains cell) e ≡ Some x
+          → (was_has this row e cell.block ≡ true) × (was_kept this row e cell.block ≡ x.bytes)
+      shown_entry e x is = (
+        has_content_is this.setting this.w firm row there e cell.block
+            ∙ (λ i. has_over (is_between row cell.block) (some_is i) ((entry_is e ∙ is) i) (is_some (this.w.frozen (old_cell row cell.block))))
+            ∙ over_has (is_between row cell.block) (is_some (this.w.frozen (old_cell row cell.block))),
+        content_is this.setting this.w firm row there e cell.block
+            ∙ ap (λ o. bytes_of (entry_over (is_between row cell.block) o (entry_before this.w (old_cell row cell.block) e))) (entry_is e ∙ is)
+            ∙ over_first (is_between row cell.block) (entry_before this.w (old_cell row cell.block) e),
+      )
+        where
+          over_has : (between frozen : Bool) → has_over between true (Some x) frozen ≡ true
+          over_has true frozen = refl
+          over_has false frozen = refl
+
+          over_first : (between : Bool) (below : Option Stored) → bytes_of (entry_over between (Some x) below) ≡ x.bytes
+          over_first true below = refl
+          over_first false below = refl
+
+      -- where it is not on its way, so is that there is none
+      pub shown_none : is_between row cell.block ≡ false → (e : ℕ)
+          → (was_has this row e cell.block ≡ true) × (was_kept this row e cell.block ≡ bytes_of (entry_at (chain_in own.store.chains cell) e))
+      shown_none apart e = (
+        has_content_is this.setting this.w firm row there e cell.block
+            ∙ (λ i. has_over (apart i) (some_is i) (entry_of chosen (counted this.setting this.w) (named_cell row cell.block) e)
+            (is_some (this.w.frozen (old_cell row cell.block)))),
+        content_is this.setting this.w firm row there e cell.block
+            ∙ (λ i. bytes_of (entry_over (apart i) (entry_is e i) (entry_before this.w (old_cell row cell.block) e))),
+      )
+
+      shown_by : (e : ℕ) (o : Option Stored) → entry_at (chain_in own.store.chains cell) e ≡ o → (o ≡ None → coming own_state cell ≡ false)
+          → (was_has this row e cell.block ≡ true) × (was_kept this row e cell.block ≡ bytes_of (entry_at (chain_in own.store.chains cell) e))
+      shown_by e (Some x) is none = (let k = shown_entry e x is in (k.0, k.1 ∙ sym (ap bytes_of is)))
+      shown_by e None is none = shown_none (by_bool (is_between row cell.block)
+          (λ t.
+          let one : stage_at chosen cell ≡ 1 = ap (stage_at chosen) named ∙ named_comes this.setting.servers chosen plain_chosen disks row there cell.block t in
+          let up = (own_below this.setting this.w firm this.n).stages cell in
+          let low = own_low in
+          true_false (own_facts.came (omega arith)) (none refl))
+          (λ f. f)) e
+
+      pub shown : (e : ℕ) → (entry_at (chain_in own.store.chains cell) e ≡ None → coming own_state cell ≡ false)
+          → (was_has this row e cell.block ≡ true) × (was_kept this row e cell.block ≡ data_of cell e)
+      shown e none = shown_by e (entry_at (chain_in own.store.chains cell) e) refl (λ is. none is)
+
+  -- ### The answer to a read
+
+  -- where the contents are as before, the machine has what the server shows
+  module _ (cell : Cell) (r : IsReading cell) (client seq epoch : ℕ) (k : IsKnownRead this.setting this.w this.n client seq cell epoch) where
+    abbrev pub of : IsOfDisk this.setting this.w this.along.firm (this.w.servers this.n).log.applied (this.along.firm.servers this.n) lines client seq k.told cell epoch
+        k.read
+    of = of_disk this.setting this.w this.along.firm (this.w.servers this.n).log.applied (this.along.firm.servers this.n) lines client seq k.told cell epoch k.read
+
+    now_disk : HasDisk this.setting.servers chosen (plain_now this.setting this.w this.along.firm) (disks_now this.setting this.w this.along.firm) cell
+    now_disk = disk_here this.setting.servers chosen (plain_now this.setting this.w this.along.firm) (disks_now this.setting this.w this.along.firm) cell
+        (now_low cell r) (let high = now_high cell r in omega arith)
+
+    row_is : now_disk.row ≡ of.row
+    row_is = same_disk this.setting this.w this.along.firm (this.w.servers this.n).log.applied (this.along.firm.servers this.n) lines client seq k.told cell
+        epoch k.read of cell of.has now_disk
+
+    pub row_has : has_map cell.map of.row ≡ true
+    row_has = ap (λ (x : DiskRow). has_map cell.map x) (sym row_is) ∙ now_disk.has
+
+    -- at an epoch above that of the disk by the server's own state a chain has the same entry
+    pub same_chain : (other : Cell) → has_map other.map of.was ≡ true → (chain : Chain) → AreUpTo chain (epoch_at own_state other) → (e : ℕ)
+        → IsAskedAt epoch k.read.snap e → entry_at chain e ≡ entry_at chain epoch
+    same_chain other has chain up e (inl same) = ap (entry_at chain) same
+    same_chain other has chain up e (inr h) =
+        let at_own = own_epoch this.setting this.w this.along.firm (this.w.servers this.n).log.applied (this.along.firm.servers this.n) lines client seq k.told
+        cell epoch k.read of other has h.0 in
+        entry_later chain epoch e (subst (AreUpTo chain) at_own up) h.1
+
+    pub same_above : (e : ℕ) → IsAskedAt epoch k.read.snap e → entry_at (chain_in own.store.chains cell) e ≡ entry_at (chain_in own.store.chains cell) epoch
+    same_above = same_chain cell of.has (chain_in own.store.chains cell)
+        (own_up_to this.setting this.state this.w this.along.firm this.ground this.n cell r.runs r.seat)
+
+    pub read_content : (there : entry_at (chain_in own.store.chains cell) epoch ≡ None → coming own_state cell ≡ false) → (e : ℕ) → IsAskedAt epoch k.read.snap e
+        → (was_has this of.row e k.read.block ≡ true) × (was_kept this of.row e k.read.block ≡ data_of cell epoch)
+    read_content there e asked =
+        let same = same_above e asked in
+        let x = shown cell r of.row of.there row_has e (λ none. there (sym same ∙ none)) in
+        subst (λ b. (was_has this of.row e b ≡ true) × (was_kept this of.row e b ≡ data_of cell epoch)) of.block_is
+        (x.0, x.1 ∙ ap bytes_of same)
+
+  -- the contents after the step are those before it
+  abbrev pub AreCalm : Type 0
+  AreCalm = (row : DiskRow) → In row (rows_in this.setting this.w) → (b epoch : ℕ)
+      → (was_has this row epoch b ≡ now_has this row epoch b) × (was_kept this row epoch b ≡ now_kept this row epoch b)
+
+  -- the machine has a block's content, where it is this before the step
+  pub look_may : chosen_log this.setting (later_world this) ≡ chosen_log this.setting this.w → AreCalm
+      → (k : Plain) → Follow this.setting (rows_in this.setting (later_world this)) (later_world this) k
+      → (row : DiskRow) → In row (rows_in this.setting this.w) → (epoch block : ℕ) (bytes : List ℕ) (snap : Option (List ℕ)) → AsksFor row epoch snap
+      → ((e : ℕ) → IsAskedAt epoch snap e → (was_has this row e block ≡ true) × (was_kept this row e block ≡ bytes))
+      → MayLook k.disks row.name snap block bytes
+  look_may same calm k following row there epoch block bytes snap asks so =
+      let there_now : In row (rows_in this.setting (later_world this)) =
+      subst (λ (log : List Command). In row (state_after this.setting.servers log).disks.rows) (sym same) there in
+      may_look k.disks row (now_has this row) (now_kept this row) (following.stores.known row there_now) epoch block bytes snap asks (λ e asked.
+      let was = so e asked in
+      let c = calm row there block e in
+      (sym c.0 ∙ was.0, sym c.1 ∙ was.1))
 
   -- a server's answer to a read, which is all that the step sends
   pub show_told : (numbered : (one other : Line) → In one lines → In other lines → one.number ≡ other.number → one ≡ other)
       → (this.w.servers this.n).life.running ≡ true → (client seq : ℕ) (cell : Cell) (epoch : ℕ)
-      → Handled this.w this.n (body.Read client seq cell epoch) → is_in own_state this.n (this.w.servers this.n).life.inc ≡ true
-      → readable own_state this.n cell ≡ true → (is_lead own_state this.n cell ≡ true → at cell_cmp own.pairs.pending cell ≡ None)
+      → IsReadable (Handled this.w this.n) (own_place this.setting this.w this.n) own client seq cell epoch
+      → (entry_at (chain_in own.store.chains cell) epoch ≡ None → coming own_state cell ≡ false)
+      → (is_lead own_state this.n cell ≡ true → at cell_cmp own.pairs.pending cell ≡ None)
       → (letter : Letter) → letters this ≡ letter ∷ [] → letter.to ≡ actor.Client client → letter.body ≡ body.Data seq (data_of cell epoch)
-      → chosen_log this.setting (later_world this) ≡ chosen_log this.setting this.w
-      → ((row : DiskRow) (b epoch : ℕ) → was_kept this row epoch b ≡ now_kept this row epoch b)
+      → chosen_log this.setting (later_world this) ≡ chosen_log this.setting this.w → AreCalm
       → ((number : ℕ) → accepted this.later letter ≡ Some number → Accepts lines letter seq number)
       → LooksTold this
-  unfolding In
-  show_told numbered runs client seq cell epoch h seat r none letter all to says same calm accepts k following =
+  show_told numbered runs client seq cell epoch readable there none letter all to says same calm accepts k following =
       let bytes = data_of cell epoch in
       let v = later_world this in
-      let known : ReadKnown this.setting (seen this.ground.lives this.w) client seq cell epoch h.letter.rev =
-      subst (λ (b : Body). Known this.setting this.state (seen this.ground.lives this.w) h.letter.from h.letter.to h.letter.rev b) h.is
-      (this.ground.asking.letters h.letter h.sent) in
-      let firm = this.along.firm in
-      let front : known.at.front ≡ (this.w.servers this.n).log.applied =
-      one_front known.at.front (this.w.servers this.n).log.applied top (front_on known.at.front _ top known.at.lies (firm.clients client))
-      (firm.servers this.n) (known.at.long ∙ h.at) in
-      let read : IsRead own_state lines client seq cell epoch =
-      subst (λ (log : List Command). IsRead (state_after this.setting.servers log) lines client seq cell epoch) front known.read in
-      let shown = show_looks numbered client seq cell epoch letter bytes read to accepts in
-      let there_now : In shown.row (rows_in this.setting v) =
-      subst (λ (log : List Command). In shown.row (state_after this.setting.servers log).disks.rows) (sym same) shown.there in
-      let there : now_has this shown.row shown.block ≡ true =
-      ap (λ log. is_some (authority (state_after this.setting.servers log) (cell_of_block shown.row shown.block))) same
-      ∙ ap (λ (c : Cell). is_some (authority chosen c)) (sym shown.at_block) ∙ read_has runs seat cell r in
-      let may : MayLook k.disks shown.row.name shown.snap shown.block bytes =
-      may_look runs seat cell epoch r none shown.row shown.block shown.at_block k.disks (now_kept this) (now_has this) there (calm shown.row shown.block)
-      (following.stores.known shown.row there_now) shown.snap shown.asks in
-      subst (λ ls. Looked k (looks lines this.later ls)) (sym all)
-      (subst (λ (b : Body). Looked k (look_of lines this.later letter b ++ [])) (sym says)
-      (looked k shown.row.name shown.snap shown.block bytes may following.stores.mindful (look_for lines (accepted this.later letter) bytes ++ [])
-      (λ e i. elim (in-append e (look_for lines (accepted this.later letter) bytes) [] i) [ inl j ↦ shown.all e j | inr j ↦ absurd j ])))
+      let old_is = reads_old_is this.setting this.state this.w this.along.firm this.ground this.n client seq cell epoch readable.asked in
+      let looks_for = look_for lines (accepted this.later letter) bytes in
+      subst (λ ls. Looked k (flat_map (look_here this) ls)) (sym all)
+      (subst (λ (b : Body). Looked k (look_of this.setting this.w v (actor.Server this.n) this.later letter b ++ [])) (sym says)
+      (by_bool (leaving own_state cell)
+      (λ t. subst (λ es. Looked k (es ++ [])) (sym (ap (λ b. if b then [] else looks_for) (old_is ∙ t)))
+      (nothing_looked this k following))
+      (λ f.
+      let r : IsReading cell = record { runs = runs; seat = readable.seated; may = readable.readable; unheld = readable.unheld; idle = none; stays = f } in
+      let known = known_read this.setting this.state this.w this.along.firm this.ground this.n client seq cell epoch readable.asked in
+      let o = of cell r client seq epoch known in
+      let may = look_may same calm k following o.row o.there epoch known.read.block bytes known.read.snap o.asks (read_content cell r client seq epoch known there) in
+      subst (λ es. Looked k (es ++ [])) (sym (ap (λ b. if b then [] else looks_for) (old_is ∙ f)))
+      (all_looked k o.row.name known.read.snap known.read.block bytes may following.stores.mindful looks_for
+      (letter_looks lines numbered letter seq client o.row.name known.read.snap known.read.block bytes known.read.line to known.read.is
+      (known.read.asks ∙ λ i. request.Read (sym o.name_is i) known.read.snap known.read.block) (accepted this.later letter) accepts)))))

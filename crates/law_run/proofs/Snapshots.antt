@@ -19,24 +19,23 @@ use Rattle.law_run.proofs.Machine.{after_mindful, disks_after, onward_by, onward
 -- ### What they are
 
 -- the same, where fewer blocks have a content, and those at the snapshots' epochs are the same
-pub snapshots_on : (taken : List machine.Snapshot) (snaps : List Snapshot) (has later : ℕ → Bool) (from to : (epoch block : ℕ) → List ℕ)
-    → ((b : ℕ) → later b ≡ true → has b ≡ true)
-    → ((snap : Snapshot) → In snap snaps → (b : ℕ) → later b ≡ true → from snap.epoch b ≡ to snap.epoch b)
+pub snapshots_on : (taken : List machine.Snapshot) (snaps : List Snapshot) (has later : (epoch block : ℕ) → Bool) (from to : (epoch block : ℕ) → List ℕ)
+    → ((snap : Snapshot) → In snap snaps → (b : ℕ) → later snap.epoch b ≡ true → (has snap.epoch b ≡ true) × (from snap.epoch b ≡ to snap.epoch b))
     → AreSnapshots taken snaps has from → AreSnapshots taken snaps later to
 unfolding In
-snapshots_on [] [] has later from to back same a = tt
-snapshots_on (t ∷ ts) (s ∷ ss) has later from to back same a = (
+snapshots_on [] [] has later from to same a = tt
+snapshots_on (t ∷ ts) (s ∷ ss) has later from to same a = (
   a.0,
-  λ b h. a.1 b (back b h) ∙ same s (inl refl) b h,
-  snapshots_on ts ss has later from to back (λ x i. same x (inr i)) a.2,
+  λ b h. let k = same s (inl refl) b h in a.1 b k.0 ∙ k.1,
+  snapshots_on ts ss has later from to (λ x i. same x (inr i)) a.2,
 )
-snapshots_on [] (s ∷ ss) has later from to back same a = absurd a
-snapshots_on (t ∷ ts) [] has later from to back same a = absurd a
+snapshots_on [] (s ∷ ss) has later from to same a = absurd a
+snapshots_on (t ∷ ts) [] has later from to same a = absurd a
 
-module _ (has : ℕ → Bool) (contents : (epoch block : ℕ) → List ℕ) where
+module _ (has : (epoch block : ℕ) → Bool) (contents : (epoch block : ℕ) → List ℕ) where
   -- the machine's snapshot is this one
   abbrev pub IsTaken : machine.Snapshot → Snapshot → Type 0
-  IsTaken taken snap = (taken.name ≡ snap.name) × ((b : ℕ) → has b ≡ true → content taken.blocks b ≡ contents snap.epoch b)
+  IsTaken taken snap = (taken.name ≡ snap.name) × ((b : ℕ) → has snap.epoch b ≡ true → content taken.blocks b ≡ contents snap.epoch b)
 
   snapshots_more : (taken : List machine.Snapshot) (snaps : List Snapshot) (t : machine.Snapshot) (s : Snapshot) → AreSnapshots taken snaps has contents
       → IsTaken t s → AreSnapshots (taken ++ t ∷ []) (snaps ++ s ∷ []) has contents
@@ -98,7 +97,7 @@ AreNext done [] = Unit {0}
 AreNext done (snap ∷ more) = (snap.epoch ≡ length done) × ((other : Snapshot) → In other done → other.name ≢ snap.name) × AreNext (done ++ snap ∷ []) more
 
 -- the machine after snapshots of the disk were taken, so that it has these
-pub record Frozen (row : DiskRow) (has : ℕ → Bool) (contents : (epoch block : ℕ) → List ℕ) (m : Plain) (es : List Event) (snaps : List Snapshot) : Type 0 where
+pub record Frozen (row : DiskRow) (has : (epoch block : ℕ) → Bool) (contents : (epoch block : ℕ) → List ℕ) (m : Plain) (es : List Event) (snaps : List Snapshot) : Type 0 where
   pub may : Obeys m es
   pub known : Holds (replay m es).disks (as_of row snaps) has contents
   pub others : (name : List ℕ) → name ≢ row.name → disk_of (replay m es).disks name ≡ disk_of m.disks name
@@ -106,8 +105,8 @@ pub record Frozen (row : DiskRow) (has : ℕ → Bool) (contents : (epoch block 
   pub onward : Onward m (replay m es)
 
 -- contents at epochs from one on are the same
-module _ (row : DiskRow) (has : ℕ → Bool) (contents : (epoch block : ℕ) → List ℕ) (from : ℕ)
-    (still : (epoch b : ℕ) → from ≤ epoch → has b ≡ true → contents epoch b ≡ contents from b) where
+module _ (row : DiskRow) (has : (epoch block : ℕ) → Bool) (contents : (epoch block : ℕ) → List ℕ) (from : ℕ)
+    (still : (epoch b : ℕ) → from ≤ epoch → (has epoch b ≡ has from b) × (contents epoch b ≡ contents from b)) where
   module _ (m : Plain) (done : List Snapshot) (snap : Snapshot) (low : from ≤ length done) (epoch : snap.epoch ≡ length done)
       (h : Holds m.disks (as_of row done) has contents) where
     abbrev event : Event
@@ -119,9 +118,11 @@ module _ (row : DiskRow) (has : ℕ → Bool) (contents : (epoch block : ℕ) �
       is = ap (λ ds. disk_of ds row.name) (disks_after m event) ∙ with_same m.disks row.name (frozen snap.name) h.disk (λ d. refl) h.is;
       same = λ b there.
           let long : length (done ++ snap ∷ []) ≡ length done + 1 = length-append done (snap ∷ []) in
-          h.same b there ∙ still (length done) b low there ∙ sym (still (length (done ++ snap ∷ [])) b (omega arith) there);
+          let was = still (length done) b low in
+          let now = still (length (done ++ snap ∷ [])) b (omega arith) in
+          h.same b (was.0 ∙ sym now.0 ∙ there) ∙ was.1 ∙ sym now.1;
       snapshots = snapshots_more has contents h.disk.snaps done (record { name = snap.name; blocks = h.disk.now }) snap h.snapshots
-          (refl, λ b there. h.same b there ∙ ap (λ e. contents e b) (sym epoch));
+          (refl, λ b there. h.same b (ap (λ e. has e b) (sym epoch) ∙ there) ∙ ap (λ e. contents e b) (sym epoch));
     }
 
     freeze_others : (name : List ℕ) → name ≢ row.name → disk_of (after m event).disks name ≡ disk_of m.disks name

@@ -1,6 +1,9 @@
 -- What the machine is told of a server's step: takes, disks that are made, snapshots that are taken, and looks.
-use Rattle.std.proofs.Common.{◌≡◌, ◌≢◌, ◌<◌, ℕ, List, [], ◌++◌, ◌∷◌, false, Option, Some, None, refl, sym, ap, ◌∙◌, subst, inl, inr}
-use Rattle.petal_base.specs.Block.{zero_block}
+use Rattle.std.proofs.Common.{◌≡◌, ◌≢◌, ◌≤◌, ◌<◌, ◌&&◌, not, ℕ, Bool, List, [], ◌++◌, ◌∷◌, true, false, Option, Some, None, refl, sym, ap, ◌∙◌, subst, inl, inr, arith}
+use Rattle.std.specs.Prelude.{if◌then◌else◌, option_map}
+use Rattle.std.specs.List.{flat_map}
+use Rattle.std.specs.Cmp.{nat_cmp_total}
+use Rattle.petal_msg.specs.declared.letter.Actor.TheVariants as actor
 use Rattle.petal_base.specs.declared.cell.Cell.{Cell}
 use Rattle.global_tables.specs.declared.disk.DiskRow.{DiskRow}
 use Rattle.petal_machine.specs.declared.event.Event.{Event}
@@ -8,40 +11,41 @@ use Rattle.petal_machine.specs.Machine.{Plain}
 use Rattle.petal_machine.specs.Run.{Obeys, replay}
 use Rattle.petal_msg.specs.declared.letter.Letter.{Letter}
 use Rattle.petal_command.specs.declared.command.Command.{Command}
-use Rattle.petal_state.specs.CellState.{cell_link}
 use Rattle.petal_state.specs.Command.{state_after}
-use Rattle.petal_rules.specs.Blanked.{BeforeBlank, kept_store}
+use Rattle.petal_rules.specs.Blanked.{kept_store}
 use Rattle.petal_rules.specs.Lists.{In}
 use Rattle.petal_rules.specs.Log.{Log, state_in}
-use Rattle.petal_rules.specs.State.{State}
-use Rattle.petal_rules.specs.Store.{Store, chain_in, entry_at, bytes_of}
+use Rattle.petal_rules.specs.State.{State, authority, leaving}
+use Rattle.petal_rules.specs.Store.{Chain, Store, chain_in, entry_at}
 use Rattle.petal_rules.specs.Server.{Server, Own, Done}
 use Rattle.petal_rules.specs.Jobs.{Acted}
-use Rattle.petal_rules.specs.World.{Setting, World, acts, before_blanks, blank_joins_in, counted, counted_by, kept, kept_by, stamped, server_state, chosen_log, chosen_state}
+use Rattle.petal_rules.specs.World.{Setting, World, acts, before_blanks, begins_to_leave, blank_joins_in, chain_that_counts, counted, counted_by, kept, kept_by, stamped, server_state, chosen_log, chosen_state}
 use Rattle.petal_rules.specs.declared.step.Step.{Step}
 use Rattle.petal_rules.proofs.ListLemmas.{put_same, put_apart}
-use Rattle.petal_rules.proofs.Tests.{all_put, none_some, same_or_apart, some_or_none}
+use Rattle.petal_rules.proofs.Tests.{all_put, by_test, none_some, same_or_apart, same_some}
 use Rattle.petal_history.specs.Claims.{IsPrefix}
-use Rattle.petal_history.specs.Contents.{content_by}
-use Rattle.petal_history.specs.Events.{change_by, freezes, takes, makes, looks, look_of, told_with}
+use Rattle.petal_history.specs.Contents.{entry_by}
+use Rattle.petal_history.specs.Events.{change_by, freezes, takes, makes, look_of, told_with}
 use Rattle.petal_history.specs.declared.record.Record.{Record}
 use Rattle.law_state.specs.Below.{IsBelow}
 use Rattle.law_state.specs.Firm.{Firm}
+use Rattle.law_state.specs.Homes.{epoch_at, stage_at}
 use Rattle.law_state.specs.Tables.{IsGrown}
-use Rattle.law_state.proofs.Steady.{front_plain, log_below}
-use Rattle.law_steps.specs.Ready.{Rests}
+use Rattle.law_state.proofs.Steady.{log_below}
 use Rattle.law_steps.specs.Happens.{Worked, By_job, By_ballot, By_entry, Serving, Goes, Ends, Stays, Wakes, Fails}
 use Rattle.law_steps.proofs.Fronts.{front_itself, front_same}
+use Rattle.law_steps.proofs.Tables.{at_row}
 use Rattle.law_steps.specs.Waking.{AllMayWake}
 use Rattle.law_stores.specs.Waiting.{IsOwn}
-use Rattle.law_copies.specs.Good.{Good, store_of}
+use Rattle.law_copies.specs.Good.{Good}
 use Rattle.law_copies.specs.Pair.{owns_of}
 use Rattle.law_copies.specs.Visits.{Visits}
-use Rattle.law_run.specs.Follow.{Ground, HasOnlyKnown, Follow, OfStores}
+use Rattle.law_epochs.specs.Early.{AreEarly}
+use Rattle.law_run.specs.Follow.{Ground, Follow}
 use Rattle.law_run.proofs.Along.{Along, rows_in}
-use Rattle.law_run.proofs.Born.{serves_born}
-use Rattle.law_run.proofs.Counted.{of_stores, same_kept}
-use Rattle.law_run.proofs.Looks.{Looked, is_data, no_look}
+use Rattle.law_run.proofs.Counted.{of_kept, same_kept, frozen_stays}
+use Rattle.law_run.proofs.Entries.{AreUpTo}
+use Rattle.law_run.proofs.Looks.{Looked, is_looked, no_look}
 use Rattle.law_run.proofs.Machine.{onward_itself}
 use Rattle.law_run.proofs.Members.{all_empty}
 
@@ -74,23 +78,10 @@ pub record ServerStep : Type 0 where
   pub middle : IsMiddle setting w (acts setting w n what stamp acted).world onward.records onward.good.visits
   pub later : List Record
 
--- where no server has an entry there are zeros
-pub zero_content : (v : World) (cell : Cell) → ((k : ℕ) → chain_in (store_of v k).chains cell ≡ []) → (epoch : ℕ) (o : Option ℕ)
-    → content_by v cell epoch o ≡ zero_block
-zero_content v cell empty epoch None = refl
-zero_content v cell empty epoch (Some k) = ap (λ c. bytes_of (entry_at c epoch)) (empty k)
-
 -- a server's own state is below what is chosen, where its entries are
 pub below_at : (setting : Setting) (w : World) → Firm setting w → (front : List Command) → IsPrefix front (chosen_log setting w)
     → IsBelow (state_after setting.servers front) (chosen_state setting w)
 below_at setting w firm front prefix = log_below setting.servers front (chosen_log setting w) firm.plain prefix
-
--- a cell that has no link later had none before
-none_below : (one other : State) (cell : Cell) → IsBelow one other → cell_link other cell ≡ None → cell_link one cell ≡ None
-none_below one other cell below none = elim (some_or_none (cell_link one cell)) [
-  | inl h ↦ none_some none (below.rows cell h.0 h.1).is
-  | inr gone ↦ gone
-]
 
 -- the entries that a server has applied stay
 worked_grows : (setting : Setting) (w : World) (n : ℕ) (log : Log) (done : Done) → Worked setting w n log done → IsPrefix (w.servers n).log.applied log.applied
@@ -122,31 +113,6 @@ serves_within setting w wake firm n what _ (Ends log done runs worked) = worked_
 serves_within setting w wake firm n what _ (Stays who posts from shown) = firm.servers n
 serves_within setting w wake firm n what _ (Wakes booted asleep) = (wake n).chosen
 serves_within setting w wake firm n what _ (Fails booted asleep) = firm.servers n
-
--- what a server stores is of disks that it knows
-pub born_kept : (setting : Setting) (w : World) → AllMayWake setting w → Firm setting w → Rests setting w → OfStores w (HasOnlyKnown setting w)
-    → (n stamp : ℕ) (what : Step) (acted : Acted) → before_blanks what setting w n ≡ w.before_blank → Serving setting w n what acted
-    → Firm setting (acts setting w n what stamp acted).world
-    → OfStores (acts setting w n what stamp acted).world (HasOnlyKnown setting (acts setting w n what stamp acted).world)
-born_kept setting w wake firm rests born n stamp what acted unblanked serving later =
-    let v = (acts setting w n what stamp acted).world in
-    let front : IsPrefix acted.server.log.applied (chosen_log setting v) =
-    subst (λ (x : Server). IsPrefix x.log.applied (chosen_log setting v)) (put_same w.servers n acted.server) (later.servers n) in
-    let below : IsBelow (server_state setting w n) (state_in setting.servers acted.server.log) =
-    log_below setting.servers _ _ (front_plain setting.servers _ _ later.plain front) (serves_grow setting w wake n what acted serving) in
-    record {
-      now = all_put w.servers n acted.server
-          (λ k (x : Server). (cell : Cell) → cell_link (state_in setting.servers x.log) cell ≡ None → chain_in x.own.store.chains cell ≡ [])
-          born.now
-          (λ cell none.
-          let before = none_below _ _ cell below none in
-          serves_born setting w firm rests n what acted serving cell before ∙ born.now n cell before);
-      before = all_put w.servers n acted.server
-          (λ k (x : Server). (b : BeforeBlank) → before_blanks what setting w n k ≡ Some b → (cell : Cell)
-          → cell_link (state_in setting.servers x.log) cell ≡ None → chain_in b.store.chains cell ≡ [])
-          (λ k b is. born.before k b (ap (λ f. f k) (sym unblanked) ∙ is))
-          (λ b is cell none. born.before n b (ap (λ f. f n) (sym unblanked) ∙ is) cell (none_below _ _ cell below none));
-    }
 
 module _ (this : ServerStep) where
   abbrev setting : Setting
@@ -187,11 +153,46 @@ module _ (this : ServerStep) where
   logs_within = all_put this.w.servers this.n this.acted.server (λ i (x : Server). IsPrefix x.log.applied (chosen_log this.setting this.w))
       this.along.firm.servers (serves_within this.setting this.w this.ground.wake this.along.firm this.n this.what this.acted this.serving)
 
-  -- nothing is stored of disks that were not chosen before the step
-  pub unput : (cell : Cell) → cell_link (chosen_state this.setting this.w) cell ≡ None → (i : ℕ) → chain_in (kept this.setting v i).chains cell ≡ []
-  unput cell none i =
-      of_stores this.setting v (HasOnlyKnown this.setting v) this.onward.born i cell
-      (none_below _ _ cell (below_at this.setting this.w this.along.firm _ (logs_within i)) none)
+  -- nothing is stored of cells that were not live before the step, by what was chosen
+  early_kept : (i : ℕ) → AreEarly this.setting.servers (v.servers i).log.applied (kept this.setting v i)
+  early_kept i = of_kept (AreEarly this.setting.servers (v.servers i).log.applied) _ (v.before_blank i) (owns_of v i).store
+      (this.onward.epochs.early.now i) (this.onward.epochs.early.before i)
+
+  pub unput : (cell : Cell) → stage_at (chosen_state this.setting this.w) cell ≡ 0 → (i : ℕ) → chain_in (kept this.setting v i).chains cell ≡ []
+  unput cell none i = by (chain_in (kept this.setting v i).chains cell) refl
+    where
+      by : (chain : Chain) → chain_in (kept this.setting v i).chains cell ≡ chain → chain ≡ []
+      by [] e = refl
+      by (row ∷ rows) e =
+          let low = (early_kept i).lived cell (λ f. let g : row ∷ rows ≡ [] = sym e ∙ f in absurd cc) in
+          let up = (below_at this.setting this.w this.along.firm _ (logs_within i)).stages cell in
+          absurd (omega arith)
+
+  -- and no entry is of an epoch that the cell's disk had not
+  pub unput_above : (cell : Cell) (i : ℕ) → AreUpTo (chain_in (kept this.setting v i).chains cell) (epoch_at (chosen_state this.setting this.w) cell)
+  unput_above cell i row there =
+      let known = (early_kept i).known cell row.0 row.1
+      (at_row nat_cmp_total (chain_in (kept this.setting v i).chains cell) row (this.onward.good.rising i cell) there) in
+      let up = (below_at this.setting this.w this.along.firm _ (logs_within i)).epochs cell in
+      omega arith
+
+  -- nor was anything frozen of such an epoch, or of a cell that was not live before the step
+  from_frozen : (So : Chain → Type 0) (cell : Cell) → ((chain : Chain) → this.w.frozen cell ≡ Some chain → So chain)
+      → ((i : ℕ) → So (chain_in (kept this.setting v i).chains cell)) → (chain : Chain) → v.frozen cell ≡ Some chain → So chain
+  from_frozen So cell old new chain = by_test (λ (o : Option Chain). o ≡ Some chain → So chain) (begins_to_leave this.setting this.w v cell)
+      (chain_that_counts this.setting v cell) (this.w.frozen cell) (λ t. counted_by_one (authority (chosen_state this.setting v) cell)) (λ f. old chain)
+    where
+      counted_by_one : (o : Option ℕ) → option_map (λ i. chain_in (kept this.setting v i).chains cell) o ≡ Some chain → So chain
+      counted_by_one None e = none_some refl e
+      counted_by_one (Some i) e = subst So (same_some e) (new i)
+
+  pub frozen_early : (cell : Cell) (chain : Chain) → v.frozen cell ≡ Some chain → AreUpTo chain (epoch_at (chosen_state this.setting this.w) cell)
+  frozen_early cell = from_frozen (λ chain. AreUpTo chain (epoch_at (chosen_state this.setting this.w) cell)) cell
+      (λ chain is. (this.ground.moves.frozen cell chain is).early) (λ i. unput_above cell i)
+
+  pub frozen_empty : (cell : Cell) → stage_at (chosen_state this.setting this.w) cell ≡ 0 → (chain : Chain) → v.frozen cell ≡ Some chain → chain ≡ []
+  frozen_empty cell zero = from_frozen (λ chain. chain ≡ []) cell
+      (λ chain is. let left = (this.ground.moves.frozen cell chain is).left in absurd (omega arith)) (λ i. unput cell zero i)
 
   -- ### Stores that count
 
@@ -250,35 +251,45 @@ module _ (this : ServerStep) where
     pub may : Obeys this.m es
     pub follows : Follow this.setting rows v (replay this.m es)
 
-  -- what is told of data that are sent, to a machine that has the disks
+  -- what is told of reads that are answered, and of those that were told that the new map has nothing
+  abbrev pub look_here : Letter → List Event
+  look_here letter = look_of this.setting this.w v (actor.Server this.n) this.later letter letter.body
+
+  abbrev pub looks_here : List Event
+  looks_here = flat_map look_here letters
+
+  -- it is so of a machine that has the disks
   abbrev pub LooksTold : Type 0
-  LooksTold = (k : Plain) → Follow this.setting (rows_in this.setting v) v k → Looked k (looks this.setting.lines this.later letters)
+  LooksTold = (k : Plain) → Follow this.setting (rows_in this.setting v) v k → Looked k looks_here
 
   -- what is told of the step
   pub record ServerTold : Type 0 where
     pub es : List Event
     pub is : told_with [] (takes (change_by this.setting this.w v))
-        (makes (change_by this.setting this.w v) ++ freezes (change_by this.setting this.w v) ++ looks this.setting.lines this.later letters ++ [])
+        (makes (change_by this.setting this.w v) ++ freezes (change_by this.setting this.w v) ++ looks_here ++ [])
         ≡ Some es
     pub may : Obeys this.m es
     pub follows : Follow this.setting (rows_in this.setting v) v (replay this.m es)
 
-  -- where no data are sent, nothing is looked at
-  pub quiet_looks : ((letter : Letter) → In letter letters → is_data letter.body ≡ false) → LooksTold
+  -- where no read is answered, nothing is looked at
+  pub quiet_looks : ((letter : Letter) → In letter letters → is_looked letter.body ≡ false) → LooksTold
   quiet_looks quiet k following =
-      let none : looks this.setting.lines this.later letters ≡ [] =
-      all_empty (λ letter. look_of this.setting.lines this.later letter letter.body) letters
-      (λ letter h. no_look this.setting.lines this.later letter letter.body (quiet letter h)) in
+      let none : looks_here ≡ [] = all_empty look_here letters (λ letter h.
+      no_look this.setting this.w v (actor.Server this.n) this.later letter letter.body (quiet letter h)) in
       subst (Looked k) (sym none) (record { may = tt; disks = refl; mindful = following.stores.mindful; onward = onward_itself k })
 
-  -- the content of a cell that a step leaves at which nothing is chosen, where the same server's copy counts
-  pub same_content : chosen_log this.setting v ≡ chosen_log this.setting this.w → (cell : Cell) (epoch : ℕ) (o : Option ℕ)
+  -- the entry of a cell that a step leaves at which nothing is chosen, where the same server's copy counts
+  pub same_entry : chosen_log this.setting v ≡ chosen_log this.setting this.w → (cell : Cell) (epoch : ℕ) (o : Option ℕ)
       → (o ≡ Some this.n → chain_in (kept this.setting v this.n).chains cell ≡ chain_in (kept this.setting this.w this.n).chains cell)
-      → content_by (counted this.setting this.w) cell epoch o ≡ content_by (counted this.setting v) cell epoch o
-  same_content same cell epoch None h = refl
-  same_content same cell epoch (Some i) h = ap (λ c. bytes_of (entry_at c epoch)) (sym (elim (same_or_apart i this.n) [
+      → entry_by (counted this.setting this.w) cell epoch o ≡ entry_by (counted this.setting v) cell epoch o
+  same_entry same cell epoch None h = refl
+  same_entry same cell epoch (Some i) h = ap (λ c. entry_at c epoch) (sym (elim (same_or_apart i this.n) [
     | inl e ↦
         subst (λ j. chain_in (kept this.setting v j).chains cell ≡ chain_in (kept this.setting this.w j).chains cell) (sym e) (h (ap Some e))
     | inr ne ↦ ap (λ (s : Store). chain_in s.chains cell)
         (kept_other i ne (ap (λ log. blank_joins_in this.setting log i) same))
   ]))
+
+  -- what is frozen stays where nothing is chosen
+  pub frozen_same : chosen_log this.setting v ≡ chosen_log this.setting this.w → (cell : Cell) → v.frozen cell ≡ this.w.frozen cell
+  frozen_same same cell = frozen_stays this.setting this.w v same cell

@@ -1,5 +1,5 @@
 -- What the machine is told of contents that change.
-use Rattle.std.proofs.Common.{◌≡◌, ◌<◌, ◌==◌, ◌&&◌, not, Bool, ℕ, List, [], ◌∷◌, true, false, Option, Some, None, refl, sym, ap, ◌∙◌, subst, ◌⊎◌, inl, inr, arith}
+use Rattle.std.proofs.Common.{◌≡◌, ◌<◌, ◌==◌, ◌&&◌, ◌||◌, not, Bool, ℕ, List, [], ◌∷◌, true, false, Option, Some, None, refl, sym, ap, ◌∙◌, subst, ◌⊎◌, inl, inr, arith}
 use Rattle.std.specs.Prelude.{map}
 use Rattle.std.specs.List.{range_with_len, filter_map, flat_map}
 use Rattle.std.proofs.lemmas.Cmp.{nat_list_eq_equiv}
@@ -12,23 +12,35 @@ use Rattle.petal_machine.specs.declared.event.Write.{Write}
 use Rattle.petal_machine.specs.Machine.{same_bytes}
 use Rattle.script_lines.specs.declared.request.Request.{Request}
 use Rattle.script_lines.specs.declared.request.Request.TheVariants as request
-use Rattle.global_tables.specs.Disk.{disk_at}
 use Rattle.petal_rules.specs.Lists.{In}
 use Rattle.petal_rules.specs.Store.{Chain, cell_cmp}
 use Rattle.petal_rules.specs.Clients.{Asked}
 use Rattle.petal_rules.specs.World.{World}
 use Rattle.petal_rules.proofs.CellTables.{cell_cmp_same}
-use Rattle.petal_history.specs.Contents.{cell_of_block, has_content_where}
-use Rattle.petal_history.specs.Events.{Change, before_step, after_step, open_write, write_by, write_asked, blocks_of, blocks_in, changed_blocks, is_changed, writes_so, taker, taken, takes_on, takes, all_there, with_first}
+use Rattle.petal_history.specs.Events.{Change, before_step, after_step, had_content, has_content_next, open_write, write_by, write_asked, blocks_of, blocks_in, changed_blocks, is_changed, writes_so, taker, taken, takes_on, takes, all_there, with_first}
 use Rattle.petal_rules.proofs.Tests.{by_bool, true_false, both_true, same_numbers, number_itself, nat_lists_same, none_some, same_some}
 use Rattle.law_run.proofs.Members.{all_empty, into_map, of_map, into_flat_map, of_flat_map, into_range, into_filter, of_filter, none_pass, into_filter_map, of_filter_map, found_one, row_at, key_at, put_key}
 
 unlike : (xs ys : List ℕ) → xs ≡ ys → not (same_bytes xs ys) ≡ false
 unlike xs ys e = ap (λ zs. not (same_bytes xs zs)) (sym e) ∙ ap not (nat_list_eq_equiv.refl xs)
 
-and_not : (a b : Bool) → b ≡ false → (a && b) ≡ false
-and_not true b e = e
-and_not false b e = refl
+-- a block that has a content had this one
+same_there : (had : Bool) (xs ys : List ℕ) → had ≡ true → xs ≡ ys → (not had || not (same_bytes xs ys)) ≡ false
+same_there true xs ys e same = unlike xs ys same
+same_there false xs ys e same = true_false e refl
+
+and_when : (a b : Bool) → (a ≡ true → b ≡ false) → (a && b) ≡ false
+and_when true b f = f refl
+and_when false b f = refl
+
+-- else it had none, or another one
+had_same : (had : Bool) (xs ys : List ℕ) → (not had || not (same_bytes xs ys)) ≡ false → (had ≡ true) × (xs ≡ ys)
+had_same true xs ys e = (refl, nat_lists_same xs ys (was_true (same_bytes xs ys) e))
+  where
+    was_true : (b : Bool) → not b ≡ false → b ≡ true
+    was_true true e = refl
+    was_true false e = true_false refl e
+had_same false xs ys e = true_false refl e
 
 -- a client's open write is its own
 written_by : (client seq : ℕ) (asked : Request) (write : Write) → write_by client seq asked ≡ Some write → write.client ≡ client
@@ -66,22 +78,24 @@ module _ (change : Change) where
   abbrev rows : List DiskRow
   rows = change.chosen.disks.rows
 
-  -- the block has a content after the step
-  abbrev pub has_then : DiskRow → ℕ → Bool
-  has_then row = has_content_where change.chosen_next (disk_at change.chosen_next.disks.rows row.id)
+  -- the block had this content before the step
+  abbrev pub IsAsBefore : DiskRow → ℕ → Type 0
+  IsAsBefore row b = (had_content change row b ≡ true) × (before_step change row b ≡ after_step change row b)
 
   -- no content changes
-  pub no_takes : ((row : DiskRow) → In row rows → (b : ℕ) → before_step change row b ≡ after_step change row b) → takes change ≡ Some []
+  pub no_takes : ((row : DiskRow) → In row rows → (b : ℕ) → has_content_next change row b ≡ true → IsAsBefore row b) → takes change ≡ Some []
   no_takes same = ap all_there (all_empty (takes_on change) rows (λ row h.
       ap (map (λ b. taken (taker change.w row.name b (after_step change row b))))
-      (none_pass (is_changed change row) (blocks_in change.setting change.next) (λ b i. and_not _ _ (unlike _ _ (same row h b))))))
+      (none_pass (is_changed change row) (blocks_in change.setting change.next) (λ b i. and_when _ _ (λ has. let k = same row h b has in same_there _ _ _ k.0 k.1)))))
 
   -- a block of which a server has an entry is among those that are looked at
-  pub block_there : (n : ℕ) (row : DiskRow) (block : ℕ) (chain : Chain) → n < change.setting.servers
-      → at cell_cmp (change.next.servers n).own.store.chains (cell_of_block row block) ≡ Some chain → In block (blocks_in change.setting change.next)
-  block_there n row block chain lt is =
-      let found = row_at cell_cmp (change.next.servers n).own.store.chains (cell_of_block row block) chain is in
-      let same : cell_of_block row block ≡ found.0.0 = cell_cmp_same (cell_of_block row block) found.0.0 found.2 in
+  pub block_there : (n map block : ℕ) (chain : Chain) → n < change.setting.servers
+      → at cell_cmp (change.next.servers n).own.store.chains (record { map = map; block = block }) ≡ Some chain
+      → In block (blocks_in change.setting change.next)
+  block_there n map block chain lt is =
+      let cell : Cell = record { map = map; block = block } in
+      let found = row_at cell_cmp (change.next.servers n).own.store.chains cell chain is in
+      let same : cell ≡ found.0.0 = cell_cmp_same cell found.0.0 found.2 in
       let there : In block (blocks_of (change.next.servers n)) =
       subst (λ i. In i (blocks_of (change.next.servers n))) (ap (λ (c : Cell). c.block) (sym same))
       (into_map (λ row. row.0.block) (change.next.servers n).own.store.chains found.0 found.1) in
@@ -119,14 +133,13 @@ module _ (change : Change) where
     pub es : List Event
     pub told : takes change ≡ Some es
     pub each : (e : Event) → In e es → TakesOne e
-    pub all : (row : DiskRow) → In row rows → (b : ℕ) → has_then row b ≡ true
-        → (before_step change row b ≡ after_step change row b) ⊎ ((e : Event) × In e es × TakesIt row b e)
+    pub all : (row : DiskRow) → In row rows → (b : ℕ) → has_content_next change row b ≡ true
+        → IsAsBefore row b ⊎ ((e : Event) × In e es × TakesIt row b e)
 
   -- where a content that changes is that of a write under way
-  module _ (given : (row : DiskRow) → In row rows → (b : ℕ) → has_then row b ≡ true
-      → (before_step change row b ≡ after_step change row b) ⊎ Gives row b) where
+  module _ (given : (row : DiskRow) → In row rows → (b : ℕ) → has_content_next change row b ≡ true → IsAsBefore row b ⊎ Gives row b) where
     abbrev changes : DiskRow → ℕ → Bool
-    changes row b = not (same_bytes (before_step change row b) (after_step change row b))
+    changes row b = not (had_content change row b) || not (same_bytes (before_step change row b) (after_step change row b))
 
     abbrev told_of : DiskRow → ℕ → Option Event
     told_of row b = taken (taker change.w row.name b (after_step change row b))
@@ -159,8 +172,8 @@ module _ (change : Change) where
     -- of a block whose content changes
     told_changed : (row : DiskRow) → In row rows → (b : ℕ) → is_changed change row b ≡ true → Gives row b
     told_changed row h b changed =
-        let tests = both_true (has_then row b) (changes row b) changed in
-        elim (given row h b tests.0) [ inl same ↦ true_false tests.1 (unlike _ _ same) | inr g ↦ g ]
+        let tests = both_true (has_content_next change row b) (changes row b) changed in
+        elim (given row h b tests.0) [ inl same ↦ true_false tests.1 (same_there _ _ _ same.0 same.1) | inr g ↦ g ]
 
     -- each that is told of is so
     told_so : (x : Option Event) → In x (flat_map (takes_on change) rows) → (e : Event) × (x ≡ Some e) × TakesOne e
@@ -189,9 +202,5 @@ module _ (change : Change) where
               (into_map (told_of row) (changed_blocks change row) b
               (into_filter (is_changed change row) (blocks_in change.setting change.next) b g.looked changed)) in
               inr (one.0, there.on one.0 (subst (λ (x : Option Event). In x (flat_map (takes_on change) rows)) one.1 place), one.2))
-              (λ same. inl (nat_lists_same _ _ (unchanged _ same)));
+              (λ same. inl (had_same _ _ _ same));
         }
-      where
-        unchanged : (b : Bool) → not b ≡ false → b ≡ true
-        unchanged true e = refl
-        unchanged false e = true_false refl e

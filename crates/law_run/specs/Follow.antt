@@ -1,6 +1,7 @@
 -- What ties servers and clients to the plain machine.
-use Rattle.std.specs.Prelude.{◌≡◌, ◌≤◌, ◌<◌, ℕ, true, List, [], ◌∷◌, Some, None, ◌++◌, length}
+use Rattle.std.specs.Prelude.{◌≡◌, ◌≤◌, ◌<◌, ◌+◌, ℕ, true, false, List, [], ◌∷◌, Some, None, ◌++◌, length}
 use Rattle.std.specs.Ordering.{nat_cmp}
+use Rattle.petal_base.specs.Cells.{cell_of}
 use Rattle.petal_base.specs.declared.cell.Cell.{Cell}
 use Rattle.petal_command.specs.declared.command.Command.{Command}
 use Rattle.petal_command.specs.declared.command.Command.TheVariants.{Caught}
@@ -16,30 +17,34 @@ use Rattle.petal_msg.specs.declared.letter.Letter.{Letter}
 use Rattle.petal_msg.specs.declared.operation.Ending.TheVariants as ending
 use Rattle.petal_msg.specs.declared.operation.Finished.{Finished}
 use Rattle.petal_msg.specs.declared.operation.Pending.{Pending}
-use Rattle.petal_state.specs.CellState.{cell_link}
 use Rattle.petal_state.specs.Command.{state_after}
-use Rattle.petal_rules.specs.Blanked.{BeforeBlank}
 use Rattle.petal_rules.specs.Lists.{In}
-use Rattle.petal_rules.specs.State.{State, authority, in_both, is_in}
+use Rattle.petal_rules.specs.Reads.{is_all_held}
+use Rattle.petal_rules.specs.State.{State, authority, held, in_both, is_in}
 use Rattle.petal_rules.specs.Server.{Own, Pairs}
-use Rattle.petal_rules.specs.Store.{Chain, Store, cell_cmp, chain_in}
+use Rattle.petal_rules.specs.Store.{Chain, Stored, cell_cmp, chain_in}
 use Rattle.petal_rules.specs.World.{Setting, World, blank_joins_in, clock_of, server_state, start, chosen_log, chosen_state, counted, kept}
+use Rattle.petal_rules.specs.Writes.{is_clients}
 use Rattle.petal_history.specs.Claims.{Holds, IsPrefix}
-use Rattle.petal_history.specs.Contents.{content_in, has_content}
+use Rattle.petal_history.specs.Contents.{content_at, has_content_at}
 use Rattle.petal_history.specs.Events.{open_write, same_name}
 use Rattle.petal_history.specs.Legal.{world_after}
 use Rattle.petal_history.specs.declared.record.Record.{Record}
-use Rattle.law_state.specs.Epochs.{epoch_at}
+use Rattle.law_state.specs.Homes.{epoch_at, stage_at}
 use Rattle.law_log.specs.Requested.{WasStarted}
-use Rattle.law_steps.specs.Ready.{Ready}
+use Rattle.law_steps.specs.Operations.{progress}
+use Rattle.law_steps.specs.Ready.{IsRising, Ready}
 use Rattle.law_steps.specs.Waking.{AllMayWake}
 use Rattle.law_stores.specs.Waiting.{IsOwn}
 use Rattle.law_copies.specs.Good.{Good}
 use Rattle.law_copies.specs.Pair.{owns_of}
 use Rattle.law_copies.specs.Visits.{IsLast, IsLinked, Visits, WasThere, place_by}
 use Rattle.law_requests.specs.Asked.{IsOpen}
-use Rattle.law_requests.specs.Known.{Lives, PendingFor, seen, asked_for, AskingBy}
+use Rattle.law_requests.specs.Known.{Lives, PendingFor, seen, asked_for, AskingBy, KnowsReports}
 use Rattle.law_epochs.specs.Early.{HaveEarlyEntries}
+use Rattle.law_epochs.specs.Timely.{IsTimely}
+use Rattle.law_moves.specs.Fills.{AreFilled, HaveComeOver, IsFrozen}
+use Rattle.law_moves.specs.Still.{AreStill}
 use Rattle.law_run.specs.Onward.{IsMindful, is_held, Seat}
 
 -- ### The ground
@@ -49,59 +54,83 @@ pub record Named (w : World) : Type 0 where
   pub unique : (one other : Letter) → In one w.sent → In other w.sent → same_name one other ≡ true → one ≡ other
   pub early : (letter : Letter) → In letter w.sent → letter.stamp ≤ clock_of w letter.from
 
--- something is so of the store of each server, and of the one from before its device was made blank
-pub record OfStores (w : World) (So : ℕ → Store → Type 0) : Type 0 where
-  pub now : (n : ℕ) → So n (owns_of w n).store
-  pub before : (n : ℕ) (before : BeforeBlank) → w.before_blank n ≡ Some before → So n before.store
-
--- it has entries only of disks that the server knows
-abbrev pub HasOnlyKnown : Setting → World → ℕ → Store → Type 0
-HasOnlyKnown setting w n store = (cell : Cell) → cell_link (server_state setting w n) cell ≡ None → chain_in store.chains cell ≡ []
-
--- an operation that a server had pending when it last was at this place of the cell's link: it is pending there still, at this place, or
+-- a client's write that a server had pending when it last was at this place of the cell's link: it is pending there still, at this place, or
 -- it was known of, up to this place, at an incarnation that has ended
-pub data IsRemembered (setting : Setting) (state : State) (w : World) (lives : Lives) (n place : ℕ) (cell : Cell)
-    (op : Pending) : Type 0 where
+pub data IsRemembered (setting : Setting) (w : World) (lives : Lives) (n place : ℕ) (cell : Cell) (op : Pending) : Type 0 where
   Is_pending : at cell_cmp (owns_of w n).pairs.pending cell ≡ Some op → (row : LinkRow)
       → IsLinked setting (w.servers n).log.applied cell row
-      → place_by setting (w.servers n).log.applied row ≡ place → IsRemembered setting state w lives n place cell op
-  Was_pending : (inc : ℕ) → inc < lives.ran n → (known : PendingFor setting state (seen lives w) n inc (asked_for cell op) op.rev)
+      → place_by setting (w.servers n).log.applied row ≡ place → IsRemembered setting w lives n place cell op
+  Was_pending : (inc : ℕ) → inc < lives.ran n → (known : PendingFor setting (seen lives w) n inc (asked_for cell op) op.rev)
       → (row : LinkRow)
-      → IsLinked setting known.upto cell row → place_by setting known.upto row ≡ place → IsRemembered setting state w lives n place cell op
+      → IsLinked setting known.upto cell row → place_by setting known.upto row ≡ place → IsRemembered setting w lives n place cell op
 
--- so are the operations of all visits of a place at which the cell's link is in Both, and behind which no server that serves the link
--- has been
-abbrev pub AreRemembered : (setting : Setting) (state : State) (w : World) (lives : Lives) (visits : Visits) (reached : Cell → ℕ) → Type 0
-AreRemembered setting state w lives visits reached = (front : List Command) (cell : Cell) (row : LinkRow) (n : ℕ) (own : Own) (op : Pending)
+-- so are the writes of all visits of a place at which the cell's link is in Both, and behind which no server that serves the link has been
+abbrev pub AreRemembered : (setting : Setting) (w : World) (lives : Lives) (visits : Visits) (reached : Cell → ℕ) → Type 0
+AreRemembered setting w lives visits reached = (front : List Command) (cell : Cell) (row : LinkRow) (n : ℕ) (own : Own) (op : Pending)
     → IsPrefix front (chosen_log setting w) → IsLinked setting front cell row → row.state ≡ Both → IsLast reached setting front cell row
-    → visits n (place_by setting front row) cell ≡ Some own → at cell_cmp own.pairs.pending cell ≡ Some op
-    → IsRemembered setting state w lives n (place_by setting front row) cell op
+    → visits n (place_by setting front row) cell ≡ Some own → at cell_cmp own.pairs.pending cell ≡ Some op → is_clients op.kind ≡ true
+    → IsRemembered setting w lives n (place_by setting front row) cell op
 
--- what is known of epochs, after these records: a write that is pending is of the epoch that its disk has, by each front from the one on at
--- which it was opened, by which its server is In as itself; so is one of a place, by each front at that place; and one that a second
--- server can put, by what is chosen; and no server has an entry of an epoch that it doesn't know of
+-- what is known of epochs, after these records: a client's write that is pending is in time by each front from the one on at which it was
+-- opened, by which its server is In as itself; so is one of a place, by each front at that place; and one that a second server can put, by what
+-- is chosen; and no server has an entry of an epoch that it doesn't know of, or of a cell that it doesn't know to have been live
 pub record KnowEpochs (setting : Setting) (records : List Record) (w : World) : Type 0 where
   pub pending : (n inc : ℕ) (cell : Cell) (op : Pending) (opened front : List Command)
-      → at cell_cmp (owns_of w n).pairs.pending cell ≡ Some op → IsPrefix opened front → IsPrefix front (chosen_log setting w)
+      → at cell_cmp (owns_of w n).pairs.pending cell ≡ Some op → is_clients op.kind ≡ true → IsPrefix opened front
+      → IsPrefix front (chosen_log setting w)
       → length opened ≡ op.rev → is_in (state_after setting.servers opened) n inc ≡ true
-      → is_in (state_after setting.servers front) n inc ≡ true → epoch_at (state_after setting.servers front) cell ≡ op.key.epoch
+      → is_in (state_after setting.servers front) n inc ≡ true → IsTimely setting.servers front cell op
   pub place : (n place : ℕ) (cell : Cell) (pairs : Pairs) (op : Pending) (front : List Command) (row : LinkRow)
-      → WasThere setting records n place cell pairs → at cell_cmp pairs.pending cell ≡ Some op → IsPrefix front (chosen_log setting w)
+      → WasThere setting records n place cell pairs → at cell_cmp pairs.pending cell ≡ Some op → is_clients op.kind ≡ true
+      → IsPrefix front (chosen_log setting w)
       → IsLinked setting front cell row → place_by setting front row ≡ place → op.rev ≤ length front
-      → epoch_at (state_after setting.servers front) cell ≡ op.key.epoch
+      → IsTimely setting.servers front cell op
   pub second : (n m : ℕ) (cell : Cell) (pairs : Pairs) (op : Pending) (row : LinkRow) → (w.servers m).life.running ≡ true
       → is_in (server_state setting w m) m (w.servers m).life.inc ≡ true → IsLinked setting (w.servers m).log.applied cell row
       → row.state ≡ Both → row.primary ≡ n → row.secondary ≡ m
       → WasThere setting records n (place_by setting (w.servers m).log.applied row) cell pairs → at cell_cmp pairs.pending cell ≡ Some op
-      → (front : List Command) (now : LinkRow) → IsPrefix front (chosen_log setting w) → IsLinked setting front cell now
+      → is_clients op.kind ≡ true → (front : List Command) (now : LinkRow) → IsPrefix front (chosen_log setting w) → IsLinked setting front cell now
       → place_by setting front now ≡ place_by setting (w.servers m).log.applied row → op.rev ≤ length front
-      → epoch_at (chosen_state setting w) cell ≡ op.key.epoch
+      → IsTimely setting.servers (chosen_log setting w) cell op
   pub early : HaveEarlyEntries setting.servers w
+
+-- ### Moves
+
+-- what is frozen is of a cell that is leaving, or has left, and of no epoch above the one that its disk has
+pub record IsFrozenSo (setting : Setting) (w : World) (cell : Cell) (before : Chain) : Type 0 where
+  pub rising : IsRising nat_cmp before
+  pub left : 3 ≤ stage_at (chosen_state setting w) cell
+  pub early : (row : ℕ × Stored) → In row before → row.0 ≤ epoch_at (chosen_state setting w) cell
+
+-- what is known of moves, after these records: what has left was frozen; while a server that is In as itself knows of no fence that holds reads
+-- of a cell, that is not leaving; what law_moves says of copies, of fills and of regions that have moved; and of the fills of places
+pub record KnowMoves (setting : Setting) (records : List Record) (w : World) : Type 0 where
+  pub frozen : (cell : Cell) (before : Chain) → w.frozen cell ≡ Some before → IsFrozenSo setting w cell before
+  pub died : (cell : Cell) → stage_at (chosen_state setting w) cell ≡ 4 → (before : Chain) × (w.frozen cell ≡ Some before)
+  pub unread : (n : ℕ) (cell : Cell) → (w.servers n).life.running ≡ true → is_in (server_state setting w n) n (w.servers n).life.inc ≡ true
+      → is_all_held (held (server_state setting w n) cell) ≡ false → 1 ≤ stage_at (server_state setting w n) cell
+      → stage_at (server_state setting w n) cell ≤ 2 → stage_at (chosen_state setting w) cell ≤ 2
+  pub still : AreStill setting w
+  pub fills : AreFilled setting w
+  pub over : HaveComeOver setting w
+  pub coming : (n place : ℕ) (cell : Cell) (pairs : Pairs) (op : Pending) (row : LinkRow) → WasThere setting records n place cell pairs
+      → at cell_cmp pairs.pending cell ≡ Some op → is_clients op.kind ≡ false → IsLinked setting (chosen_log setting w) cell row
+      → place_by setting (chosen_log setting w) row ≡ place → op.rev ≤ length (chosen_log setting w)
+      → stage_at (chosen_state setting w) cell ≤ 3 → stage_at (chosen_state setting w) cell ≡ 1
+  pub keyed : (n place : ℕ) (cell : Cell) (pairs : Pairs) (op : Pending) → WasThere setting records n place cell pairs
+      → at cell_cmp pairs.pending cell ≡ Some op → cell_of op.key ≡ cell
+  pub filling : (n place : ℕ) (cell : Cell) (pairs : Pairs) (op : Pending) → WasThere setting records n place cell pairs
+      → at cell_cmp pairs.pending cell ≡ Some op → is_clients op.kind ≡ false → IsFrozen setting w op.rev op.key op.bytes
+  pub second : (n m : ℕ) (cell : Cell) (pairs : Pairs) (op : Pending) (row : LinkRow) → (w.servers m).life.running ≡ true
+      → is_in (server_state setting w m) m (w.servers m).life.inc ≡ true → IsLinked setting (w.servers m).log.applied cell row
+      → row.state ≡ Both → row.primary ≡ n → row.secondary ≡ m
+      → WasThere setting records n (place_by setting (w.servers m).log.applied row) cell pairs → at cell_cmp pairs.pending cell ≡ Some op
+      → is_clients op.kind ≡ false → progress (at cell_cmp (w.servers m).own.pairs.last cell) ≤ op.op + op.op
+      → stage_at (chosen_state setting w) cell ≤ 3 → stage_at (chosen_state setting w) cell ≡ 1
 
 -- the ground on which the run stands, at a state from what is chosen on: the laws below it, after these records, of two copies by the
 -- stores that count, which of a server that runs and is In as itself is its own, and no Join of it with an empty store stands behind the
--- front by which it is so; the operations that servers had at places that count are of writes that are known of; what is known of epochs;
--- and what a server has put is of a disk that it knows
+-- front by which it is so; the writes that servers had at places that count are known of; and what is known of epochs and of moves
 pub record Ground (setting : Setting) (state : State) (w : World) : Type 0 where
   pub ready : Ready setting state w
   pub wake : AllMayWake setting w
@@ -116,18 +145,19 @@ pub record Ground (setting : Setting) (state : State) (w : World) : Type 0 where
       → is_in (state_after setting.servers front) n (w.servers n).life.inc ≡ true
       → blank_joins_in setting front n ≡ blank_joins_in setting (chosen_log setting w) n
   pub lives : Lives
-  pub asking : AskingBy setting state w lives
-  pub recalled : AreRemembered setting state w lives good.visits good.reached
+  pub asking : AskingBy setting w lives
+  pub reports : KnowsReports setting w lives
+  pub recalled : AreRemembered setting w lives good.visits good.reached
   pub named : Named w
   pub epochs : KnowEpochs setting records w
-  pub born : OfStores w (HasOnlyKnown setting w)
+  pub moves : KnowMoves setting records w
 
 -- ### The machine
 
--- the machine has these disks, each with the contents that count by this state, at its epoch and at those of its snapshots, where a block
--- has one, and no other
-pub record Stores (chosen : State) (rows : List DiskRow) (w : World) (m : Plain) : Type 0 where
-  pub known : (row : DiskRow) → In row rows → Holds m.disks row (has_content chosen row) (content_in chosen w row)
+-- the machine has these disks, each with the contents of the world, at its epoch and at those of its snapshots, where a block has one, and
+-- no other
+pub record Stores (setting : Setting) (rows : List DiskRow) (w : World) (m : Plain) : Type 0 where
+  pub known : (row : DiskRow) → In row rows → Holds m.disks row (has_content_at setting w row.id) (content_at setting w row.id)
   pub unknown : (name : List ℕ) → named rows name ≡ None → disk_of m.disks name ≡ None
   pub mindful : IsMindful m
 
@@ -143,12 +173,12 @@ pub data HasCounted (setting : Setting) (w : World) (n : ℕ) (cell : Cell) (op 
 -- its disks are these; the writes under way are those that clients have open; and one whose operation was put where it counts, at
 -- a server that runs, or that ended as written, has had its bytes
 pub record Follow (setting : Setting) (rows : List DiskRow) (w : World) (m : Plain) : Type 0 where
-  pub stores : Stores (chosen_state setting w) rows (counted setting w) m
+  pub stores : Stores setting rows w m
   pub seats : (c : ℕ) → Seat (open_write w c) (open_of m.opened c)
   pub letters : (letter : Letter) (c seq : ℕ) → In letter w.sent → letter.to ≡ actor.Client c → letter.body ≡ body.Written seq
       → IsOpen (w.clients c) seq → is_held m c ≡ true
   pub pending : (n : ℕ) (cell : Cell) (op : Pending) → (w.servers n).life.running ≡ true → at cell_cmp (owns_of w n).pairs.pending cell ≡ Some op
-      → HasCounted setting w n cell op (chain_in (kept setting w n).chains cell) → IsOpen (w.clients op.client) op.seq
+      → is_clients op.kind ≡ true → HasCounted setting w n cell op (chain_in (kept setting w n).chains cell) → IsOpen (w.clients op.client) op.seq
       → is_held m op.client ≡ true
   pub finished : (n c : ℕ) (last : Finished) → (w.servers n).life.running ≡ true → at nat_cmp (owns_of w n).pairs.finished c ≡ Some last
       → last.ending ≡ ending.Written → IsOpen (w.clients c) last.seq → is_held m c ≡ true

@@ -1,6 +1,6 @@
 -- A link that is in Both again: the Caught that made it so stands in the log. And a link's place in Both is told by the incarnations
 -- of its two servers.
-use Rattle.std.proofs.Common.{◌≡◌, ◌+◌, ◌++◌, ◌&&◌, ℕ, List, [], ◌∷◌, Bool, true, false, if◌then◌else◌, Some, refl, sym, ap, ◌∙◌, subst, ◌⊎◌, inl, inr, append_assoc, arith}
+use Rattle.std.proofs.Common.{◌≡◌, ◌+◌, ◌++◌, ◌==◌, ◌&&◌, ℕ, List, [], ◌∷◌, Bool, true, false, if◌then◌else◌, Some, None, refl, sym, ap, ◌∙◌, subst, ◌⊎◌, inl, inr, append_assoc, arith}
 use Rattle.std.specs.Prelude.{fold, slice_get}
 use Rattle.std.proofs.lemmas.Grind.{fold-append}
 use Rattle.petal_base.specs.declared.cell.Cell.{Cell}
@@ -9,27 +9,31 @@ use Rattle.global_tables.specs.declared.link.LinkState.{LinkState}
 use Rattle.global_tables.specs.declared.link.LinkState.TheVariants.{Both, Only, Lost}
 use Rattle.global_tables.specs.Link.{has_server, is_link, left_state, link_at, other_of, row_left}
 use Rattle.petal_command.specs.declared.command.Command.{Command}
-use Rattle.petal_command.specs.declared.command.Command.TheVariants.{Join, Leave, Caught}
+use Rattle.petal_command.specs.declared.command.Command.TheVariants.{Join, Leave, Caught, MakeDisk, Snap, StartMove, Drained, Moved, Witness}
 use Rattle.petal_history.specs.Claims.{IsPrefix}
-use Rattle.petal_state.specs.CellState.{cell_link}
-use Rattle.petal_state.specs.Command.{after, may_catch, may_join, state_after}
+use Rattle.petal_state.specs.CellState.{cell_link, owner}
+use Rattle.petal_state.specs.Command.{act, after, may_catch, may_join, state_after}
 use Rattle.petal_state.specs.Place.{places_from, touches}
-use Rattle.petal_state.specs.State.{is_up, is_up_as, start}
+use Rattle.petal_state.specs.State.{inc_of, is_up, is_up_as, start}
 use Rattle.petal_rules.specs.Lists.{In}
 use Rattle.petal_rules.specs.State.{State, is_in}
 use Rattle.petal_rules.proofs.ListLemmas.{in_later}
-use Rattle.petal_rules.proofs.Tests.{by_bool, same_some, true_false}
+use Rattle.petal_rules.proofs.Tests.{both_true, by_bool, none_some, same_numbers, same_some, true_false}
+use Rattle.law_state.specs.Below.{HasLater}
+use Rattle.law_state.specs.Homes.{HasDied}
 use Rattle.law_state.specs.Places.{IsCaughtBy, IsCaughtIn, IsCaughtSince, IsCaughtStill, IsHeldStill, IsLostIn, By_caught, By_join, By_leave, StaysSo}
 use Rattle.law_state.specs.Plain.{IsPlain, IsPlainLog}
 use Rattle.law_state.specs.Rows.{IsLater}
 use Rattle.law_state.specs.Tables.{IsPlainState}
 use Rattle.law_state.proofs.Ages.{between, in_up, out_by}
+use Rattle.law_state.proofs.Caughts.{touch_by}
 use Rattle.law_state.proofs.Entries.{entering, folding, log_plain}
 use Rattle.law_state.proofs.Grown.{alone_not_both, one_before}
-use Rattle.law_state.proofs.Joins.{alone_joined, both_before, row_still}
-use Rattle.law_state.proofs.Leaves.{both_up}
+use Rattle.law_state.proofs.Joins.{alone_joined, both_before, row_still, was_out}
+use Rattle.law_state.proofs.Leaves.{both_up, left_by, none_now}
+use Rattle.law_state.proofs.Passing.{inc_settled}
 use Rattle.law_state.proofs.Steady.{front_plain, grown_below, plain_steady}
-use Rattle.law_state.proofs.Touching.{entry_stays, places_of_both, places_on, stays_on, touched, untouched}
+use Rattle.law_state.proofs.Touching.{entry_stays, gone_owner, map_of, places_of_both, places_on, still_dead, stays_on, touched, untouched}
 
 -- ### Places are of a link, whoever serves it
 
@@ -152,14 +156,19 @@ module _ (servers : ℕ) where
       let more = λ (other : Command) (h : In other rest). all other (inr h) in
       let t = after s entry in
       let step = entering servers s entry p plain in
-      let h = (grown_below servers s t p step.plain step.grown).rows cell row is in
-      elim (both_by rest t step.plain more cell h.now now h.is end both) [
+      let live_on : HasLater s t cell row → (places_from s (entry ∷ rest) row
+      ≡ 0) ⊎ IsCaughtLast s (entry ∷ rest) cell now = λ h. elim (both_by rest t step.plain more cell h.now now h.is end both) [
         | inr c ↦ inr (record { row = c.row; found = later_caught s entry rest cell c.row c.found; since = c.since; quiet = c.quiet })
-        | inl quiet ↦ (
-            let stays = untouched servers rest t step.plain more cell h.now h.is quiet in
-            by_bool (touches s entry row)
-            (λ on. inr (made_both s p entry plain rest cell row h.now now is on h.is h.so stays quiet (same_some (sym stays.same ∙ end)) both))
-            (λ off. inl (ap (λ b. if b then places_from t rest row + 1 else places_from t rest row) off ∙ sym (places_later row h.now h.so rest t) ∙ quiet)))
+        | inl quiet ↦ elim (untouched servers rest t step.plain more cell h.now h.is quiet) [
+          | inr gone ↦ none_some gone.0 end
+          | inl stays ↦ by_bool (touches s entry row)
+              (λ on. inr (made_both s p entry plain rest cell row h.now now is on h.is h.so stays quiet (same_some (sym stays.same ∙ end)) both))
+              (λ off. inl (ap (λ b. if b then places_from t rest row + 1 else places_from t rest row) off ∙ sym (places_later row h.now h.so rest t) ∙ quiet))
+        ]
+      ] in
+      elim ((grown_below servers s t p step.plain step.grown).rows cell row is) [
+        | inl h ↦ live_on h
+        | inr gone ↦ none_some (still_dead servers t step.plain rest more cell gone).0 end
       ]
 
   -- a link that is Lost stays so
@@ -167,8 +176,10 @@ module _ (servers : ℕ) where
       → cell_link s cell ≡ Some row → row.state ≡ Lost → cell_link (fold after s entries) cell ≡ Some now → now.state ≡ Lost
   lost_until entries s p all cell row now is lost end =
       let later = folding servers entries s p all in
-      let h = (grown_below servers s (fold after s entries) p later.plain later.grown).rows cell row is in
-      ap (λ (r : LinkRow). r.state) (same_some (sym end ∙ h.is)) ∙ h.lost lost
+      elim ((grown_below servers s (fold after s entries) p later.plain later.grown).rows cell row is) [
+        | inl h ↦ ap (λ (r : LinkRow). r.state) (same_some (sym end ∙ h.is)) ∙ h.lost lost
+        | inr gone ↦ none_some gone.0 end
+      ]
 
   -- one that a server holds alone leaves that state by a Caught first, or by the holder's Join with an empty store
   alone_until : (entries : List Command) (s : State) → IsPlainState servers s → IsPlainLog servers entries → (cell : Cell) (row now : LinkRow) (holder : ℕ)
@@ -206,7 +217,64 @@ module _ (servers : ℕ) where
           kept = λ e. e;
         }))
       ])
-      (λ off. onward whole (λ e. e) (entry_stays servers s p cell held is entry plain off).same)
+      (λ off. elim (entry_stays servers s p cell held is entry plain off) [
+        | inl one ↦ onward whole (λ e. e) one.same
+        | inr gone ↦ none_some (still_dead servers t step.plain rest more cell gone).0 end
+      ])
+
+  -- a link that is gone is touched by who leaves or joins alone
+  gone_untouched : (s : State) → IsPlainState servers s → (entry : Command) → IsPlain servers entry → (cell : Cell) (row : LinkRow) (one other : ℕ)
+      → row.map ≡ cell.map → HasDied s cell → is_up s row.primary ≡ true → is_up s row.secondary ≡ true
+      → is_up_as (after s entry) row.primary one ≡ true → is_up_as (after s entry) row.secondary other ≡ true → touches s entry row ≡ false
+  gone_untouched s p (Join server inc blank) plain cell row one other same gone first second first_on second_on =
+      by_bool (touches s (Join server inc blank) row)
+      (λ on. let h = both_true (may_join (slice_get s.view.members server) inc) (has_server server row) on in
+      true_false (both_up (is_up s) row server first second h.1) (was_out servers s p server inc blank h.0))
+      (λ off. off)
+  gone_untouched s p (Leave server inc) plain cell row one other same gone first second first_on second_on =
+      by_bool (touches s (Leave server inc) row)
+      (λ on.
+      let h = both_true (is_up_as s server inc) (has_server server row) on in
+      let t = after s (Leave server inc) in
+      let here : inc_of t server ≡ None = inc_settled (act (Leave server inc) s) server
+      ∙ ap (λ b. inc_of (if b then left_by s server else s) server) h.0 ∙ none_now servers s p server inc h.0 in
+      true_false (both_up (is_up t) row server (in_up t row.primary one first_on) (in_up t row.secondary other second_on) h.1) (out_by t server here))
+      (λ off. off)
+  gone_untouched s p (Caught of link holder inc later later_inc) plain cell row one other same gone first second first_on second_on =
+      by_bool (touches s (Caught of link holder inc later later_inc) row)
+      (λ on.
+      let h = touch_by s row of link holder inc later later_inc on in
+      let k = both_true (row.map == of) (row.link == link) h.0 in
+      let none : link_at s.links of link ≡ None = p.unlinked of link (ap (owner s) (sym (same_numbers row.map of k.0) ∙ same)
+      ∙ gone_owner servers s p cell gone) in
+      none_some none h.1.is)
+      (λ off. off)
+  gone_untouched s p (MakeDisk client seq name tuple) plain cell row one other same gone first second first_on second_on = refl
+  gone_untouched s p (Snap client seq disk name) plain cell row one other same gone first second first_on second_on = refl
+  gone_untouched s p (StartMove client seq disk tuple) plain cell row one other same gone first second first_on second_on = refl
+  gone_untouched s p (Drained server inc fence) plain cell row one other same gone first second first_on second_on = refl
+  gone_untouched s p (Moved of region link) plain cell row one other same gone first second first_on second_on = refl
+  gone_untouched s p (Witness client seq turn) plain cell row one other same gone first second first_on second_on = refl
+
+  gone_quiet : (entries : List Command) (s : State) → IsPlainState servers s → IsPlainLog servers entries → (cell : Cell) (row : LinkRow) (one other : ℕ)
+      → row.map ≡ cell.map → HasDied s cell → is_up_as s row.primary one ≡ true → is_up_as s row.secondary other ≡ true
+      → is_up_as (fold after s entries) row.primary one ≡ true → is_up_as (fold after s entries) row.secondary other ≡ true → places_from s entries row ≡ 0
+  unfolding In
+  gone_quiet [] s p all cell row one other same gone first second first_on second_on = refl
+  gone_quiet (entry ∷ rest) s p all cell row one other same gone first second first_on second_on =
+      let plain = all entry (inl refl) in
+      let more = λ (other : Command) (h : In other rest). all other (inr h) in
+      let t = after s entry in
+      let step = entering servers s entry p plain in
+      let later = folding servers rest t step.plain more in
+      let first_now = between s t (fold after t rest) row.primary one (step.grown.ages row.primary) (later.grown.ages row.primary) first first_on in
+      let second_now = between s t (fold after t rest) row.secondary other (step.grown.ages row.secondary) (later.grown.ages row.secondary) second second_on in
+      let off = gone_untouched s p entry plain cell row one other same gone (in_up s row.primary one first)
+      (in_up s row.secondary other second) first_now second_now in
+      ap (λ b. if b then places_from t rest row + 1 else places_from t rest row) off
+      ∙ gone_quiet rest t step.plain more cell row one other same
+      (still_dead servers s p (entry ∷ []) (λ c h. elim h [ inl e ↦ subst (IsPlain servers) (sym e) plain | inr none ↦ absurd none ]) cell gone)
+      first_now second_now first_on second_on
 
   -- while a link is in Both, and both of its servers stay In, nothing touches it
   both_quiet : (entries : List Command) (s : State) → IsPlainState servers s → IsPlainLog servers entries → (cell : Cell) (row : LinkRow) (one other : ℕ)
@@ -231,7 +299,10 @@ module _ (servers : ℕ) where
         | By_caught acts stays ↦ alone_not_both row acts.holder acts.alone both
       ])
       (λ off. ap (λ b. if b then places_from t rest row + 1 else places_from t rest row) off
-      ∙ both_quiet rest t step.plain more cell row one other (entry_stays servers s p cell row is entry plain off).same both first_now second_now first_on second_on)
+      ∙ elim (entry_stays servers s p cell row is entry plain off) [
+        | inl stays ↦ both_quiet rest t step.plain more cell row one other stays.same both first_now second_now first_on second_on
+        | inr gone ↦ gone_quiet rest t step.plain more cell row one other (map_of servers s p cell row is) gone first_now second_now first_on second_on
+      ])
 
 -- ### Fronts of a log
 

@@ -13,17 +13,18 @@ use Rattle.petal_state.specs.Command.{after, is_alone}
 use Rattle.petal_state.specs.Place.{touches}
 use Rattle.petal_state.specs.State.{is_up, is_up_as}
 use Rattle.petal_rules.specs.Crossing.{touches_cell}
-use Rattle.petal_rules.specs.State.{State, lead, is_lead, row_in_both, in_both, first, second, primary, secondary, is_alone_on}
+use Rattle.petal_rules.specs.State.{State, live, lead, is_lead, row_in_both, in_both, first, second, primary, secondary, is_alone_on}
 use Rattle.petal_rules.proofs.Tests.{by_bool, true_false, none_some, same_some, same_numbers, number_itself, some_or_none, is_the_one}
 use Rattle.law_state.specs.Places.{By_caught, By_join, By_leave}
 use Rattle.law_state.specs.Rows.{IsServed, IsServedBy, ByBoth, ByNone, ByOne}
+use Rattle.law_state.specs.Homes.{HasDied}
 use Rattle.law_state.specs.Steady.{IsSteady}
 use Rattle.law_state.specs.Below.{IsBelow}
 use Rattle.law_state.specs.Plain.{IsPlain}
 use Rattle.law_state.specs.Tables.{IsPlainState}
 use Rattle.law_state.proofs.Ages.{out_by}
 use Rattle.law_state.proofs.Caughts.{alone_by}
-use Rattle.law_state.proofs.Cells.{led_by, first_by, second_by, both_first, both_second}
+use Rattle.law_state.proofs.Cells.{led_by, led_so, first_by, second_by, both_first, both_second}
 use Rattle.law_state.proofs.Leaves.{both_up}
 use Rattle.law_state.proofs.Grown.{one_before}
 use Rattle.law_state.proofs.Grown.{alone_not_both as alone_row_not_both}
@@ -93,7 +94,7 @@ module _ (state : State) (steady : IsSteady state) where
 
   pub lead_first : (n : ℕ) (cell : Cell) → is_lead state n cell ≡ true → in_both state cell ≡ true → first state cell ≡ Some n
   lead_first n cell e both = elim (led_by state steady cell n (is_the_one (lead state cell) n e)) [
-    | inl b ↦ both_first state cell b.0.row b.0.is b.0.linked b.0.so ∙ ap Some b.1
+    | inl b ↦ both_first state cell b.0.row b.0.is (led_so state cell n (is_the_one (lead state cell) n e)).lives b.0.so ∙ ap Some b.1
     | inr held ↦ true_false both (alone_not_both state n cell (so_alone state n cell held.row held.whole held.is held.so))
   ]
 
@@ -116,15 +117,16 @@ module _ (state : State) (steady : IsSteady state) where
   second_secondary cell n e =
       let b = second_by state steady cell n e in ap (option_map (λ (r : LinkRow). r.secondary)) b.0.is ∙ ap Some b.1
 
-  pub primary_first : (cell : Cell) (n : ℕ) → primary state cell ≡ Some n → in_both state cell ≡ true → first state cell ≡ Some n
-  primary_first cell n e both =
+  pub primary_first : (cell : Cell) (n : ℕ) → live state cell ≡ true → primary state cell ≡ Some n → in_both state cell ≡ true → first state cell ≡ Some n
+  primary_first cell n lives e both =
       let b = both_row state cell both in
-      both_first state cell b.row b.is (steady.linked cell b.row b.is) b.both ∙ sym (ap (option_map (λ (r : LinkRow). r.primary)) b.is) ∙ e
+      both_first state cell b.row b.is lives b.both ∙ sym (ap (option_map (λ (r : LinkRow). r.primary)) b.is) ∙ e
 
-  pub secondary_second : (cell : Cell) (n : ℕ) → secondary state cell ≡ Some n → in_both state cell ≡ true → second state cell ≡ Some n
-  secondary_second cell n e both =
+  pub secondary_second : (cell : Cell) (n : ℕ) → live state cell ≡ true → secondary state cell ≡ Some n → in_both state cell ≡ true
+      → second state cell ≡ Some n
+  secondary_second cell n lives e both =
       let b = both_row state cell both in
-      both_second state cell b.row b.is (steady.linked cell b.row b.is) b.both ∙ sym (ap (option_map (λ (r : LinkRow). r.secondary)) b.is) ∙ e
+      both_second state cell b.row b.is lives b.both ∙ sym (ap (option_map (λ (r : LinkRow). r.secondary)) b.is) ∙ e
 
   -- the two servers of a cell are two
   pub has_secondary : (cell : Cell) (n : ℕ) → primary state cell ≡ Some n → (m : ℕ) × (secondary state cell ≡ Some m) × (n ≢ m)
@@ -176,21 +178,23 @@ module _ (state : State) (steady : IsSteady state) where
 -- ### A later state
 
 module _ (earlier later : State) (below : IsBelow earlier later) where
-  pub primary_on : (cell : Cell) (n : ℕ) → primary earlier cell ≡ Some n → primary later cell ≡ Some n
+  pub primary_on : (cell : Cell) (n : ℕ) → primary earlier cell ≡ Some n → (primary later cell ≡ Some n) ⊎ HasDied later cell
   primary_on cell n e = elim (some_or_none (cell_link earlier cell)) [
-    | inl there ↦
-        let now = below.rows cell there.0 there.1 in
-        ap (option_map (λ (r : LinkRow). r.primary)) now.is ∙ ap Some now.so.primary
-        ∙ sym (ap (option_map (λ (r : LinkRow). r.primary)) there.1) ∙ e
+    | inl there ↦ elim (below.rows cell there.0 there.1) [
+      | inl now ↦ inl (ap (option_map (λ (r : LinkRow). r.primary)) now.is ∙ ap Some now.so.primary
+          ∙ sym (ap (option_map (λ (r : LinkRow). r.primary)) there.1) ∙ e)
+      | inr gone ↦ inr gone
+    ]
     | inr none ↦ none_some (ap (option_map (λ (r : LinkRow). r.primary)) none) e
   ]
 
-  pub secondary_on : (cell : Cell) (n : ℕ) → secondary earlier cell ≡ Some n → secondary later cell ≡ Some n
+  pub secondary_on : (cell : Cell) (n : ℕ) → secondary earlier cell ≡ Some n → (secondary later cell ≡ Some n) ⊎ HasDied later cell
   secondary_on cell n e = elim (some_or_none (cell_link earlier cell)) [
-    | inl there ↦
-        let now = below.rows cell there.0 there.1 in
-        ap (option_map (λ (r : LinkRow). r.secondary)) now.is ∙ ap Some now.so.secondary
-        ∙ sym (ap (option_map (λ (r : LinkRow). r.secondary)) there.1) ∙ e
+    | inl there ↦ elim (below.rows cell there.0 there.1) [
+      | inl now ↦ inl (ap (option_map (λ (r : LinkRow). r.secondary)) now.is ∙ ap Some now.so.secondary
+          ∙ sym (ap (option_map (λ (r : LinkRow). r.secondary)) there.1) ∙ e)
+      | inr gone ↦ inr gone
+    ]
     | inr none ↦ none_some (ap (option_map (λ (r : LinkRow). r.secondary)) none) e
   ]
 
@@ -220,22 +224,26 @@ touched_out servers s p entry plain cell row is e served both = elim (touched se
 -- a server of a cell in Both, which is In as the same incarnation after such an entry, holds the link alone then
 pub touched_alone : (servers : ℕ) (s : State) → IsPlainState servers s → (entry : Command) → IsPlain servers entry → IsSteady s → IsSteady (after s entry)
     → IsBelow s (after s entry) → (cell : Cell) (n inc : ℕ) → touches_cell s entry cell ≡ true → (primary s cell ≡ Some n) ⊎ (secondary s cell ≡ Some n)
-    → in_both s cell ≡ true → is_up_as s n inc ≡ true → is_up_as (after s entry) n inc ≡ true → is_alone_on (after s entry) n cell ≡ true
+    → in_both s cell ≡ true → is_up_as s n inc ≡ true → is_up_as (after s entry) n inc ≡ true
+    → (is_alone_on (after s entry) n cell ≡ true) ⊎ HasDied (after s entry) cell
 touched_alone servers s p entry plain was steady below cell n inc e one together before still =
     let b = both_row s cell together in
     let row = b.row in
     let t = after s entry in
     let gone = touched_out servers s p entry plain cell row b.is (sym (ap (λ o. option_map_or (touches s entry) o false) b.is) ∙ e) (was.linked cell row b.is).served b.both in
-    let now = below.rows cell row b.is in
     let mine : has_server n row ≡ true = elim one [
       | inl first ↦ primary_is_one row n (same_some (sym (ap (option_map (λ (r : LinkRow). r.primary)) b.is) ∙ first))
       | inr second ↦ secondary_is_one row n (same_some (sym (ap (option_map (λ (r : LinkRow). r.secondary)) b.is) ∙ second))
     ] in
-    let on = now.on n inc mine (ap (serves n row) b.both ∙ mine) before still in
-    elim (steady.linked cell now.now now.is).served [
-      | ByBoth so up up' ↦ true_false (both_up (is_up t) now.now gone.server up up' (one_before row now.now gone.server now.so ∙ gone.one_of)) gone.out
-      | ByOne holder other whole alone pair out ↦ (
-          let same = same_numbers holder n (sym (ap (serves n now.now) alone) ∙ on) in
-          so_alone t n cell now.now whole now.is (alone ∙ ap (λ k. Only k whole) same))
-      | ByNone one other lost pair out ↦ true_false on (ap (serves n now.now) lost)
+    elim (below.rows cell row b.is) [
+      | inr died ↦ inr died
+      | inl now ↦
+          let on = now.on n inc mine (ap (serves n row) b.both ∙ mine) before still in
+          elim (steady.linked cell now.now now.is).served [
+            | ByBoth so up up' ↦ true_false (both_up (is_up t) now.now gone.server up up' (one_before row now.now gone.server now.so ∙ gone.one_of)) gone.out
+            | ByOne holder other whole alone pair out ↦ (
+                let same = same_numbers holder n (sym (ap (serves n now.now) alone) ∙ on) in
+                inl (so_alone t n cell now.now whole now.is (alone ∙ ap (λ k. Only k whole) same)))
+            | ByNone one other lost pair out ↦ true_false on (ap (serves n now.now) lost)
+          ]
     ]

@@ -1,5 +1,5 @@
 -- A step that changes who is In, and the row of each link by itself: what is left to show of it where it keeps the tables plain.
-use Rattle.std.proofs.Common.{◌≡◌, ◌≤◌, ◌==◌, ℕ, length, Some, sym, ap, ◌∙◌, subst}
+use Rattle.std.proofs.Common.{◌≡◌, ◌≤◌, ◌==◌, ℕ, length, Some, sym, ap, ◌∙◌, subst, inl}
 use Rattle.std.specs.Prelude.{map, option_map, slice_get}
 use Rattle.global_tables.specs.declared.fence.Member.{Member}
 use Rattle.global_tables.specs.declared.link.LinkRow.{LinkRow}
@@ -9,8 +9,10 @@ use Rattle.petal_rules.specs.Lists.{In}
 use Rattle.petal_rules.specs.State.{State}
 use Rattle.petal_rules.proofs.Tests.{both_true, same_numbers}
 use Rattle.law_state.specs.Ages.{age_of}
+use Rattle.law_state.specs.Homes.{stage_at}
 use Rattle.law_state.specs.Rows.{IsHeldOn, IsLater, IsLostOn, IsServed, IsServedOn}
 use Rattle.law_state.specs.Tables.{IsPlainState}
+use Rattle.law_state.proofs.Ages.{no_less}
 use Rattle.law_state.proofs.Fences.{Acted, AreQueued}
 use Rattle.law_state.proofs.Grown.{grown_itself}
 use Rattle.law_state.proofs.Links.{in_map}
@@ -60,12 +62,12 @@ module _ (servers : ℕ) (s : State) (p : IsPlainState servers s) (view : View) 
       members = c.members;
       fences = c.fences;
       made = p.made;
-      count = p.count;
+      homes = λ of disk e. let h = p.homes of disk e in record { row = h.row; is = h.is; newest = h.newest };
       rows = p.rows;
       names = p.names;
       tuples = p.tuples;
-      links = λ map at tuple e lt.
-          let old = p.links map at tuple e lt in
+      links = λ map at tuple e lt has.
+          let old = p.links map at tuple e lt has in
           let so = later old.row in record {
             row = f old.row;
             is = link_changed map at ∙ ap (option_map f) old.is;
@@ -83,15 +85,16 @@ module _ (servers : ℕ) (s : State) (p : IsPlainState servers s) (view : View) 
     grown = record {
       many = (grown_itself s).many;
       rows = λ i row e. let h = (grown_itself s).rows i row e in record { now = h.now; is = h.is; so = h.so };
-      maps = λ map tuple e. e;
-      links = λ map at row e. record {
+      maps = λ map row e. e;
+      links = λ map at row e. inl (record {
         now = f row;
         is = link_changed map at ∙ ap (option_map f) e;
         so = later row;
         on = c.on row;
         held = c.held row (found_itself s map at row e);
         lost = c.lost row (found_itself s map at row e);
-      };
+      });
+      stages = λ cell. no_less (stage_at s cell);
       ages = c.ages;
     };
   }

@@ -11,9 +11,9 @@ use Rattle.global_tables.specs.declared.disk.DiskRow.{DiskRow}
 use Rattle.global_tables.specs.declared.disk.Snapshot.{Snapshot}
 use Rattle.global_tables.specs.declared.fence.Member.TheVariants as member
 use Rattle.petal_command.specs.declared.command.Command.{Command}
-use Rattle.petal_command.specs.declared.command.Command.TheVariants.{Join, Leave, Caught, MakeDisk, Snap, Drained, Witness}
+use Rattle.petal_command.specs.declared.command.Command.TheVariants.{Join, Leave, Caught, MakeDisk, Snap, StartMove, Drained, Moved, Witness}
 use Rattle.global_tables.specs.declared.disk.Verdict.TheVariants as Verdict
-use Rattle.petal_state.specs.CellState.{owner}
+use Rattle.petal_state.specs.CellState.{has_map, owner}
 use Rattle.petal_state.specs.Command.{act, after, is_new, may_join, state_after, with_disk}
 use Rattle.petal_state.specs.State.{is_up, is_up_as, latest, start, told}
 use Rattle.petal_rules.specs.Lists.{In}
@@ -29,11 +29,13 @@ use Rattle.law_state.proofs.Ages.{in_once, in_up, up_some}
 use Rattle.law_state.proofs.Caughts.{act_caught}
 use Rattle.law_state.proofs.Joins.{joined_by, was_out}
 use Rattle.law_state.proofs.Joins.{in_beside as joined_beside}
-use Rattle.law_state.proofs.Places.{find_here, get_in, in_get, get_replicate, text_itself}
+use Rattle.law_state.proofs.Moves.{act_moved, act_note, act_start}
+use Rattle.law_state.proofs.Owners.{owned}
+use Rattle.law_state.proofs.Places.{find_here, found_at, get_in, in_get, get_replicate, text_itself}
 use Rattle.law_state.proofs.Leaves.{left_by, in_beside}
 use Rattle.law_state.proofs.Passing.{in_settled}
 use Rattle.law_state.proofs.Snaps.{act_drained, act_snap}
-use Rattle.law_state.proofs.Steady.{front_plain, in_first, linked, owner_is, unlinked}
+use Rattle.law_state.proofs.Steady.{front_plain, in_first, linked_owner, unlinked}
 use Rattle.law_state.proofs.Entries.{entering, log_plain}
 
 module _ (servers : ℕ) (s : State) (p : IsPlainState servers s) where
@@ -50,17 +52,12 @@ module _ (servers : ℕ) (s : State) (p : IsPlainState servers s) where
       find_here (λ other. same_name other.name row.name) s.disks.rows place.0 row place.1 (text_itself row.name)
       (λ j other e t. p.names j place.0 other row e place.1 (nat_lists_same other.name row.name t))
 
-  apart : (one other : DiskRow) → In one s.disks.rows → In other s.disks.rows → one.map ≡ other.map → one ≡ other
-  apart one other h k e =
-      let here = get_in s.disks.rows one h in
-      let there = get_in s.disks.rows other k in
-      let same : here.0 ≡ there.0 = sym (p.rows here.0 one here.1).of ∙ e ∙ (p.rows there.0 other there.1).of in
-      same_some (sym here.1 ∙ ap (slice_get s.disks.rows) same ∙ there.1)
+  owned_by : (of : ℕ) (row : DiskRow) → In row s.disks.rows → has_map of row ≡ true → owner s of ≡ Some row
+  owned_by of row h has = let place = get_in s.disks.rows row h in owned s p.rows of place.0 row place.1 has
 
-  owned : (row : DiskRow) → In row s.disks.rows → owner s row.map ≡ Some row
-  owned row h =
-      let place = get_in s.disks.rows row h in
-      owner_is s p.rows row.map ∙ ap (slice_get s.disks.rows) (p.rows place.0 row place.1).of ∙ place.1
+  -- a map has one owner
+  apart : (of : ℕ) (one other : DiskRow) → In one s.disks.rows → In other s.disks.rows → has_map of one ≡ true → has_map of other ≡ true → one ≡ other
+  apart of one other h k e f = same_some (sym (owned_by of one h e) ∙ owned_by of other k f)
 
   -- a snapshot is found by its name, and its epoch is its place among those of the disk
   snap_by_name : (row : DiskRow) (snap : Snapshot) → In row s.disks.rows → In snap row.snaps → snapshot_named row.snaps snap.name ≡ Some snap
@@ -79,18 +76,18 @@ module _ (servers : ℕ) (s : State) (p : IsPlainState servers s) where
       let lt = slice_get_within row.snaps at.0 snap at.1 in
       omega arith
 
-  -- a cell of no disk is dead
-  nowhere : (cell : Cell) → ((row : DiskRow) → In row s.disks.rows → row.map ≢ cell.map) → slice_get s.disks.rows cell.map ≡ None
-  nowhere cell off = elim (some_or_none (slice_get s.disks.rows cell.map)) [
-    | inl h ↦ absurd (off h.0 (in_get s.disks.rows cell.map h.0 h.1) (p.rows cell.map h.0 h.1).of)
+  -- a cell of no disk has no owner
+  nowhere : (cell : Cell) → ((row : DiskRow) → In row s.disks.rows → has_map cell.map row ≡ false) → owner s cell.map ≡ None
+  nowhere cell off = elim (some_or_none (owner s cell.map)) [
+    | inl h ↦
+        let at = found_at (has_map cell.map) s.disks.rows h.0 h.1 in
+        true_false at.2 (off h.0 (in_get s.disks.rows at.0 h.0 at.1))
     | inr none ↦ none
   ]
 
-  served : (row : DiskRow) (cell : Cell) → In row s.disks.rows → cell.map ≡ row.map → HasLink s cell
-  served row cell h e =
-      let place = get_in s.disks.rows row h in
-      let there : slice_get s.disks.rows cell.map ≡ Some row = ap (slice_get s.disks.rows) (e ∙ (p.rows place.0 row place.1).of) ∙ place.1 in
-      let l = linked servers s p cell row there in
+  served : (row : DiskRow) (cell : Cell) → In row s.disks.rows → has_map cell.map row ≡ true → HasLink s cell
+  served row cell h has =
+      let l = linked_owner servers s p cell row (owned_by cell.map row h has) in
       record { row = l.0; is = l.1 }
 
   pub plain_disks : AreDisks s
@@ -98,7 +95,7 @@ module _ (servers : ℕ) (s : State) (p : IsPlainState servers s) where
     at = at;
     named = by_name;
     apart = apart;
-    owned = owned;
+    owned = owned_by;
     snaps = snap_by_name;
     before = snap_before;
     served = served;
@@ -152,11 +149,17 @@ made_out servers s p (MakeDisk client seq name tuple) plain n inc is =
 made_out servers s p (Snap client seq disk name) plain n inc is =
     act_snap (λ (t : State). is_up_as t n inc ≡ false → Leave n inc ≡ Snap client seq disk name) s client seq disk name (λ old out. true_false is out)
     (λ new none out. true_false is out) (λ new row found taken out. true_false is out) (λ new row found free out. true_false is out)
+made_out servers s p (StartMove client seq disk tuple) plain n inc is =
+    act_start (λ (t : State). is_up_as t n inc ≡ false → Leave n inc ≡ StartMove client seq disk tuple) s client seq disk tuple (λ old out. true_false is out)
+    (λ new none out. true_false is out) (λ new row found busy out. true_false is out) (λ new row found still out. true_false is out)
+made_out servers s p (Moved of region link) plain n inc is =
+    act_moved (λ (t : State). is_up_as t n inc ≡ false → Leave n inc ≡ Moved of region link) servers s p of region link (λ out. true_false is out)
+    (λ h. act_note servers s p of region link h (λ (t : State). is_up_as t n inc ≡ false → Leave n inc ≡ Moved of region link)
+    (λ some out. true_false is out) (λ every more out. true_false is out) (λ every last out. true_false is out))
 made_out servers s p (Drained server last fence) plain n inc is =
     act_drained (λ (t : State). is_up_as t n inc ≡ false → Leave n inc ≡ Drained server last fence) s server last fence (λ out. true_false is out)
     (λ head up out. true_false is out)
 made_out servers s p (Witness client seq turn) plain n inc is = λ out. true_false is out
-made_out servers s p _ plain n inc is = absurd plain
 
 out_left : (servers : ℕ) (log : List Command) (s : State) → IsPlainState servers s → IsPlainLog servers log → (n inc : ℕ) → is_up_as s n inc ≡ true
     → is_up_as (fold after s log) n inc ≡ false → In (Leave n inc) log

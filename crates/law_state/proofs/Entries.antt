@@ -10,10 +10,10 @@ use Rattle.global_tables.specs.declared.link.LinkRow.{LinkRow}
 use Rattle.global_tables.specs.Disk.{named}
 use Rattle.global_tables.specs.View.{last_inc}
 use Rattle.petal_command.specs.declared.command.Command.{Command}
-use Rattle.petal_command.specs.declared.command.Command.TheVariants.{Join, Leave, Caught, MakeDisk, Snap, Drained, Witness}
+use Rattle.petal_command.specs.declared.command.Command.TheVariants.{Join, Leave, Caught, MakeDisk, Snap, StartMove, Drained, Moved, Witness}
 use Rattle.petal_state.specs.State.{start, latest, told, is_up_as}
 use Rattle.petal_state.specs.Fence.{settled}
-use Rattle.petal_state.specs.Command.{act, after, is_new, may_join, with_disk, with_fence, state_after}
+use Rattle.petal_state.specs.Command.{act, after, is_new, may_join, with_disk, with_fence, with_move, state_after}
 use Rattle.petal_rules.specs.Lists.{In}
 use Rattle.petal_rules.specs.State.{State}
 use Rattle.petal_rules.proofs.Tests.{by_test, none_some, same_some}
@@ -25,6 +25,7 @@ use Rattle.law_state.proofs.Leaves.{leaving}
 use Rattle.law_state.proofs.Joins.{joining}
 use Rattle.law_state.proofs.Caughts.{act_caught, catching}
 use Rattle.law_state.proofs.Making.{making}
+use Rattle.law_state.proofs.Moves.{act_moved, act_start, begins, noting_acts}
 use Rattle.law_state.proofs.Passing.{settling}
 use Rattle.law_state.proofs.Snaps.{act_drained, act_snap, draining, none_of, snapping}
 
@@ -50,10 +51,17 @@ acting servers s (Snap client seq disk name) p proper =
     (λ new none. untabled servers s.rev _ s s (acts_not servers s p))
     (λ new row found taken. untabled servers s.rev _ s s (acts_not servers s p))
     (λ new row found free. untabled servers s.rev _ s (with_fence s (Whole row.id name client seq)) (snapping servers s p client seq disk name row found free))
+acting servers s (StartMove client seq disk tuple) p proper =
+    act_start (Acted servers s) s client seq disk tuple
+    (λ old. acts_not servers s p)
+    (λ new none. untabled servers s.rev _ s s (acts_not servers s p))
+    (λ new row found busy. untabled servers s.rev _ s s (acts_not servers s p))
+    (λ new row found still. untabled servers s.rev _ s (with_move s tuple row.id) (begins servers s p disk tuple row found still proper))
+acting servers s (Moved of region link) p proper =
+    act_moved (Acted servers s) servers s p of region link (acts_not servers s p) (noting_acts servers s p of region link)
 acting servers s (Drained server inc fence) p proper =
     act_drained (Acted servers s) s server inc fence (acts_not servers s p) (λ is up. draining servers s p server)
 acting servers s (Witness client seq turn) p proper = acts_not servers s p
-acting servers s _ p other = absurd other
 
 pub entering : (servers : ℕ) (s : State) (command : Command) → IsPlainState servers s → IsPlain servers command → Step servers s (after s command)
 entering servers s command p is =
@@ -87,15 +95,16 @@ start_plain servers = record {
   fences = record {
     each = λ i fence e. none_some refl e;
     apart = λ i j one other disk client seq later again name e f kind like. none_some refl e;
+    once = λ i j one other disk region later e f kind like. none_some refl e;
     waits = λ fence e. none_some refl e;
     present = λ fence n e waits. none_some refl e;
   };
   made = refl;
-  count = refl;
+  homes = λ of disk e. none_some refl e;
   rows = λ i row e. none_some refl e;
   names = λ i j one other e. none_some refl e;
   tuples = λ of tuple e. none_some refl e;
-  links = λ of link tuple e. none_some refl e;
+  links = λ of link tuple e lt has. none_some refl e;
   unlinked = λ of link none. refl;
   found = λ row h. no_row row h;
 }

@@ -9,30 +9,38 @@ use Rattle.std.proofs.lemmas.Option.{slice_get_within}
 use Rattle.petal_base.specs.Tuple.{is_tuple}
 use Rattle.global_tables.specs.declared.disk.DiskRow.{DiskRow}
 use Rattle.global_tables.specs.declared.disk.Latest.{Latest}
+use Rattle.global_tables.specs.declared.disk.Move.{Move}
+use Rattle.global_tables.specs.declared.disk.RegionState.TheVariants.{Old}
 use Rattle.global_tables.specs.declared.fence.Fence.{Fence}
 use Rattle.global_tables.specs.declared.fence.FenceKind.{FenceKind}
-use Rattle.global_tables.specs.declared.fence.FenceKind.TheVariants.{Whole}
+use Rattle.global_tables.specs.declared.fence.FenceKind.TheVariants.{Region, Whole}
 use Rattle.global_tables.specs.declared.fence.Member.{Member}
 use Rattle.global_tables.specs.declared.link.LinkRow.{LinkRow}
 use Rattle.global_tables.specs.Disk.{disk_at}
 use Rattle.global_tables.specs.Link.{link_at}
-use Rattle.global_tables.specs.Map.{tuple_of}
+use Rattle.global_tables.specs.Map.{disk_of, tuple_of}
 use Rattle.global_tables.specs.View.{View, awaiting, behind, first_waiting, head, is_in, last_inc, queued, ready, reported, servers_in, stands_in}
+use Rattle.petal_state.specs.CellState.{owner}
+use Rattle.petal_state.specs.Command.{with_fence}
 use Rattle.petal_state.specs.State.{is_up}
 use Rattle.petal_rules.specs.Draining.{awaits}
 use Rattle.petal_rules.specs.Lists.{In}
 use Rattle.petal_rules.specs.State.{State}
 use Rattle.petal_rules.proofs.Tests.{both_true, by_bool, none_some, same_numbers, same_some, true_false}
-use Rattle.law_state.specs.Tables.{AreFences, HasLinkOf, IsFence, IsGrown, IsPlainState, IsRowAt}
+use Rattle.law_state.specs.Homes.{stage_at}
+use Rattle.law_state.specs.Tables.{AreFences, HasHome, HasLinkOf, IsFence, IsGrown, IsPlainState, IsRowAt, IsShape, Of_disk, Of_region}
 use Rattle.law_state.specs.Rows.{IsServed}
 use Rattle.law_state.proofs.Ages.{no_less}
+use Rattle.law_state.proofs.Places.{get_last}
 use Rattle.law_state.proofs.Grown.{grown_still, later_disk_itself, Step, grown_itself, grown_on}
 
--- fences for snapshots alone, each for one that nobody has and no other is for; the active one waits only for servers that are In
+-- fences each for a snapshot that nobody has and no other is for, or for a disk's next region; the active one waits only for servers that are In
 pub record AreQueued (state : State) : Type 0 where
   pub each : (i : ℕ) (fence : Fence) → slice_get state.view.queue i ≡ Some fence → IsFence state fence
   pub apart : (i j : ℕ) (one other : Fence) (disk client seq later again : ℕ) (name : List ℕ) → slice_get state.view.queue i ≡ Some one
       → slice_get state.view.queue j ≡ Some other → one.kind ≡ Whole disk name client seq → other.kind ≡ Whole disk name later again → i ≡ j
+  pub once : (i j : ℕ) (one other : Fence) (disk region later : ℕ) → slice_get state.view.queue i ≡ Some one
+      → slice_get state.view.queue j ≡ Some other → one.kind ≡ Region disk region → other.kind ≡ Region disk later → i ≡ j
   pub present : (fence : Fence) (n : ℕ) → head state.view.queue ≡ Some fence → awaits fence n ≡ true → is_up state n ≡ true
 
 -- what a command makes of a plain state, before fences take effect
@@ -41,13 +49,14 @@ pub record IsUnsettled (servers : ℕ) (state : State) : Type 0 where
   pub members : (n : ℕ) (member : Member) → slice_get state.view.members n ≡ Some member → 1 ≤ last_inc member
   pub fences : AreQueued state
   pub made : state.disks.made ≡ length state.disks.rows
-  pub count : length state.maps ≡ length state.disks.rows
-  pub rows : (i : ℕ) (row : DiskRow) → slice_get state.disks.rows i ≡ Some row → IsRowAt i row
+  pub homes : (of disk : ℕ) → disk_of state.maps of ≡ Some disk → HasHome state of disk
+  pub rows : (i : ℕ) (row : DiskRow) → slice_get state.disks.rows i ≡ Some row → IsRowAt state.maps i row
   pub names : (i j : ℕ) (one other : DiskRow) → slice_get state.disks.rows i ≡ Some one → slice_get state.disks.rows j ≡ Some other
       → one.name ≡ other.name → i ≡ j
   pub tuples : (of : ℕ) (tuple : List ℕ) → tuple_of state.maps of ≡ Some tuple → is_tuple servers tuple ≡ true
-  pub links : (of link : ℕ) (tuple : List ℕ) → tuple_of state.maps of ≡ Some tuple → link < length tuple → HasLinkOf state of tuple link
-  pub unlinked : (of link : ℕ) → tuple_of state.maps of ≡ None → link_at state.links of link ≡ None
+  pub links : (of link : ℕ) (tuple : List ℕ) → tuple_of state.maps of ≡ Some tuple → link < length tuple → owner state of ≢ None
+      → HasLinkOf state of tuple link
+  pub unlinked : (of link : ℕ) → owner state of ≡ None → link_at state.links of link ≡ None
   pub found : (row : LinkRow) → In row state.links → link_at state.links row.map row.link ≡ Some row
 
 -- the state is so, and has grown from this one
@@ -56,7 +65,7 @@ pub record Acted (servers : ℕ) (s t : State) : Type 0 where
   pub grown : IsGrown s t
 
 pub fences_queued : (s : State) → AreFences s → AreQueued s
-fences_queued s h = record { each = h.each; apart = h.apart; present = h.present }
+fences_queued s h = record { each = h.each; apart = h.apart; once = h.once; present = h.present }
 
 pub unsettled : (servers : ℕ) (s : State) → IsPlainState servers s → IsUnsettled servers s
 unsettled servers s p = record {
@@ -64,7 +73,7 @@ unsettled servers s p = record {
   members = p.members;
   fences = fences_queued s p.fences;
   made = p.made;
-  count = p.count;
+  homes = p.homes;
   rows = p.rows;
   names = p.names;
   tuples = p.tuples;
@@ -90,11 +99,12 @@ settles servers s p none = record {
   fences = record {
     each = p.fences.each;
     apart = p.fences.apart;
+    once = p.fences.once;
     waits = λ fence is. waits_for s.view.queue fence none is;
     present = p.fences.present;
   };
   made = p.made;
-  count = p.count;
+  homes = p.homes;
   rows = p.rows;
   names = p.names;
   tuples = p.tuples;
@@ -134,7 +144,7 @@ ready_by (first ∷ rest) fence e = by_bool (length first.waiting == 0)
 
 -- the fence is as before, over the same disks
 pub fence_kept : (s t : State) (before fence : Fence) → t.disks.rows ≡ s.disks.rows → fence.kind ≡ before.kind → IsFence s before → IsFence t fence
-fence_kept s t before fence same like h = record {
+fence_kept s t before fence same like (Of_disk h) = Of_disk (record {
   disk = h.disk;
   name = h.name;
   client = h.client;
@@ -143,7 +153,17 @@ fence_kept s t before fence same like h = record {
   row = h.row;
   known = ap (λ rows. disk_at rows h.disk) same ∙ h.known;
   fresh = h.fresh;
-}
+})
+fence_kept s t before fence same like (Of_region h) = Of_region (record {
+  disk = h.disk;
+  region = h.region;
+  kind = like ∙ h.kind;
+  row = h.row;
+  known = ap (λ rows. disk_at rows h.disk) same ∙ h.known;
+  move = h.move;
+  moves = h.moves;
+  shape = h.shape;
+})
 
 -- a link is as before, where links and members are
 pub link_kept : (s t : State) (of link : ℕ) (tuple : List ℕ) → t.links ≡ s.links → t.view.members ≡ s.view.members → HasLinkOf s of tuple link
@@ -174,15 +194,16 @@ requeued servers s p rev waiting queue verdicts fences =
         members = p.members;
         fences = fences;
         made = p.made;
-        count = p.count;
+        homes = λ of disk e. let h = p.homes of disk e in record { row = h.row; is = h.is; newest = h.newest };
         rows = p.rows;
         names = p.names;
         tuples = p.tuples;
-        links = λ of link tuple e lt. link_kept s t of link tuple refl refl (p.links of link tuple e lt);
+        links = λ of link tuple e lt has. link_kept s t of link tuple refl refl (p.links of link tuple e lt has);
         unlinked = p.unlinked;
         found = p.found;
       };
-      grown = grown_still s t (no_less (length s.disks.rows)) (λ i row e. record { now = row; is = e; so = later_disk_itself row }) refl refl refl;
+      grown = grown_still s t (no_less (length s.disks.rows)) (λ i row e. record { now = row; is = e; so = later_disk_itself row }) refl refl refl
+          (λ cell. no_less (stage_at s cell));
     }
 
 -- the revision and what clients are told are of no table
@@ -193,6 +214,7 @@ untabled servers rev verdicts s t h =
     let fences : AreQueued u = record {
       each = λ i fence e. fence_kept t u fence fence refl refl (h.plain.fences.each i fence e);
       apart = h.plain.fences.apart;
+      once = h.plain.fences.once;
       present = h.plain.fences.present;
     } in
     let now = requeued servers t h.plain rev t.view.queued t.view.queue verdicts fences in
@@ -231,6 +253,10 @@ queued_on s t old same was present = record {
       let a = was i one e in
       let b = was j other f in
       old.apart i j a.0 b.0 disk client seq later again name a.1 b.1 (sym a.2 ∙ kind) (sym b.2 ∙ like);
+  once = λ i j one other disk region later e f kind like.
+      let a = was i one e in
+      let b = was j other f in
+      old.once i j a.0 b.0 disk region later a.1 b.1 (sym a.2 ∙ kind) (sym b.2 ∙ like);
   present = present;
 }
 
@@ -322,3 +348,63 @@ pub waits_still : (server : ℕ) (before fence : Fence) (n : ℕ) → IsReported
 waits_still server before fence n r away e =
     ap (list_any (nat_eq n)) r.waiting ∙ any_filter (λ other. not (other == server)) n before.waiting
     ∙ ap (λ b. not b && list_any (nat_eq n) before.waiting) away ∙ e
+
+-- ### A fence more for a region
+
+-- the new one is no fence for a snapshot
+region_no_snapshot : {A : Type 0} {disk other region client seq : ℕ} {name : List ℕ} → Region disk region ≡ Whole other name client seq → A
+region_no_snapshot {disk = disk} {other = other} {region = region} {client = client} {seq = seq} {name = name} e =
+    let f : Region disk region ≡ Whole other name client seq = e in absurd cc
+
+pub same_region : {disk other region later : ℕ} → Region disk region ≡ Region other later → (disk ≡ other) × (region ≡ later)
+same_region e = (cc, cc)
+
+-- of a disk for which none waits, and that has come to the region
+module _ (u : State) (disk region : ℕ) where
+  abbrev late : Fence
+  late = record { number = u.view.queued + 1; kind = Region disk region; waiting = first_waiting u.view.members u.view.queue }
+
+  abbrev t : State
+  t = with_fence u (Region disk region)
+
+  pub region_queued : AreQueued u → (row : DiskRow) (move : Move)
+      → ((i : ℕ) (fence : Fence) (later : ℕ) → slice_get u.view.queue i ≡ Some fence → fence.kind ≢ Region disk later)
+      → disk_at u.disks.rows disk ≡ Some row → row.moving ≡ Some move → IsShape move.regions region Old → AreQueued t
+  region_queued old row move none known moves shape = record {
+    each = λ i fence e. elim (get_last u.view.queue late i fence e) [
+      | inl was ↦ fence_kept u t fence fence refl refl (old.each i fence was)
+      | inr new ↦ Of_region (record {
+        disk = disk;
+        region = region;
+        kind = ap (λ (x : Fence). x.kind) new.1;
+        row = row;
+        known = known;
+        move = move;
+        moves = moves;
+        shape = shape;
+      })
+    ];
+    apart = λ i j one other of client seq later again name e f kind like. elim (get_last u.view.queue late i one e) [
+      | inr new ↦ region_no_snapshot (sym (ap (λ (x : Fence). x.kind) new.1) ∙ kind)
+      | inl was ↦ elim (get_last u.view.queue late j other f) [
+        | inr new ↦ region_no_snapshot (sym (ap (λ (x : Fence). x.kind) new.1) ∙ like)
+        | inl too ↦ old.apart i j one other of client seq later again name was too kind like
+      ]
+    ];
+    once = λ i j one other of first later e f kind like. elim (get_last u.view.queue late i one e) [
+      | inr new ↦ elim (get_last u.view.queue late j other f) [
+        | inr newer ↦ new.0 ∙ sym newer.0
+        | inl was ↦ absurd (none j other later was
+            (like ∙ ap (λ k. Region k later) (sym (same_region (sym (ap (λ (x : Fence). x.kind) new.1) ∙ kind)).0)))
+      ]
+      | inl was ↦ elim (get_last u.view.queue late j other f) [
+        | inr new ↦ absurd (none i one first was
+            (kind ∙ ap (λ k. Region k first) (sym (same_region (sym (ap (λ (x : Fence). x.kind) new.1) ∙ like)).0)))
+        | inl too ↦ old.once i j one other of first later was too kind like
+      ]
+    ];
+    present = λ fence n e waits. elim (head_queued u.view (Region disk region) fence e) [
+      | inl was ↦ old.present fence n was waits
+      | inr all ↦ waits_present u.view.members fence n all waits
+    ];
+  }

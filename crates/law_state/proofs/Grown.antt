@@ -2,16 +2,18 @@
 use Rattle.std.proofs.Common.{◌≡◌, ◌≤◌, ◌++◌, ℕ, [], Bool, refl, sym, ap, ◌∙◌, inl, inr, Some, length, append_assoc, arith}
 use Rattle.std.specs.Prelude.{slice_get}
 use Rattle.std.proofs.lemmas.List.{append-nil}
+use Rattle.petal_base.specs.declared.cell.Cell.{Cell}
 use Rattle.global_tables.specs.Link.{has_server, link_at}
-use Rattle.global_tables.specs.Map.{tuple_of}
 use Rattle.global_tables.specs.declared.disk.DiskRow.{DiskRow}
 use Rattle.global_tables.specs.declared.link.LinkRow.{LinkRow}
 use Rattle.global_tables.specs.declared.link.LinkState.TheVariants.{Both, Only, Lost}
 use Rattle.petal_rules.specs.State.{State}
 use Rattle.law_state.specs.Ages.{age, age_of}
 use Rattle.law_state.specs.Rows.{IsBetween, IsHeldOn, IsLater, IsServedOn}
-use Rattle.law_state.specs.Tables.{HasLaterDisk, IsGrown, IsLaterDisk, IsPlainState}
+use Rattle.law_state.specs.Homes.{stage_at, stage_of}
+use Rattle.law_state.specs.Tables.{HasLaterDisk, HasLaterRow, IsGone, IsGrown, IsLaterDisk, IsPlainState}
 use Rattle.law_state.proofs.Ages.{between, no_less, out_same}
+use Rattle.law_state.proofs.Stages.{stage_most}
 
 pub later_itself : (row : LinkRow) → IsLater row row
 later_itself row = record { map = refl; link = refl; primary = refl; secondary = refl }
@@ -64,8 +66,9 @@ pub later_disk_itself : (row : DiskRow) → IsLaterDisk row row
 later_disk_itself row = record {
   id = refl;
   name = refl;
-  map = refl;
-  moving = refl;
+  map = no_less row.map;
+  stages = λ cell low. no_less (stage_of cell row);
+  back = λ of lt left. (refl, left);
   onward = no_less row.epoch;
   more = [];
   snaps = sym (append-nil row.snaps);
@@ -75,35 +78,54 @@ later_disk_on : (one two three : DiskRow) → IsLaterDisk one two → IsLaterDis
 later_disk_on one two three a b = record {
   id = b.id ∙ a.id;
   name = b.name ∙ a.name;
-  map = b.map ∙ a.map;
-  moving = b.moving ∙ a.moving;
+  map = at_most one.map two.map three.map a.map b.map;
+  stages = λ cell low. at_most (stage_of cell one) (stage_of cell two) (stage_of cell three) (a.stages cell low)
+      (b.stages cell (at_most cell.map one.map two.map low a.map));
+  back = λ of lt left.
+      let later = b.back of (let on = a.map in omega arith) left in
+      let first = a.back of lt later.1 in
+      (later.0 ∙ first.0, first.1);
   onward = at_most one.epoch two.epoch three.epoch a.onward b.onward;
   more = a.more ++ b.more;
   snaps = b.snaps ∙ ap (λ snaps. snaps ++ b.more) a.snaps ∙ append_assoc one.snaps a.more b.more;
 }
 
+pub same_row : (s t : State) (of link : ℕ) (row : LinkRow) → link_at t.links of link ≡ Some row → HasLaterRow s t of link row
+same_row s t of link row e = record {
+  now = row;
+  is = e;
+  so = later_itself row;
+  on = λ n inc has serving a b. serving;
+  held = λ n whole alone out same. (whole, alone);
+  lost = λ gone. gone;
+}
+
 -- the tables of links and maps are as they were, and so is who is In
 pub grown_still : (s t : State) → length s.disks.rows ≤ length t.disks.rows
     → ((i : ℕ) (row : DiskRow) → slice_get s.disks.rows i ≡ Some row → HasLaterDisk t i row)
-    → t.maps ≡ s.maps → t.links ≡ s.links → t.view.members ≡ s.view.members → IsGrown s t
-grown_still s t many rows maps links members = record {
+    → t.maps ≡ s.maps → t.links ≡ s.links → t.view.members ≡ s.view.members → ((cell : Cell) → stage_at s cell ≤ stage_at t cell) → IsGrown s t
+grown_still s t many rows maps links members stages = record {
   many = many;
   rows = rows;
-  maps = λ of tuple e. ap (λ m. tuple_of m of) maps ∙ e;
-  links = λ of link row e. record {
-    now = row;
-    is = ap (λ l. link_at l of link) links ∙ e;
-    so = later_itself row;
-    on = λ n inc has serving a b. serving;
-    held = λ n whole alone out same. (whole, alone);
-    lost = λ gone. gone;
-  };
+  maps = λ of map e. ap (λ m. slice_get m of) maps ∙ e;
+  links = λ of link row e. inl (same_row s t of link row (ap (λ l. link_at l of link) links ∙ e));
+  stages = stages;
   ages = λ n. let e = ap (λ m. age (slice_get m n)) members in omega arith;
 }
 
 pub grown_itself : (s : State) → IsGrown s s
 grown_itself s =
     grown_still s s (no_less (length s.disks.rows)) (λ i row e. record { now = row; is = e; so = later_disk_itself row }) refl refl refl
+    (λ cell. no_less (stage_at s cell))
+
+-- a map that is dead stays so
+pub gone_on : (s t : State) (of : ℕ) → ((cell : Cell) → stage_at s cell ≤ stage_at t cell) → IsGone s of → IsGone t of
+gone_on s t of stages gone block =
+    let cell : Cell = record { map = of; block = block } in
+    let before = gone block in
+    let on = stages cell in
+    let most = stage_most t cell in
+    omega arith
 
 pub grown_on : (s t u : State) → IsGrown s t → IsGrown t u → IsGrown s u
 grown_on s t u one two = record {
@@ -112,18 +134,22 @@ grown_on s t u one two = record {
       let middle = one.rows i row e in
       let last = two.rows i middle.now middle.is in
       record { now = last.now; is = last.is; so = later_disk_on row middle.now last.now middle.so last.so };
-  maps = λ of tuple e. two.maps of tuple (one.maps of tuple e);
-  links = λ of link row e.
-      let middle = one.links of link row e in
-      let last = two.links of link middle.now middle.is in
-      record {
+  maps = λ of map e. two.maps of map (one.maps of map e);
+  links = λ of link row e. elim (one.links of link row e) [
+    | inr gone ↦ inr (gone_on t u of two.stages gone)
+    | inl middle ↦ elim (two.links of link middle.now middle.is) [
+      | inr gone ↦ inr gone
+      | inl last ↦ inl (record {
         now = last.now;
         is = last.is;
         so = later_on row middle.now last.now middle.so last.so;
         on = served_on_on s t u one.ages two.ages row middle.now last.now middle.so middle.on last.on;
         held = held_on_on s t u one.ages two.ages row middle.now last.now middle.held last.held;
         lost = λ gone. last.lost (middle.lost gone);
-      };
+      })
+    ]
+  ];
+  stages = λ cell. at_most (stage_at s cell) (stage_at t cell) (stage_at u cell) (one.stages cell) (two.stages cell);
   ages = λ n. let a = one.ages n in let b = two.ages n in at_most _ _ _ a b;
 }
 

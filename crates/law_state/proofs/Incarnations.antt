@@ -9,7 +9,7 @@ use Rattle.global_tables.specs.declared.disk.Verdict.TheVariants as Verdict
 use Rattle.global_tables.specs.declared.fence.Member.{Member}
 use Rattle.global_tables.specs.declared.fence.Member.TheVariants as member
 use Rattle.petal_command.specs.declared.command.Command.{Command}
-use Rattle.petal_command.specs.declared.command.Command.TheVariants.{Join, Leave, Caught, MakeDisk, Snap, Drained, Witness}
+use Rattle.petal_command.specs.declared.command.Command.TheVariants.{Join, Leave, Caught, MakeDisk, Snap, StartMove, Drained, Moved, Witness}
 use Rattle.petal_state.specs.Command.{act, after, is_new, may_join, state_after, with_disk}
 use Rattle.petal_state.specs.State.{is_up_as, latest, start, told}
 use Rattle.petal_rules.specs.Lists.{In}
@@ -29,6 +29,7 @@ use Rattle.law_state.proofs.Joins.{joined_by, in_now}
 use Rattle.law_state.proofs.Joins.{in_beside as joined_beside}
 use Rattle.law_state.proofs.Leaves.{left_by, in_before}
 use Rattle.law_state.proofs.Passing.{in_settled}
+use Rattle.law_state.proofs.Moves.{act_moved, act_note, act_start}
 use Rattle.law_state.proofs.Snaps.{act_drained, act_snap}
 use Rattle.law_state.proofs.Steady.{front_plain, log_below}
 
@@ -66,11 +67,18 @@ made_in servers s p (MakeDisk client seq name tuple) plain n inc out =
 made_in servers s p (Snap client seq disk name) plain n inc out =
     act_snap (λ (t : State). is_up_as t n inc ≡ true → Joins s (Snap client seq disk name) n inc) s client seq disk name (λ old is. true_false is out)
     (λ new none is. true_false is out) (λ new row found taken is. true_false is out) (λ new row found free is. true_false is out)
+made_in servers s p (StartMove client seq disk tuple) plain n inc out =
+    act_start (λ (t : State). is_up_as t n inc ≡ true → Joins s (StartMove client seq disk tuple) n inc) s client seq disk tuple
+    (λ old is. true_false is out) (λ new none is. true_false is out) (λ new row found busy is. true_false is out)
+    (λ new row found still is. true_false is out)
+made_in servers s p (Moved of region link) plain n inc out =
+    act_moved (λ (t : State). is_up_as t n inc ≡ true → Joins s (Moved of region link) n inc) servers s p of region link (λ is. true_false is out)
+    (λ h. act_note servers s p of region link h (λ (t : State). is_up_as t n inc ≡ true → Joins s (Moved of region link) n inc)
+    (λ some is. true_false is out) (λ every more is. true_false is out) (λ every last is. true_false is out))
 made_in servers s p (Drained server last fence) plain n inc out =
     act_drained (λ (t : State). is_up_as t n inc ≡ true → Joins s (Drained server last fence) n inc) s server last fence (λ is. true_false is out)
     (λ head up is. true_false is out)
 made_in servers s p (Witness client seq turn) plain n inc out = λ is. true_false is out
-made_in servers s p _ plain n inc out = absurd plain
 
 -- of these entries one is such a Join
 record IsJoinAmong (s : State) (entries : List Command) (n inc : ℕ) : Type 0 where

@@ -1,36 +1,40 @@
--- A fence that waits for nobody takes effect: its disk has one snapshot more, and the next epoch begins. What settles so is plain again.
+-- A fence that waits for nobody takes effect: its disk has one snapshot more, and the next epoch begins; or a region of its disk is on its way.
+-- What settles so is plain again.
 -- Links, maps and who is In stay as they were.
-use Rattle.std.proofs.Common.{◌≡◌, ◌≢◌, ◌≤◌, ◌+◌, ◌==◌, ℕ, zero, suc, List, [], ◌∷◌, length, true, false, cond, Option, Some, None, refl, sym, ap, ◌∙◌, subst, inl, inr, length-append, arith}
-use Rattle.std.specs.Prelude.{length, slice_get, slice_set, option_and_then}
+use Rattle.std.proofs.Common.{◌≡◌, ◌≢◌, ◌≤◌, ◌+◌, ◌==◌, ℕ, zero, suc, List, [], ◌∷◌, length, Bool, true, false, cond, Option, Some, None, refl, sym, ap, ◌∙◌, subst, inl, inr, length-append, arith}
+use Rattle.std.specs.Prelude.{◌||◌, length, slice_get, option_and_then, option_map}
 use Rattle.std.specs.Option.{option_map_or}
-use Rattle.std.proofs.lemmas.List.{length-set}
-use Rattle.std.proofs.lemmas.Option.{slice_get_within}
+use Rattle.std.proofs.lemmas.List.{append-nil}
 use Rattle.petal_base.specs.declared.cell.Cell.{Cell}
 use Rattle.global_tables.specs.declared.disk.DiskRow.{DiskRow}
 use Rattle.global_tables.specs.declared.disk.Latest.{Latest}
+use Rattle.global_tables.specs.declared.disk.Move.{Move}
+use Rattle.global_tables.specs.declared.disk.RegionState.TheVariants.{Old, Fenced}
 use Rattle.global_tables.specs.declared.disk.Snapshot.{Snapshot}
 use Rattle.global_tables.specs.declared.disk.Verdict.TheVariants as Verdict
 use Rattle.global_tables.specs.declared.fence.Fence.{Fence}
 use Rattle.global_tables.specs.declared.fence.FenceKind.{FenceKind}
 use Rattle.global_tables.specs.declared.fence.FenceKind.TheVariants.{Region, Whole}
 use Rattle.global_tables.specs.declared.fence.Member.{Member}
-use Rattle.global_tables.specs.Disk.{change, disk_at, frozen, is_disk, row_frozen, same_name, snapshot_named}
+use Rattle.global_tables.specs.Disk.{fenced, frozen, move_fenced, row_fenced, row_frozen, same_name, snapshot_named}
 use Rattle.global_tables.specs.Link.{link_at}
 use Rattle.global_tables.specs.Map.{tuple_of}
-use Rattle.global_tables.specs.Region.{link_of}
+use Rattle.global_tables.specs.Region.{link_of, region_of}
 use Rattle.global_tables.specs.View.{View, behind, inc_in, passed, ready, servers_in}
-use Rattle.petal_state.specs.CellState.{cell_link}
+use Rattle.petal_state.specs.CellState.{cell_link, has_map}
 use Rattle.petal_state.specs.Fence.{confirmed, effect, let_through, settled}
-use Rattle.petal_state.specs.State.{inc_of, is_up_as, latest, told}
+use Rattle.petal_state.specs.State.{inc_of, is_up_as, latest, leaves, told}
 use Rattle.petal_state.proofs.Passing.{length-behind, settled_none, settled_one, view-effect}
 use Rattle.petal_rules.specs.State.{State}
-use Rattle.petal_rules.proofs.Tests.{by_bool, by_test, nat_lists_same, none_some, number_itself, same_numbers, same_or_apart, same_some, some_or_none, true_false}
-use Rattle.law_state.specs.Tables.{HasLaterDisk, IsFence, IsRowAt}
+use Rattle.petal_rules.proofs.Tests.{by_bool, by_test, nat_lists_same, none_some, same_some, some_or_none, true_false}
+use Rattle.law_state.specs.Homes.{stage_of}
+use Rattle.law_state.specs.Tables.{IsForRegion, IsForSnapshot, IsLaterDisk, IsMove, IsRowAt, Of_disk, Of_region}
 use Rattle.law_state.proofs.Ages.{no_less}
-use Rattle.law_state.proofs.Fences.{Acted, AreQueued, IsUnsettled, get_behind, head_behind, head_get, link_kept, ready_by, settles, untabled, waits_present}
-use Rattle.law_state.proofs.Grown.{Step, grown_itself, grown_on, grown_still, later_disk_itself}
-use Rattle.law_state.proofs.Places.{find_behind, get_last, get_set_beside, get_set_here, none_find, text_itself}
-use Rattle.law_state.proofs.Snaps.{disk_is, disk_stands}
+use Rattle.law_state.proofs.Fences.{Acted, AreQueued, IsUnsettled, get_behind, head_behind, head_get, ready_by, settles, untabled, waits_present}
+use Rattle.law_state.proofs.Grown.{Step, grown_itself, grown_on}
+use Rattle.law_state.proofs.Places.{find_behind, get_last, none_find, text_itself}
+use Rattle.law_state.proofs.Rowed.{beside, fence_then, here, here_now, row_known, rowing}
+use Rattle.law_state.proofs.Stages.{moved_on, set_on, shape_set}
 
 -- the state after the fence has passed
 abbrev pub one_passed : State → Fence → State
@@ -44,7 +48,7 @@ pub record IsFramed (s t : State) : Type 0 where
   pub links : t.links ≡ s.links
   pub members : t.view.members ≡ s.view.members
 
-framed_itself : (s : State) → IsFramed s s
+pub framed_itself : (s : State) → IsFramed s s
 framed_itself s = record { maps = refl; links = refl; members = refl }
 
 framed_confirmed : (s t : State) (client seq : ℕ) (last : Option Latest) → IsFramed s t → IsFramed s (confirmed t client seq last)
@@ -90,52 +94,37 @@ cell_settled s cell =
     (λ i. option_and_then (λ tuple. link_at ((settled_framed s).links i) cell.map (link_of (length tuple) cell.block))
     (tuple_of ((settled_framed s).maps i) cell.map))
 
--- ### The row of a disk is changed
+-- ### What is behind the head
 
--- the row at the disk's number, where each row's number is its place
-change_at : (start disk : ℕ) (f : DiskRow → DiskRow) (rows : List DiskRow) (row : DiskRow)
-    → ((i : ℕ) (other : DiskRow) → slice_get rows i ≡ Some other → other.id ≡ start + i)
-    → slice_get rows disk ≡ Some row → change (start + disk) f rows ≡ slice_set rows disk (f row)
-change_at start disk f [] row ids e = none_some refl e
-change_at start zero f (first ∷ rest) row ids e =
-    let same : is_disk (start + 0) first ≡ true = ap (λ n. n == start + 0) (ids 0 first refl) ∙ number_itself (start + 0) in
-    ap (λ b. cond b (f first ∷ rest) (first ∷ change (start + 0) f rest)) same ∙ ap (λ r. f r ∷ rest) (same_some e)
-change_at start (suc disk) f (first ∷ rest) row ids e =
-    by_bool (is_disk (start + suc disk) first)
-    (λ t.
-    let a : first.id ≡ start + suc disk = same_numbers first.id (start + suc disk) t in
-    let b : first.id ≡ start + 0 = ids 0 first refl in
-    absurd (omega arith))
-    (λ no. ap (λ b. cond b (f first ∷ rest) (first ∷ change (start + suc disk) f rest)) no
-    ∙ ap (λ n. first ∷ change n f rest) (let g : start + suc disk ≡ start + 1 + disk = omega arith in g)
-    ∙ ap (λ rows. first ∷ rows)
-    (change_at (start + 1) disk f rest row (λ i other g. let a : other.id ≡ start + suc i = ids (suc i) other g in omega arith) e))
+module _ (servers : ℕ) (s : State) (p : IsUnsettled servers s) where
+  behind_apart : (i j : ℕ) (one other : Fence) (disk client seq later again : ℕ) (name : List ℕ) → slice_get (passed s.view).queue i ≡ Some one
+      → slice_get (passed s.view).queue j ≡ Some other → one.kind ≡ Whole disk name client seq → other.kind ≡ Whole disk name later again → i ≡ j
+  behind_apart i j one other disk client seq later again name e f kind like =
+      let a = get_behind (servers_in s.view.members) s.view.queue i one e in
+      let b = get_behind (servers_in s.view.members) s.view.queue j other f in
+      let same : suc i ≡ suc j = p.fences.apart (suc i) (suc j) a.0 b.0 disk client seq later again name a.1 b.1 (sym a.2 ∙ kind) (sym b.2 ∙ like) in
+      omega arith
 
-module _ (servers : ℕ) (s : State) (p : IsUnsettled servers s) (fence : Fence) (first : slice_get s.view.queue 0 ≡ Some fence) where
-  -- the fence that passes
-  abbrev pub active : IsFence s fence
-  active = p.fences.each 0 fence first
+  behind_once : (i j : ℕ) (one other : Fence) (disk region later : ℕ) → slice_get (passed s.view).queue i ≡ Some one
+      → slice_get (passed s.view).queue j ≡ Some other → one.kind ≡ Region disk region → other.kind ≡ Region disk later → i ≡ j
+  behind_once i j one other disk region later e f kind like =
+      let a = get_behind (servers_in s.view.members) s.view.queue i one e in
+      let b = get_behind (servers_in s.view.members) s.view.queue j other f in
+      let same : suc i ≡ suc j = p.fences.once (suc i) (suc j) a.0 b.0 disk region later a.1 b.1 (sym a.2 ∙ kind) (sym b.2 ∙ like) in
+      omega arith
 
+-- ### A fence for a snapshot
+
+module _ (servers : ℕ) (s : State) (p : IsUnsettled servers s) (fence : Fence) (first : slice_get s.view.queue 0 ≡ Some fence)
+    (active : IsForSnapshot s fence) where
   abbrev later : DiskRow
   later = row_frozen active.name active.row
 
   abbrev t : State
   t = record s { view = passed s.view; disks = frozen s.disks active.disk active.name }
 
-  here : slice_get s.disks.rows active.disk ≡ Some active.row
-  here = disk_stands s.disks.rows (λ i row e. (p.rows i row e).id) active.disk active.row active.known
-
-  rows_are : t.disks.rows ≡ slice_set s.disks.rows active.disk later
-  rows_are =
-      ap (λ n. change n (row_frozen active.name) s.disks.rows) (let e : active.disk ≡ 0 + active.disk = omega arith in e)
-      ∙ change_at 0 active.disk (row_frozen active.name) s.disks.rows active.row (λ i row e. let f = (p.rows i row e).id in omega arith) here
-
-  here_now : slice_get t.disks.rows active.disk ≡ Some later
-  here_now = ap (λ rows. slice_get rows active.disk) rows_are
-      ∙ get_set_here s.disks.rows active.disk later (slice_get_within s.disks.rows active.disk active.row here)
-
-  beside : (i : ℕ) → i ≢ active.disk → slice_get t.disks.rows i ≡ slice_get s.disks.rows i
-  beside i ne = ap (λ rows. slice_get rows i) rows_are ∙ get_set_beside s.disks.rows active.disk i later ne
+  pub here_row : slice_get s.disks.rows active.disk ≡ Some active.row
+  here_row = here servers s p active.disk active.row active.known (row_frozen active.name)
 
   -- no snapshot before has the new name
   new_name : {A : Type 0} (i : ℕ) (snap : Snapshot) → slice_get active.row.snaps i ≡ Some snap → snap.name ≡ active.name → A
@@ -146,9 +135,9 @@ module _ (servers : ℕ) (s : State) (p : IsUnsettled servers s) (fence : Fence)
   abbrev taken : Snapshot
   taken = record { name = active.name; epoch = active.row.epoch }
 
-  later_at : IsRowAt active.disk later
+  later_at : IsRowAt s.maps active.disk later
   later_at =
-      let old = p.rows active.disk active.row here in
+      let old = p.rows active.disk active.row here_row in
       record {
         id = old.id;
         of = old.of;
@@ -167,110 +156,50 @@ module _ (servers : ℕ) (s : State) (p : IsUnsettled servers s) (fence : Fence)
             | inr too ↦ new.0 ∙ sym too.0
           ]
         ];
-        moving = old.moving;
+        moving = λ move e. let m = old.moving move e in
+            record { old = m.old; from = m.from; next = m.next; now = m.now; shape = m.shape; waits = m.waits };
       }
 
-  row_now : (i : ℕ) (row : DiskRow) → slice_get t.disks.rows i ≡ Some row → IsRowAt i row
-  row_now i row e = elim (same_or_apart i active.disk) [
-    | inl same ↦ subst (λ k. IsRowAt k row) (sym same)
-        (subst (IsRowAt active.disk) (same_some (sym here_now ∙ sym (ap (slice_get t.disks.rows) same) ∙ e)) later_at)
-    | inr ne ↦ p.rows i row (sym (beside i ne) ∙ e)
-  ]
-
-  -- each row has the name of the one before
-  named_as : (i : ℕ) (row : DiskRow) → slice_get t.disks.rows i ≡ Some row → (was : DiskRow) × (slice_get s.disks.rows i ≡ Some was) × (was.name ≡ row.name)
-  named_as i row e = elim (same_or_apart i active.disk) [
-    | inl same ↦ (
-      active.row,
-      ap (slice_get s.disks.rows) same ∙ here,
-      ap (λ (r : DiskRow). r.name) (same_some (sym here_now ∙ sym (ap (slice_get t.disks.rows) same) ∙ e)),
-    )
-    | inr ne ↦ (row, sym (beside i ne) ∙ e, refl)
-  ]
-
-  rows_later : (i : ℕ) (row : DiskRow) → slice_get s.disks.rows i ≡ Some row → HasLaterDisk t i row
-  rows_later i row e = elim (same_or_apart i active.disk) [
-    | inl same ↦ (
-        let is : active.row ≡ row = same_some (sym here ∙ sym (ap (slice_get s.disks.rows) same) ∙ e) in
-        subst (HasLaterDisk t i) is (record {
-          now = later;
-          is = ap (slice_get t.disks.rows) same ∙ here_now;
-          so = record { id = refl; name = refl; map = refl; moving = refl; onward = omega arith; more = taken ∷ []; snaps = refl };
-        }))
-    | inr ne ↦ record { now = row; is = beside i ne ∙ e; so = later_disk_itself row }
-  ]
-
-  -- a snapshot that another fence is for is still new
-  fresh_still : (disk : ℕ) (name : List ℕ) (row : DiskRow) → disk_at s.disks.rows disk ≡ Some row → snapshot_named row.snaps name ≡ None
-      → (disk ≡ active.disk → name ≢ active.name) → (now : DiskRow) × (disk_at t.disks.rows disk ≡ Some now) × (snapshot_named now.snaps name ≡ None)
-  fresh_still disk name row known fresh other = elim (same_or_apart disk active.disk) [
-    | inl same ↦
-        let is : active.row ≡ row = same_some (sym active.known ∙ sym (ap (disk_at s.disks.rows) same) ∙ known) in (
-          later,
-          ap (disk_at t.disks.rows) same ∙ disk_is t.disks.rows (λ i r e. (row_now i r e).id) active.disk later here_now,
-          find_behind (λ (snap : Snapshot). same_name snap.name name) active.row.snaps (taken ∷ [])
-              (ap (λ (r : DiskRow). snapshot_named r.snaps name) is ∙ fresh)
-              ∙ ap (λ b. cond b (Some taken) None) (by_bool (same_name active.name name)
-              (λ t. absurd (other same (sym (nat_lists_same active.name name t)))) (λ f. f)),
-        )
-    | inr ne ↦ (
-      row,
-      disk_is t.disks.rows (λ i r e. (row_now i r e).id) disk row
-          (beside disk ne ∙ disk_stands s.disks.rows (λ i r e. (p.rows i r e).id) disk row known),
-      fresh,
-    )
-  ]
+  later_disk : IsLaterDisk active.row later
+  later_disk = record {
+    id = refl;
+    name = refl;
+    map = no_less active.row.map;
+    stages = λ cell low. no_less (stage_of cell active.row);
+    back = λ of lt left. (refl, left);
+    onward = omega arith;
+    more = taken ∷ [];
+    snaps = refl;
+  }
 
   fences_now : AreQueued t
   fences_now = record {
     each = λ i f e.
         let b = get_behind (servers_in s.view.members) s.view.queue i f e in
-        let old = p.fences.each (suc i) b.0 b.1 in
-        let now = fresh_still old.disk old.name old.row old.known old.fresh (λ disk name.
-        let zero_too : 0 ≡ suc i = p.fences.apart 0 (suc i) fence b.0 active.disk active.client active.seq old.client old.seq active.name first b.1 active.kind
-        (old.kind ∙ (λ k. Whole (disk k) (name k) old.client old.seq)) in
-        absurd (omega arith)) in
-        record {
-          disk = old.disk;
-          name = old.name;
-          client = old.client;
-          seq = old.seq;
-          kind = b.2 ∙ old.kind;
-          row = now.0;
-          known = now.1;
-          fresh = now.2;
-        };
-    apart = λ i j one other disk client seq later again name e f kind like.
-        let a = get_behind (servers_in s.view.members) s.view.queue i one e in
-        let b = get_behind (servers_in s.view.members) s.view.queue j other f in
-        let same : suc i ≡ suc j = p.fences.apart (suc i) (suc j) a.0 b.0 disk client seq later again name a.1 b.1 (sym a.2 ∙ kind) (sym b.2 ∙ like) in
-        omega arith;
+        fence_then servers s p active.disk active.row active.known (row_frozen active.name) (passed s.view).queue s.view.queued later_disk
+        b.0 f b.2 (p.fences.each (suc i) b.0 b.1)
+        (λ h same.
+        find_behind (λ (snap : Snapshot). same_name snap.name h.name) active.row.snaps (taken ∷ [])
+        (ap (λ (r : DiskRow). snapshot_named r.snaps h.name) (row_known servers s p active.disk active.row active.known (row_frozen active.name) h.disk h.row
+        same h.known) ∙ h.fresh)
+        ∙ ap (λ b. cond b (Some taken) None) (by_bool (same_name active.name h.name)
+        (λ t.
+        let name = nat_lists_same active.name h.name t in
+        let zero_too : 0 ≡ suc i = p.fences.apart 0 (suc i) fence b.0 active.disk active.client active.seq h.client h.seq active.name first b.1 active.kind
+        (h.kind ∙ (λ k. Whole (same k) (sym name k) h.client h.seq)) in
+        absurd (omega arith))
+        (λ f. f)))
+        (λ h same.
+        let is = row_known servers s p active.disk active.row active.known (row_frozen active.name) h.disk h.row same h.known in
+        (h.move, ap (λ (r : DiskRow). r.moving) is ∙ h.moves, h.shape));
+    apart = behind_apart servers s p;
+    once = behind_once servers s p;
     present = λ f n e waits. waits_present s.view.members f n (head_behind (servers_in s.view.members) s.view.queue f e) waits;
   }
 
-  many_rows : length t.disks.rows ≡ length s.disks.rows
-  many_rows = ap length rows_are ∙ length-set s.disks.rows active.disk later
-
   freezing : Acted servers s t
-  freezing = record {
-    plain = record {
-      many = p.many;
-      members = p.members;
-      fences = fences_now;
-      made = p.made ∙ sym many_rows;
-      count = p.count ∙ sym many_rows;
-      rows = row_now;
-      names = λ i j one other e f same.
-          let a = named_as i one e in
-          let b = named_as j other f in
-          p.names i j a.0 b.0 a.1 b.1 (a.2 ∙ same ∙ sym b.2);
-      tuples = p.tuples;
-      links = λ of link tuple e lt. link_kept s t of link tuple refl refl (p.links of link tuple e lt);
-      unlinked = p.unlinked;
-      found = p.found;
-    };
-    grown = grown_still s t (let e = many_rows in omega arith) rows_later refl refl refl;
-  }
+  freezing = rowing servers s p active.disk active.row active.known (row_frozen active.name) (passed s.view).queue s.view.queued later_disk later_at
+      (λ of. refl) fences_now
 
   confirming : (client seq : ℕ) (last : Option Latest) → Acted servers s (confirmed t client seq last)
   confirming client seq None = freezing
@@ -287,17 +216,123 @@ module _ (servers : ℕ) (s : State) (p : IsUnsettled servers s) (fence : Fence)
   pub passed_beside : (i : ℕ) → i ≢ active.disk → slice_get (one_passed s fence).disks.rows i ≡ slice_get s.disks.rows i
   passed_beside i ne =
       ap (λ kind. slice_get (effect kind (record s { view = passed s.view })).disks.rows i) active.kind
-      ∙ ap (λ rows. slice_get rows i) (rows_confirmed t active.client active.seq (latest s active.client)) ∙ beside i ne
+      ∙ ap (λ rows. slice_get rows i) (rows_confirmed t active.client active.seq (latest s active.client))
+      ∙ beside servers s p active.disk active.row active.known (row_frozen active.name) i ne
 
   -- that of the fence's disk has the snapshot
   pub passed_here : slice_get (one_passed s fence).disks.rows active.disk ≡ Some (row_frozen active.name active.row)
   passed_here =
       ap (λ kind. slice_get (effect kind (record s { view = passed s.view })).disks.rows active.disk) active.kind
-      ∙ ap (λ rows. slice_get rows active.disk) (rows_confirmed t active.client active.seq (latest s active.client)) ∙ here_now
+      ∙ ap (λ rows. slice_get rows active.disk) (rows_confirmed t active.client active.seq (latest s active.client))
+      ∙ here_now servers s p active.disk active.row active.known (row_frozen active.name)
 
-  pub passing : Acted servers s (one_passed s fence)
-  passing = subst (λ kind. Acted servers s (effect kind (record s { view = passed s.view }))) (sym active.kind)
+  passing_snapshot : Acted servers s (one_passed s fence)
+  passing_snapshot = subst (λ kind. Acted servers s (effect kind (record s { view = passed s.view }))) (sym active.kind)
       (confirming active.client active.seq (latest s active.client))
+
+-- ### A fence for a region
+
+module _ (servers : ℕ) (s : State) (p : IsUnsettled servers s) (fence : Fence) (first : slice_get s.view.queue 0 ≡ Some fence)
+    (active : IsForRegion s fence) where
+  abbrev fence_row : DiskRow → DiskRow
+  fence_row = row_fenced active.region
+
+  abbrev on_way : State
+  on_way = record s { view = passed s.view; disks = fenced s.disks active.disk active.region }
+
+  pub region_row : slice_get s.disks.rows active.disk ≡ Some active.row
+  region_row = here servers s p active.disk active.row active.known fence_row
+
+  abbrev move_now : Move
+  move_now = move_fenced active.region active.move
+
+  pub moves_now : (fence_row active.row).moving ≡ Some move_now
+  moves_now = ap (option_map (move_fenced active.region)) active.moves
+
+  -- the region that is next goes forward, and no other
+  pub region_on : (cell : Cell) → stage_of cell active.row ≤ stage_of cell (fence_row active.row)
+  region_on cell = subst (λ m. stage_of cell (record active.row { moving = m })
+      ≤ stage_of cell (record active.row { moving = option_map (move_fenced active.region) m }))
+      (sym active.moves)
+      (moved_on cell active.row (Some active.move) (Some move_now) (λ left. left)
+      (set_on active.move.regions active.region (region_of cell.block) Old Fenced active.shape.here (omega arith)))
+
+  region_later : IsLaterDisk active.row (fence_row active.row)
+  region_later = record {
+    id = refl;
+    name = refl;
+    map = no_less active.row.map;
+    stages = λ cell low. region_on cell;
+    back = λ of lt left. (refl, ap (leaves of) active.moves ∙ sym (ap (leaves of) moves_now) ∙ left);
+    onward = no_less active.row.epoch;
+    more = [];
+    snaps = sym (append-nil active.row.snaps);
+  }
+
+  region_at : IsRowAt s.maps active.disk (fence_row active.row)
+  region_at =
+      let old = p.rows active.disk active.row region_row in
+      let m = old.moving active.move active.moves in
+      record {
+        id = old.id;
+        of = old.of;
+        many = old.many;
+        snaps = old.snaps;
+        names = old.names;
+        moving = λ move e. subst (IsMove s.maps active.disk active.row.map) (same_some (sym moves_now ∙ e)) (record {
+          old = m.old;
+          from = m.from;
+          next = active.region;
+          now = Fenced;
+          shape = shape_set active.move.regions active.region Old Fenced active.shape;
+          waits = inr refl;
+        });
+      }
+
+  -- the disk keeps its maps
+  region_keeps : (of : ℕ) → has_map of (fence_row active.row) ≡ has_map of active.row
+  region_keeps of =
+      ap (λ m. active.row.map == of || leaves of m) moves_now ∙ sym (ap (λ m. active.row.map == of || leaves of m) active.moves)
+
+  region_fences : AreQueued on_way
+  region_fences = record {
+    each = λ i f e.
+        let b = get_behind (servers_in s.view.members) s.view.queue i f e in
+        fence_then servers s p active.disk active.row active.known fence_row (passed s.view).queue s.view.queued region_later
+        b.0 f b.2 (p.fences.each (suc i) b.0 b.1)
+        (λ h same. ap (λ (r : DiskRow). snapshot_named r.snaps h.name) (row_known servers s p active.disk active.row active.known fence_row h.disk h.row same
+        h.known) ∙ h.fresh)
+        (λ h same.
+        let zero_too : 0 ≡ suc i = p.fences.once 0 (suc i) fence b.0 active.disk active.region h.region first b.1 active.kind
+        (h.kind ∙ ap (λ k. Region k h.region) same) in
+        absurd (omega arith));
+    apart = behind_apart servers s p;
+    once = behind_once servers s p;
+    present = λ f n e waits. waits_present s.view.members f n (head_behind (servers_in s.view.members) s.view.queue f e) waits;
+  }
+
+  passing_region : Acted servers s (one_passed s fence)
+  passing_region = subst (λ kind. Acted servers s (effect kind (record s { view = passed s.view }))) (sym active.kind)
+      (rowing servers s p active.disk active.row active.known fence_row (passed s.view).queue s.view.queued region_later region_at region_keeps region_fences)
+
+  -- the row of each other disk is as before
+  pub region_beside : (i : ℕ) → i ≢ active.disk → slice_get (one_passed s fence).disks.rows i ≡ slice_get s.disks.rows i
+  region_beside i ne =
+      ap (λ kind. slice_get (effect kind (record s { view = passed s.view })).disks.rows i) active.kind
+      ∙ beside servers s p active.disk active.row active.known fence_row i ne
+
+  pub region_here : slice_get (one_passed s fence).disks.rows active.disk ≡ Some (fence_row active.row)
+  region_here =
+      ap (λ kind. slice_get (effect kind (record s { view = passed s.view })).disks.rows active.disk) active.kind
+      ∙ here_now servers s p active.disk active.row active.known fence_row
+
+-- whichever it is
+pub passing : (servers : ℕ) (s : State) (p : IsUnsettled servers s) (fence : Fence) → slice_get s.view.queue 0 ≡ Some fence
+    → Acted servers s (one_passed s fence)
+passing servers s p fence first = elim (p.fences.each 0 fence first) [
+  | Of_disk h ↦ passing_snapshot servers s p fence first h
+  | Of_region h ↦ passing_region servers s p fence first h
+]
 
 -- ### The whole
 

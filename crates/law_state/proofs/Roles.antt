@@ -1,16 +1,16 @@
 -- What a server is to a cell stays so while the server is In as the same incarnation, but for a holder that comes second again.
-use Rattle.std.proofs.Common.{◌≡◌, ◌≢◌, ◌≤◌, ◌<◌, ◌==◌, ◌&&◌, ℕ, List, Bool, true, false, Some, sym, ap, ◌∙◌, ◌⊎◌, inl, inr, arith}
-use Rattle.std.specs.Prelude.{◌||◌}
+use Rattle.std.proofs.Common.{◌≡◌, ◌≢◌, ◌≤◌, ◌<◌, ◌==◌, ℕ, List, Bool, true, false, Some, None, sym, ap, ◌∙◌, ◌⊎◌, inl, inr, arith}
+use Rattle.std.specs.Prelude.{◌||◌, option_and_then}
 use Rattle.std.proofs.lemmas.Bool.Decides.{nat_tests}
 use Rattle.petal_base.specs.declared.cell.Cell.{Cell}
 use Rattle.global_tables.specs.declared.link.LinkRow.{LinkRow}
 use Rattle.global_tables.specs.declared.link.LinkState.TheVariants.{Only}
 use Rattle.global_tables.specs.Link.{has_server}
 use Rattle.petal_command.specs.declared.command.Command.{Command}
-use Rattle.petal_state.specs.CellState.{cell_link, serves}
+use Rattle.petal_state.specs.CellState.{cell_link, row_lead, serves}
 use Rattle.petal_state.specs.Command.{state_after}
 use Rattle.petal_state.specs.State.{is_up}
-use Rattle.petal_rules.specs.State.{State, lead, is_in, is_lead, readable}
+use Rattle.petal_rules.specs.State.{State, is_in, leads_link}
 use Rattle.petal_rules.proofs.Tests.{by_bool, is_the_one, is_the_so, none_some, number_itself, same_numbers, same_or_apart, true_false}
 use Rattle.petal_history.specs.Claims.{IsPrefix}
 use Rattle.law_state.specs.Ages.{age_of}
@@ -18,7 +18,8 @@ use Rattle.law_state.specs.Plain.{IsPlainLog}
 use Rattle.law_state.specs.Rows.{IsLater, ByBoth, ByNone, ByOne}
 use Rattle.law_state.specs.Steady.{IsSteady}
 use Rattle.law_state.specs.Below.{IsBelow, HasComeSecond, KeepsRoles}
-use Rattle.law_state.proofs.Cells.{IsInBoth, IsHeldBy, both_lead, both_second, both_reader, alone_lead, alone_leads_not, alone_reader, lost_lead, led_by, second_by, read_by}
+use Rattle.law_state.specs.Homes.{HasDied}
+use Rattle.law_state.proofs.Cells.{IsInBoth, IsHeldBy, alone_leads, alone_leads_none, both_leads, link_led_by, lost_leads}
 use Rattle.law_state.proofs.Grown.{alone_not_both, lost_not_alone, one_before}
 use Rattle.law_state.proofs.Ages.{in_up, out_same}
 use Rattle.law_state.proofs.Leaves.{either_true}
@@ -52,20 +53,26 @@ holder_is_one state cell n b = elim b.linked.served [
     same_only e = cc
 
 module _ (earlier later : State) (was : IsSteady earlier) (now : IsSteady later) (below : IsBelow earlier later) where
-  -- the later row of a cell that a server serves, which is still In: in Both, or the server holds it alone
+  -- the later row of a link that a server serves, which is still In: in Both, or the server holds it alone; or its map is dead
   served_later : (cell : Cell) (row : LinkRow) (n inc : ℕ) → cell_link earlier cell ≡ Some row → has_server n row ≡ true → serves n row row.state ≡ true
-      → is_in earlier n inc ≡ true → is_in later n inc ≡ true → ((c : IsInBoth later cell) × IsLater row c.row) ⊎ IsHeldBy later cell n
-  served_later cell row n inc is has serving before still =
-      let h = below.rows cell row is in
-      let linked = now.linked cell h.now h.is in
-      let on = h.on n inc has serving before still in
-      elim linked.served [
-        | ByBoth so one other ↦ inl (record { row = h.now; is = h.is; linked = linked; so = so }, h.so)
-        | ByOne holder other whole so pair out ↦ (
-            let same = same_numbers holder n (sym (ap (serves n h.now) so) ∙ on) in
-            inr (record { row = h.now; is = h.is; linked = linked; whole = whole; so = so ∙ ap (λ k. Only k whole) same; up = in_up later n inc still }))
-        | ByNone one other so pair out ↦ true_false on (ap (serves n h.now) so)
-      ]
+      → is_in earlier n inc ≡ true → is_in later n inc ≡ true
+      → ((c : IsInBoth later cell) × IsLater row c.row) ⊎ ((h : IsHeldBy later cell n) × IsLater row h.row) ⊎ HasDied later cell
+  served_later cell row n inc is has serving before still = elim (below.rows cell row is) [
+    | inr gone ↦ inr (inr gone)
+    | inl h ↦
+        let linked = now.linked cell h.now h.is in
+        let on = h.on n inc has serving before still in
+        elim linked.served [
+          | ByBoth so one other ↦ inl (record { row = h.now; is = h.is; linked = linked; so = so }, h.so)
+          | ByOne holder other whole so pair out ↦ (
+              let same = same_numbers holder n (sym (ap (serves n h.now) so) ∙ on) in
+              inr (inl (
+                record { row = h.now; is = h.is; linked = linked; whole = whole; so = so ∙ ap (λ k. Only k whole) same; up = in_up later n inc still },
+                h.so,
+              )))
+          | ByNone one other so pair out ↦ true_false on (ap (serves n h.now) so)
+        ]
+  ]
 
   both_serves : (cell : Cell) (b : IsInBoth earlier cell) (n : ℕ) → has_server n b.row ≡ true → serves n b.row b.row.state ≡ true
   both_serves cell b n has = ap (serves n b.row) b.so ∙ has
@@ -73,87 +80,101 @@ module _ (earlier later : State) (was : IsSteady earlier) (now : IsSteady later)
   held_serves : (cell : Cell) (n : ℕ) (b : IsHeldBy earlier cell n) → serves n b.row b.row.state ≡ true
   held_serves cell n b = ap (serves n b.row) b.so ∙ number_itself n
 
-  held_leads : (cell : Cell) (n : ℕ) → IsHeldBy later cell n → is_lead later n cell ≡ true
-  held_leads cell n h = is_the_so (lead later cell) n (alone_lead later cell h.row h.is h.linked n h.whole h.so h.up)
+  leads_so : (n : ℕ) (cell : Cell) → option_and_then (row_lead later) (cell_link later cell) ≡ Some n → leads_link later n cell ≡ true
+  leads_so n cell e = is_the_so (option_and_then (row_lead later) (cell_link later cell)) n e
 
-  both_and : (a b : Bool) → a ≡ true → b ≡ true → (a && b) ≡ true
-  both_and a b e f = (λ i. e i && f i)
+  held_leads : (cell : Cell) (n : ℕ) → IsHeldBy later cell n → leads_link later n cell ≡ true
+  held_leads cell n h = leads_so n cell (alone_leads later cell h.row h.is n h.whole h.so h.up)
 
-  held_reads : (cell : Cell) (n : ℕ) → IsHeldBy later cell n → readable later n cell ≡ true
-  held_reads cell n h = alone_reader later cell h.row h.is h.linked n h.whole h.so n ∙ both_and (is_up later n) (n == n) h.up (number_itself n)
-
-  -- who held a link alone leads it later, or is its second server
+  -- who held a link alone leads it later, or is its secondary
   held_later : (cell : Cell) (n inc : ℕ) → IsHeldBy earlier cell n → is_in earlier n inc ≡ true → is_in later n inc ≡ true
-      → (is_lead later n cell ≡ true) ⊎ HasComeSecond earlier later n cell
+      → (leads_link later n cell ≡ true) ⊎ HasComeSecond earlier later n cell ⊎ HasDied later cell
   held_later cell n inc b before still =
       let has = holder_is_one earlier cell n b in
       elim (served_later cell b.row n inc b.is has (held_serves cell n b) before still) [
-        | inr held ↦ inl (held_leads cell n held)
+        | inr (inl held) ↦ inl (held_leads cell n held.0)
+        | inr (inr gone) ↦ inr (inr gone)
         | inl c ↦ by_bool (c.0.row.primary == n)
-            (λ t. inl (is_the_so (lead later cell) n (both_lead later cell c.0.row c.0.is c.0.linked c.0.so ∙ ap Some (same_numbers c.0.row.primary n t))))
+            (λ t. inl (leads_so n cell (both_leads later cell c.0.row c.0.is c.0.so ∙ ap Some (same_numbers c.0.row.primary n t))))
             (λ no.
             let second = same_numbers c.0.row.secondary n
             (either_true (c.0.row.primary == n) (c.0.row.secondary == n) (one_before b.row c.0.row n c.1 ∙ has) no) in
-            inr (record {
+            inr (inl (record {
               alone = record { row = b.row; is = b.is; whole = b.whole; alone = b.so };
-              second = is_the_so _ n (both_second later cell c.0.row c.0.is c.0.linked c.0.so ∙ ap Some second);
-            }))
+              second = record { row = c.0.row; is = c.0.is; both = c.0.so; second = second };
+            })))
       ]
 
   pub roles_kept : KeepsRoles earlier later
   roles_kept = record {
-    leads = λ n inc cell before still e. elim (led_by earlier was cell n (is_the_one (lead earlier cell) n e)) [
-      | inl b ↦ (let has = primary_is_one b.0.row n b.1 in
-          elim (served_later cell b.0.row n inc b.0.is has (both_serves cell b.0 n has) before still) [
-            | inl c ↦ inl (is_the_so (lead later cell) n (both_lead later cell c.0.row c.0.is c.0.linked c.0.so ∙ ap Some (c.1.primary ∙ b.1)))
-            | inr held ↦ inl (held_leads cell n held)
-          ])
-      | inr held ↦ held_later cell n inc held before still
-    ];
-    seconds = λ n inc cell before still e.
-        let b = second_by earlier was cell n (is_the_one _ n e) in
-        let has = secondary_is_one b.0.row n b.1 in
-        elim (served_later cell b.0.row n inc b.0.is has (both_serves cell b.0 n has) before still) [
-          | inl c ↦ inl (is_the_so _ n (both_second later cell c.0.row c.0.is c.0.linked c.0.so ∙ ap Some (c.1.secondary ∙ b.1)))
-          | inr held ↦ inr (record { row = held.row; is = held.is; whole = held.whole; alone = held.so })
+    leads = λ n inc cell before still e.
+        elim (link_led_by earlier was cell n (is_the_one (option_and_then (row_lead earlier) (cell_link earlier cell)) n e)) [
+          | inl b ↦ (let has = primary_is_one b.0.row n b.1 in
+              elim (served_later cell b.0.row n inc b.0.is has (both_serves cell b.0 n has) before still) [
+                | inl c ↦ inl (leads_so n cell (both_leads later cell c.0.row c.0.is c.0.so ∙ ap Some (c.1.primary ∙ b.1)))
+                | inr (inl held) ↦ inl (held_leads cell n held.0)
+                | inr (inr gone) ↦ inr (inr gone)
+              ])
+          | inr held ↦ held_later cell n inc held before still
         ];
-    reads = λ n inc cell before still e. elim (read_by earlier was cell n e).1 [
-      | inl b ↦ reads_later cell b.0.row n inc b.0.is b.1 (both_serves cell b.0 n b.1) before still
-      | inr held ↦ reads_later cell held.row n inc held.is (holder_is_one earlier cell n held) (held_serves cell n held) before still
+    seconds = λ n inc cell before still b.
+        let has = secondary_is_one b.row n b.second in
+        elim (served_later cell b.row n inc b.is has (ap (serves n b.row) b.both ∙ has) before still) [
+          | inl c ↦ inl (record { row = c.0.row; is = c.0.is; both = c.0.so; second = c.1.secondary ∙ b.second })
+          | inr (inl held) ↦ inr (inl (record { row = held.0.row; is = held.0.is; whole = held.0.whole; alone = held.0.so }))
+          | inr (inr gone) ↦ inr (inr gone)
+        ];
+    reads = λ n inc cell before still b. elim (served_later cell b.row n inc b.is b.one_of b.so before still) [
+      | inl c ↦ (let has = one_before b.row c.0.row n c.1 ∙ b.one_of in
+          inl (record { row = c.0.row; is = c.0.is; one_of = has; so = ap (serves n c.0.row) c.0.so ∙ has }))
+      | inr (inl held) ↦ inl (record {
+        row = held.0.row;
+        is = held.0.is;
+        one_of = one_before b.row held.0.row n held.1 ∙ b.one_of;
+        so = ap (serves n held.0.row) held.0.so ∙ number_itself n;
+      })
+      | inr (inr gone) ↦ inr gone
     ];
     led = λ cell row n is e. elim (was.linked cell row is).served [
-      | ByBoth so one other ↦ inl (row.primary, both_lead earlier cell row is (was.linked cell row is) so)
+      | ByBoth so one other ↦ inl (
+        row.primary,
+        is_the_so (option_and_then (row_lead earlier) (cell_link earlier cell)) row.primary
+            (both_leads earlier cell row is so),
+      )
       | ByOne holder other whole so pair out ↦ by_bool (is_up earlier holder)
-          (λ up. inl (holder, alone_lead earlier cell row is (was.linked cell row is) holder whole so up))
+          (λ up. inl (
+            holder,
+            is_the_so (option_and_then (row_lead earlier) (cell_link earlier cell)) holder
+                (alone_leads earlier cell row is holder whole so up),
+          ))
           (λ gone. inr (record {
             holder = holder;
             alone = record { row = row; is = is; whole = whole; alone = so };
             out = gone;
-            joined = rises cell row n holder whole is so gone e;
+            joined = rises cell row n holder whole is so gone (is_the_one (option_and_then (row_lead later) (cell_link later cell)) n e);
           }))
-      | ByNone one other so pair out ↦ (
-          let h = below.rows cell row is in
-          none_some (lost_lead later cell h.now h.is (now.linked cell h.now h.is) (h.lost so)) e)
+      | ByNone one other so pair out ↦ elim (below.rows cell row is) [
+        | inl h ↦ none_some (lost_leads later cell h.now h.is (h.lost so)) (is_the_one (option_and_then (row_lead later) (cell_link later cell)) n e)
+        | inr gone ↦ unled cell n gone.0 (is_the_one (option_and_then (row_lead later) (cell_link later cell)) n e)
+      ]
     ];
   }
     where
-      reads_later : (cell : Cell) (row : LinkRow) (n inc : ℕ) → cell_link earlier cell ≡ Some row → has_server n row ≡ true → serves n row row.state ≡ true
-          → is_in earlier n inc ≡ true → is_in later n inc ≡ true → readable later n cell ≡ true
-      reads_later cell row n inc is has serving before still = elim (served_later cell row n inc is has serving before still) [
-        | inl c ↦ both_reader later cell c.0.row c.0.is c.0.linked c.0.so n
-            ∙ both_and (is_up later n) (has_server n c.0.row) (in_up later n inc still) (one_before row c.0.row n c.1 ∙ has)
-        | inr held ↦ held_reads cell n held
-      ]
+      -- a link that is gone is led by nobody
+      unled : {A : Type 0} (cell : Cell) (n : ℕ) → cell_link later cell ≡ None → option_and_then (row_lead later) (cell_link later cell) ≡ Some n → A
+      unled cell n none e = none_some (ap (option_and_then (row_lead later)) none) e
 
-      -- a link whose holder stays Out is led by nobody
+      -- and so is one whose holder stays Out
       rises : (cell : Cell) (row : LinkRow) (n holder : ℕ) (whole : Bool) → cell_link earlier cell ≡ Some row → row.state ≡ Only holder whole
-          → is_up earlier holder ≡ false → lead later cell ≡ Some n → age_of earlier holder < age_of later holder
-      rises cell row n holder whole is so gone e = elim (same_or_apart (age_of later holder) (age_of earlier holder)) [
-        | inl same ↦ (let h = below.rows cell row is in
-            let still = h.held holder whole so gone same in
-            none_some (alone_leads_not later cell h.now h.is (now.linked cell h.now h.is) holder still.0 still.1
-            (out_same earlier later holder gone same)) e)
-        | inr ne ↦ less (age_of earlier holder) (age_of later holder) (below.ages holder) ne
+          → is_up earlier holder ≡ false → option_and_then (row_lead later) (cell_link later cell) ≡ Some n → age_of earlier holder < age_of later holder
+      rises cell row n holder whole is so gone e = elim (below.rows cell row is) [
+        | inr died ↦ unled cell n died.0 e
+        | inl h ↦ elim (same_or_apart (age_of later holder) (age_of earlier holder)) [
+          | inl same ↦ (
+              let still = h.held holder whole so gone same in
+              none_some (alone_leads_none later cell h.now h.is holder still.0 still.1 (out_same earlier later holder gone same)) e)
+          | inr ne ↦ less (age_of earlier holder) (age_of later holder) (below.ages holder) ne
+        ]
       ]
 
 pub log_roles : (servers : ℕ) (front whole : List Command) → IsPlainLog servers whole → IsPrefix front whole

@@ -1,33 +1,35 @@
 -- Disks that come later: where they stand, what they are named, and that their cells had no links before.
-use Rattle.std.proofs.Common.{◌≡◌, ◌≤◌, ◌<◌, ◌+◌, ◌++◌, ℕ, zero, suc, List, [], ◌∷◌, length, Some, None, refl, sym, ap, ◌∙◌, subst, ◌⊎◌, inl, inr, arith, length-append}
-use Rattle.std.specs.Prelude.{drop, slice_get}
-use Rattle.std.proofs.lemmas.Option.{slice_get_within}
+use Rattle.std.proofs.Common.{◌≡◌, ◌≤◌, ◌<◌, ◌+◌, ◌++◌, ◌==◌, ℕ, zero, suc, List, [], ◌∷◌, length, true, Some, None, refl, sym, ap, ◌∙◌, subst, ◌⊎◌, inl, inr, arith, length-append}
+use Rattle.std.specs.Prelude.{◌||◌, drop, slice_get}
+use Rattle.std.proofs.lemmas.Option.{slice_get_past, slice_get_within}
 use Rattle.petal_base.specs.declared.cell.Cell.{Cell}
 use Rattle.global_tables.specs.declared.disk.DiskRow.{DiskRow}
 use Rattle.global_tables.specs.Disk.{named, same_name}
+use Rattle.global_tables.specs.Map.{disk_of}
 use Rattle.petal_state.specs.declared.answer.DiskView.{DiskView}
 use Rattle.petal_rules.specs.Lists.{In}
 use Rattle.petal_rules.specs.State.{State}
-use Rattle.petal_state.specs.CellState.{cell_link}
+use Rattle.petal_state.specs.CellState.{cell_link, has_map}
+use Rattle.petal_state.specs.State.{leaves}
 use Rattle.global_tables.specs.declared.link.LinkRow.{LinkRow}
 use Rattle.petal_rules.specs.State as rules
-use Rattle.petal_rules.proofs.Tests.{none_some, same_some, some_or_none, nat_lists_same}
+use Rattle.petal_rules.proofs.Tests.{none_some, number_itself, same_some, some_or_none, nat_lists_same}
 use Rattle.law_state.specs.Tables.{IsGrown, IsLaterDisk, IsPlainState}
+use Rattle.law_state.proofs.Owners.{disk_on, map_made, no_owner}
 use Rattle.law_state.proofs.Places.{found_at, get_in, get_last, get_within, in_get}
-use Rattle.law_state.proofs.Steady.{found, unlinked, viewed}
-use Rattle.law_state.proofs.Disks.{plain_disks}
+use Rattle.law_state.proofs.Steady.{found, owned_or_none, unlinked, viewed}
 
 -- no disk of the list has the name of one that follows, one after another
 abbrev pub AreFresh : List DiskRow → List DiskRow → Type 0
 AreFresh rows [] = Unit {0}
 AreFresh rows (row ∷ more) = (named rows row.name ≡ None) × AreFresh (rows ++ row ∷ []) more
 
--- a disk of this name and map
+-- a disk of this name, which has the map as its own, or as the one that it leaves
 pub record HasRow (rows : List DiskRow) (name : List ℕ) (of : ℕ) : Type 0 where
   pub row : DiskRow
   pub there : In row rows
   pub name_is : row.name ≡ name
-  pub map_is : row.map ≡ of
+  pub map_is : has_map of row ≡ true
 
 module _ (servers : ℕ) (s : State) (p : IsPlainState servers s) where
   -- found by name
@@ -38,21 +40,23 @@ module _ (servers : ℕ) (s : State) (p : IsPlainState servers s) where
   viewed_row name disk e =
       let v = viewed servers s p name disk e in
       let k = known_row name v.0 v.1 in
-      record { row = v.0; there = k.0; name_is = k.1; map_is = ap (λ d. d.map) v.2 }
+      record {
+        row = v.0;
+        there = k.0;
+        name_is = k.1;
+        map_is = ap (λ b. b || leaves disk.map v.0.moving) (ap (λ (d : DiskView). d.map == disk.map) v.2 ∙ number_itself disk.map);
+      }
 
   -- a cell that has a link is of a disk
-  pub linked_row : (cell : Cell) (link : LinkRow) → cell_link s cell ≡ Some link → (row : DiskRow) × In row s.disks.rows × (row.map ≡ cell.map)
-  linked_row cell link e = elim (some_or_none (slice_get s.disks.rows cell.map)) [
-    | inl h ↦ (h.0, in_get s.disks.rows cell.map h.0 h.1, (p.rows cell.map h.0 h.1).of)
+  pub linked_row : (cell : Cell) (link : LinkRow) → cell_link s cell ≡ Some link → (row : DiskRow) × In row s.disks.rows × (has_map cell.map row ≡ true)
+  linked_row cell link e = elim (owned_or_none servers s p cell) [
+    | inl h ↦ (let at = found_at (has_map cell.map) s.disks.rows h.0 h.1 in (h.0, in_get s.disks.rows at.0 h.0 at.1, at.2))
     | inr none ↦ none_some (unlinked servers s p cell none) e
   ]
 
   -- a cell past the last map has none
-  pub past_link : (cell : Cell) → length s.disks.rows ≤ cell.map → cell_link s cell ≡ None
-  past_link cell le = elim (some_or_none (slice_get s.disks.rows cell.map)) [
-    | inl h ↦ let lt = slice_get_within s.disks.rows cell.map h.0 h.1 in absurd (omega arith)
-    | inr none ↦ unlinked servers s p cell none
-  ]
+  pub past_link : (cell : Cell) → length s.maps ≤ cell.map → cell_link s cell ≡ None
+  past_link cell le = unlinked servers s p cell (no_owner s p.rows p.homes cell.map (slice_get_past s.maps cell.map le))
 
 get_drop : {A : Type 0} (n : ℕ) (xs : List A) (i : ℕ) (x : A) → slice_get (drop n xs) i ≡ Some x → slice_get xs (n + i) ≡ Some x
 get_drop zero xs i x e = subst (λ k. slice_get xs k ≡ Some x) (let f : i ≡ 0 + i = omega arith in f) e
@@ -77,16 +81,23 @@ module _ (servers : ℕ) (s t : State) (p : IsPlainState servers s) (q : IsPlain
       let later = g.rows at.0 row at.1 in
       record { now = later.now; there = in_get t.disks.rows at.0 later.now later.is; so = later.so }
 
-  -- a cell that had a link, of a disk that is found later, is of that disk
+  -- a cell that had a link, of a disk that is found later on the same map, is of that disk
   pub row_of : (cell : Cell) (link : LinkRow) → cell_link s cell ≡ Some link → (name : List ℕ) (disk : DiskView) → rules.find t name ≡ Some disk
       → disk.map ≡ cell.map
       → HasRow s.disks.rows name cell.map
   row_of cell link has name disk finds e =
       let one = linked_row servers s p cell link has in
+      let at = get_in s.disks.rows one.0 one.1 in
       let two = viewed_row servers t q name disk finds in
-      let later = stays_row one.0 one.1 in
-      let same : later.now ≡ two.row = (plain_disks servers t q).apart later.now two.row later.there two.there (later.so.map ∙ one.2 ∙ sym (two.map_is ∙ e)) in
-      record { row = one.0; there = one.1; name_is = sym later.so.name ∙ ap (λ row. row.name) same ∙ two.name_is; map_is = one.2 }
+      let there = get_in t.disks.rows two.row two.there in
+      let place : disk_of t.maps cell.map ≡ Some at.0 = disk_on s.maps t.maps cell.map at.0 g.maps (map_made s.maps at.0 cell.map one.0
+      (p.rows at.0 one.0 at.1) one.2) in
+      let other : disk_of t.maps cell.map ≡ Some there.0 =
+      map_made t.maps there.0 cell.map two.row (q.rows there.0 two.row there.1) (ap (λ m. has_map m two.row) (sym e) ∙ two.map_is) in
+      let same : at.0 ≡ there.0 = same_some (sym place ∙ other) in
+      let later = g.rows at.0 one.0 at.1 in
+      let now : later.now ≡ two.row = same_some (sym later.is ∙ ap (slice_get t.disks.rows) same ∙ there.1) in
+      record { row = one.0; there = one.1; name_is = sym later.so.name ∙ ap (λ (row : DiskRow). row.name) now ∙ two.name_is; map_is = one.2 }
 
   -- a disk that was made later stands behind those before
   pub later_place : (row : DiskRow) → In row (later_rows s t) → (i : ℕ) × (slice_get t.disks.rows i ≡ Some row) × (length s.disks.rows ≤ i)
@@ -95,12 +106,20 @@ module _ (servers : ℕ) (s t : State) (p : IsPlainState servers s) (q : IsPlain
       (length s.disks.rows + at.0, get_drop (length s.disks.rows) t.disks.rows at.0 row at.1, omega arith)
 
   -- no cell of a disk that was made later had a link
-  pub none_before : (row : DiskRow) → In row (later_rows s t) → (cell : Cell) → cell.map ≡ row.map → cell_link s cell ≡ None
-  none_before row h cell e =
-      let at = later_place row h in
-      let of = (q.rows at.0 row at.1).of in
-      let low = at.2 in
-      past_link servers s p cell (omega arith)
+  pub none_before : (row : DiskRow) → In row (later_rows s t) → (cell : Cell) → has_map cell.map row ≡ true → cell_link s cell ≡ None
+  none_before row h cell has = elim (owned_or_none servers s p cell) [
+    | inr none ↦ unlinked servers s p cell none
+    | inl o ↦
+        let at = later_place row h in
+        let was = found_at (has_map cell.map) s.disks.rows o.0 o.1 in
+        let before : disk_of t.maps cell.map ≡ Some was.0 =
+        disk_on s.maps t.maps cell.map was.0 g.maps (map_made s.maps was.0 cell.map o.0 (p.rows was.0 o.0 was.1) was.2) in
+        let now : disk_of t.maps cell.map ≡ Some at.0 = map_made t.maps at.0 cell.map row (q.rows at.0 row at.1) has in
+        let same : was.0 ≡ at.0 = same_some (sym before ∙ now) in
+        let low = slice_get_within s.disks.rows was.0 o.0 was.1 in
+        let high = at.2 in
+        absurd (omega arith)
+  ]
 
   -- each disk that there is later was there before, or is one of these
   pub old_or_new : (row : DiskRow) → In row t.disks.rows → ((was : DiskRow) × In was s.disks.rows × IsLaterDisk was row) ⊎ In row (later_rows s t)

@@ -6,7 +6,7 @@ use Rattle.std.specs.List.{list_any}
 use Rattle.global_tables.specs.declared.disk.DiskRow.{DiskRow}
 use Rattle.global_tables.specs.declared.disk.Verdict.{Verdict}
 use Rattle.global_tables.specs.declared.fence.Fence.{Fence}
-use Rattle.global_tables.specs.declared.fence.FenceKind.TheVariants.{Whole}
+use Rattle.global_tables.specs.declared.fence.FenceKind.TheVariants.{Region, Whole}
 use Rattle.global_tables.specs.Disk.{disk_at, is_disk, named, same_name, snapshot_named}
 use Rattle.global_tables.specs.View.{first_waiting, head}
 use Rattle.global_tables.specs.View as view
@@ -15,7 +15,7 @@ use Rattle.petal_state.specs.State.{is_up_as, latest, told}
 use Rattle.petal_state.specs.Command.{act, is_head, is_new, is_taken, snap_target, snapped, takes, with_fence}
 use Rattle.petal_rules.specs.State.{State}
 use Rattle.petal_rules.proofs.Tests.{both_true, by_test, none_some, number_itself, same_numbers, same_some, true_false}
-use Rattle.law_state.specs.Tables.{IsPlainState}
+use Rattle.law_state.specs.Tables.{IsPlainState, Of_disk}
 use Rattle.law_state.proofs.Fences.{Acted, AreQueued, fence_kept, fences_queued, head_queued, head_reported, queued_on, requeued, requeued_reported, unsettled, waits_before, waits_present}
 use Rattle.law_state.proofs.Links.{either_false}
 use Rattle.law_state.proofs.Places.{find_here, found_at, get_last, text_itself}
@@ -123,11 +123,26 @@ module _ (servers : ℕ) (s : State) (p : IsPlainState servers s) (client seq : 
         ]
       ]
 
+  -- the new one is for no region
+  not_region : {A : Type 0} (fence : Fence) (disk region : ℕ) → fence ≡ late → fence.kind ≡ Region disk region → A
+  not_region fence disk region is kind =
+      let e : Whole row.id name client seq ≡ Region disk region = sym (ap (λ (x : Fence). x.kind) is) ∙ kind in absurd cc
+
+  once : (i j : ℕ) (one other : Fence) (disk region later : ℕ) → slice_get t.view.queue i ≡ Some one → slice_get t.view.queue j ≡ Some other
+      → one.kind ≡ Region disk region → other.kind ≡ Region disk later → i ≡ j
+  once i j one other disk region later e f kind like = elim (get_last s.view.queue late i one e) [
+    | inr new ↦ not_region one disk region new.1 kind
+    | inl old ↦ elim (get_last s.view.queue late j other f) [
+      | inr new ↦ not_region other disk later new.1 like
+      | inl older ↦ p.fences.once i j one other disk region later old older kind like
+    ]
+  ]
+
   fences_now : AreQueued t
   fences_now = record {
     each = λ i fence e. elim (get_last s.view.queue late i fence e) [
       | inl old ↦ fence_kept s t fence fence refl refl (p.fences.each i fence old)
-      | inr new ↦ record {
+      | inr new ↦ Of_disk (record {
         disk = row.id;
         name = name;
         client = client;
@@ -136,9 +151,10 @@ module _ (servers : ℕ) (s : State) (p : IsPlainState servers s) (client seq : 
         row = row;
         known = known;
         fresh = none_of _ unlike.0;
-      }
+      })
     ];
     apart = apart;
+    once = once;
     present = λ fence n e waits. elim (head_queued s.view (Whole row.id name client seq) fence e) [
       | inl old ↦ p.fences.present fence n old waits
       | inr all ↦ waits_present s.view.members fence n all waits

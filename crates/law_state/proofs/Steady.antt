@@ -1,6 +1,6 @@
 -- A plain state is steady, and what it says stays so in each state that has grown from it.
-use Rattle.std.proofs.Common.{◌≡◌, ◌≤◌, ◌<◌, ◌+◌, ◌==◌, ℕ, zero, suc, List, [], ◌∷◌, length, Bool, true, false, cond, Option, Some, None, refl, sym, ap, ◌∙◌, subst, inl, inr, arith}
-use Rattle.std.specs.Prelude.{◌%◌, ◌||◌, fold, slice_get, option_map, option_and_then}
+use Rattle.std.proofs.Common.{◌≡◌, ◌≢◌, ◌≤◌, ◌<◌, ◌+◌, ◌*◌, ◌==◌, ℕ, zero, suc, List, [], ◌∷◌, length, Bool, true, false, cond, Option, Some, None, refl, sym, ap, ◌∙◌, subst, ◌⊎◌, inl, inr, arith}
+use Rattle.std.specs.Prelude.{◌%◌, ◌||◌, fold, slice_get, option_map, option_and_then, unwrap_or, if◌then◌else◌}
 use Rattle.std.specs.Option.{option_map_or}
 use Rattle.std.proofs.lemmas.Option.{slice_get_within}
 use Rattle.std.proofs.lemmas.Grind.{fold-append}
@@ -8,7 +8,9 @@ use Rattle.petal_base.specs.declared.cell.Cell.{Cell}
 use Rattle.global_tables.specs.declared.disk.DiskRow.{DiskRow}
 use Rattle.global_tables.specs.declared.disk.Move.{Move}
 use Rattle.global_tables.specs.declared.disk.Snapshot.{Snapshot}
-use Rattle.global_tables.specs.declared.fence.Fence.{Fence}
+use Rattle.global_tables.specs.declared.disk.RegionState.{RegionState}
+use Rattle.global_tables.specs.declared.disk.RegionState.TheVariants.{Old, Fenced, New}
+use Rattle.global_tables.specs.declared.map.MapRow.{MapRow}
 use Rattle.global_tables.specs.declared.fence.Member.{Member}
 use Rattle.global_tables.specs.declared.fence.Member.TheVariants as member
 use Rattle.global_tables.specs.declared.link.LinkRow.{LinkRow}
@@ -16,90 +18,42 @@ use Rattle.global_tables.specs.Disk.{named, same_name, disk_at, snapshot_named}
 use Rattle.global_tables.specs.Link.{link_at}
 use Rattle.global_tables.specs.Map.{tuple_of}
 use Rattle.global_tables.specs.Region.{link_of, region_of}
-use Rattle.global_tables.specs.View.{head, inc_in}
+use Rattle.global_tables.specs.View.{inc_in}
 use Rattle.petal_command.specs.declared.command.Command.{Command}
 use Rattle.petal_state.specs.declared.answer.DiskView.{DiskView}
-use Rattle.petal_state.specs.declared.answer.Hold.TheVariants.{No, Writes}
-use Rattle.petal_state.specs.State.{leaves, mover, start}
-use Rattle.petal_state.specs.CellState.{owner, has_map, live_under, leaving, cell_link, view_of, holds, is_of, move_region, live_new, live_old, is_fenced}
+use Rattle.petal_state.specs.State.{leaves, start}
+use Rattle.petal_state.specs.CellState.{cell_asked, cell_link, has_map, is_fenced, live_new, live_old, live_under, map_asked, move_region, owner, region_at, view_of}
 use Rattle.petal_state.specs.Command.{after, state_after}
 use Rattle.petal_rules.specs.Lists.{In}
 use Rattle.petal_rules.proofs.ListLemmas.{in_former, in_later}
-use Rattle.petal_rules.specs.Reads.{is_all_held}
 use Rattle.petal_rules.specs.State.{State, live, servers_of, snapshot, is_in}
 use Rattle.petal_rules.specs.State as rules
-use Rattle.petal_rules.proofs.Tests.{by_bool, by_test, none_some, same_some, some_or_none, same_numbers, number_itself, nat_lists_same}
+use Rattle.petal_rules.proofs.Tests.{by_bool, none_some, same_some, some_or_none, same_numbers, number_itself, nat_lists_same, true_false}
 use Rattle.petal_history.specs.Claims.{IsPrefix}
 use Rattle.law_state.specs.Plain.{IsPlainLog}
-use Rattle.law_state.specs.Steady.{IsLinked, IsSteady}
+use Rattle.law_state.specs.Steady.{HasLink, IsLinked, IsSteady}
 use Rattle.law_state.specs.Below.{HasLaterView, IsBelow}
-use Rattle.law_state.specs.Epochs.{epoch_at}
-use Rattle.law_state.specs.Tables.{IsGrown, IsLaterDisk, IsPlainState, IsRowAt}
-use Rattle.law_state.proofs.Fences.{head_get}
-use Rattle.law_state.proofs.Places.{find_here, find_none, found_at, find_front, get_within, text_itself}
+use Rattle.law_state.specs.Homes.{HasDied, epoch_at, new_stage, old_stage, stage_at, stage_by}
+use Rattle.law_state.specs.Tables.{IsGone, IsGrown, IsLaterDisk, IsPlainState}
+use Rattle.law_state.proofs.Homes.{era_grows}
+use Rattle.law_state.proofs.Owners.{disk_at_is, either_of, epochs_later, no_owner, owned}
+use Rattle.law_state.proofs.Stages.{new_most}
+use Rattle.law_state.proofs.Places.{find_here, found_at, find_front, text_itself}
 use Rattle.law_state.proofs.Snaps.{disk_is, disk_stands}
 use Rattle.law_state.proofs.Links.{proper}
+use Rattle.law_state.proofs.Grown.{gone_on}
 use Rattle.law_state.proofs.Entries.{folding, log_plain}
-use Rattle.law_state.proofs.Making.{map_past}
 
--- ### Rows of disks
-
-pub owns : (place of : ℕ) (row : DiskRow) → IsRowAt place row → has_map of row ≡ true → place ≡ of
-owns place of row is e =
-    sym is.of ∙ same_numbers row.map of (by (row.map == of) (ap (λ m. row.map == of || leaves of m) (sym is.moving) ∙ e))
-  where
-    by : (b : Bool) → (b || false) ≡ true → b ≡ true
-    by true e = refl
-    by false e = e
-
-owned : (place : ℕ) (row : DiskRow) → IsRowAt place row → has_map place row ≡ true
-owned place row is = ap (λ b. b || leaves place row.moving) (ap (λ m. m == place) is.of ∙ number_itself place)
-
--- a row that never moved is live under its own map, and leaves none
-live_there : (of region : ℕ) (row : DiskRow) → row.moving ≡ None → row.map ≡ of → live_under of region row ≡ true
-live_there of region row none is =
-    ap (λ b. cond b (live_new (move_region region row.moving)) (live_old (move_region region row.moving))) (ap (λ m. m == of) is ∙ number_itself of)
-    ∙ ap (λ m. live_new (move_region region m)) none
-
-below : (block many : ℕ) → 2 ≤ many → block % many < many
+pub below : (block many : ℕ) → 2 ≤ many → block % many < many
 below block many two = omega arith
 
--- a disk's map has its own number, so a map's owner stands at its place
-module _ (s : State) (at : (i : ℕ) (row : DiskRow) → slice_get s.disks.rows i ≡ Some row → IsRowAt i row) where
-  no_owner : (of : ℕ) → slice_get s.disks.rows of ≡ None → owner s of ≡ None
-  no_owner of none = find_none (has_map of) s.disks.rows (λ i row e.
-      by_bool (has_map of row) (λ t. none_some none (ap (slice_get s.disks.rows) (sym (owns i of row (at i row e) t)) ∙ e)) (λ f. f))
-
-  the_owner : (of : ℕ) (row : DiskRow) → slice_get s.disks.rows of ≡ Some row → owner s of ≡ Some row
-  the_owner of row is = find_here (has_map of) s.disks.rows of row is (owned of row (at of row is)) (λ j other e t. owns j of other (at j other e) t)
-
-  pub owner_is : (of : ℕ) → owner s of ≡ slice_get s.disks.rows of
-  owner_is of = elim (some_or_none (slice_get s.disks.rows of)) [
-    | inl h ↦ the_owner of h.0 h.1 ∙ sym h.1
-    | inr none ↦ no_owner of none ∙ sym none
-  ]
-
-  -- the epoch of a cell is that of the disk that stands there
-  pub epoch_is : (cell : Cell) → epoch_at s cell ≡ option_map_or (λ (row : DiskRow). row.epoch) (slice_get s.disks.rows cell.map) 0
-  epoch_is cell = ap (λ o. option_map_or (λ (row : DiskRow). row.epoch) o 0) (owner_is cell.map)
+-- a block of each region
+block_of : (region : ℕ) → region < 16 → (block : ℕ) × (region_of block ≡ region)
+block_of region low = (8 * region, omega arith)
 
 module _ (servers : ℕ) (s : State) (p : IsPlainState servers s) where
-  no_mover : (of : ℕ) → mover s of ≡ None
-  no_mover of = find_none (λ row. leaves of row.moving) s.disks.rows (λ i row e. ap (leaves of) (p.rows i row e).moving)
-
-  pub dead : (cell : Cell) → slice_get s.disks.rows cell.map ≡ None → live s cell ≡ false
-  dead cell none = ap (λ o. option_map_or (live_under cell.map (region_of cell.block)) o false) (no_owner s p.rows cell.map none)
-
-  past : (of : ℕ) → slice_get s.disks.rows of ≡ None → tuple_of s.maps of ≡ None
-  past of none = by_le (slice_get_none s.disks.rows of none)
-    where
-      slice_get_none : {A : Type 0} (xs : List A) (i : ℕ) → slice_get xs i ≡ None → length xs ≤ i
-      slice_get_none [] i e = omega arith
-      slice_get_none (x ∷ xs) zero e = none_some e refl
-      slice_get_none (x ∷ xs) (suc i) e = let h = slice_get_none xs i e in omega arith
-
-      by_le : length s.disks.rows ≤ of → tuple_of s.maps of ≡ None
-      by_le le = map_past s.maps of (let e = p.count in omega arith)
+  pub dead : (cell : Cell) → owner s cell.map ≡ None → live s cell ≡ false
+  dead cell none = ap (λ o. option_map_or (live_under cell.map (region_of cell.block)) o false) none
 
   -- ### Cells
 
@@ -107,41 +61,52 @@ module _ (servers : ℕ) (s : State) (p : IsPlainState servers s) where
   link_by : (cell : Cell) (ids : List ℕ) → tuple_of s.maps cell.map ≡ Some ids → cell_link s cell ≡ link_at s.links cell.map (link_of (length ids) cell.block)
   link_by cell ids is = ap (option_and_then (λ ids. link_at s.links cell.map (link_of (length ids) cell.block))) is
 
-  stays : (cell : Cell) → leaving s cell ≡ false
-  stays cell = ap (λ o. option_map_or (λ row. is_fenced (move_region (region_of cell.block) row.moving)) o false) (no_mover cell.map)
+  -- a cell of a map that nobody has has none
+  pub unlinked : (cell : Cell) → owner s cell.map ≡ None → cell_link s cell ≡ None
+  unlinked cell none = elim (some_or_none (tuple_of s.maps cell.map)) [
+    | inl h ↦ link_by cell h.0 h.1 ∙ p.unlinked cell.map (link_of (length h.0) cell.block) none
+    | inr gone ↦ ap (option_and_then (λ ids. link_at s.links cell.map (link_of (length ids) cell.block))) gone
+  ]
 
-  pub unlinked : (cell : Cell) → slice_get s.disks.rows cell.map ≡ None → cell_link s cell ≡ None
-  unlinked cell none = ap (option_and_then (λ ids. link_at s.links cell.map (link_of (length ids) cell.block))) (past cell.map none)
+  -- a map that a disk has is known
+  tuple_known : (of : ℕ) → owner s of ≢ None → (ids : List ℕ) × (tuple_of s.maps of ≡ Some ids)
+  tuple_known of has = elim (some_or_none (slice_get s.maps of)) [
+    | inl m ↦ (m.0.tuple, ap (option_map (λ (row : MapRow). row.tuple)) m.1)
+    | inr none ↦ absurd (has (no_owner s p.rows p.homes of none))
+  ]
 
-  pub lives : (cell : Cell) (row : DiskRow) → slice_get s.disks.rows cell.map ≡ Some row → live s cell ≡ true
-  lives cell row is =
-      let new = p.rows cell.map row is in
-      ap (λ o. option_map_or (live_under cell.map (region_of cell.block)) o false) (the_owner s p.rows cell.map row is)
-      ∙ live_there cell.map (region_of cell.block) row new.moving new.of
-
-  -- a cell of a disk has a link
-  pub linked : (cell : Cell) (row : DiskRow) → slice_get s.disks.rows cell.map ≡ Some row
-      → (link : LinkRow) × (cell_link s cell ≡ Some link) × IsLinked s cell link
-  linked cell row is =
-      let within = slice_get_within s.disks.rows cell.map row is in
-      let there = get_within s.maps cell.map (let e = p.count in omega arith) in
-      let ids = there.0.tuple in
-      let named_so : tuple_of s.maps cell.map ≡ Some ids = ap (option_map (λ row. row.tuple)) there.1 in
-      let fine = proper servers ids (p.tuples cell.map ids named_so) in
+  -- a cell of a map that a disk has has a link
+  pub linked : (cell : Cell) → owner s cell.map ≢ None → (link : LinkRow) × (cell_link s cell ≡ Some link) × IsLinked s cell link
+  linked cell has =
+      let there = tuple_known cell.map has in
+      let ids = there.0 in
+      let fine = proper servers ids (p.tuples cell.map ids there.1) in
       let i = link_of (length ids) cell.block in
       let low : i < length ids = below cell.block (length ids) fine.two in
-      let h = p.links cell.map i ids named_so low in (
+      let h = p.links cell.map i ids there.1 low has in (
         h.row,
-        link_by cell ids named_so ∙ h.is,
+        link_by cell ids there.1 ∙ h.is,
         record {
-          lives = lives cell row is;
-          stays = stays cell;
           apart = λ e. fine.apart i low (sym h.asked.primary ∙ e ∙ h.asked.secondary);
           primary = (let e = h.asked.primary in let f = fine.low i low in let g = p.many in omega arith);
           secondary = (let e = h.asked.secondary in let f = fine.next i low in let g = p.many in omega arith);
           served = h.asked.served;
         },
       )
+
+  -- a cell is of a map that a disk has, or it has no link
+  pub owned_or_none : (cell : Cell) → ((row : DiskRow) × (owner s cell.map ≡ Some row)) ⊎ (owner s cell.map ≡ None)
+  owned_or_none cell = some_or_none (owner s cell.map)
+
+  pub linked_owner : (cell : Cell) (row : DiskRow) → owner s cell.map ≡ Some row → (link : LinkRow) × (cell_link s cell ≡ Some link) × IsLinked s cell link
+  linked_owner cell row is = linked cell (λ none. none_some none is)
+
+  -- a live cell is of such a map
+  live_linked : (cell : Cell) → live s cell ≡ true → HasLink s cell
+  live_linked cell lives = elim (owned_or_none cell) [
+    | inl h ↦ (let l = linked_owner cell h.0 h.1 in record { row = l.0; is = l.1 })
+    | inr none ↦ true_false lives (dead cell none)
+  ]
 
   -- a disk that is found by name
   pub found : (name : List ℕ) (row : DiskRow) → named s.disks.rows name ≡ Some row → (i : ℕ) × (slice_get s.disks.rows i ≡ Some row) × (row.name ≡ name)
@@ -166,37 +131,136 @@ module _ (servers : ℕ) (s : State) (p : IsPlainState servers s) where
       by (Some (member.In i)) is e = subst (λ k. 1 ≤ k) (same_numbers i inc e) (p.members n (member.In i) is)
       by (Some (member.Out i)) is e = let f : false ≡ true = e in absurd cc
 
+  -- ### The cell under which a disk's users name a block
+
+  -- it is live, by how far the block's region is
+  live_named : (i : ℕ) (row : DiskRow) (block : ℕ) (told : Bool) → slice_get s.disks.rows i ≡ Some row → (o : Option Move) → row.moving ≡ o
+      → (r : RegionState) → move_region (region_of block) row.moving ≡ r
+      → live s (record { map = map_asked (view_of row) told r; block = block }) ≡ true
+  live_named i row block told is o moves r at = by o moves r told at
+    where
+      -- the disk's own map
+      own : (r : RegionState) → move_region (region_of block) row.moving ≡ r → live_new r ≡ true → live s (record { map = row.map; block = block }) ≡ true
+      own r at lives =
+          let mine : (row.map == row.map) ≡ true = number_itself row.map in
+          ap (λ o. option_map_or (live_under row.map (region_of block)) o false)
+          (owned s p.rows row.map i row is (ap (λ b. b || leaves row.map row.moving) mine))
+          ∙ ap (λ b. if b then live_new (move_region (region_of block) row.moving) else live_old (move_region (region_of block) row.moving)) mine
+          ∙ ap live_new at ∙ lives
+
+      -- the one that it leaves
+      old : (move : Move) → row.moving ≡ Some move → (r : RegionState) → move_region (region_of block) row.moving ≡ r → live_old r ≡ true
+          → live s (record { map = move.old_map; block = block }) ≡ true
+      old move moves r at lives =
+          let lt = ((p.rows i row is).moving move moves).old in
+          let other : (row.map == move.old_map) ≡ false =
+          by_bool (row.map == move.old_map) (λ t. let e = same_numbers row.map move.old_map t in absurd (omega arith)) (λ f. f) in
+          let left : leaves move.old_map row.moving ≡ true = ap (leaves move.old_map) moves ∙ number_itself move.old_map in
+          ap (λ o. option_map_or (live_under move.old_map (region_of block)) o false)
+          (owned s p.rows move.old_map i row is (λ k. other k || left k))
+          ∙ ap (λ b. if b then live_new (move_region (region_of block) row.moving) else live_old (move_region (region_of block) row.moving)) other
+          ∙ ap live_old at ∙ lives
+
+      asks : Option Move → RegionState → Bool → Type 0
+      asks o r told = live s (record {
+        map = map_asked (record (view_of row) { old_map = option_map (λ (move : Move). move.old_map) o }) told r;
+        block = block;
+      }) ≡ true
+
+      same : (o : Option Move) → row.moving ≡ o → (r : RegionState) (told : Bool) → asks o r told → asks row.moving r told
+      same o moves r told h = subst (λ m. asks m r told) (sym moves) h
+
+      by : (o : Option Move) → row.moving ≡ o → (r : RegionState) (told : Bool) → move_region (region_of block) row.moving ≡ r → asks row.moving r told
+      by (Some move) moves Old told at = same (Some move) moves Old told (old move moves Old at refl)
+      by (Some move) moves Fenced false at = same (Some move) moves Fenced false (own Fenced at refl)
+      by (Some move) moves Fenced true at = same (Some move) moves Fenced true (old move moves Fenced at refl)
+      by (Some move) moves New told at = same (Some move) moves New told (own New at refl)
+      by None moves New told at = same None moves New told (own New at refl)
+      by None moves Old told at = true_false refl (ap live_new (sym (sym at ∙ ap (move_region (region_of block)) moves)))
+      by None moves Fenced told at = true_false refl (ap is_fenced (sym at ∙ ap (move_region (region_of block)) moves))
+
+  named_live : (name : List ℕ) (disk : DiskView) (block : ℕ) (told : Bool) → rules.find s name ≡ Some disk → live s (cell_asked s disk block told) ≡ true
+  named_live name disk block told e =
+      let v = viewed name disk e in
+      let at = found name v.0 v.1 in
+      let there : disk_at s.disks.rows v.0.id ≡ Some v.0 =
+      disk_at_is s.disks.rows (λ i r f. (p.rows i r f).id) v.0.id ∙ ap (slice_get s.disks.rows) (p.rows at.0 v.0 at.1).id ∙ at.1 in
+      subst (λ d. live s (cell_asked s d block told) ≡ true) v.2
+      (subst (λ o. live s (record { map = map_asked (view_of v.0) told (region_at o (region_of block)); block = block }) ≡ true) (sym there)
+      (live_named at.0 v.0 block told at.1 v.0.moving refl (move_region (region_of block) v.0.moving) refl))
+
   -- ### The whole
 
   pub plain_steady : IsSteady s
   plain_steady = record {
-    linked = λ cell row e. elim (some_or_none (slice_get s.disks.rows cell.map)) [
-      | inl h ↦ (let l = linked cell h.0 h.1 in subst (IsLinked s cell) (same_some (sym l.1 ∙ e)) l.2)
+    linked = λ cell row e. elim (owned_or_none cell) [
+      | inl h ↦ (let l = linked_owner cell h.0 h.1 in subst (IsLinked s cell) (same_some (sym l.1 ∙ e)) l.2)
       | inr none ↦ none_some (unlinked cell none) e
     ];
-    dead = λ cell none. elim (some_or_none (slice_get s.disks.rows cell.map)) [
-      | inl h ↦ none_some none (linked cell h.0 h.1).1
+    dead = λ cell none. elim (owned_or_none cell) [
+      | inl h ↦ none_some none (linked_owner cell h.0 h.1).1
       | inr gone ↦ dead cell gone
     ];
-    shown = λ cell. shown_by cell (head s.view.queue) refl;
-    served = λ name disk block e.
-        let v = viewed name disk e in
-        let at = found name v.0 v.1 in
-        let there : slice_get s.disks.rows disk.map ≡ Some v.0 =
-        ap (slice_get s.disks.rows) (sym (ap (λ d. d.map) v.2) ∙ (p.rows at.0 v.0 at.1).of) ∙ at.1 in
-        let l = linked (record { map = disk.map; block = block }) v.0 there in
-        record { row = l.0; is = l.1 };
+    lives = live_linked;
+    served = λ name disk block told e.
+        let lives = named_live name disk block told e in
+        (live_linked (cell_asked s disk block told) lives, lives);
   }
+
+  -- ### A map that is dead
+
+  -- nobody has it: of a map that a disk has, some cell is not dead
+  unowned : (of : ℕ) → IsGone s of → owner s of ≡ None
+  unowned of gone = elim (some_or_none (owner s of)) [
+    | inr none ↦ none
+    | inl h ↦
+        let at = found_at (has_map of) s.disks.rows h.0 h.1 in
+        by_bool (h.0.map == of)
+        (λ own.
+        let is : stage_at s (record { map = of; block = 0 }) ≡ new_stage (move_region (region_of 0) h.0.moving) =
+        ap (stage_by s (record { map = of; block = 0 })) h.1
+        ∙ ap (λ b. if b then new_stage (move_region (region_of 0) h.0.moving) else old_stage (move_region (region_of 0) h.0.moving)) own in
+        let high = new_most (move_region (region_of 0) h.0.moving) in
+        let four = gone 0 in
+        absurd (omega arith))
+        (λ other. leaving_by h.0 h.1 at.0 at.1 other h.0.moving refl (elim (either_of (h.0.map == of) (leaves of h.0.moving) at.2) [
+          | inl own ↦ true_false own other
+          | inr left ↦ left
+        ]))
+  ]
     where
-      -- a fence for a snapshot holds writes alone
-      shown_by : (cell : Cell) (o : Option Fence) → head s.view.queue ≡ o → is_all_held (option_map_or (λ fence. holds s cell fence.kind) o No) ≡ false
-      shown_by cell None is = refl
-      shown_by cell (Some fence) is =
-          let h = p.fences.each 0 fence (head_get s.view.queue fence is) in
-          ap (λ kind. is_all_held (holds s cell kind)) h.kind
-          ∙ by_test (λ hold. is_all_held hold ≡ false) (is_of s h.disk cell.map) Writes No (λ t. refl) (λ f. refl)
+      waits_low : (r : RegionState) → (r ≡ Old) ⊎ (r ≡ Fenced) → old_stage r ≤ 3
+      waits_low r (inl e) = let f = ap old_stage e in omega arith
+      waits_low r (inr e) = let f = ap old_stage e in omega arith
+
+      leaving_by : {A : Type 0} (row : DiskRow) → owner s of ≡ Some row → (i : ℕ) → slice_get s.disks.rows i ≡ Some row → (row.map == of) ≡ false
+          → (o : Option Move) → row.moving ≡ o → leaves of o ≡ true → A
+      leaving_by row is i there other None moves left = true_false left refl
+      leaving_by row is i there other (Some move) moves left =
+          let m = (p.rows i row there).moving move moves in
+          let b = block_of m.next m.shape.low in
+          let cell : Cell = record { map = of; block = b.0 } in
+          let region : move_region (region_of b.0) row.moving ≡ m.now =
+          ap (λ o. move_region (region_of b.0) o) moves ∙ ap (λ k. unwrap_or (slice_get move.regions k) New) b.1 ∙ ap (λ o. unwrap_or o New) m.shape.here in
+          let stage : stage_at s cell ≡ old_stage m.now = ap (stage_by s cell) is
+          ∙ ap (λ b. if b then new_stage (move_region (region_of cell.block) row.moving) else old_stage (move_region (region_of cell.block) row.moving)) other
+          ∙ ap old_stage region in
+          let low = waits_low m.now m.waits in
+          let four = gone b.0 in
+          absurd (omega arith)
+
+  pub died : (cell : Cell) → IsGone s cell.map → HasDied s cell
+  died cell gone = (unlinked cell (unowned cell.map gone), gone cell.block)
 
 -- ### Later states
+
+-- a cell that is dead by its links is of a dead map
+pub all_died : (servers : ℕ) (s : State) → IsPlainState servers s → (cell : Cell) → HasDied s cell → IsGone s cell.map
+all_died servers s p cell died = elim (owned_or_none servers s p cell) [
+  | inl h ↦ none_some died.0 (linked_owner servers s p cell h.0 h.1).1
+  | inr none ↦ λ block.
+      ap (stage_by s (record { map = cell.map; block = block })) none ∙ sym (ap (stage_by s cell) none) ∙ died.1
+]
 
 module _ (servers : ℕ) (s t : State) (p : IsPlainState servers s) (q : IsPlainState servers t) (g : IsGrown s t) where
   -- a disk that is found by its name is found so later
@@ -222,7 +286,6 @@ module _ (servers : ℕ) (s t : State) (p : IsPlainState servers s) (q : IsPlain
         is = ap (option_map view_of) later.1;
         disk_is = later.2.id;
         map_is = later.2.map;
-        old_is = ap (option_map (λ (move : Move). move.old_map)) later.2.moving;
         onward = later.2.onward;
       })
 
@@ -243,29 +306,39 @@ module _ (servers : ℕ) (s t : State) (p : IsPlainState servers s) (q : IsPlain
       some_epoch None f = none_some refl f
       some_epoch (Some snap) f = (snap, refl, same_some f)
 
-  -- and no epoch falls
-  epoch_later : (cell : Cell) (o : Option DiskRow) → slice_get s.disks.rows cell.map ≡ o → epoch_at s cell ≤ epoch_at t cell
-  epoch_later cell None is =
-      let none : epoch_at s cell ≡ 0 = epoch_is s p.rows cell ∙ ap (λ o. option_map_or (λ (row : DiskRow). row.epoch) o 0) is in
-      omega arith
-  epoch_later cell (Some row) is =
-      let later = g.rows cell.map row is in
-      let was : epoch_at s cell ≡ row.epoch = epoch_is s p.rows cell ∙ ap (λ o. option_map_or (λ (row : DiskRow). row.epoch) o 0) is in
-      let now : epoch_at t cell ≡ later.now.epoch = epoch_is t q.rows cell ∙ ap (λ o. option_map_or (λ (row : DiskRow). row.epoch) o 0) later.is in
-      let on = later.so.onward in
-      omega arith
+  pub tuple_on : (of : ℕ) (ids : List ℕ) → tuple_of s.maps of ≡ Some ids → tuple_of t.maps of ≡ Some ids
+  tuple_on of ids e = elim (some_or_none (slice_get s.maps of)) [
+    | inl m ↦ ap (option_map (λ (row : MapRow). row.tuple)) (g.maps of m.0 m.1) ∙ sym (ap (option_map (λ (row : MapRow). row.tuple)) m.1) ∙ e
+    | inr none ↦ none_some (ap (option_map (λ (row : MapRow). row.tuple)) none) e
+  ]
+
+  -- no epoch falls
+  pub epoch_later : (cell : Cell) → epoch_at s cell ≤ epoch_at t cell
+  epoch_later = epochs_later s t p.rows p.homes g.rows g.maps q.rows q.homes
 
   pub grown_below : IsBelow s t
   grown_below = record {
     rows = λ cell row e. elim (some_or_none (tuple_of s.maps cell.map)) [
-      | inl h ↦ (let later = g.links cell.map (link_of (length h.0) cell.block) row (sym (link_by servers s p cell h.0 h.1) ∙ e) in
-          record { now = later.now; is = link_by servers t q cell h.0 (g.maps cell.map h.0 h.1) ∙ later.is; so = later.so; on = later.on; held = later.held; lost = later.lost })
+      | inl h ↦ elim (g.links cell.map (link_of (length h.0) cell.block) row (sym (link_by servers s p cell h.0 h.1) ∙ e)) [
+        | inl later ↦ inl (record {
+          now = later.now;
+          is = link_by servers t q cell h.0 (tuple_on cell.map h.0 h.1) ∙ later.is;
+          so = later.so;
+          on = later.on;
+          held = later.held;
+          lost = later.lost;
+        })
+        | inr gone ↦ inr (died servers t q cell gone)
+      ]
       | inr none ↦ none_some (ap (option_and_then (λ ids. link_at s.links cell.map (link_of (length ids) cell.block))) none) e
     ];
     ages = g.ages;
     finds = found_later;
     snaps = λ disk name epoch e. snapshot_later disk name epoch (disk_at s.disks.rows disk) refl e;
-    epochs = λ cell. epoch_later cell (slice_get s.disks.rows cell.map) refl;
+    epochs = epoch_later;
+    eras = λ cell. era_grows (epoch_at s cell) (epoch_at t cell) (stage_at s cell) (stage_at t cell) (epoch_later cell) (g.stages cell);
+    stages = g.stages;
+    died = λ cell gone. died servers t q cell (gone_on s t cell.map g.stages (all_died servers s p cell gone));
   }
 
 -- ### Logs

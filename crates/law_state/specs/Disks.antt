@@ -4,7 +4,7 @@ use Rattle.petal_base.specs.declared.cell.Cell.{Cell}
 use Rattle.global_tables.specs.Disk.{disk_at, named, snapshot_named}
 use Rattle.global_tables.specs.declared.disk.DiskRow.{DiskRow}
 use Rattle.global_tables.specs.declared.disk.Snapshot.{Snapshot}
-use Rattle.petal_state.specs.CellState.{cell_link, owner}
+use Rattle.petal_state.specs.CellState.{cell_link, has_map, owner}
 use Rattle.petal_state.specs.State.{is_up}
 use Rattle.petal_command.specs.declared.command.Command.{Command}
 use Rattle.petal_command.specs.declared.command.Command.TheVariants.{Join}
@@ -12,17 +12,18 @@ use Rattle.petal_rules.specs.Lists.{In}
 use Rattle.petal_rules.specs.State.{State, is_in, servers_of}
 use Rattle.law_state.specs.Steady.{HasLink}
 
--- each disk is found by its number and by its name, and owns its map; two disks have two maps; each snapshot of a disk is found by its
--- name, and is of an epoch below the disk's own; a disk's cells have links; and a cell of no disk has none
+-- each disk is found by its number and by its name, and owns its map and the one that it leaves; two disks have no map in common; each snapshot
+-- of a disk is found by its name, and is of an epoch below the disk's own; the cells of a disk's maps have links; and a cell of no disk has none
 pub record AreDisks (state : State) : Type 0 where
   pub at : (row : DiskRow) → In row state.disks.rows → disk_at state.disks.rows row.id ≡ Some row
   pub named : (row : DiskRow) → In row state.disks.rows → named state.disks.rows row.name ≡ Some row
-  pub apart : (one other : DiskRow) → In one state.disks.rows → In other state.disks.rows → one.map ≡ other.map → one ≡ other
-  pub owned : (row : DiskRow) → In row state.disks.rows → owner state row.map ≡ Some row
+  pub apart : (of : ℕ) (one other : DiskRow) → In one state.disks.rows → In other state.disks.rows → has_map of one ≡ true → has_map of other ≡ true
+      → one ≡ other
+  pub owned : (of : ℕ) (row : DiskRow) → In row state.disks.rows → has_map of row ≡ true → owner state of ≡ Some row
   pub snaps : (row : DiskRow) (snap : Snapshot) → In row state.disks.rows → In snap row.snaps → snapshot_named row.snaps snap.name ≡ Some snap
   pub before : (row : DiskRow) (snap : Snapshot) → In row state.disks.rows → In snap row.snaps → snap.epoch < row.epoch
-  pub served : (row : DiskRow) (cell : Cell) → In row state.disks.rows → cell.map ≡ row.map → HasLink state cell
-  pub empty : (cell : Cell) → ((row : DiskRow) → In row state.disks.rows → row.map ≢ cell.map) → cell_link state cell ≡ None
+  pub served : (row : DiskRow) (cell : Cell) → In row state.disks.rows → has_map cell.map row ≡ true → HasLink state cell
+  pub empty : (cell : Cell) → ((row : DiskRow) → In row state.disks.rows → has_map cell.map row ≡ false) → cell_link state cell ≡ None
 
 -- so many servers, each In or Out, and no incarnation is below the first
 pub record AreInOrOut (servers : ℕ) (state : State) : Type 0 where

@@ -1,19 +1,13 @@
--- The epoch of a cell's disk, and what is chosen before it rises.
+-- What is chosen before a cell's era rises.
 use Rattle.std.specs.Prelude.{◌≡◌, ◌++◌, ℕ, true, List, [], ◌∷◌}
-use Rattle.std.specs.Option.{option_map_or}
-use Rattle.global_tables.specs.declared.disk.DiskRow.{DiskRow}
 use Rattle.petal_base.specs.declared.cell.Cell.{Cell}
 use Rattle.petal_command.specs.declared.command.Command.{Command}
 use Rattle.petal_command.specs.declared.command.Command.TheVariants.{Drained}
 use Rattle.petal_history.specs.Claims.{IsPrefix}
-use Rattle.petal_state.specs.CellState.{owner}
 use Rattle.petal_state.specs.Command.{state_after}
 use Rattle.petal_rules.specs.State.{State, held, is_in}
 use Rattle.petal_rules.specs.Writes.{is_writes_held}
-
--- the epoch of the disk of the cell's map, 0 without one
-abbrev pub epoch_at : State → Cell → ℕ
-epoch_at state cell = option_map_or (λ (row : DiskRow). row.epoch) (owner state cell.map) 0
+pub use Rattle.law_state.specs.Homes.{epoch_at, era_at}
 
 -- behind this front of the log stands the server's report to the active fence, by which the cell's writes are held there; and the server
 -- is In as this incarnation

@@ -1,7 +1,9 @@
 pub mod Ages
 pub mod Rows
 pub mod Steady
+pub mod Homes
 pub mod Epochs
+pub mod Noted
 pub mod Below
 pub mod Plain
 pub mod Started

@@ -1,17 +1,14 @@
 -- What the laws need to know of a state that plain entries made.
-use Rattle.std.specs.Prelude.{◌≡◌, ◌≢◌, ◌<◌, ℕ, List, Some, None, true, false}
+use Rattle.std.specs.Prelude.{◌≡◌, ◌≢◌, ◌<◌, ℕ, Bool, List, Some, None, true, false}
 use Rattle.petal_base.specs.declared.cell.Cell.{Cell}
 use Rattle.global_tables.specs.declared.link.LinkRow.{LinkRow}
 use Rattle.petal_state.specs.declared.answer.DiskView.{DiskView}
-use Rattle.petal_state.specs.CellState.{cell_link, leaving}
-use Rattle.petal_rules.specs.Reads.{is_all_held}
-use Rattle.petal_rules.specs.State.{State, find, live, held, servers_of}
+use Rattle.petal_state.specs.CellState.{cell_asked, cell_link}
+use Rattle.petal_rules.specs.State.{State, find, live, servers_of}
 use Rattle.law_state.specs.Rows.{IsServed}
 
--- a cell that has a link is live and stays, and its link is between two servers, and served
+-- the link of a cell is between two servers, and served
 pub record IsLinked (state : State) (cell : Cell) (row : LinkRow) : Type 0 where
-  pub lives : live state cell ≡ true
-  pub stays : leaving state cell ≡ false
   pub apart : row.primary ≢ row.secondary
   pub primary : row.primary < servers_of state
   pub secondary : row.secondary < servers_of state
@@ -22,10 +19,11 @@ pub record HasLink (state : State) (cell : Cell) : Type 0 where
   pub row : LinkRow
   pub is : cell_link state cell ≡ Some row
 
--- what a state says of a cell, its link says, and a cell without one is dead; no fence holds a cell's reads; and each block of a disk has a
--- link
+-- a cell without a link is not live, and one that is live has a link; and each block of a disk has a live cell, under the map by which the disk's
+-- users name it, also for a read that was told that the new map has nothing
 pub record IsSteady (state : State) : Type 0 where
   pub linked : (cell : Cell) (row : LinkRow) → cell_link state cell ≡ Some row → IsLinked state cell row
   pub dead : (cell : Cell) → cell_link state cell ≡ None → live state cell ≡ false
-  pub shown : (cell : Cell) → is_all_held (held state cell) ≡ false
-  pub served : (name : List ℕ) (disk : DiskView) (block : ℕ) → find state name ≡ Some disk → HasLink state (record { map = disk.map; block = block })
+  pub lives : (cell : Cell) → live state cell ≡ true → HasLink state cell
+  pub served : (name : List ℕ) (disk : DiskView) (block : ℕ) (told : Bool) → find state name ≡ Some disk
+      → HasLink state (cell_asked state disk block told) × (live state (cell_asked state disk block told) ≡ true)

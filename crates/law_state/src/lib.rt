@@ -1,29 +1,33 @@
 //! What plain entries of the agreed log make: states in which each cell's link is served by both of its servers, or by one of
-//! them once the other one has left, until a Caught of the link, or by none once that one has come back with an empty store; and in which
-//! a disk's epoch rises only once each server has reported to the fence.
+//! them once the other one has left, until a Caught of the link, or by none once that one has come back with an empty store; in which
+//! a disk moves from one map to another region by region; and in which a cell's era rises only once each server has reported to the fence.
 //!
 //! To the layers above it promises that such a state is steady, what of what it says of a cell, a server or a name each later
-//! one says too, what has become of a link from one of its places to a later one, and which reports stand before an epoch rises. It knows
-//! nothing of letters, clients or histories.
+//! one says too, what has become of a link from one of its places to a later one, how far a cell is, and which reports stand before its
+//! era rises. It knows nothing of letters, clients or histories.
 #![tactic(auto)]
 
 ghost use Rattle.std.specs.Prelude.{◌≡◌, ◌<◌, ◌≤◌, ◌⊎◌, ℕ, Bool, List, [], ◌∷◌, ◌++◌, Some, length, slice_get, true, false};
 ghost use Rattle.petal_base.specs.declared.cell.Cell.{Cell};
+ghost use Rattle.global_tables.specs.Region.{region_of};
 ghost use Rattle.global_tables.specs.declared.link.LinkRow.{LinkRow};
 ghost use Rattle.global_tables.specs.declared.link.LinkState.TheVariants.{Both, Only, Lost};
 ghost use Rattle.petal_command.specs.declared.command.Command.{Command};
 ghost use Rattle.petal_command.specs.declared.command.Command.TheVariants.{Join, Leave};
 ghost use Rattle.petal_history.specs.Claims.{IsPrefix};
-ghost use Rattle.petal_state.specs.CellState.{cell_link};
+ghost use Rattle.petal_state.specs.CellState.{cell_link, source};
+ghost use Rattle.petal_state.specs.CellState.{noted as is_noted};
 ghost use Rattle.petal_state.specs.Command.{after, may_join, state_after};
 ghost use Rattle.petal_state.specs.Place.{places_from, touches};
-ghost use Rattle.petal_state.specs.State.{start};
+ghost use Rattle.petal_state.specs.State.{links_of, start};
 ghost use Rattle.petal_rules.specs.Blanked.{blank_joins_from};
 ghost use Rattle.petal_rules.specs.Lists.{In};
 ghost use Rattle.petal_rules.specs.State.{State, held, is_in};
 ghost use Rattle.petal_rules.specs.Writes.{is_writes_held};
 ghost use Rattle.law_state.specs.Below.{IsBelow, KeepsRoles};
-ghost use Rattle.law_state.specs.Epochs.{HasReported, epoch_at};
+ghost use Rattle.law_state.specs.Epochs.{HasReported};
+ghost use Rattle.law_state.specs.Homes.{HasDied, HasStage, era_at, stage_at};
+ghost use Rattle.law_state.specs.Noted.{HasMovedIn};
 ghost use Rattle.law_state.specs.Disks.{AreDisks, AreInOrOut, HasJoined};
 ghost use Rattle.law_state.specs.Joins.{CountsJoins, HasJoinedSince};
 ghost use Rattle.law_state.specs.Places.{IsCaughtSince, IsCaughtStill, IsHeldStill, IsLostIn, IsTouchedBy, StaysSo};
@@ -41,8 +45,8 @@ pub fn a_longer_log_says_the_same()
     ensures { (servers : ℕ) (front whole : List Command) → IsPlainLog servers whole → IsPrefix front whole → IsBelow (state_after servers front) (state_after servers whole) }
 {}
 
-/// A server that is still In as the same incarnation leads, follows and is read as before; only that of a link's two servers it may be
-/// left alone, and that a second server which was alone follows again.
+/// A server that is still In as the same incarnation leads a link, follows and serves it as before, until its map is dead; only that of a
+/// link's two servers it may be left alone, and that a second server which was alone follows again.
 pub fn a_longer_log_keeps_roles()
     ensures { (servers : ℕ) (front whole : List Command) → IsPlainLog servers whole → IsPrefix front whole → KeepsRoles (state_after servers front) (state_after servers whole) }
 {}
@@ -52,18 +56,19 @@ pub fn revisions_count_entries()
     ensures { (servers : ℕ) (log : List Command) → (state_after servers log).rev ≡ length log }
 {}
 
-/// The tables of a plain log: fences for snapshots alone, no move, each disk with a snapshot for each epoch below its own, and each map
-/// with the links that its tuple asks for.
+/// The tables of a plain log: fences for snapshots and for the next regions of moves, each disk with a snapshot for each epoch below its own,
+/// and each map that a disk has with the links that its tuple asks for.
 pub fn a_plain_log_makes_plain_tables()
     ensures { (servers : ℕ) (log : List Command) → IsPlainLog servers log → IsPlainState servers (state_after servers log) }
 {}
 
-/// A longer log adds rows behind those that are there, and changes none but who serves a link, and which snapshots a disk has.
+/// A longer log adds rows behind those that are there, and changes none but who serves a link, and which snapshots and which maps a disk has;
+/// and it drops the links of a map that is dead.
 pub fn a_longer_log_only_adds()
     ensures { (servers : ℕ) (front whole : List Command) → IsPlainLog servers whole → IsPrefix front whole → IsGrown (state_after servers front) (state_after servers whole) }
 {}
 
-/// Each disk is found by its number and its name, and its snapshots by theirs, two disks have two maps, and a cell of no disk has no link.
+/// Each disk is found by its number and its name, and its snapshots by theirs, two disks have no map in common, and a cell of no disk has no link.
 pub fn disks_and_cells_belong_together()
     ensures { (servers : ℕ) (log : List Command) → IsPlainLog servers log → AreDisks (state_after servers log) }
 {}
@@ -84,13 +89,14 @@ pub fn who_is_in_has_joined()
     ensures { (servers : ℕ) (log : List Command) (n inc : ℕ) → IsPlainLog servers log → is_in (state_after servers log) n inc ≡ true → (inc ≡ 1) ⊎ HasJoined log n inc }
 {}
 
-/// An entry that doesn't touch a link leaves its row as it is, and whether its two servers are In; one that does is the Leave of
-/// one of them, a Join, or the link's Caught. A longer log has no fewer places of a link, and where it has as many it says the same of it.
+/// An entry that doesn't touch a link leaves its row as it is, and whether its two servers are In, but for one with which its map is dead; one
+/// that does is the Leave of one of them, a Join, or the link's Caught. A longer log has no fewer places of a link, and where it has as many
+/// it says the same of it, or its map is dead.
 pub fn an_entry_that_does_not_touch_a_link()
-    ensures stays { (servers : ℕ) (log : List Command) (entry : Command) (cell : Cell) (row : LinkRow) → IsPlainLog servers log → IsPlain servers entry → cell_link (state_after servers log) cell ≡ Some row → touches (state_after servers log) entry row ≡ false → StaysSo cell row (state_after servers log) (after (state_after servers log) entry) }
+    ensures stays { (servers : ℕ) (log : List Command) (entry : Command) (cell : Cell) (row : LinkRow) → IsPlainLog servers log → IsPlain servers entry → cell_link (state_after servers log) cell ≡ Some row → touches (state_after servers log) entry row ≡ false → StaysSo cell row (state_after servers log) (after (state_after servers log) entry) ⊎ HasDied (after (state_after servers log) entry) cell }
     ensures touched { (servers : ℕ) (log : List Command) (entry : Command) (cell : Cell) (row : LinkRow) → IsPlainLog servers log → IsPlain servers entry → cell_link (state_after servers log) cell ≡ Some row → touches (state_after servers log) entry row ≡ true → IsTouchedBy cell row (state_after servers log) entry }
     ensures grows { (servers : ℕ) (front whole : List Command) (row : LinkRow) → IsPrefix front whole → places_from (start servers) front row ≤ places_from (start servers) whole row }
-    ensures place { (servers : ℕ) (front whole : List Command) (cell : Cell) (row : LinkRow) → IsPlainLog servers whole → IsPrefix front whole → cell_link (state_after servers front) cell ≡ Some row → places_from (start servers) whole row ≡ places_from (start servers) front row → StaysSo cell row (state_after servers front) (state_after servers whole) }
+    ensures place { (servers : ℕ) (front whole : List Command) (cell : Cell) (row : LinkRow) → IsPlainLog servers whole → IsPrefix front whole → cell_link (state_after servers front) cell ≡ Some row → places_from (start servers) whole row ≡ places_from (start servers) front row → StaysSo cell row (state_after servers front) (state_after servers whole) ⊎ HasDied (state_after servers whole) cell }
 {}
 
 /// A link that is in Both is at the place at which it was seen before, or a Caught put it there since. One that a server holds alone
@@ -118,11 +124,29 @@ pub fn blank_joins_only_grow()
     ensures counts { (servers : ℕ) (front whole : List Command) (n inc : ℕ) → HasJoinedSince servers front whole n inc true → blank_joins_from (start servers) front n < blank_joins_from (start servers) whole n }
 {}
 
-/// The epoch of a cell's disk never falls. While a server stays In as one incarnation, the epoch rises only behind its report to an active
-/// fence that holds the cell's writes: from a front on whose own active fence does not hold them, and from one behind which a server
-/// leaves, since the active fence then awaits all reports again.
+/// A cell's era never falls. While a server stays In as one incarnation, the era of a cell that is live and not leaving rises only behind its
+/// report to an active fence that holds the cell's writes: from a front on whose own active fence does not hold them, and from one behind
+/// which a server leaves, since the active fence then awaits all reports again.
 pub fn an_epoch_rises_behind_reports()
-    ensures grows { (servers : ℕ) (front whole : List Command) (cell : Cell) → IsPlainLog servers whole → IsPrefix front whole → epoch_at (state_after servers front) cell ≤ epoch_at (state_after servers whole) cell }
-    ensures unheld { (servers : ℕ) (front whole : List Command) (n inc : ℕ) (cell : Cell) → IsPlainLog servers whole → IsPrefix front whole → is_in (state_after servers front) n inc ≡ true → is_in (state_after servers whole) n inc ≡ true → is_writes_held (held (state_after servers front) cell) ≡ false → epoch_at (state_after servers front) cell < epoch_at (state_after servers whole) cell → HasReported servers front whole n inc cell }
-    ensures left { (servers : ℕ) (front whole : List Command) (n inc other other_inc : ℕ) (cell : Cell) → IsPlainLog servers whole → IsPrefix (front ++ Leave other other_inc ∷ []) whole → is_in (state_after servers front) other other_inc ≡ true → is_in (state_after servers (front ++ Leave other other_inc ∷ [])) n inc ≡ true → is_in (state_after servers whole) n inc ≡ true → epoch_at (state_after servers front) cell < epoch_at (state_after servers whole) cell → HasReported servers (front ++ Leave other other_inc ∷ []) whole n inc cell }
+    ensures grows { (servers : ℕ) (front whole : List Command) (cell : Cell) → IsPlainLog servers whole → IsPrefix front whole → era_at (state_after servers front) cell ≤ era_at (state_after servers whole) cell }
+    ensures unheld { (servers : ℕ) (front whole : List Command) (n inc : ℕ) (cell : Cell) → IsPlainLog servers whole → IsPrefix front whole → is_in (state_after servers front) n inc ≡ true → is_in (state_after servers whole) n inc ≡ true → is_writes_held (held (state_after servers front) cell) ≡ false → 1 ≤ stage_at (state_after servers front) cell → stage_at (state_after servers front) cell ≤ 2 → era_at (state_after servers front) cell < era_at (state_after servers whole) cell → HasReported servers front whole n inc cell }
+    ensures left { (servers : ℕ) (front whole : List Command) (n inc other other_inc : ℕ) (cell : Cell) → IsPlainLog servers whole → IsPrefix (front ++ Leave other other_inc ∷ []) whole → is_in (state_after servers front) other other_inc ≡ true → is_in (state_after servers (front ++ Leave other other_inc ∷ [])) n inc ≡ true → is_in (state_after servers whole) n inc ≡ true → 1 ≤ stage_at (state_after servers front) cell → stage_at (state_after servers front) cell ≤ 2 → era_at (state_after servers front) cell < era_at (state_after servers whole) cell → HasReported servers (front ++ Leave other other_inc ∷ []) whole n inc cell }
+{}
+
+/// A cell only goes forward: it is not live yet, coming, live, leaving, dead.
+pub fn stages_only_grow()
+    ensures { (servers : ℕ) (front whole : List Command) (cell : Cell) → IsPlainLog servers whole → IsPrefix front whole → stage_at (state_after servers front) cell ≤ stage_at (state_after servers whole) cell }
+{}
+
+/// What the state says of a cell, its stage says: whether it is live, leaves or comes, and who leads it; and a cell that comes and the one that it
+/// comes from know each other.
+pub fn a_stage_says_what_a_cell_is()
+    ensures { (servers : ℕ) (log : List Command) (cell : Cell) → IsPlainLog servers log → HasStage (state_after servers log) cell }
+{}
+
+/// A link of an old map is noted behind its Moved, and a region has moved behind those of all links.
+pub fn a_region_moves_behind_its_links()
+    ensures noted { (servers : ℕ) (whole : List Command) (cell : Cell) (link : ℕ) → IsPlainLog servers whole → stage_at (state_after servers whole) cell ≡ 3 → is_noted (state_after servers whole) cell.map (region_of cell.block) link ≡ true → HasMovedIn servers whole cell link }
+    ensures dead { (servers : ℕ) (whole : List Command) (cell : Cell) (link : ℕ) → IsPlainLog servers whole → stage_at (state_after servers whole) cell ≡ 4 → link < links_of (state_after servers whole) cell.map → HasMovedIn servers whole cell link }
+    ensures twins { (servers : ℕ) (front whole : List Command) (cell old : Cell) → IsPlainLog servers whole → IsPrefix front whole → source (state_after servers front) cell ≡ Some old → stage_at (state_after servers front) cell ≡ 1 → 2 ≤ stage_at (state_after servers whole) cell → stage_at (state_after servers whole) old ≡ 4 }
 {}

@@ -1,5 +1,5 @@
 -- Fronts of the log, and what stands below what.
-use Rattle.std.proofs.Common.{◌≡◌, ◌≤◌, ◌++◌, List, [], ◌∷◌, length, length-append, refl, sym, ap, ◌∙◌, arith, append_assoc}
+use Rattle.std.proofs.Common.{◌≡◌, ◌≤◌, ◌++◌, inl, inr, List, [], ◌∷◌, length, length-append, refl, sym, ap, ◌∙◌, arith, append_assoc}
 use Rattle.std.specs.Prelude.{slice_get, drop}
 use Rattle.std.proofs.lemmas.List.{append-nil}
 use Rattle.petal_command.specs.declared.command.Command.{Command}
@@ -8,7 +8,7 @@ use Rattle.petal_rules.specs.State.{State}
 use Rattle.petal_rules.proofs.Tests.{same_some}
 use Rattle.law_state.specs.Below.{IsBelow}
 use Rattle.law_state.specs.Ages.{age_of}
-use Rattle.law_state.specs.Epochs.{epoch_at}
+use Rattle.law_state.specs.Homes.{epoch_at, era_at, stage_at}
 use Rattle.law_state.proofs.Ages.{no_less}
 use Rattle.law_state.proofs.Grown.{held_on_on, later_itself, later_on, served_on_on}
 
@@ -50,17 +50,21 @@ one_front a b whole one two e = let p = front_within a b whole one two (omega ar
 
 pub below_on : (a b c : State) → IsBelow a b → IsBelow b c → IsBelow a c
 below_on a b c one two = record {
-  rows = λ cell row e.
-      let middle = one.rows cell row e in
-      let last = two.rows cell middle.now middle.is in
-      record {
+  rows = λ cell row e. elim (one.rows cell row e) [
+    | inr died ↦ inr (two.died cell died)
+    | inl middle ↦ elim (two.rows cell middle.now middle.is) [
+      | inr died ↦ inr died
+      | inl last ↦ inl (record {
         now = last.now;
         is = last.is;
         so = later_on row middle.now last.now middle.so last.so;
         on = served_on_on a b c one.ages two.ages row middle.now last.now middle.so middle.on last.on;
         held = held_on_on a b c one.ages two.ages row middle.now last.now middle.held last.held;
         lost = λ gone. last.lost (middle.lost gone);
-      };
+      })
+    ]
+  ];
+  died = λ cell gone. two.died cell (one.died cell gone);
   ages = λ n. let x = one.ages n in let y = two.ages n in omega arith;
   finds = λ name disk e.
       let middle = one.finds name disk e in
@@ -69,26 +73,30 @@ below_on a b c one two = record {
         now = last.now;
         is = last.is;
         disk_is = last.disk_is ∙ middle.disk_is;
-        map_is = last.map_is ∙ middle.map_is;
-        old_is = last.old_is ∙ middle.old_is;
+        map_is = let x = middle.map_is in let y = last.map_is in omega arith;
         onward = let x = middle.onward in let y = last.onward in omega arith;
       };
   snaps = λ disk name epoch e. two.snaps disk name epoch (one.snaps disk name epoch e);
   epochs = λ cell. let x = one.epochs cell in let y = two.epochs cell in omega arith;
+  eras = λ cell. let x = one.eras cell in let y = two.eras cell in omega arith;
+  stages = λ cell. let x = one.stages cell in let y = two.stages cell in omega arith;
 }
 
 pub below_itself : (a : State) → IsBelow a a
 below_itself a = record {
-  rows = λ cell row e. record {
+  rows = λ cell row e. inl (record {
     now = row;
     is = e;
     so = later_itself row;
     on = λ n inc has serving x y. serving;
     held = λ n whole alone out same. (whole, alone);
     lost = λ gone. gone;
-  };
+  });
+  died = λ cell gone. gone;
   ages = λ n. no_less (age_of a n);
-  finds = λ name disk e. record { now = disk; is = e; disk_is = refl; map_is = refl; old_is = refl; onward = no_less disk.epoch };
+  finds = λ name disk e. record { now = disk; is = e; disk_is = refl; map_is = no_less disk.map; onward = no_less disk.epoch };
   snaps = λ disk name epoch e. e;
   epochs = λ cell. no_less (epoch_at a cell);
+  eras = λ cell. no_less (era_at a cell);
+  stages = λ cell. no_less (stage_at a cell);
 }

@@ -27,7 +27,7 @@ use Rattle.petal_rules.specs.Boots.{awake, blanked, raised, stays, wakes}
 use Rattle.petal_rules.specs.Crossing.{crossed, settled_by}
 use Rattle.petal_rules.specs.Returns.{holds_link, proposed}
 use Rattle.petal_rules.specs.Progress.{has_proposed}
-use Rattle.petal_rules.specs.State.{State, id_of, in_both, is_alone_on, is_in, is_lead, lead, link_named}
+use Rattle.petal_rules.specs.State.{State, id_of, in_both, is_alone_on, is_in, leads_link, link_named, live}
 use Rattle.petal_rules.specs.Store.{cell_cmp}
 use Rattle.petal_rules.specs.Jobs.{Acted}
 use Rattle.petal_rules.specs.World.{Setting, World, acts, reacts, step, server_step, client_step, next_line, received, clock_of, server_state, client_state, chosen_log, chosen_state, setting_of, start, MayServer, MayActor}
@@ -36,8 +36,9 @@ use Rattle.petal_rules.specs.declared.step.Step.{Step}
 use Rattle.petal_rules.specs.declared.step.Step.TheVariants.{Blank}
 use Rattle.petal_rules.proofs.ListLemmas.{in_later, put_same}
 use Rattle.petal_rules.proofs.Settled.{by_settled, settling}
-use Rattle.petal_rules.proofs.Tests.{all_put, is_the_one, none_some, number_itself, true_false}
-use Rattle.law_state.specs.Below.{IsBelow}
+use Rattle.petal_rules.proofs.Tests.{all_put, by_bool, none_some, number_itself, true_false}
+use Rattle.law_state.specs.Below.{HasLater, IsBelow}
+use Rattle.law_state.specs.Homes.{HasDied, stage_at}
 use Rattle.law_state.specs.Firm.{Firm}
 use Rattle.law_state.specs.Plain.{IsPlainLog}
 use Rattle.law_state.specs.Steady.{IsSteady}
@@ -45,8 +46,8 @@ use Rattle.law_state.specs.Places.{IsCaughtStill}
 use Rattle.law_state.specs.Started.{HasStarted}
 use Rattle.law_state.proofs.Again.{log_alone}
 use Rattle.law_state.proofs.Ages.{between, in_once, in_up}
-use Rattle.law_state.proofs.Alone.{alone_not_both, led_row, second_both, so_alone, so_both}
-use Rattle.law_state.proofs.Cells.{IsHeldBy, led_by}
+use Rattle.law_state.proofs.Alone.{alone_not_both, alone_row, so_alone, so_both}
+use Rattle.law_state.proofs.Cells.{IsHeldBy}
 use Rattle.law_state.proofs.Roles.{holder_is_one, log_roles}
 use Rattle.law_state.proofs.Steady.{log_steady, log_below, front_plain}
 use Rattle.law_steps.specs.Happens.{Handled, AreQueued, Worked, By_job, By_ballot, By_entry, Serving, Goes, Ends, Stays, Wakes, Fails, served_so, stopped_so, shown_so, own_place, Happens, Serves, Blanks, Turns}
@@ -54,6 +55,7 @@ use Rattle.law_steps.specs.Ready.{IsReady, IsRising, Ready, Rests, AreFirm}
 use Rattle.law_steps.proofs.Subjects.{copies_rise, unheld_stays}
 use Rattle.law_steps.proofs.Tables.{rising_filter}
 use Rattle.law_steps.specs.Operations.{AtRest}
+use Rattle.law_steps.proofs.Leading.{led_by_link, link_alone, live_stage, stage_live}
 use Rattle.law_steps.proofs.Fronts.{below_on, front_itself, front_long, front_more, front_on}
 use Rattle.law_steps.specs.Resting.{AreResting}
 use Rattle.law_steps.proofs.Resting.{ballot_rests, did_rests, log_rests, none_rest, resting_equal}
@@ -71,13 +73,28 @@ queues_later w v later m queue h letter i = let known = h letter i in (later let
 
 -- where less is held back
 ready_held : (state : State) (me : ℕ) (held later : Cell → Bool) (pending : Table Cell Pending)
-    → ((cell : Cell) (op : Pending) → at cell_cmp pending cell ≡ Some op → held cell ≡ false → later cell ≡ false)
+    → ((cell : Cell) (op : Pending) → at cell_cmp pending cell ≡ Some op → live state cell ≡ true → held cell ≡ false → later cell ≡ false)
     → IsReady state me held pending → IsReady state me later pending
 ready_held state me held later pending less ready = record {
   staged = λ cell op is. let s = ready.staged cell op is in
-      record { own = s.own; clients = s.clients; keyed = s.keyed; lead = s.lead; stage = s.stage; unheld = less cell op is s.unheld };
+      record {
+        own = s.own;
+        opened = s.opened;
+        keyed = s.keyed;
+        born = s.born;
+        leads = s.leads;
+        stage = s.stage;
+        unheld = λ on. less cell op is on (s.unheld on);
+      };
   rising = ready.rising;
 }
+
+-- a live cell is not dead
+not_dead : {B : Type 0} (state : State) (cell : Cell) → live state cell ≡ true → HasDied state cell → B
+not_dead state cell alive died =
+    let most = (live_stage state cell alive).1 in
+    let dead = died.1 in
+    absurd (omega arith)
 
 -- what rests at an earlier state rests at a later one by which its server is In as the same incarnation, where no Caught of the server's
 -- stands between them on the link of an operation
@@ -97,41 +114,71 @@ module _ (servers : ℕ) (front whole : List Command) (plain : IsPlainLog server
   was_steady : IsSteady earlier
   was_steady = log_steady servers front (front_plain servers front whole plain prefix)
 
+  goes_forward : (cell : Cell) → stage_at earlier cell ≤ stage_at later cell
+  goes_forward cell = (log_below servers front whole plain prefix).stages cell
+
+  -- a cell that is live later was live when its operation was opened, and is so since
+  was_live : (cell : Cell) (op : Pending) → at cell_cmp pending cell ≡ Some op → live later cell ≡ true → live earlier cell ≡ true
+  was_live cell op is alive =
+      let born = (ready.staged cell op is).born in
+      let grows = goes_forward cell in
+      let most = (live_stage later cell alive).1 in
+      stage_live earlier cell born (omega arith)
+
+  later_row : (cell : Cell) (row : LinkRow) → cell_link earlier cell ≡ Some row → live later cell ≡ true → HasLater earlier later cell row
+  later_row cell row there alive = elim ((log_below servers front whole plain prefix).rows cell row there) [
+    | inl h ↦ h
+    | inr died ↦ not_dead later cell alive died
+  ]
+
   -- who holds the link of such an operation alone goes on to
-  alone_still : (cell : Cell) (op : Pending) → at cell_cmp pending cell ≡ Some op → (row : LinkRow) (copied : Bool) → cell_link earlier cell ≡ Some row
-      → row.state ≡ Only n copied → is_alone_on later n cell ≡ true
-  alone_still cell op is row copied there alone =
-      let h = (log_below servers front whole plain prefix).rows cell row there in
+  alone_still : (cell : Cell) (op : Pending) → at cell_cmp pending cell ≡ Some op → live later cell ≡ true → (row : LinkRow) (copied : Bool)
+      → cell_link earlier cell ≡ Some row → row.state ≡ Only n copied → is_alone_on later n cell ≡ true
+  alone_still cell op is alive row copied there alone =
+      let h = later_row cell row there alive in
       let held : IsHeldBy earlier cell n =
       record { row = row; is = there; linked = was_steady.linked cell row there; whole = copied; so = alone; up = in_up earlier n inc (before cell op is) } in
       let on = h.on n inc (holder_is_one earlier cell n held) (ap (serves n row) alone ∙ number_itself n) (before cell op is) (still cell op is) in
       elim (log_alone servers front whole plain prefix cell row h.now n copied there alone h.is) [
         | inl same ↦ so_alone later n cell h.now same.0 h.is same.1
         | inr (inl gone) ↦ true_false on (ap (serves n h.now) gone.0)
-        | inr (inr found) ↦ true_false (caught cell op is row copied there found) (ready.staged cell op is).unheld
+        | inr (inr found) ↦ true_false (caught cell op is row copied there found) ((ready.staged cell op is).unheld (was_live cell op is alive))
       ]
 
-  lead_still : (cell : Cell) (op : Pending) → at cell_cmp pending cell ≡ Some op → is_lead later n cell ≡ true
-  lead_still cell op is =
-      elim ((log_roles servers front whole plain prefix).leads n inc cell (before cell op is) (still cell op is) (ready.staged cell op is).lead) [
+  lead_still : (cell : Cell) (op : Pending) → at cell_cmp pending cell ≡ Some op → live later cell ≡ true → leads_link later n cell ≡ true
+  lead_still cell op is alive =
+      elim ((log_roles servers front whole plain prefix).leads n inc cell (before cell op is) (still cell op is)
+      ((ready.staged cell op is).leads (was_live cell op is alive))) [
         | inl leads ↦ leads
-        | inr second ↦ true_false
-            (second_both later (log_steady servers whole plain) cell n (is_the_one _ n second.second))
-            (alone_not_both later n cell (alone_still cell op is second.alone.row second.alone.whole second.alone.is second.alone.alone))
+        | inr (inl come) ↦ (
+            let one = come.second in
+            let alone = come.alone in
+            true_false (so_both later cell one.row one.is one.both)
+            (alone_not_both later n cell (alone_still cell op is alive alone.row alone.whole alone.is alone.alone)))
+        | inr (inr died) ↦ not_dead later cell alive died
       ]
 
-  stage_still : (cell : Cell) (op : Pending) → at cell_cmp pending cell ≡ Some op → in_both later cell ≡ true → AtRest op.stage
-  stage_still cell op is both =
+  stage_still : (cell : Cell) (op : Pending) → at cell_cmp pending cell ≡ Some op → live later cell ≡ true → in_both later cell ≡ true → AtRest op.stage
+  stage_still cell op is alive both =
       let s = ready.staged cell op is in
-      elim (led_by earlier was_steady cell n (is_the_one (lead earlier cell) n s.lead)) [
-        | inl b ↦ s.stage (so_both earlier cell b.0.row b.0.is b.0.so)
-        | inr alone ↦ true_false both (alone_not_both later n cell (alone_still cell op is alone.row alone.whole alone.is alone.so))
-      ]
+      let on = was_live cell op is alive in
+      by_bool (in_both earlier cell) (λ was. s.stage on was)
+      (λ apart.
+      let alone = alone_row earlier n cell (link_alone earlier n cell (s.leads on) apart) in
+      true_false both (alone_not_both later n cell (alone_still cell op is alive alone.row alone.whole alone.is alone.alone)))
 
   ready_on : IsReady later n held pending
   ready_on = record {
     staged = λ cell op is. let s = ready.staged cell op is in
-        record { own = s.own; clients = s.clients; keyed = s.keyed; lead = lead_still cell op is; stage = stage_still cell op is; unheld = s.unheld };
+        record {
+          own = s.own;
+          opened = s.opened;
+          keyed = s.keyed;
+          born = (let born = s.born in let grows = goes_forward cell in omega arith);
+          leads = λ alive. lead_still cell op is alive;
+          stage = λ alive both. stage_still cell op is alive both;
+          unheld = λ alive. s.unheld (was_live cell op is alive);
+        };
     rising = ready.rising;
   }
 
@@ -243,7 +290,7 @@ module _ (setting : Setting) (w : World) (rests : Rests setting w) (firm : Firm 
   worked_ready n runs _ _ (By_job log done same did seat) =
       subst (λ applied. IsReady (state_after setting.servers applied) n (has_proposed (state_after setting.servers applied) done.own) done.own.pairs.pending) (sym same)
       (ready_held (server_state setting w n) n _ _ done.own.pairs.pending
-      (λ cell op is unheld. unheld_stays (Handled w n) (own_place setting w n) (w.servers n).own done did (server_state setting w n) cell unheld)
+      (λ cell op is alive unheld. unheld_stays (Handled w n) (own_place setting w n) (w.servers n).own done did (server_state setting w n) cell unheld)
       (did_ready (Handled w n) (own_place setting w n) (w.servers n).own (rests.pending n) done did))
   worked_ready n runs _ _ (By_ballot log started posts same starts says) =
       let to = proposed (server_state setting w n) (w.servers n).own started in
@@ -251,16 +298,22 @@ module _ (setting : Setting) (w : World) (rests : Rests setting w) (firm : Firm 
       (subst (λ (p : Pairs). IsReady (server_state setting w n) n (has_proposed (server_state setting w n) to) p.pending)
       (sym (proposed_pairs (server_state setting w n) (w.servers n).own started))
       (ready_held (server_state setting w n) n _ _ (w.servers n).own.pairs.pending
-      (λ cell op is unheld. ballot_unheld (own_place setting w n) (w.servers n).own started starts cell op is unheld) (rests.pending n)))
+      (λ cell op is alive unheld. ballot_unheld (own_place setting w n) (w.servers n).own started starts cell op is unheld) (rests.pending n)))
   worked_ready n runs _ _ (By_entry log entry more front) =
       let on : IsPrefix (w.servers n).log.applied log.applied = record { later = entry ∷ []; is = more } in
       let now = state_after setting.servers log.applied in
       by_settled (λ (own : Own). IsReady now n (has_proposed now own) own.pairs.pending) (own_place setting w n) entry (crossed (server_state setting w n) entry (w.servers n).own) (λ store.
       ready_held (state_after setting.servers log.applied) n _ _ (w.servers n).own.pairs.pending
-      (λ cell op is unheld.
-      let row = led_row (server_state setting w n) (own_steady setting w firm n) n cell ((rests.pending n).staged cell op is).lead in
-      crossed_unheld (server_state setting w n) (state_after setting.servers log.applied) entry (w.servers n).own cell row.0 row.1
-      ((log_below setting.servers (w.servers n).log.applied log.applied (front_plain setting.servers _ _ firm.plain front) on).rows cell row.0 row.1) unheld)
+      (λ cell op is alive unheld.
+      let below = log_below setting.servers (w.servers n).log.applied log.applied (front_plain setting.servers _ _ firm.plain front) on in
+      let s = (rests.pending n).staged cell op is in
+      let grows = below.stages cell in
+      let most = (live_stage now cell alive).1 in
+      let row = led_by_link (server_state setting w n) n cell (s.leads (stage_live (server_state setting w n) cell s.born (omega arith))) in
+      elim (below.rows cell row.0 row.1) [
+        | inl h ↦ crossed_unheld (server_state setting w n) (state_after setting.servers log.applied) entry (w.servers n).own cell row.0 row.1 h unheld
+        | inr died ↦ not_dead now cell alive died
+      ])
       (ready_at setting w firm rests n runs log.applied on front))
 
   -- it has operations only while it is In as itself

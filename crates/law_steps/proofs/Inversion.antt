@@ -23,7 +23,9 @@ use Rattle.law_steps.specs.Did.{Did, Ignores, Refuses}
 use Rattle.petal_rules.proofs.Tests.{by_test, same_numbers}
 use Rattle.law_steps.proofs.Busy.{not_busy, not_held}
 use Rattle.law_steps.proofs.InvertRead.{did_read}
-use Rattle.law_steps.proofs.InvertLead.{not_false, did_next, did_write, did_reserved, did_pair_full, did_replicated}
+use Rattle.law_steps.proofs.InvertLead.{not_false, did_fill, did_next, did_write, did_reserved, did_pair_full, did_replicated}
+use Rattle.law_steps.proofs.InvertFiller.{did_filled, did_fill_full}
+use Rattle.law_steps.proofs.InvertSweep.{did_sweeps}
 use Rattle.law_steps.proofs.InvertSecond.{did_reserve, did_replicate}
 use Rattle.law_steps.proofs.InvertHolder.{did_copies, did_mends, did_hello, did_trimmed, did_synced, did_sync_full}
 use Rattle.law_steps.proofs.InvertOther.{did_hello_ask, did_trim, did_trims, did_sync}
@@ -53,11 +55,15 @@ module _ (heard : Body → Type 0) (here : Here) (own : Own) (steady : IsSteady 
       did_sync heard here own (record { op = number; key = key; index = index; stored = record { version = version; bytes = bytes } }) h
   did_handle seated (body.Synced number cell index) h = did_synced heard here own number cell index h
   did_handle seated (body.SyncFull number cell) h = did_sync_full heard here own number cell h
+  did_handle seated (body.Fill key bytes) h = did_fill heard here own steady staged seated (record { key = key; bytes = bytes }) h
+  did_handle seated (body.Filled key) h = did_filled heard here own seated key h
+  did_handle seated (body.FillFull key) h = did_fill_full heard here own seated key h
   did_handle seated _ h = Ignores
 
   told_rev : (client : ℕ) (o : Option ℕ) → D (wrong_rev own client o)
   told_rev client None = Ignores
-  told_rev client (Some seq) = Refuses (actor.Client client) (body.WrongRev seq) refl (λ k g. not_busy (body.WrongRev seq) k g refl)
+  told_rev client (Some seq) = Refuses (actor.Client client) (body.WrongRev seq) (record { refused = refl; other = refl })
+      (λ k g. not_busy (body.WrongRev seq) k g refl)
       (λ k g. not_held (body.WrongRev seq) k g refl)
 
   other_rev : (letter : Letter) (from : Actor) → D (at_other_rev own letter from)
@@ -81,5 +87,6 @@ module _ (heard : Body → Type 0) (here : Here) (own : Own) (steady : IsSteady 
       (λ s. by_test D (is_some (copying_on own cell)) _ _ (λ u. did_copies heard here own cell (copying_on own cell) refl) (λ u. did_trims heard here own cell)))
       (λ t. Ignores)
   did (job.Mend link) h = by_test D (is_in here.state here.me here.inc) _ _ (λ t. did_mends heard here own link) (λ t. Ignores)
+  did job.Sweep h = by_test D (is_in here.state here.me here.inc) _ _ (λ t. did_sweeps heard here own t) (λ t. Ignores)
   did job.Apply h = Ignores
   did job.Start h = Ignores

@@ -1,9 +1,10 @@
 -- What a lead does for a write is one of the kinds that the relation names.
-use Rattle.std.proofs.Common.{◌≡◌, ◌≤◌, ℕ, ◌+◌, ◌==◌, ◌&&◌, not, Bool, true, false, Option, Some, None, ◌⊎◌, inl, inr, refl, ap, sym, ◌∙◌, subst, arith}
+use Rattle.std.proofs.Common.{◌≡◌, ◌≤◌, ◌<◌, ℕ, ◌+◌, ◌==◌, ◌&&◌, not, Bool, true, false, Option, Some, None, ◌⊎◌, inl, inr, refl, ap, sym, ◌∙◌, subst, arith}
 use Rattle.std.specs.Prelude.{◌||◌, is_some, nat_lt, if◌then◌else◌}
 use Rattle.std.proofs.lemmas.Bool.Decides.{nat_tests}
 use Rattle.std.specs.Ordering.{nat_cmp}
 use Rattle.petal_base.specs.declared.cell.Cell.{Cell}
+use Rattle.petal_base.specs.Cells.{cell_of}
 use Rattle.petal_table.specs.Table.{at}
 use Rattle.petal_msg.specs.declared.body.Body.{Body}
 use Rattle.petal_msg.specs.declared.body.Body.TheVariants as body
@@ -13,23 +14,23 @@ use Rattle.petal_msg.specs.declared.operation.Action.TheVariants as action
 use Rattle.petal_msg.specs.declared.operation.Finished.{Finished}
 use Rattle.petal_msg.specs.declared.operation.Pending.{Pending}
 use Rattle.petal_msg.specs.declared.operation.Stage.{Stage}
+use Rattle.petal_rules.specs.Fills.{Moving, fill_operation, has_epoch, hears_fill, on_fill, opens_fill}
 use Rattle.petal_rules.specs.Lists.{In}
 use Rattle.petal_rules.specs.Progress.{copying_on, has_proposed}
-use Rattle.petal_rules.specs.State.{held, second, is_lead, leads_link, in_both}
-use Rattle.petal_rules.specs.Store.{free_of}
+use Rattle.petal_rules.specs.State.{held, second, is_in, is_lead, leads_link, live, in_both}
+use Rattle.petal_rules.specs.Store.{chain_in, free_of}
 use Rattle.petal_rules.specs.Server.{Own, Here, Post, Done, post_to, says}
-use Rattle.petal_rules.specs.Writes.{Wanted, Older, Again, Newer, standing, next_stage, both_action, alone_action, acts, goes_on, goes_on_with, pending_on, with_pending, with_reserved, with_paired, opened, operation, opens, takes, takes_newer, is_kept_back, is_under_way, is_writes_held, is_pending_for, is_reserving, is_replicating, hears_reserved, hears_pair_full, hears_replicated, on_write}
+use Rattle.petal_rules.specs.Writes.{Wanted, Older, Again, Newer, standing, next_stage, both_action, alone_action, acts, goes_on, goes_on_with, pending_on, with_pending, with_reserved, with_paired, with_opened, opened, operation, opens, takes, takes_newer, is_kept_back, is_under_way, is_writes_held, is_pending_for, is_reserving, is_replicating, hears_reserved, hears_pair_full, hears_replicated, on_write}
 use Rattle.petal_rules.specs.Reads.{said}
 use Rattle.petal_rules.proofs.CellTables.{cell_same}
 use Rattle.law_state.specs.Steady.{IsSteady}
-use Rattle.law_state.proofs.Alone.{lead_alone}
-use Rattle.law_state.proofs.Cells.{leads_so}
 use Rattle.law_state.proofs.Links.{either_false}
 use Rattle.law_steps.specs.Operations.{IsStaged, AtRest, Waiting, Putting, Copying, Answering, waiting, putting, copying, answering, done_to}
-use Rattle.law_steps.specs.DidLead.{Asks_for, Repeats, Is_full, Opens, Marks, Puts, Gives_up, Unmarks, Closes, Opens_alone, Marks_alone, Puts_alone, Unmarks_alone, Closes_alone, Asks, A_slot, A_copy, IsNew, Taken, As_it_is, As_told}
+use Rattle.law_steps.specs.DidLead.{Asks_for, Repeats, Is_full, Opens, Marks, Puts, Gives_up, Unmarks, Closes, Opens_alone, Marks_alone, Puts_alone, Unmarks_alone, Closes_alone, Opens_fill, Opens_fill_alone, Has_fill, Has_no_room, Goes_on_dead, Asks, A_slot, A_copy, IsNew, IsNewFill, Taken, As_it_is, As_told}
 use Rattle.law_steps.specs.Did.{Did, Ignores, Refuses, For_a_write, By_copy_for_a_write, A_write, By_lead}
 use Rattle.petal_rules.proofs.Tests.{by_test, by_bool, both_true, not_true, true_false, same_numbers, only}
 use Rattle.law_steps.proofs.Busy.{not_busy, busy_seq, not_held, held_seq}
+use Rattle.law_steps.proofs.Leading.{lead_links, link_alone}
 
 is_waiting : (stage : Stage) → AtRest stage → stage.reserved ≡ false → stage ≡ waiting
 is_waiting stage (Waiting e) f = e
@@ -54,6 +55,9 @@ is_none (Some x) e = true_false refl e
 pub no_free : (free : ℕ) → nat_lt 0 free ≡ false → free ≡ 0
 no_free free e = grind (arith, nat_tests)
 
+some_free : (free : ℕ) → nat_lt 0 free ≡ true → 0 < free
+some_free free e = grind (arith, nat_tests)
+
 either_one : (a b : Bool) → (a || b) ≡ true → (a ≡ true) ⊎ (b ≡ true)
 either_one true b e = inl refl
 either_one false b e = inr e
@@ -67,7 +71,7 @@ module _ (heard : Body → Type 0) (here : Here) (own : Own) (steady : IsSteady 
   D done = Did heard here own done
 
   leads : (cell : Cell) → is_lead here.state here.me cell ≡ true → leads_link here.state here.me cell ≡ true
-  leads cell e = leads_so here.state steady cell here.me ∙ e
+  leads cell e = (lead_links here.state here.me cell e).1
 
   -- ### The next stage
 
@@ -87,23 +91,23 @@ module _ (heard : Body → Type 0) (here : Here) (own : Own) (steady : IsSteady 
   asks_copy op is stage = posts_ask _ _ (λ to e. A_copy op to is stage e)
 
   -- the next action of an operation at its lead, in Both and where the lead is alone
-  pub both_next : (op : Pending) (stage : Stage) → is_lead here.state here.me op.cell ≡ true → in_both here.state op.cell ≡ true → op.stage ≡ stage
+  pub both_next : (op : Pending) (stage : Stage) → leads_link here.state here.me op.cell ≡ true → in_both here.state op.cell ≡ true → op.stage ≡ stage
       → next_stage here.state here.me op ≡ both_action stage
   both_next op stage lead both e =
-      ap (λ b. if b then if in_both here.state op.cell then both_action op.stage else alone_action op.stage else action.Drop) (leads op.cell lead)
+      ap (λ b. if b then if in_both here.state op.cell then both_action op.stage else alone_action op.stage else action.Drop) lead
       ∙ ap (λ b. if b then both_action op.stage else alone_action op.stage) both ∙ ap both_action e
 
-  pub alone_next : (op : Pending) → is_lead here.state here.me op.cell ≡ true → in_both here.state op.cell ≡ false
+  pub alone_next : (op : Pending) → leads_link here.state here.me op.cell ≡ true → in_both here.state op.cell ≡ false
       → next_stage here.state here.me op ≡ alone_action op.stage
   alone_next op lead apart =
-      ap (λ b. if b then if in_both here.state op.cell then both_action op.stage else alone_action op.stage else action.Drop) (leads op.cell lead)
+      ap (λ b. if b then if in_both here.state op.cell then both_action op.stage else alone_action op.stage else action.Drop) lead
       ∙ ap (λ b. if b then both_action op.stage else alone_action op.stage) apart
 
   -- at a holder that is alone an operation goes on by its flags
-  did_alone : (now : Own) (op : Pending) → Taken own now op → is_lead here.state here.me op.cell ≡ true → in_both here.state op.cell ≡ false
+  did_alone : (now : Own) (op : Pending) → Taken own now op → leads_link here.state here.me op.cell ≡ true → in_both here.state op.cell ≡ false
       → D (acts here now op (next_stage here.state here.me op))
   did_alone now op taken lead apart =
-      let alone = lead_alone here.state steady here.me op.cell lead apart in
+      let alone = link_alone here.state here.me op.cell lead apart in
       subst (λ a. D (acts here now op a)) (sym (alone_next op lead apart))
       (by_test (λ a. D (acts here now op a)) (not op.stage.stale) _ _ (λ t. By_lead _ (Marks_alone now op taken alone (not_true _ t)))
       (λ stale. by_test (λ a. D (acts here now op a)) (not op.stage.put) _ _
@@ -118,14 +122,18 @@ module _ (heard : Body → Type 0) (here : Here) (own : Own) (steady : IsSteady 
   did_staged : (op : Pending) → pending_on own op.cell ≡ Some op → D (acts here own op (next_stage here.state here.me op))
   did_staged op is =
       let s = staged op.cell op is in
-      by_bool (in_both here.state op.cell)
-      (λ both. elim (s.stage both) [
-        | Waiting stage ↦ subst (λ a. D (acts here own op a)) (sym (both_next op waiting s.lead both stage)) (By_lead _ (Asks_for _ (asks_slot op is stage)))
-        | Putting stage ↦ subst (λ a. D (acts here own op a)) (sym (both_next op putting s.lead both stage)) (By_lead _ (Puts op is both stage))
-        | Copying stage ↦ subst (λ a. D (acts here own op a)) (sym (both_next op copying s.lead both stage)) (By_lead _ (Asks_for _ (asks_copy op is stage)))
-        | Answering stage ↦ subst (λ a. D (acts here own op a)) (sym (both_next op answering s.lead both stage)) (By_lead _ (Closes op is both stage))
+      by_bool (live here.state op.cell)
+      (λ on. by_bool (in_both here.state op.cell)
+      (λ both. elim (s.stage on both) [
+        | Waiting stage ↦ subst (λ a. D (acts here own op a)) (sym (both_next op waiting (s.leads on) both stage))
+            (By_lead _ (Asks_for _ (asks_slot op is stage)))
+        | Putting stage ↦ subst (λ a. D (acts here own op a)) (sym (both_next op putting (s.leads on) both stage)) (By_lead _ (Puts op is both stage))
+        | Copying stage ↦ subst (λ a. D (acts here own op a)) (sym (both_next op copying (s.leads on) both stage))
+            (By_lead _ (Asks_for _ (asks_copy op is stage)))
+        | Answering stage ↦ subst (λ a. D (acts here own op a)) (sym (both_next op answering (s.leads on) both stage)) (By_lead _ (Closes op is both stage))
       ])
-      (λ apart. did_alone own op (As_it_is op is) s.lead apart)
+      (λ apart. did_alone own op (As_it_is op is) (s.leads on) apart))
+      (λ off. By_lead _ (Goes_on_dead own op (As_it_is op is) off))
 
   pub did_next : (cell : Cell) (o : Option Pending) → pending_on own cell ≡ o → D (goes_on_with here own o)
   did_next cell None e = Ignores
@@ -144,25 +152,26 @@ module _ (heard : Body → Type 0) (here : Here) (own : Own) (steady : IsSteady 
       let there : pending_on (opened here own want) want.cell ≡ Some op = cell_same own.pairs.pending want.cell op in
       subst (λ o. D (goes_on_with here (opened here own want) o)) (sym there)
       (by_bool (in_both here.state want.cell)
-      (λ both. subst (λ a. D (acts here (opened here own want) op a)) (sym (both_next op waiting new.lead both refl)) (By_lead _ (Opens want new both)))
-      (λ apart. subst (λ a. D (acts here (opened here own want) op a)) (sym (alone_next op new.lead apart))
-      (By_lead _ (Opens_alone want new (lead_alone here.state steady here.me want.cell new.lead apart)))))
+      (λ both. subst (λ a. D (acts here (opened here own want) op a)) (sym (both_next op waiting (leads want.cell new.lead) both refl))
+      (By_lead _ (Opens want new both)))
+      (λ apart. subst (λ a. D (acts here (opened here own want) op a)) (sym (alone_next op (leads want.cell new.lead) apart))
+      (By_lead _ (Opens_alone want new (link_alone here.state here.me want.cell (leads want.cell new.lead) apart)))))
 
   -- an operation or a copy keeps it back
   did_busy : (want : Wanted) → by_write want → is_lead here.state here.me want.cell ≡ true → is_pending_for (pending_on own want.cell) want ≡ false
       → (o : Option Pending) → pending_on own want.cell ≡ o → (copy : Option Copy) → copying_on own want.cell ≡ copy → (is_some o || is_some copy) ≡ true
       → D (says own (actor.Client want.client) (body.BlockBusy want.seq))
-  did_busy want h lead other (Some op) e copy f busy = Refuses (actor.Client want.client) (body.BlockBusy want.seq) refl
+  did_busy want h lead other (Some op) e copy f busy = Refuses (actor.Client want.client) (body.BlockBusy want.seq) (record { refused = refl; other = refl })
       (λ seq g. For_a_write want op h (busy_seq g) lead e (ap (λ o. is_pending_for o want) (sym e) ∙ other))
       (λ seq g. not_held (body.BlockBusy want.seq) seq g refl)
-  did_busy want h lead other None e (Some copy) f busy = Refuses (actor.Client want.client) (body.BlockBusy want.seq) refl
+  did_busy want h lead other None e (Some copy) f busy = Refuses (actor.Client want.client) (body.BlockBusy want.seq) (record { refused = refl; other = refl })
       (λ seq g. By_copy_for_a_write want copy h (busy_seq g) lead f) (λ seq g. not_held (body.BlockBusy want.seq) seq g refl)
   did_busy want h lead other None e None f busy = true_false busy refl
 
   did_newer : (want : Wanted) → by_write want → is_lead here.state here.me want.cell ≡ true
       → done_to (at nat_cmp own.pairs.finished want.client) ≤ want.seq → (kept busy : Bool) → is_kept_back here.state own want.cell ≡ kept
       → is_under_way own want.cell ≡ busy → is_pending_for (pending_on own want.cell) want ≡ false → D (takes_newer here own want kept busy)
-  did_newer want h lead new true busy e f other = Refuses (actor.Client want.client) (body.Held want.seq) refl
+  did_newer want h lead new true busy e f other = Refuses (actor.Client want.client) (body.Held want.seq) (record { refused = refl; other = refl })
       (λ seq g. not_busy (body.Held want.seq) seq g refl)
       (λ seq g. A_write want h (held_seq g) lead (either_one (is_writes_held (held here.state want.cell)) (has_proposed here.state own want.cell) e))
   did_newer want h lead new false true e f other = did_busy want h lead other (pending_on own want.cell) refl (copying_on own want.cell) refl f
@@ -217,18 +226,20 @@ module _ (heard : Body → Type 0) (here : Here) (own : Own) (steady : IsSteady 
       let s = staged op.cell op is in
       let there : pending_on (with_pending own (with_reserved op)) op.cell ≡ Some (with_reserved op) = cell_same own.pairs.pending op.cell (with_reserved op) in
       subst (λ o. D (goes_on_with here (with_pending own (with_reserved op)) o)) (sym there)
-      (by_bool (in_both here.state op.cell)
+      (by_bool (live here.state op.cell)
+      (λ on. by_bool (in_both here.state op.cell)
       (λ both.
-      let stage = is_waiting op.stage (s.stage both) (not_true _ tests.1) in
+      let stage = is_waiting op.stage (s.stage on both) (not_true _ tests.1) in
       subst (λ a. D (acts here (with_pending own (with_reserved op)) (with_reserved op) a))
-      (sym (both_next (with_reserved op) (with_reserved (record op { stage = waiting })).stage s.lead both
+      (sym (both_next (with_reserved op) (with_reserved (record op { stage = waiting })).stage (s.leads on) both
       (ap (λ (x : Stage). (record x { reserved = true })) stage)))
       (By_lead _ (Marks op (heard_of number op body.Reserved cell h (staged cell op e).own tests.0) is both stage)))
-      (λ apart. did_alone (with_pending own (with_reserved op)) (with_reserved op) (As_told op true op.stage.paired is) s.lead apart)))
+      (λ apart. did_alone (with_pending own (with_reserved op)) (with_reserved op) (As_told op true op.stage.paired is) (s.leads on) apart))
+      (λ off. By_lead _ (Goes_on_dead (with_pending own (with_reserved op)) (with_reserved op) (As_told op true op.stage.paired is) off))))
       (λ t. Ignores)
 
   pub did_pair_full : (number : ℕ) (cell : Cell) (o : Option Pending) → heard (body.PairFull number cell) → pending_on own cell ≡ o
-      → D (hears_pair_full own number o)
+      → D (hears_pair_full here own number o)
   did_pair_full number cell None h e = Ignores
   did_pair_full number cell (Some op) h e = by_test D (is_reserving op number && not op.stage.put) _ _
       (λ t.
@@ -250,11 +261,64 @@ module _ (heard : Body → Type 0) (here : Here) (own : Own) (steady : IsSteady 
       let s = staged op.cell op is in
       let there : pending_on (with_pending own (with_paired op)) op.cell ≡ Some (with_paired op) = cell_same own.pairs.pending op.cell (with_paired op) in
       subst (λ o. D (goes_on_with here (with_pending own (with_paired op)) o)) (sym there)
-      (by_bool (in_both here.state op.cell)
+      (by_bool (live here.state op.cell)
+      (λ on. by_bool (in_both here.state op.cell)
       (λ both.
-      let stage = is_copying op.stage (s.stage both) more.1 (not_true _ tests.1) in
+      let stage = is_copying op.stage (s.stage on both) more.1 (not_true _ tests.1) in
       subst (λ a. D (acts here (with_pending own (with_paired op)) (with_paired op) a))
-      (sym (both_next (with_paired op) (with_paired (record op { stage = copying })).stage s.lead both (ap (λ (x : Stage). (record x { paired = true })) stage)))
+      (sym (both_next (with_paired op) (with_paired (record op { stage = copying })).stage (s.leads on) both
+      (ap (λ (x : Stage). (record x { paired = true })) stage)))
       (By_lead _ (Unmarks op (heard_of number op body.Replicated cell h (staged cell op e).own more.0) is both stage)))
-      (λ apart. did_alone (with_pending own (with_paired op)) (with_paired op) (As_told op op.stage.reserved true is) s.lead apart)))
+      (λ apart. did_alone (with_pending own (with_paired op)) (with_paired op) (As_told op op.stage.reserved true is) (s.leads on) apart))
+      (λ off. By_lead _ (Goes_on_dead (with_pending own (with_paired op)) (with_paired op) (As_told op op.stage.reserved true is) off))))
       (λ t. Ignores)
+
+  -- ### Entries that move
+
+  did_opens_fill : (moving : Moving) → IsNewFill heard here own moving → (room : Bool) → nat_lt 0 (free_of own.store) ≡ room
+      → D (opens_fill here own moving room)
+  unfolding goes_on
+  did_opens_fill moving new false full = By_lead _ (Has_no_room moving new (no_free (free_of own.store) full))
+  did_opens_fill moving new true room =
+      let op = fill_operation here own.pairs.next moving in
+      let links = leads (cell_of moving.key) new.lead in
+      let there : pending_on (with_opened own op) (cell_of moving.key) ≡ Some op = cell_same own.pairs.pending (cell_of moving.key) op in
+      subst (λ o. D (goes_on_with here (with_opened own op) o)) (sym there)
+      (by_bool (in_both here.state (cell_of moving.key))
+      (λ both. subst (λ a. D (acts here (with_opened own op) op a)) (sym (both_next op waiting links both refl))
+      (By_lead _ (Opens_fill moving new (some_free (free_of own.store) room) both)))
+      (λ apart. subst (λ a. D (acts here (with_opened own op) op a)) (sym (alone_next op links apart))
+      (By_lead _ (Opens_fill_alone moving new (some_free (free_of own.store) room) (link_alone here.state here.me (cell_of moving.key) links apart)))))
+
+  did_hears_fill : is_in here.state here.me here.inc ≡ true → (moving : Moving) → heard (body.Fill moving.key moving.bytes)
+      → is_lead here.state here.me (cell_of moving.key) ≡ true → (busy has back : Bool)
+      → is_under_way own (cell_of moving.key) ≡ busy → has_epoch (chain_in own.store.chains (cell_of moving.key)) moving.key.epoch ≡ has
+      → has_proposed here.state own (cell_of moving.key) ≡ back → D (hears_fill here own moving busy has back)
+  did_hears_fill seated moving h lead true has back e f g = Ignores
+  did_hears_fill seated moving h lead false true back e f g =
+      let idle = either_false (is_some (pending_on own (cell_of moving.key))) (is_some (copying_on own (cell_of moving.key))) e in
+      By_lead _ (Has_fill moving (record {
+        wanted = h;
+        seated = seated;
+        lead = lead;
+        none = is_none (pending_on own (cell_of moving.key)) idle.0;
+        uncopied = is_none (copying_on own (cell_of moving.key)) idle.1;
+        has = f;
+      }))
+  did_hears_fill seated moving h lead false false true e f g = Ignores
+  did_hears_fill seated moving h lead false false false e f g =
+      let idle = either_false (is_some (pending_on own (cell_of moving.key))) (is_some (copying_on own (cell_of moving.key))) e in
+      did_opens_fill moving (record {
+        wanted = h;
+        seated = seated;
+        lead = lead;
+        none = is_none (pending_on own (cell_of moving.key)) idle.0;
+        uncopied = is_none (copying_on own (cell_of moving.key)) idle.1;
+        lacks = is_none (at nat_cmp (chain_in own.store.chains (cell_of moving.key)) moving.key.epoch) f;
+        unheld = g;
+      }) (nat_lt 0 (free_of own.store)) refl
+
+  pub did_fill : is_in here.state here.me here.inc ≡ true → (moving : Moving) → heard (body.Fill moving.key moving.bytes) → D (on_fill here own moving)
+  unfolding on_fill
+  did_fill seated moving h = by_test D (is_lead here.state here.me (cell_of moving.key)) _ _
+      (λ lead. did_hears_fill seated moving h lead _ _ _ refl refl refl) (λ t. Ignores)

@@ -8,15 +8,15 @@ use Rattle.petal_msg.specs.declared.letter.Actor.TheVariants as actor
 use Rattle.petal_msg.specs.declared.copying.Copying.{Copying}
 use Rattle.petal_msg.specs.declared.operation.Pending.{Pending}
 use Rattle.petal_msg.specs.declared.operation.Reply.TheVariants as reply
-use Rattle.petal_rules.specs.State.{held, is_in, is_lead, readable}
-use Rattle.petal_rules.specs.Store.{chain_in, entry_at, bytes_of}
+use Rattle.petal_rules.specs.State.{coming, held, is_in, is_lead, readable}
+use Rattle.petal_rules.specs.Store.{Stored, chain_in, entry_at, bytes_of}
 use Rattle.petal_rules.specs.Server.{Own, Here, Done, says}
 use Rattle.petal_rules.specs.Progress.{copying_on}
 use Rattle.petal_rules.specs.Writes.{is_under_way, pending_on}
-use Rattle.petal_rules.specs.Reads.{is_all_held, on_read, said}
-use Rattle.law_steps.specs.DidRead.{Shows}
+use Rattle.petal_rules.specs.Reads.{is_all_held, on_read, reply_of, said}
+use Rattle.law_steps.specs.DidRead.{IsReadable, Not_here, Shows}
 use Rattle.law_steps.specs.Did.{Did, Ignores, Refuses, For_a_read, By_copy_for_a_read, A_read, By_read}
-use Rattle.petal_rules.proofs.Tests.{by_test, true_false}
+use Rattle.petal_rules.proofs.Tests.{by_test, none_some, true_false}
 use Rattle.law_steps.proofs.Busy.{not_busy, busy_seq, not_held, held_seq}
 
 module _ (heard : Body → Type 0) (here : Here) (own : Own) (seated : is_in here.state here.me here.inc ≡ true) where
@@ -27,23 +27,38 @@ module _ (heard : Body → Type 0) (here : Here) (own : Own) (seated : is_in her
   busy : (client seq : ℕ) (cell : Cell) (epoch : ℕ) → heard (body.Read client seq cell epoch) → is_lead here.state here.me cell ≡ true
       → (o : Option Pending) → pending_on own cell ≡ o → (copy : Option Copying) → copying_on own cell ≡ copy → (is_some o || is_some copy) ≡ true
       → D (says own (actor.Client client) (body.BlockBusy seq))
-  busy client seq cell epoch h lead (Some op) e copy f t = Refuses (actor.Client client) (body.BlockBusy seq) refl
+  busy client seq cell epoch h lead (Some op) e copy f t = Refuses (actor.Client client) (body.BlockBusy seq) (record { refused = refl; other = refl })
       (λ k g. For_a_read client cell epoch op (subst (λ i. heard (body.Read client i cell epoch)) (busy_seq g) h) lead e)
       (λ k g. not_held (body.BlockBusy seq) k g refl)
-  busy client seq cell epoch h lead None e (Some copy) f t = Refuses (actor.Client client) (body.BlockBusy seq) refl
+  busy client seq cell epoch h lead None e (Some copy) f t = Refuses (actor.Client client) (body.BlockBusy seq) (record { refused = refl; other = refl })
       (λ k g. By_copy_for_a_read client cell epoch copy (subst (λ i. heard (body.Read client i cell epoch)) (busy_seq g) h) lead f)
       (λ k g. not_held (body.BlockBusy seq) k g refl)
   busy client seq cell epoch h lead None e None f t = true_false t refl
 
+  -- the entry is shown where there is one, or else zeros, but not in a region that is on its way
+  replied : (client seq : ℕ) (cell : Cell) (epoch : ℕ) → IsReadable heard here own client seq cell epoch → (o : Option Stored)
+      → entry_at (chain_in own.store.chains cell) epoch ≡ o → D (says own (actor.Client client) (said seq (reply_of here.state cell o)))
+  replied client seq cell epoch may (Some entry) e =
+      subst (λ x. D (says own (actor.Client client) (body.Data seq (bytes_of x)))) e
+      (By_read _ (Shows client seq cell epoch may (λ none. none_some none e)))
+  replied client seq cell epoch may None e =
+      by_test (λ r. D (says own (actor.Client client) (said seq r))) (coming here.state cell) _ _
+      (λ on. By_read _ (Not_here client seq cell epoch may on e))
+      (λ off. subst (λ x. D (says own (actor.Client client) (body.Data seq (bytes_of x)))) e
+      (By_read _ (Shows client seq cell epoch may (λ none. off))))
+
   shown : (client seq : ℕ) (cell : Cell) (epoch : ℕ) → heard (body.Read client seq cell epoch) → readable here.state here.me cell ≡ true
       → (all lead some : Bool) → is_all_held (held here.state cell) ≡ all → is_lead here.state here.me cell ≡ lead → is_under_way own cell ≡ some
       → D (says own (actor.Client client) (said seq
-      (if all then reply.Held else if lead && some then reply.BlockBusy else reply.Data (bytes_of (entry_at (chain_in own.store.chains cell) epoch)))))
-  shown client seq cell epoch h r true lead some all e f = Refuses (actor.Client client) (body.Held seq) refl (λ k g. not_busy (body.Held seq) k g refl)
+      (if all then reply.Held else if lead && some then reply.BlockBusy else reply_of here.state cell (entry_at (chain_in own.store.chains cell) epoch))))
+  shown client seq cell epoch h r true lead some all e f = Refuses (actor.Client client) (body.Held seq) (record { refused = refl; other = refl })
+      (λ k g. not_busy (body.Held seq) k g refl)
       (λ k g. A_read client cell epoch (subst (λ i. heard (body.Read client i cell epoch)) (held_seq g) h) all)
   shown client seq cell epoch h r false true true all e f = busy client seq cell epoch h e (pending_on own cell) refl (copying_on own cell) refl f
-  shown client seq cell epoch h r false true false all e f = By_read _ (Shows client seq cell epoch h seated r (λ t. f))
-  shown client seq cell epoch h r false false some all e f = By_read _ (Shows client seq cell epoch h seated r (λ t. true_false t e))
+  shown client seq cell epoch h r false true false all e f =
+      replied client seq cell epoch (record { asked = h; seated = seated; readable = r; unheld = all; idle = λ t. f }) _ refl
+  shown client seq cell epoch h r false false some all e f =
+      replied client seq cell epoch (record { asked = h; seated = seated; readable = r; unheld = all; idle = λ t. true_false t e }) _ refl
 
   pub did_read : (client seq : ℕ) (cell : Cell) (epoch : ℕ) → heard (body.Read client seq cell epoch) → D (on_read here own client seq cell epoch)
   unfolding on_read

@@ -1,8 +1,11 @@
 pub mod Tables
 pub mod Busy
+pub mod Leading
 pub mod InvertRead
 pub mod InvertLead
 pub mod InvertSecond
+pub mod InvertFiller
+pub mod InvertSweep
 pub mod InvertHolder
 pub mod InvertOther
 pub mod Inversion
@@ -22,5 +25,9 @@ pub mod Resting
 pub mod Records
 pub mod Histories
 pub mod Firms
+pub mod Remembering
+pub mod Filling
+pub mod Coming
+pub mod Arriving
 pub mod Ties
 pub mod Waking

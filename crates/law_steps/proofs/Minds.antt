@@ -23,7 +23,7 @@ use Rattle.petal_state.specs.CellState.{cell_link}
 use Rattle.petal_table.specs.Table.{Table, at}
 use Rattle.petal_table.proofs.Rows.{at-where}
 use Rattle.petal_rules.specs.Copies.{blocks_left, cell_at, is_link_under_way, least, next_block, next_copy}
-use Rattle.petal_rules.specs.Crossing.{crossed, touches_link}
+use Rattle.petal_rules.specs.Crossing.{crossed, ends_link}
 use Rattle.petal_rules.specs.Progress.{has_proposed, progress_on, with_progress}
 use Rattle.petal_rules.specs.Returns.{holds_link, proposed}
 use Rattle.petal_rules.specs.Server.{Own, Here}
@@ -47,10 +47,10 @@ held_as_flag state own cell row is =
 -- what is in mind after an entry was so before
 flag_before : (state : State) (entry : Command) (own : Own) (id : LinkId) → is_flagged (crossed state entry own) id ≡ true → is_flagged own id ≡ true
 flag_before state entry own id e =
-    by (not (touches_link state entry id))
+    by (not (ends_link state entry id))
     (sym (ap (λ o. option_map_or (λ (p : Progress). p.caught) o false)
-    (at-where link_cmp own.copies.progress (λ k. not (touches_link state entry k)) id
-    (λ k tie. ap (λ q. not (touches_link state entry q)) (sym (same_id id k (ap is_eq tie)))))) ∙ e)
+    (at-where link_cmp own.copies.progress (λ k. not (ends_link state entry k)) id
+    (λ k tie. ap (λ q. not (ends_link state entry q)) (sym (same_id id k (ap is_eq tie)))))) ∙ e)
   where
     by : (stays : Bool) → option_map_or (λ (p : Progress). p.caught) (cond stays (at link_cmp own.copies.progress id) None) false ≡ true → is_flagged own id ≡ true
     by true f = f

@@ -1,5 +1,5 @@
 -- The parts of a list, as of a history's records, before its last member.
-use Rattle.std.proofs.Common.{◌≡◌, ◌⊎◌, ◌++◌, List, [], ◌∷◌, refl, ap, sym, ◌∙◌, inl, inr}
+use Rattle.std.proofs.Common.{◌≡◌, ◌⊎◌, ◌++◌, List, [], ◌∷◌, length, length-append, refl, ap, sym, ◌∙◌, inl, inr, arith}
 
 heads : {A : Type 0} {x z : A} {xs zs : List A} → x ∷ xs ≡ z ∷ zs → x ≡ z
 heads e = cc
@@ -20,4 +20,15 @@ split_last [] y (b ∷ before) later e = inl (ap (λ zs. b ∷ zs) (none_before_
 split_last (x ∷ xs) y (b ∷ before) later e = elim (split_last xs y before later (tails e)) [
   | inl same ↦ inl (ap (λ zs. b ∷ zs) same ∙ ap (λ z. z ∷ (xs ++ y ∷ [])) (sym (heads e)))
   | inr more ↦ inr (more.0, ap (λ zs. x ∷ zs) more.1 ∙ ap (λ z. z ∷ (before ++ more.0)) (heads e))
+]
+
+-- an element of such a list is the last one, or stands in the rest
+pub split_one : {A : Type 0} (xs : List A) (y : A) (before : List A) (z : A) (later : List A) → xs ++ y ∷ [] ≡ before ++ z ∷ later
+    → (xs ≡ before) ⊎ ((rest : List A) × (xs ≡ before ++ z ∷ rest))
+split_one [] y [] z later e = inl refl
+split_one [] y (b ∷ before) z later e = absurd (omega (arith, ap length e, length-append before (z ∷ later)))
+split_one (x ∷ xs) y [] z later e = inr (xs, ap (λ w. w ∷ xs) (heads e))
+split_one (x ∷ xs) y (b ∷ before) z later e = elim (split_one xs y before z later (tails e)) [
+  | inl same ↦ inl (λ i. heads e i ∷ same i)
+  | inr more ↦ inr (more.0, λ i. heads e i ∷ more.1 i)
 ]

@@ -3,20 +3,25 @@ use Rattle.std.proofs.Common.{◌≡◌, ◌≢◌, ◌+◌, true, false, Some, 
 use Rattle.busy_marks.specs.declared.marks.MarkKind.TheVariants.{Busy, Stale}
 use Rattle.petal_base.specs.declared.cell.Cell.{Cell}
 use Rattle.petal_table.specs.Table.{Table, at, put, without}
+use Rattle.petal_msg.specs.declared.operation.Action.{Action}
+use Rattle.petal_msg.specs.declared.operation.Action.TheVariants as action
+use Rattle.petal_msg.specs.declared.operation.Ending.TheVariants.{Written}
 use Rattle.petal_msg.specs.declared.operation.Pending.{Pending}
 use Rattle.petal_rules.specs.Lists.{In}
 use Rattle.petal_rules.specs.Store.{cell_cmp, chain_in, version_of}
-use Rattle.petal_rules.specs.Server.{Own, Post, Done}
-use Rattle.petal_rules.specs.Writes.{pending_on, with_pending, with_reserved, with_paired, with_mark_at, marks, puts, unmarks}
+use Rattle.petal_rules.specs.Server.{Here, Own, Post, Done}
+use Rattle.petal_rules.specs.Writes.{acts, gives_back, pending_on, with_pending, without_pending, with_reserved, with_paired, with_mark_at, marks, puts, unmarks}
 use Rattle.petal_rules.proofs.CellTables.{cell_same, cell_apart, cell_gone, cell_gone_apart}
-use Rattle.petal_rules.proofs.Tests.{none_some, same_some}
+use Rattle.petal_rules.proofs.Tests.{by_test, none_some, same_some}
 use Rattle.law_steps.specs.DidLead.{Taken}
 use Rattle.law_steps.proofs.Staged.{same_cell_or_apart}
+use Rattle.law_steps.proofs.Subjects.{of_ending}
 use Rattle.law_steps.proofs.Taking.{taking}
 
 -- two operations differ in stage and version alone
 pub record IsSame (old new : Pending) : Type 0 where
   pub number : old.op ≡ new.op
+  pub kind : old.kind ≡ new.kind
   pub client : old.client ≡ new.client
   pub seq : old.seq ≡ new.seq
   pub rev : old.rev ≡ new.rev
@@ -24,11 +29,12 @@ pub record IsSame (old new : Pending) : Type 0 where
   pub bytes : old.bytes ≡ new.bytes
 
 pub same_itself : (op : Pending) → IsSame op op
-same_itself op = record { number = refl; client = refl; seq = refl; rev = refl; key = refl; bytes = refl }
+same_itself op = record { number = refl; kind = refl; client = refl; seq = refl; rev = refl; key = refl; bytes = refl }
 
 same_on : (a b c : Pending) → IsSame a b → IsSame b c → IsSame a c
 same_on a b c one two = record {
   number = one.number ∙ two.number;
+  kind = one.kind ∙ two.kind;
   client = one.client ∙ two.client;
   seq = one.seq ∙ two.seq;
   rev = one.rev ∙ two.rev;
@@ -83,7 +89,7 @@ module _ (own : Own) (op : Pending) (is : at cell_cmp own.pairs.pending op.cell 
   unfolding In
   marked = record {
     was = was_put_twice (with_reserved op) (with_mark_at (with_reserved op) Busy true)
-        (record { number = refl; client = refl; seq = refl; rev = refl; key = refl; bytes = refl });
+        (record { number = refl; kind = refl; client = refl; seq = refl; rev = refl; key = refl; bytes = refl });
     finished = refl;
     last = refl;
     next = refl;
@@ -94,7 +100,7 @@ module _ (own : Own) (op : Pending) (is : at cell_cmp own.pairs.pending op.cell 
   unfolding In
   has_put = record {
     was = was_put own.pairs.pending (record op { version = version_of (chain_in own.store.chains op.cell) + 1; stage = record op.stage { put = true } })
-        (record { number = refl; client = refl; seq = refl; rev = refl; key = refl; bytes = refl }) (λ q ne. refl);
+        (record { number = refl; kind = refl; client = refl; seq = refl; rev = refl; key = refl; bytes = refl }) (λ q ne. refl);
     finished = refl;
     last = refl;
     next = refl;
@@ -105,7 +111,7 @@ module _ (own : Own) (op : Pending) (is : at cell_cmp own.pairs.pending op.cell 
   unfolding In
   unmarked = record {
     was = was_put_twice (with_paired op) (with_mark_at (with_paired op) Busy false)
-        (record { number = refl; client = refl; seq = refl; rev = refl; key = refl; bytes = refl });
+        (record { number = refl; kind = refl; client = refl; seq = refl; rev = refl; key = refl; bytes = refl });
     finished = refl;
     last = refl;
     next = refl;
@@ -124,6 +130,7 @@ module _ (own now : Own) (op : Pending) (taken : Taken own now op) where
         is = k.was;
         same = record {
           number = ap (λ (o : Pending). o.op) (sym k.is);
+          kind = ap (λ (o : Pending). o.kind) (sym k.is);
           client = ap (λ (o : Pending). o.client) (sym k.is);
           seq = ap (λ (o : Pending). o.seq) (sym k.is);
           rev = ap (λ (o : Pending). o.rev) (sym k.is);
@@ -171,18 +178,43 @@ module _ (own now : Own) (op : Pending) (taken : Taken own now op) where
   pub marked_alone : Restages own (marks now op Stale)
   unfolding In
   marked_alone =
-      restaged _ (with_mark_at op Stale true) (record { number = refl; client = refl; seq = refl; rev = refl; key = refl; bytes = refl }) refl refl refl refl
+      restaged _ (with_mark_at op Stale true)
+      (record { number = refl; kind = refl; client = refl; seq = refl; rev = refl; key = refl; bytes = refl }) refl refl refl refl
       (λ post i. i)
 
   pub put_alone : Restages own (puts now op)
   unfolding In
   put_alone =
       restaged _ (record op { version = version_of (chain_in now.store.chains op.cell) + 1; stage = record op.stage { put = true } })
-      (record { number = refl; client = refl; seq = refl; rev = refl; key = refl; bytes = refl }) refl refl refl refl
+      (record { number = refl; kind = refl; client = refl; seq = refl; rev = refl; key = refl; bytes = refl }) refl refl refl refl
       (λ post i. i)
 
   pub unmarked_alone : Restages own (unmarks now op Busy)
   unfolding In
   unmarked_alone =
-      restaged _ (with_mark_at op Busy false) (record { number = refl; client = refl; seq = refl; rev = refl; key = refl; bytes = refl }) refl refl refl refl
+      restaged _ (with_mark_at op Busy false)
+      (record { number = refl; kind = refl; client = refl; seq = refl; rev = refl; key = refl; bytes = refl }) refl refl refl refl
       (λ post i. i)
+
+  -- whatever it does next, as on a cell that is no longer live: what is pending then was so before
+  was_gone : (cell : Cell) (o : Pending) → at cell_cmp (without cell_cmp now.pairs.pending op.cell) cell ≡ Some o → Was own cell o
+  was_gone cell o there = was_before cell o (stood now.pairs.pending op.cell cell o there)
+
+  pub was_acted : (here : Here) (next : Action) (cell : Cell) (o : Pending)
+      → at cell_cmp (acts here now op next).own.pairs.pending cell ≡ Some o → Was own cell o
+  was_acted here action.Reserve cell o there = was_before cell o there
+  was_acted here (action.Mark which) cell o there =
+      was_alone (with_mark_at op which true)
+      (record { number = refl; kind = refl; client = refl; seq = refl; rev = refl; key = refl; bytes = refl }) cell o there
+  was_acted here action.Put cell o there =
+      was_alone (record op { version = version_of (chain_in now.store.chains op.cell) + 1; stage = record op.stage { put = true } })
+      (record { number = refl; kind = refl; client = refl; seq = refl; rev = refl; key = refl; bytes = refl }) cell o there
+  was_acted here action.Replicate cell o there = was_before cell o there
+  was_acted here (action.Unmark which) cell o there =
+      was_alone (with_mark_at op which false)
+      (record { number = refl; kind = refl; client = refl; seq = refl; rev = refl; key = refl; bytes = refl }) cell o there
+  was_acted here action.Answer cell o there =
+      was_gone cell o (ap (λ t. at cell_cmp t cell) (sym (of_ending here (without_pending now op.cell) op op.kind Written).pending) ∙ there)
+  was_acted here action.Drop cell o there =
+      by_test (λ (left : Own). at cell_cmp left.pairs.pending cell ≡ Some o → Was own cell o) op.stage.put (without_pending now op.cell)
+      (gives_back (without_pending now op.cell)) (λ put h. was_gone cell o h) (λ fresh h. was_gone cell o h) there

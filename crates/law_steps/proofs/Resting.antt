@@ -1,6 +1,6 @@
 -- What a server remembers of copies stays of links as they are in its own state: each job keeps it, and an entry drops what it touches.
-use Rattle.std.proofs.Common.{◌≡◌, ◌+◌, ◌==◌, ◌&&◌, not, ℕ, Bool, true, false, cond, if◌then◌else◌, List, [], ◌∷◌, ◌++◌, Option, Some, None, refl, sym, ap, ◌∙◌, subst, inl, inr}
-use Rattle.std.specs.Prelude.{filter, length, map, nat_lt, option_and_then, unwrap_or}
+use Rattle.std.proofs.Common.{◌≡◌, ◌≤◌, ◌<◌, ◌+◌, ◌==◌, ◌&&◌, not, ℕ, Bool, true, false, cond, if◌then◌else◌, List, [], ◌∷◌, ◌++◌, Option, Some, None, ◌⊎◌, refl, sym, ap, ◌∙◌, subst, inl, inr, arith}
+use Rattle.std.specs.Prelude.{◌||◌, filter, is_none, length, map, nat_lt, option_and_then, unwrap_or}
 use Rattle.std.specs.Option.{option_map_or}
 use Rattle.std.proofs.lemmas.Grind.{fold-append}
 use Rattle.std.specs.Ordering.{eq_by_cmp, is_eq}
@@ -28,32 +28,40 @@ use Rattle.petal_state.specs.Place.{touches, touches_cell}
 use Rattle.petal_state.specs.State.{inc_of, is_up, start}
 use Rattle.petal_table.specs.Table.{Table, at}
 use Rattle.petal_table.proofs.Rows.{at-empty, at-where}
-use Rattle.petal_rules.specs.Copies.{begins_copy, blocks_left, cell_at, cell_holder, is_link_under_way, least, marked_blocks, next_block, next_copy, stored_blocks, with_copied, with_page}
-use Rattle.petal_rules.specs.Crossing.{crossed, touches_link}
+use Rattle.petal_rules.specs.Copies.{begins_copy, blocks_left, cell_at, cell_holder, is_kept_on, is_link_under_way, least, marked_blocks, next_block, next_copy, stored_blocks, with_copied, with_page}
+use Rattle.petal_rules.specs.Crossing.{crossed, dies, ends_cell, ends_link, touches_link}
 use Rattle.petal_rules.specs.Lists.{In}
 use Rattle.petal_rules.specs.Progress.{copying_on, last_copy, no_progress, progress_on, with_copying, with_full, with_last_copy, with_progress, without_copying}
 use Rattle.petal_rules.specs.Returns.{holds_link, proposed}
 use Rattle.petal_rules.specs.Server.{Own, Copies, Here, Done, no_copies}
-use Rattle.petal_rules.specs.State.{State, holder_of, id_of, is_on, is_whole, link_cmp, link_named, other_in}
+use Rattle.petal_rules.specs.State.{State, holder_of, id_of, is_on, is_whole, link_cmp, link_named, live, other_in}
 use Rattle.petal_rules.specs.Store.{Stored, cell_cmp, with_entry, with_mark_on, with_ticket}
 use Rattle.petal_rules.specs.Writes.{is_under_way}
 use Rattle.petal_rules.proofs.CellTables.{cell_apart, cell_cmp_same, cell_gone, cell_gone_apart, cell_same}
 use Rattle.petal_rules.proofs.ListLemmas.{in-append, in_former, in_later}
 use Rattle.petal_rules.proofs.Tests.{both_true, by_bool, by_test, none_some, same_numbers, same_some, some_or_none, true_false}
+use Rattle.law_state.specs.Homes.{stage_at}
 use Rattle.law_state.specs.Plain.{IsPlain, IsPlainLog}
+use Rattle.law_state.specs.Places.{StaysSo}
 use Rattle.law_state.specs.Tables.{IsPlainState}
 use Rattle.law_state.proofs.Ages.{in_up, up_some}
 use Rattle.law_state.proofs.Entries.{log_plain}
 use Rattle.law_state.proofs.Changing.{found_itself}
 use Rattle.law_state.proofs.Places.{found_at}
+use Rattle.law_state.proofs.Links.{either_false}
+use Rattle.law_state.proofs.Stages.{stage_most}
+use Rattle.law_state.proofs.Steady.{log_below}
 use Rattle.law_state.proofs.Touching.{entry_stays}
 use Rattle.law_log.proofs.Flags.{progress_beside, progress_here, same_id}
 use Rattle.law_steps.specs.DidHolder.{DidHolder, CopyStep, Asks_to_trim, Sends, Unmarks_copied, Closes_copy, TakenCopy, Copy_as_is, Copy_trimmed, Copy_synced, Asks_page, Turns_page, Begins_copy, Goes_on_copying, Finds_it_full, Tidies, first_copy}
 use Rattle.law_steps.specs.DidOther.{DidOther, first_last, TrimStep, Is_trimmed, Drops_entry, Answers_page, Is_copied_to, Goes_on_trimming, Puts_entry, Has_entry, Has_no_slot}
-use Rattle.law_steps.specs.Did.{Did, Ignores, Refuses, By_read, By_lead, By_second, By_holder, By_other}
+use Rattle.law_steps.specs.DidFiller.{DidFiller, Is_filled, Is_out_of_slots}
+use Rattle.law_steps.specs.Did.{Did, Ignores, Refuses, By_read, By_lead, By_second, By_holder, By_other, By_filler, By_sweep}
 use Rattle.law_steps.specs.Resting.{AreResting, CopyRests, LastRests}
 use Rattle.law_steps.proofs.Staged.{same_cell_or_apart}
-use Rattle.law_steps.proofs.Subjects.{of_lead, of_read, of_second}
+use Rattle.law_steps.proofs.Fronts.{front_more}
+use Rattle.law_steps.proofs.Leading.{live_stage}
+use Rattle.law_steps.proofs.Subjects.{of_filler, of_lead, of_read, of_second, of_sweep}
 
 -- ### What is left of it
 
@@ -71,6 +79,7 @@ resting_same state me own to copies lasts paged r = record {
       record {
         row = old.row;
         is = old.is;
+        live = old.live;
         other = old.other;
         other_is = old.other_is;
         paged = paged old.row old.paged;
@@ -117,14 +126,14 @@ among_least (k ∷ ns) n e = by (least ns) (λ m is. among_least ns m is) e
     by (Some m) rest f = by_test (λ (o : Option ℕ). o ≡ Some n → In n (k ∷ ns)) (nat_lt m k) (Some m) (Some k)
         (λ _ g. inr (rest n g)) (λ _ g. inl (sym (same_some g))) f
 
--- a block of what stands on a link is of one of its cells
+-- a block of what stands on a link is of one of its live cells
 pub blocks_on : {X : Type 0} (cell : X → Cell) (state : State) (row : LinkRow) (xs : List X) (block : ℕ)
-    → In block (map (λ x. (cell x).block) (filter (λ x. is_on state row (cell x)) xs)) → (c : Cell) × (c.block ≡ block) × (is_on state row c ≡ true)
+    → In block (map (λ x. (cell x).block) (filter (λ x. is_kept_on state row (cell x)) xs)) → (c : Cell) × (c.block ≡ block) × (is_kept_on state row c ≡ true)
 unfolding In
 blocks_on cell state row [] block h = absurd h
 blocks_on {X} cell state row (x ∷ xs) block h =
-    by_test (λ (ys : List X). In block (map (λ y. (cell y).block) ys) → (c : Cell) × (c.block ≡ block) × (is_on state row c ≡ true))
-    (is_on state row (cell x)) (x ∷ filter (λ y. is_on state row (cell y)) xs) (filter (λ y. is_on state row (cell y)) xs)
+    by_test (λ (ys : List X). In block (map (λ y. (cell y).block) ys) → (c : Cell) × (c.block ≡ block) × (is_kept_on state row c ≡ true))
+    (is_kept_on state row (cell x)) (x ∷ filter (λ y. is_kept_on state row (cell y)) xs) (filter (λ y. is_kept_on state row (cell y)) xs)
     (λ t i. elim i [ inl e ↦ (cell x, sym e, t) | inr j ↦ blocks_on cell state row xs block j ])
     (λ t i. blocks_on cell state row xs block i) h
 
@@ -167,22 +176,24 @@ on_row state id row named cell on = by (tuple_of state.maps cell.map) refl
         true_false on (ap (λ o. option_map_or (is_link row.map row.link) o false) (ap (option_and_then (λ ids. link_at state.links cell.map (link_of (length ids) cell.block))) none))
     by (Some ids) is = at_row_of ids (ap (option_and_then (λ ids. link_at state.links cell.map (link_of (length ids) cell.block))) is) _ refl
 
--- the cell whose copy begins next lies on the link, whose pages are done
+-- the cell whose copy begins next is live and lies on the link, whose pages are done
 record IsNextOn (state : State) (row : LinkRow) (own : Own) (cell : Cell) : Type 0 where
   is : cell_link state cell ≡ Some row
+  live : live state cell ≡ true
   paged : (progress_on own row).paged ≡ true
 
 pub cell_left : (state : State) (id : LinkId) (row : LinkRow) (own : Own) → link_named state id ≡ Some row → (block : ℕ)
-    → In block (blocks_left state row own) → cell_link state (cell_at row block) ≡ Some row
+    → In block (blocks_left state row own) → (cell_link state (cell_at row block) ≡ Some row) × (live state (cell_at row block) ≡ true)
 cell_left state id row own named block i =
-    let on : (c : Cell) × (c.block ≡ block) × (is_on state row c ≡ true) =
+    let on : (c : Cell) × (c.block ≡ block) × (is_kept_on state row c ≡ true) =
     elim (in-append block (marked_blocks state row own) _ i) [
       | inl marked ↦ blocks_on (λ (m : Mark). m.cell) state row own.store.marks block marked
       | inr stored ↦ blocks_on (λ (chain : Cell × List (ℕ × Stored)). chain.0) state row own.store.chains block (whole stored)
     ] in
-    let there = on_row state id row named on.0 on.2 in
+    let kept = both_true (is_on state row on.0) (live state on.0) on.2 in
+    let there = on_row state id row named on.0 kept.0 in
     let same : on.0 ≡ cell_at row block = λ i. record { map = there.1 i; block = on.1 i } in
-    ap (cell_link state) (sym same) ∙ there.0
+    (ap (cell_link state) (sym same) ∙ there.0, ap (live state) (sym same) ∙ kept.1)
   where
     whole : In block (if is_whole row.state then filter (above (progress_on own row).copied) (stored_blocks state row own) else []) → In block (stored_blocks state row own)
     whole = by_test (λ (ys : List ℕ). In block ys → In block (stored_blocks state row own)) (is_whole row.state) _ _
@@ -206,8 +217,10 @@ next_on state id row own named cell =
         (λ t f. let g : Wait ≡ Block cell = f in absurd cc)
         (λ no f.
         let same : cell_at row block ≡ cell = same_cell (cell_at row block) cell f in
+        let left = cell_left state id row own named block (among_least (blocks_left state row own) block is) in
         record {
-          is = ap (cell_link state) (sym same) ∙ cell_left state id row own named block (among_least (blocks_left state row own) block is);
+          is = ap (cell_link state) (sym same) ∙ left.0;
+          live = ap (live state) (sym same) ∙ left.1;
           paged = paged;
         }) e
 
@@ -227,7 +240,7 @@ module _ (here : Here) (own : Own) (r : AreResting here.state here.me own) where
   }
     where
       moved : (c : Cell) (other : Copying) → CopyRests here.state here.me own c other → CopyRests here.state here.me (with_copying own cell copy) c other
-      moved c other o = record { row = o.row; is = o.is; other = o.other; other_is = o.other_is; paged = o.paged; begun = o.begun }
+      moved c other o = record { row = o.row; is = o.is; live = o.live; other = o.other; other_is = o.other_is; paged = o.paged; begun = o.begun }
 
   copying_gone : (cell : Cell) → AreResting here.state here.me (without_copying own cell)
   copying_gone cell = resting_same here.state here.me own (without_copying own cell)
@@ -253,10 +266,10 @@ module _ (here : Here) (own : Own) (r : AreResting here.state here.me own) where
   last_put : (cell : Cell) (last : LastCopy) (holder : ℕ) → cell_holder here cell ≡ Some holder → AreResting here.state here.me (with_last_copy own cell last)
   last_put cell last holder held = record {
     copying = λ c copy is. let o = r.copying c copy is in
-        record { row = o.row; is = o.is; other = o.other; other_is = o.other_is; paged = o.paged; begun = o.begun };
+        record { row = o.row; is = o.is; live = o.live; other = o.other; other_is = o.other_is; paged = o.paged; begun = o.begun };
     lasts = λ c other is. elim (same_cell_or_apart c cell) [
-      | inl e ↦ subst (λ (q : Cell). LastRests here.state here.me q) (sym e) (by other (cell_link here.state cell) refl)
-      | inr ne ↦ (let o = r.lasts c other (sym (cell_apart own.copies.last cell last c ne) ∙ is) in record { row = o.row; is = o.is; holder = o.holder; held = o.held })
+      | inl e ↦ inl (subst (λ (q : Cell). LastRests here.state here.me q) (sym e) (by other (cell_link here.state cell) refl))
+      | inr ne ↦ r.lasts c other (sym (cell_apart own.copies.last cell last c ne) ∙ is)
     ];
   }
     where
@@ -279,11 +292,11 @@ taken_rests heard here own cell _ copy r (Copy_as_is _ is) = r
 taken_rests heard here own cell _ _ r (Copy_trimmed copy h is fresh) =
     let o = r.copying cell copy is in
     copying_put here own r cell (record copy { trimmed = true })
-    (record { row = o.row; is = o.is; other = o.other; other_is = o.other_is; paged = o.paged; begun = λ f. true_false refl f })
+    (record { row = o.row; is = o.is; live = o.live; other = o.other; other_is = o.other_is; paged = o.paged; begun = λ f. true_false refl f })
 taken_rests heard here own cell _ _ r (Copy_synced copy h is trimmed lt) =
     let o = r.copying cell copy is in
     copying_put here own r cell (record copy { index = copy.index + 1 })
-    (record { row = o.row; is = o.is; other = o.other; other_is = o.other_is; paged = o.paged; begun = λ f. true_false trimmed f })
+    (record { row = o.row; is = o.is; live = o.live; other = o.other; other_is = o.other_is; paged = o.paged; begun = λ f. true_false trimmed f })
 
 page_rests : (here : Here) (own : Own) (row : LinkRow) (block : Option ℕ) → AreResting here.state here.me own
     → AreResting here.state here.me (with_page own row (progress_on own row) block)
@@ -301,7 +314,7 @@ holder_rests heard here own done r (Begins_copy id row other cell _ held next st
     let numbered : Own = record own { pairs = record own.pairs { next = own.pairs.next + 1 } } in
     step_rests here (begins_copy own cell) cell (first_copy own.pairs.next) done
     (copying_put here numbered (resting_equal here.state here.me own numbered refl r) cell (first_copy own.pairs.next)
-    (record { row = row; is = on.is; other = other; other_is = held.other_is; paged = on.paged; begun = λ f. refl })) step
+    (record { row = row; is = on.is; live = on.live; other = other; other_is = held.other_is; paged = on.paged; begun = λ f. refl })) step
 holder_rests heard here own done r (Goes_on_copying cell now copy _ taken step) =
     step_rests here now cell copy done (taken_rests heard here own cell now copy r taken) step
 holder_rests heard here own _ r (Finds_it_full cell copy h is trimmed lt) = full_put here (without_copying own cell) (copying_gone here own r cell) true
@@ -334,6 +347,13 @@ did_rests heard here own done r (By_lead _ d) = resting_equal here.state here.me
 did_rests heard here own done r (By_second _ d) = resting_equal here.state here.me own done.own (of_second heard here own done d).copies r
 did_rests heard here own done r (By_holder _ d) = holder_rests heard here own done r d
 did_rests heard here own done r (By_other _ d) = other_rests heard here own done r d
+did_rests heard here own done r (By_filler _ d) =
+    let f = of_filler heard here own done d in
+    resting_same here.state here.me own done.own
+    (λ cell copy is. (copy, ap (λ t. at cell_cmp t cell) (sym f.pending) ∙ is, (λ e. e), (λ e. refl)))
+    (λ cell last is. (last, ap (λ t. at cell_cmp t cell) (sym f.last) ∙ is))
+    (λ row paged. ap (λ t. (unwrap_or (at link_cmp t (id_of row)) no_progress).paged) f.progress ∙ paged) r
+did_rests heard here own done r (By_sweep _ d) = resting_equal here.state here.me own done.own (of_sweep heard here own done d).copies r
 
 -- ### A ballot
 
@@ -348,14 +368,24 @@ ballot_rests here own None r = r
 
 -- ### An entry
 
--- what an entry leaves of a table by cells is of a cell that it doesn't touch
+-- what an entry leaves of a table by cells is of a cell that it doesn't touch, and that doesn't die by it
 left_there : {X : Type 0} (state : State) (entry : Command) (t : Table Cell X) (cell : Cell) (x : X)
-    → at cell_cmp (filter (λ row. not (touches_cell state entry row.0)) t) cell ≡ Some x → (at cell_cmp t cell ≡ Some x) × (touches_cell state entry cell ≡ false)
+    → at cell_cmp (filter (λ row. not (ends_cell state entry row.0)) t) cell ≡ Some x
+    → (at cell_cmp t cell ≡ Some x) × (touches_cell state entry cell ≡ false) × (dies state entry cell ≡ false)
 left_there state entry t cell x is =
-    let lies = at-where cell_cmp t (λ k. not (touches_cell state entry k)) cell (λ k tie. ap (λ q. not (touches_cell state entry q)) (sym (cell_cmp_same cell k tie))) in
-    by_bool (touches_cell state entry cell)
+    let lies = at-where cell_cmp t (λ k. not (ends_cell state entry k)) cell
+    (λ k tie. ap (λ q. not (ends_cell state entry q)) (sym (cell_cmp_same cell k tie))) in
+    by_bool (ends_cell state entry cell)
     (λ on. none_some (lies ∙ ap (λ b. cond (not b) (at cell_cmp t cell) None) on) is)
-    (λ off. (sym (lies ∙ ap (λ b. cond (not b) (at cell_cmp t cell) None) off) ∙ is, off))
+    (λ off.
+    let neither = either_false (touches_cell state entry cell) (dies state entry cell) off in
+    (sym (lies ∙ ap (λ b. cond (not b) (at cell_cmp t cell) None) off) ∙ is, neither.0, neither.1))
+
+-- a live cell that doesn't die by the entry is live behind it
+still_live : (before behind : Bool) → (before && not behind) ≡ false → before ≡ true → behind ≡ true
+still_live before true e on = refl
+still_live true false e on = true_false refl e
+still_live false false e on = on
 
 other_so : (state : State) (me : ℕ) (row : LinkRow) (other : ℕ) → other_in state me row ≡ Some other
     → (is_alone me row.state ≡ true) × (is_up state (other_of me row) ≡ true) × (other_of me row ≡ other)
@@ -367,48 +397,73 @@ other_so state me row other =
 up_same : (s t : State) (n : ℕ) → inc_of t n ≡ inc_of s n → is_up s n ≡ true → is_up t n ≡ true
 up_same s t n same up = let is = up_some s n up in in_up t n is.0 (ap (λ o. option_map_or (λ present. present == is.0) o false) same ∙ is.1)
 
-pub crossed_rests : (servers : ℕ) (state : State) → IsPlainState servers state → (entry : Command) → IsPlain servers entry → (me : ℕ) (own : Own)
+pub crossed_rests : (servers : ℕ) (state : State) → IsPlainState servers state → (entry : Command) → IsPlain servers entry
+    → ((cell : Cell) → stage_at state cell ≤ stage_at (after state entry) cell) → (me : ℕ) (own : Own)
     → AreResting state me own → AreResting (after state entry) me (crossed state entry own)
-crossed_rests servers state plain entry plain_entry me own r = record {
+crossed_rests servers state plain entry plain_entry grows me own r = record {
   copying = λ cell copy is.
       let was = left_there state entry own.copies.pending cell copy is in
       let o = r.copying cell copy was.0 in
       let off : touches state entry o.row ≡ false = sym (ap (λ l. option_map_or (touches state entry) l false) o.is) ∙ was.1 in
-      let so = entry_stays servers state plain cell o.row o.is entry plain_entry off in
+      let alive : live (after state entry) cell ≡ true = still_live (live state cell) (live (after state entry) cell) was.2 o.live in
+      let so : StaysSo cell o.row state (after state entry) = elim (entry_stays servers state plain cell o.row o.is entry plain_entry off) [
+        | inl stays ↦ stays
+        | inr died ↦ (
+            let dead = died.1 in
+            let most = (live_stage (after state entry) cell alive).1 in
+            absurd (omega arith))
+      ] in
       let other = other_so state me o.row o.other o.other_is in
       let up = up_same state (after state entry) (other_of me o.row)
       (by_test (λ n. inc_of (after state entry) n ≡ inc_of state n) (o.row.primary == me) o.row.secondary o.row.primary (λ t. so.secondary) (λ t. so.primary)) other.1 in
       record {
         row = o.row;
         is = so.same;
+        live = alive;
         other = o.other;
         other_is = ap (λ b. if b then Some (other_of me o.row) else None) (λ i. other.0 i && up i) ∙ ap Some other.2;
-        paged = ap (λ p. (unwrap_or p no_progress).paged) (kept cell o.row o.is off) ∙ o.paged;
+        paged = ap (λ p. (unwrap_or p no_progress).paged) (kept cell o.row o.is off so.same) ∙ o.paged;
         begun = o.begun;
       };
   lasts = λ cell last is.
       let was = left_there state entry own.copies.last cell last is in
-      let o = r.lasts cell last was.0 in
-      let off : touches state entry o.row ≡ false = sym (ap (λ l. option_map_or (touches state entry) l false) o.is) ∙ was.1 in
-      record { row = o.row; is = (entry_stays servers state plain cell o.row o.is entry plain_entry off).same; holder = o.holder; held = o.held };
+      elim (r.lasts cell last was.0) [
+        | inr dead ↦ inr (stays_dead cell dead)
+        | inl o ↦ (
+            let off : touches state entry o.row ≡ false = sym (ap (λ l. option_map_or (touches state entry) l false) o.is) ∙ was.1 in
+            elim (entry_stays servers state plain cell o.row o.is entry plain_entry off) [
+              | inl so ↦ inl (record { row = o.row; is = so.same; holder = o.holder; held = o.held })
+              | inr died ↦ inr died.1
+            ])
+      ];
 }
   where
-    kept : (cell : Cell) (row : LinkRow) → cell_link state cell ≡ Some row → touches state entry row ≡ false
+    stays_dead : (cell : Cell) → stage_at state cell ≡ 4 → stage_at (after state entry) cell ≡ 4
+    stays_dead cell dead =
+        let more = grows cell in
+        let most = stage_most (after state entry) cell in
+        omega arith
+
+    kept : (cell : Cell) (row : LinkRow) → cell_link state cell ≡ Some row → touches state entry row ≡ false → cell_link (after state entry) cell ≡ Some row
         → at link_cmp (crossed state entry own).copies.progress (id_of row) ≡ at link_cmp own.copies.progress (id_of row)
-    kept cell row is off =
-        let away : touches_link state entry (id_of row) ≡ false =
-        ap (λ o. option_map_or (touches state entry) o false) (row_named state cell row is) ∙ off in
-        at-where link_cmp own.copies.progress (λ k. not (touches_link state entry k)) (id_of row)
-        (λ k tie. ap (λ q. not (touches_link state entry q)) (sym (same_id (id_of row) k (ap is_eq tie))))
+    kept cell row is off there =
+        let away : ends_link state entry (id_of row) ≡ false =
+        (λ i. option_map_or (touches state entry) (row_named state cell row is i) false || is_none (row_named (after state entry) cell row there i))
+        ∙ ap (λ b. b || false) off in
+        at-where link_cmp own.copies.progress (λ k. not (ends_link state entry k)) (id_of row)
+        (λ k tie. ap (λ q. not (ends_link state entry q)) (sym (same_id (id_of row) k (ap is_eq tie))))
         ∙ ap (λ b. cond (not b) (at link_cmp own.copies.progress (id_of row)) None) away
 
 pub log_rests : (servers : ℕ) (log : List Command) (entry : Command) → IsPlainLog servers (log ++ entry ∷ []) → (me : ℕ) (own : Own)
     → AreResting (state_after servers log) me own → AreResting (state_after servers (log ++ entry ∷ [])) me (crossed (state_after servers log) entry own)
 unfolding In
 log_rests servers log entry plain me own r =
-    subst (λ (t : State). AreResting t me (crossed (state_after servers log) entry own)) (sym (fold-append after (start servers) log (entry ∷ [])))
+    let below = log_below servers log (log ++ entry ∷ []) plain (front_more log entry) in
+    let behind : state_after servers (log ++ entry ∷ []) ≡ after (state_after servers log) entry = fold-append after (start servers) log (entry ∷ []) in
+    subst (λ (t : State). AreResting t me (crossed (state_after servers log) entry own)) (sym behind)
     (crossed_rests servers (state_after servers log) (log_plain servers log (λ command i. plain command (in_former command log (entry ∷ []) i))) entry
-    (plain entry (in_later entry log (entry ∷ []) (inl refl))) me own r)
+    (plain entry (in_later entry log (entry ∷ []) (inl refl)))
+    (λ cell. subst (λ (t : State). stage_at (state_after servers log) cell ≤ stage_at t cell) behind (below.stages cell)) me own r)
 
 -- ### The start
 

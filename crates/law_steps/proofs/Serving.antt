@@ -19,6 +19,8 @@ use Rattle.petal_msg.specs.declared.copying.NextCopy.TheVariants.{Ask, Block, Wa
 use Rattle.petal_msg.specs.declared.body.Body.{Body}
 use Rattle.petal_msg.specs.declared.letter.Actor.TheVariants as actor
 use Rattle.petal_msg.specs.declared.letter.Letter.{Letter}
+use Rattle.petal_msg.specs.declared.operation.Action.{Action}
+use Rattle.petal_msg.specs.declared.operation.Action.TheVariants as action
 use Rattle.petal_msg.specs.declared.operation.Pending.{Pending}
 use Rattle.petal_msg.specs.declared.operation.Stage.{Stage}
 use Rattle.petal_paxos.specs.declared.phase.Phase.{Phase}
@@ -29,16 +31,18 @@ use Rattle.petal_rules.specs.Boots.{boots, raised, stays}
 use Rattle.petal_rules.specs.Copies.{copy_awaited, copy_posts, copy_stage, mend_jobs, next_copy, page_asked, page_for, page_posts, sends_entry, waits_for_job}
 use Rattle.petal_rules.specs.Crossing.{crossed, link_jobs, settled_by, stage_jobs}
 use Rattle.petal_rules.specs.Draining.{draining}
+use Rattle.petal_rules.specs.Fills.{fill_posts, fills_row, moving}
+use Rattle.petal_rules.specs.Sweeping.{sweep_jobs}
 use Rattle.petal_rules.specs.Progress.{copying_on, has_proposed}
 use Rattle.petal_rules.specs.Returns.{caught_links, is_nothing, own_join, proposed, returning}
 use Rattle.petal_rules.specs.Entries.{applies}
 use Rattle.petal_rules.specs.Lists.{In, put_at}
 use Rattle.petal_rules.specs.Log.{Log, LogDone, Voter, known, next_place, rev_of, state_in}
 use Rattle.petal_rules.specs.Server.{Own, Server, Here, Post, Sender, Done, post_to, silent, sender, letters_of}
-use Rattle.petal_rules.specs.State.{State, id_of, in_both, is_in, is_lead, other_in}
+use Rattle.petal_rules.specs.State.{State, id_of, in_both, is_in, leads_link, live, other_in, second}
 use Rattle.petal_rules.specs.Store.{Stored, cell_cmp, chain_in, epochs_of, mark_left}
 use Rattle.petal_state.specs.State.{inc_of}
-use Rattle.petal_rules.specs.Writes.{pending_on, both_action, alone_action}
+use Rattle.petal_rules.specs.Writes.{pending_on, both_action, alone_action, next_stage}
 use Rattle.petal_rules.specs.Jobs.{Acted, works, job_done, crossing, entered, worked, is_overfull, stops, glances, glance_sender, is_log_job, voter_of, tick_jobs, tick_posts, sent_anew, copies_anew, awaited, does, log_does, own_wants, wanted_by}
 use Rattle.petal_rules.specs.World.{Setting, World, acts, server_state, server_step, chosen_log, MayServer}
 use Rattle.petal_rules.specs.declared.job.Job.{Job}
@@ -59,23 +63,27 @@ use Rattle.law_state.proofs.Entries.{log_plain}
 use Rattle.law_state.proofs.Steady.{front_plain, log_rev}
 use Rattle.law_log.proofs.Catching.{caught_among}
 use Rattle.law_log.proofs.Draining.{report_among}
+use Rattle.law_log.proofs.Filling.{no_sweep}
 use Rattle.law_log.proofs.Jobs.{all_leaves, own_leaves}
 use Rattle.law_log.proofs.Lists.{kept_among}
+use Rattle.law_log.proofs.Moving.{move_among}
 use Rattle.law_log.proofs.Proposing.{first_among}
 use Rattle.law_log.proofs.Servers.{join_only}
 use Rattle.law_steps.specs.Operations.{IsStaged, Waiting, Putting, Copying, Answering, waiting, putting, copying, answering}
-use Rattle.law_steps.specs.DidLead.{Asks, Asks_for, A_trim, A_copied_entry, A_page, Of_the_log, other_on}
+use Rattle.law_steps.specs.DidLead.{Asks, Asks_for, A_trim, A_copied_entry, A_page, An_entry_to_move, Of_the_log, other_on}
 use Rattle.law_steps.specs.Did.{Did, Ignores, By_lead}
 use Rattle.law_steps.specs.Happens.{IsIdle, IsSeated, LeavesAll, Handled, AreQueued, IsBallotFor, Starts, By_job, By_ballot, By_entry, Serving, Goes, Ends, Stays, Wakes, Fails, is_between, served_so, stopped_so, own_place}
 use Rattle.law_steps.specs.Ready.{IsRising, Rests}
 use Rattle.law_steps.proofs.Tables.{at_row}
 use Rattle.law_steps.proofs.Inversion.{IsHeard, did}
+use Rattle.law_steps.proofs.InvertFiller.{row_fills}
 use Rattle.law_steps.proofs.InvertHolder.{unpaged, untrue}
 use Rattle.law_steps.proofs.InvertLead.{asks_slot, asks_copy, both_next, alone_next}
+use Rattle.law_steps.proofs.Leading.{dead_second}
 use Rattle.law_steps.proofs.LogJobs.{LogFrame, letter_frame_of, start_frame_of, applied_entry, applied_none, ballot_logged, ask_logged}
 use Rattle.law_steps.proofs.Subjects.{no_letters}
 
-in_flat_map : {A B : Type 0} (f : A → List B) (xs : List A) (y : B) → In y (flat_map f xs) → (x : A) × In x xs × In y (f x)
+pub in_flat_map : {A B : Type 0} (f : A → List B) (xs : List A) (y : B) → In y (flat_map f xs) → (x : A) × In x xs × In y (f x)
 unfolding In
 in_flat_map f [] y h = absurd h
 in_flat_map f (x ∷ xs) y h = elim (in-append y (f x) (flat_map f xs) h) [
@@ -121,10 +129,15 @@ no_crossing state me entry own letter h = elim (in-append (job.Letter letter) (s
 -- and what a tick queues
 no_ticked : (here : Here) (server : Server) (letter : Letter) → In (job.Letter letter) (tick_jobs here server) → ⊥
 no_ticked here server letter h =
-    elim (in-append (job.Letter letter) (start_jobs server.log.phase (wanted_by here server)) (if is_in here.state here.me here.inc then mend_jobs here server.own else []) h) [
+    elim (in-append (job.Letter letter) (start_jobs server.log.phase (wanted_by here server))
+    (if is_in here.state here.me here.inc then mend_jobs here server.own ++ sweep_jobs here server.own else []) h) [
       | inl start ↦ no_start server.log.phase (wanted_by here server) letter start
-      | inr mend ↦ by_test (λ (xs : List Job). In (job.Letter letter) xs → ⊥) (is_in here.state here.me here.inc) (mend_jobs here server.own) []
-          (λ e i. no_mend (filter (λ row. waits_for_job here server.own row row.state) here.state.links) letter i) (λ e i. none_among letter i) mend
+      | inr more ↦ by_test (λ (xs : List Job). In (job.Letter letter) xs → ⊥) (is_in here.state here.me here.inc)
+          (mend_jobs here server.own ++ sweep_jobs here server.own) []
+          (λ e i. elim (in-append (job.Letter letter) (mend_jobs here server.own) (sweep_jobs here server.own) i) [
+            | inl mend ↦ no_mend (filter (λ row. waits_for_job here server.own row row.state) here.state.links) letter mend
+            | inr sweep ↦ no_sweep here server.own letter sweep
+          ]) (λ e i. none_among letter i) more
     ]
 
 -- what is of the agreed log is of no pair
@@ -144,6 +157,7 @@ asleep here own (job.Letter letter) out = by_test (λ (d : Done). d ≡ silent o
     (λ t. true_false (ap not out) t)
 asleep here own (job.Stage cell) out = by_test (λ (d : Done). d ≡ silent own) (is_in here.state here.me here.inc) _ _ (λ t. true_false t out) (λ t. refl)
 asleep here own (job.Mend link) out = by_test (λ (d : Done). d ≡ silent own) (is_in here.state here.me here.inc) _ _ (λ t. true_false t out) (λ t. refl)
+asleep here own job.Sweep out = by_test (λ (d : Done). d ≡ silent own) (is_in here.state here.me here.inc) _ _ (λ t. true_false t out) (λ t. refl)
 asleep here own job.Apply out = refl
 asleep here own job.Start out = refl
 
@@ -181,11 +195,14 @@ module _ (voter : Voter) (log : Log) (mine : List Command) where
     | inl former ↦ elim (in-append c _ mine former) [ inr own ↦ own | inl leave ↦ absurd (fold_leaves c is leaves leave) ]
   ]
 
--- and no report to a fence
+-- and no report to a fence, nor that something has moved
 caught_returns : (here : Here) (own : Own) (c : Command) → is_caught c ≡ true → In c (own_wants here own) → In c (returning here own)
-caught_returns here own c is h = elim (in-append c (returning here own) (draining here own) h) [
-  | inl mine ↦ mine
-  | inr report ↦ true_false is (ap is_caught (report_among here own c report).is)
+caught_returns here own c is h = elim (in-append c (returning here own ++ draining here own) (moving here own) h) [
+  | inl former ↦ elim (in-append c (returning here own) (draining here own) former) [
+    | inl mine ↦ mine
+    | inr report ↦ true_false is (ap is_caught (report_among here own c report).is)
+  ]
+  | inr moved ↦ true_false is (ap is_caught (move_among here own c moved).is)
 ]
 
 module _ (setting : Setting) (w : World) (rests : Rests setting w) (firm : Firm setting w) (n : ℕ) (steady : IsSteady (server_state setting w n)) (stamp : ℕ) where
@@ -218,21 +235,34 @@ module _ (setting : Setting) (w : World) (rests : Rests setting w) (firm : Firm 
       (λ t. by_test (λ a. In post (awaited here own op a) → ⊥) (not op.stage.put) _ _ (λ t i. i)
       (λ t. by_test (λ a. In post (awaited here own op a) → ⊥) op.stage.busy _ _ (λ t i. i) (λ t i. i)))
 
+  -- nor does an operation on a cell that is no longer live
+  dead_sends : (op : Pending) → second here.state op.cell ≡ None → (next : Action) (post : Post) → In post (awaited here own op next) → ⊥
+  unfolding In
+  dead_sends op none action.Reserve post i = subst (λ o. In post (post_to o (body.Reserve op.op op.cell))) none i
+  dead_sends op none (action.Mark which) post i = i
+  dead_sends op none action.Put post i = i
+  dead_sends op none action.Replicate post i = subst (λ o. In post (post_to o (body.Replicate op.op op.key op.version op.bytes))) none i
+  dead_sends op none (action.Unmark which) post i = i
+  dead_sends op none action.Answer post i = i
+  dead_sends op none action.Drop post i = i
+
   asked_again : (op : Pending) → pending_on own op.cell ≡ Some op → (post : Post) → In post (sent_anew here own op) → A post
   unfolding In
   asked_again op is post h =
       let s = staged op.cell op is in
-      by_bool (in_both here.state op.cell)
-      (λ both. elim (s.stage both) [
-        | Waiting stage ↦ asks_slot hears_server here own steady staged op is stage post (sent both waiting stage s.lead)
-        | Copying stage ↦ asks_copy hears_server here own steady staged op is stage post (sent both copying stage s.lead)
-        | Putting stage ↦ absurd (sent both putting stage s.lead)
-        | Answering stage ↦ absurd (sent both answering stage s.lead)
+      by_bool (live here.state op.cell)
+      (λ on. by_bool (in_both here.state op.cell)
+      (λ both. elim (s.stage on both) [
+        | Waiting stage ↦ asks_slot hears_server here own steady staged op is stage post (sent both waiting stage (s.leads on))
+        | Copying stage ↦ asks_copy hears_server here own steady staged op is stage post (sent both copying stage (s.leads on))
+        | Putting stage ↦ absurd (sent both putting stage (s.leads on))
+        | Answering stage ↦ absurd (sent both answering stage (s.leads on))
       ])
       (λ apart. absurd (alone_sends op post
-      (subst (λ a. In post (awaited here own op a)) (alone_next hears_server here own steady staged op s.lead apart) h)))
+      (subst (λ a. In post (awaited here own op a)) (alone_next hears_server here own steady staged op (s.leads on) apart) h))))
+      (λ off. absurd (dead_sends op (dead_second here.state op.cell off) (next_stage here.state n op) post h))
     where
-      sent : in_both here.state op.cell ≡ true → (stage : Stage) → op.stage ≡ stage → is_lead here.state n op.cell ≡ true
+      sent : in_both here.state op.cell ≡ true → (stage : Stage) → op.stage ≡ stage → leads_link here.state n op.cell ≡ true
           → In post (awaited here own op (both_action stage))
       sent both stage e lead = subst (λ a. In post (awaited here own op a)) (both_next hears_server here own steady staged op stage lead both e) h
 
@@ -304,10 +334,22 @@ module _ (setting : Setting) (w : World) (rests : Rests setting w) (firm : Firm 
   unfolding In
   no_post post i = absurd i
 
+  fills_ask : is_in here.state here.me here.inc ≡ true → (post : Post) → In post (fill_posts here own) → A post
+  fills_ask seat post h =
+      let found = in_flat_map (λ (row : LinkRow). fills_row here own row) here.state.links post h in
+      An_entry_to_move post (row_fills here own seat found.0 found.1 post found.2)
+
   again_asks : (post : Post) → In post (copies_anew here own) → A post
   again_asks post h =
-      by_test (λ (xs : List Post). In post xs → A post) (is_in here.state here.me here.inc) (copy_posts here own ++ page_posts here own) []
-      (λ t i. elim (in-append post (copy_posts here own) (page_posts here own) i) [ inl copy ↦ copies_ask (rests.copying n) post copy | inr page ↦ pages_ask post page ])
+      by_test (λ (xs : List Post). In post xs → A post) (is_in here.state here.me here.inc)
+      (copy_posts here own ++ page_posts here own ++ fill_posts here own) []
+      (λ t i. elim (in-append post (copy_posts here own ++ page_posts here own) (fill_posts here own) i) [
+        | inl former ↦ elim (in-append post (copy_posts here own) (page_posts here own) former) [
+          | inl copy ↦ copies_ask (rests.copying n) post copy
+          | inr page ↦ pages_ask post page
+        ]
+        | inr fill ↦ fills_ask t post fill
+      ])
       (λ t i. no_post post i) h
 
   tick_asks : (post : Post) → In post (tick_posts here server) → A post
@@ -379,6 +421,7 @@ module _ (setting : Setting) (w : World) (rests : Rests setting w) (firm : Firm 
       }
   heard_job what rest e (job.Stage cell) is = tt
   heard_job what rest e (job.Mend link) is = tt
+  heard_job what rest e job.Sweep is = tt
   heard_job what rest e job.Apply is = tt
   heard_job what rest e job.Start is = tt
 
@@ -488,6 +531,7 @@ module _ (setting : Setting) (w : World) (rests : Rests setting w) (firm : Firm 
   job_worked (job.Stage cell) rest e = worked_worked (job.Stage cell) rest e
   job_worked job.Apply rest e = applied_worked rest e (known log (next_place log)) refl
   job_worked (job.Mend link) rest e = worked_worked (job.Mend link) rest e
+  job_worked job.Sweep rest e = worked_worked job.Sweep rest e
   job_worked job.Start rest e =
       let done = starts (voter_of here) log (wanted_by here server) in
       let f = start_frame_of (voter_of here) log (wanted_by here server) in
@@ -542,13 +586,13 @@ module _ (setting : Setting) (w : World) (rests : Rests setting w) (firm : Firm 
       (λ full later. stops_serve (Work work_end.Done) runs) (λ room later. goes_on acted runs (job_worked what rest e) later)
 
   -- a device failed in a job, or was to stop the server, behind its commit
-  faults_serve : (ended : Step) (queue : List Job) → server.queue ≡ queue → (queue ≡ [] → ⊥) → server.life.running ≡ true
-      → F ended (stops here (works here server queue).server) → S ended (stops here (works here server queue).server)
-  faults_serve ended [] e some runs = absurd (some refl)
-  faults_serve ended (what ∷ rest) e some runs =
+  faults_serve : (step : Step) (queue : List Job) → server.queue ≡ queue → (queue ≡ [] → ⊥) → server.life.running ≡ true
+      → F step (stops here (works here server queue).server) → S step (stops here (works here server queue).server)
+  faults_serve step [] e some runs = absurd (some refl)
+  faults_serve step (what ∷ rest) e some runs =
       let acted = job_done here server what rest in
-      by_test (λ (a : Acted). F ended (stops here a.server) → S ended (stops here a.server)) (is_overfull acted.server) (stops here server) acted
-      (λ full later. stops_serve ended runs) (λ room later. ends_so ended acted runs (job_worked what rest e) later)
+      by_test (λ (a : Acted). F step (stops here a.server) → S step (stops here a.server)) (is_overfull acted.server) (stops here server) acted
+      (λ full later. stops_serve step runs) (λ room later. ends_so step acted runs (job_worked what rest e) later)
 
   -- nothing is done
   rests_idle : IsIdle here own (silent own)

@@ -1,15 +1,22 @@
 -- What a job of each subject leaves as it is: a law that does not speak of the subject goes by this alone.
-use Rattle.std.proofs.Common.{◌≡◌, ℕ, false, List, [], Option, Some, None, inl, inr, refl, sym, ap, ◌∙◌, subst}
+use Rattle.std.proofs.Common.{◌≡◌, ℕ, false, List, [], Option, Some, None, ◌⊎◌, inl, inr, refl, sym, ap, ◌∙◌, subst}
 use Rattle.std.specs.Prelude.{unwrap_or}
 use Rattle.std.specs.Option.{option_map_or}
 use Rattle.global_tables.specs.declared.link.LinkRow.{LinkRow}
 use Rattle.petal_base.specs.declared.cell.Cell.{Cell}
-use Rattle.petal_msg.specs.Kinds.{Paired, subject_of}
+use Rattle.petal_msg.specs.Kinds.{Filling, Paired, subject_of}
 use Rattle.petal_msg.specs.declared.body.Body.{Body}
 use Rattle.petal_msg.specs.declared.body.Body.TheVariants as body
 use Rattle.petal_msg.specs.declared.letter.Letter.{Letter}
 use Rattle.petal_msg.specs.declared.operation.Far.{Far}
 use Rattle.petal_msg.specs.declared.operation.Far.TheVariants as far
+use Rattle.petal_msg.specs.declared.operation.Action.{Action}
+use Rattle.petal_msg.specs.declared.operation.Action.TheVariants as action
+use Rattle.petal_msg.specs.declared.operation.Ending.{Ending}
+use Rattle.petal_msg.specs.declared.operation.Ending.TheVariants.{Written, Full}
+use Rattle.petal_msg.specs.declared.operation.OpKind.{OpKind}
+use Rattle.petal_msg.specs.declared.operation.OpKind.TheVariants as kind
+use Rattle.petal_msg.specs.declared.operation.Pending.{Pending}
 use Rattle.petal_rules.specs.Lists.{In}
 use Rattle.petal_state.specs.CellState.{cell_link}
 use Rattle.petal_table.specs.Table.{at}
@@ -18,13 +25,16 @@ use Rattle.petal_rules.specs.Server.{Own, Copies, Here, Post, Done}
 use Rattle.petal_rules.specs.State.{State, id_of, link_cmp}
 use Rattle.petal_rules.specs.Store.{cell_cmp}
 use Rattle.law_steps.specs.Ready.{IsRising}
-use Rattle.petal_rules.specs.Writes.{tells}
+use Rattle.petal_rules.specs.Writes.{acts, ends, gives_back, next_stage, tells, without_pending}
 use Rattle.petal_rules.specs.declared.job.Job.{Job}
 use Rattle.petal_rules.specs.declared.job.Job.TheVariants as job
-use Rattle.law_steps.specs.DidRead.{DidRead, Shows}
-use Rattle.law_steps.specs.DidLead.{DidLead, Asks_for, Repeats, Is_full, Opens, Marks, Puts, Gives_up, Unmarks, Closes, Opens_alone, Marks_alone, Puts_alone, Unmarks_alone, Closes_alone}
+use Rattle.law_steps.specs.DidRead.{DidRead, Not_here, Shows}
+use Rattle.law_steps.specs.DidLead.{DidLead, Asks_for, Repeats, Is_full, Opens, Marks, Puts, Gives_up, Unmarks, Closes, Opens_alone, Marks_alone, Puts_alone, Unmarks_alone, Closes_alone, Opens_fill, Opens_fill_alone, Has_fill, Has_no_room, Goes_on_dead}
 use Rattle.law_steps.specs.DidSecond.{DidSecond, Sets_apart, Promises, Declines, Follows}
-use Rattle.law_steps.specs.Did.{Did, Ignores, Refuses, By_read, By_lead, By_second, By_holder, By_other}
+use Rattle.law_steps.specs.DidFiller.{DidFiller, Is_filled, Is_out_of_slots}
+use Rattle.law_steps.specs.DidSweep.{DidSweep, Sweeps}
+use Rattle.law_steps.specs.Did.{Did, Ignores, Refuses, By_read, By_lead, By_second, By_holder, By_other, By_filler, By_sweep}
+use Rattle.petal_rules.proofs.Tests.{by_test}
 use Rattle.law_steps.proofs.CopyFrames.{of_holder, of_other}
 use Rattle.law_steps.proofs.Letters.{one_post, posted}
 use Rattle.law_steps.proofs.Taking.{taking}
@@ -35,11 +45,16 @@ pub record HasData (post : Post) : Type 0 where
   pub bytes : List ℕ
   pub is : post.body ≡ body.Data seq bytes
 
--- a read's job leaves the server's own part, and sends nothing but data
+-- the letter tells a read that the new map has nothing
+pub record HasNothing (post : Post) : Type 0 where
+  pub seq : ℕ
+  pub is : post.body ≡ body.NotHere seq
+
+-- a read's job leaves the server's own part, and sends nothing but data, or that there is nothing
 pub record ReadFrame (own : Own) (done : Done) : Type 0 where
   pub same : done.own ≡ own
   pub no_jobs : done.jobs ≡ []
-  pub says : (post : Post) → In post done.posts → HasData post
+  pub says : (post : Post) → In post done.posts → HasData post ⊎ HasNothing post
 
 -- a second server's job leaves what the server remembers as a lead, and speaks to the lead of the pair alone
 pub record SecondFrame (own : Own) (done : Done) : Type 0 where
@@ -56,6 +71,72 @@ pub record LeadFrame (own : Own) (done : Done) : Type 0 where
   pub copies : done.own.copies ≡ own.copies
   pub no_letters : (letter : Letter) → In (job.Letter letter) done.jobs → ⊥
 
+-- the job of a lead of a link of an old map leaves its pairs and store, and of copies whether one found no slot alone may change; it speaks
+-- of entries that move
+pub record FillerFrame (own : Own) (done : Done) : Type 0 where
+  pub pairs : done.own.pairs ≡ own.pairs
+  pub store : done.own.store ≡ own.store
+  pub progress : done.own.copies.progress ≡ own.copies.progress
+  pub pending : done.own.copies.pending ≡ own.copies.pending
+  pub last : done.own.copies.last ≡ own.copies.last
+  pub no_jobs : done.jobs ≡ []
+  pub says : (post : Post) → In post done.posts → subject_of post.body ≡ Filling
+
+-- a sweep changes the store alone, and says nothing
+pub record SweepFrame (own : Own) (done : Done) : Type 0 where
+  pub pairs : done.own.pairs ≡ own.pairs
+  pub copies : done.own.copies ≡ own.copies
+  pub filled : done.own.filled ≡ own.filled
+  pub no_letters : (letter : Letter) → In (job.Letter letter) done.jobs → ⊥
+  pub silent : (post : Post) → In post done.posts → ⊥
+
+-- what ends an operation changes at most which requests are finished
+pub record EndsFrame (own : Own) (done : Done) : Type 0 where
+  pub pending : done.own.pairs.pending ≡ own.pairs.pending
+  pub last : done.own.pairs.last ≡ own.pairs.last
+  pub next : done.own.pairs.next ≡ own.pairs.next
+  pub copies : done.own.copies ≡ own.copies
+  pub filled : done.own.filled ≡ own.filled
+  pub store : done.own.store ≡ own.store
+  pub no_jobs : done.jobs ≡ []
+
+pub of_ending : (here : Here) (own : Own) (op : Pending) (of : OpKind) (how : Ending) → EndsFrame own (ends here own op of how)
+of_ending here own op kind.Write how = record { pending = refl; last = refl; next = refl; copies = refl; filled = refl; store = refl; no_jobs = refl }
+of_ending here own op kind.Fill how = record { pending = refl; last = refl; next = refl; copies = refl; filled = refl; store = refl; no_jobs = refl }
+of_ending here own op kind.Copy how = record { pending = refl; last = refl; next = refl; copies = refl; filled = refl; store = refl; no_jobs = refl }
+
+-- an end's job brings no letter
+no_ending : (done : Done) → done.jobs ≡ [] → (letter : Letter) → In (job.Letter letter) done.jobs → ⊥
+unfolding In
+no_ending done e letter i = let none : In (job.Letter letter) [] = subst (λ (jobs : List Job). In (job.Letter letter) jobs) e i in none
+
+ends_frame : (here : Here) (own : Own) (op : Pending) (of : OpKind) (how : Ending) → LeadFrame own (ends here own op of how)
+ends_frame here own op of how =
+    let f = of_ending here own op of how in
+    record { last = f.last; copies = f.copies; no_letters = no_ending (ends here own op of how) f.no_jobs }
+
+-- where the job took the operation up first, or removed it
+frame_on : (own now : Own) (done : Done) → now.pairs.last ≡ own.pairs.last → now.copies ≡ own.copies → LeadFrame now done → LeadFrame own done
+frame_on own now done last copies f = record { last = f.last ∙ last; copies = f.copies ∙ copies; no_letters = f.no_letters }
+
+-- whatever an operation does next
+pub acts_frame : (here : Here) (own : Own) (op : Pending) (next : Action) → LeadFrame own (acts here own op next)
+unfolding In
+acts_frame here own op action.Reserve = record { last = refl; copies = refl; no_letters = λ letter i. i }
+acts_frame here own op (action.Mark which) = record { last = refl; copies = refl; no_letters = λ letter i. elim i [ inl e ↦ cc | inr none ↦ none ] }
+acts_frame here own op action.Put = record { last = refl; copies = refl; no_letters = λ letter i. elim i [ inl e ↦ cc | inr none ↦ none ] }
+acts_frame here own op action.Replicate = record { last = refl; copies = refl; no_letters = λ letter i. i }
+acts_frame here own op (action.Unmark which) = record { last = refl; copies = refl; no_letters = λ letter i. elim i [ inl e ↦ cc | inr none ↦ none ] }
+acts_frame here own op action.Answer =
+    frame_on own (without_pending own op.cell) _ refl refl (ends_frame here (without_pending own op.cell) op op.kind Written)
+acts_frame here own op action.Drop = record {
+  last = by_test (λ (o : Own). o.pairs.last ≡ own.pairs.last) op.stage.put (without_pending own op.cell)
+      (gives_back (without_pending own op.cell)) (λ t. refl) (λ t. refl);
+  copies = by_test (λ (o : Own). o.copies ≡ own.copies) op.stage.put (without_pending own op.cell)
+      (gives_back (without_pending own op.cell)) (λ t. refl) (λ t. refl);
+  no_letters = λ letter i. i;
+}
+
 -- what a second server tells of an operation leaves its own part
 pub told_own : (here : Here) (new : Own) (cell : Cell) (number : ℕ) (how : Far) → (tells here new cell number how).own ≡ new
 told_own here new cell number far.Reserved = refl
@@ -63,10 +144,15 @@ told_own here new cell number far.Replicated = refl
 
 module _ (heard : Body → Type 0) (here : Here) (own : Own) where
   pub of_read : (done : Done) → DidRead heard here own done → ReadFrame own done
-  of_read _ (Shows client seq cell epoch h seated r none) = record {
+  of_read _ (Shows client seq cell epoch may there) = record {
     same = refl;
     no_jobs = refl;
-    says = λ post i. record { seq = seq; bytes = _; is = (one_post _ _ post i).1 };
+    says = λ post i. inl (record { seq = seq; bytes = _; is = (one_post _ _ post i).1 });
+  }
+  of_read _ (Not_here client seq cell epoch may coming none) = record {
+    same = refl;
+    no_jobs = refl;
+    says = λ post i. inr (record { seq = seq; is = (one_post _ _ post i).1 });
   }
 
   pub of_lead : (done : Done) → DidLead heard here own done → LeadFrame own done
@@ -74,12 +160,14 @@ module _ (heard : Body → Type 0) (here : Here) (own : Own) where
   of_lead _ (Asks_for posts h) = record { last = refl; copies = refl; no_letters = λ letter i. i }
   of_lead _ (Repeats want last h lead is e) = record { last = refl; copies = refl; no_letters = λ letter i. i }
   of_lead _ (Is_full want new no_room) = record { last = refl; copies = refl; no_letters = λ letter i. i }
-  of_lead _ (Gives_up op h is reserved put) = record { last = refl; copies = refl; no_letters = λ letter i. i }
+  of_lead _ (Gives_up op h is reserved put) =
+      frame_on own (gives_back (without_pending own op.cell)) _ refl refl (ends_frame here (gives_back (without_pending own op.cell)) op op.kind Full)
   of_lead _ (Opens want new both) = record { last = refl; copies = refl; no_letters = λ letter i. i }
   of_lead _ (Marks op h is both stage) = record { last = refl; copies = refl; no_letters = λ letter i. elim i [ inl e ↦ cc | inr none ↦ none ] }
   of_lead _ (Puts op is both stage) = record { last = refl; copies = refl; no_letters = λ letter i. elim i [ inl e ↦ cc | inr none ↦ none ] }
   of_lead _ (Unmarks op h is both stage) = record { last = refl; copies = refl; no_letters = λ letter i. elim i [ inl e ↦ cc | inr none ↦ none ] }
-  of_lead _ (Closes op is both stage) = record { last = refl; copies = refl; no_letters = λ letter i. i }
+  of_lead _ (Closes op is both stage) =
+      frame_on own (without_pending own op.cell) _ refl refl (ends_frame here (without_pending own op.cell) op op.kind Written)
   of_lead _ (Opens_alone want new alone) = record { last = refl; copies = refl; no_letters = λ letter i. elim i [ inl e ↦ cc | inr none ↦ none ] }
   of_lead _ (Marks_alone now op taken alone fresh) =
       record { last = (taking own now op taken).last; copies = (taking own now op taken).copies; no_letters = λ letter i. elim i [ inl e ↦ cc | inr none ↦ none ] }
@@ -87,7 +175,16 @@ module _ (heard : Body → Type 0) (here : Here) (own : Own) where
       record { last = (taking own now op taken).last; copies = (taking own now op taken).copies; no_letters = λ letter i. elim i [ inl e ↦ cc | inr none ↦ none ] }
   of_lead _ (Unmarks_alone now op taken alone stale put busy) =
       record { last = (taking own now op taken).last; copies = (taking own now op taken).copies; no_letters = λ letter i. elim i [ inl e ↦ cc | inr none ↦ none ] }
-  of_lead _ (Closes_alone now op taken alone stale put free) = record { last = (taking own now op taken).last; copies = (taking own now op taken).copies; no_letters = λ letter i. i }
+  of_lead _ (Closes_alone now op taken alone stale put free) =
+      frame_on own (without_pending now op.cell) _ (taking own now op taken).last (taking own now op taken).copies
+      (ends_frame here (without_pending now op.cell) op op.kind Written)
+  of_lead _ (Opens_fill moving new room both) = record { last = refl; copies = refl; no_letters = λ letter i. i }
+  of_lead _ (Opens_fill_alone moving new room alone) =
+      record { last = refl; copies = refl; no_letters = λ letter i. elim i [ inl e ↦ cc | inr none ↦ none ] }
+  of_lead _ (Has_fill moving filled) = record { last = refl; copies = refl; no_letters = λ letter i. i }
+  of_lead _ (Has_no_room moving new no_room) = record { last = refl; copies = refl; no_letters = λ letter i. i }
+  of_lead _ (Goes_on_dead now op taken off) =
+      frame_on own now _ (taking own now op taken).last (taking own now op taken).copies (acts_frame here now op (next_stage here.state here.me op))
 
   -- what a second server tells the lead
   told : (new : Own) (cell : Cell) (number : ℕ) (how : Far) → new.pairs.pending ≡ own.pairs.pending → new.pairs.next ≡ own.pairs.next
@@ -104,6 +201,37 @@ module _ (heard : Body → Type 0) (here : Here) (own : Own) where
   of_second _ (Declines number cell h s no_room) =
       record { pending = refl; next = refl; finished = refl; copies = refl; no_jobs = refl; says = λ post i. ap subject_of (posted _ _ post i) }
   of_second _ (Follows number key version bytes h s is) = told _ _ number far.Replicated refl refl refl refl
+
+  pub of_filler : (done : Done) → DidFiller heard here own done → FillerFrame own done
+  unfolding In
+  of_filler _ (Is_filled key row posts h next fills) = record {
+    pairs = refl;
+    store = refl;
+    progress = refl;
+    pending = refl;
+    last = refl;
+    no_jobs = refl;
+    says = λ post i. ap (λ (p : Post). subject_of p.body) (fills post i).is;
+  }
+  of_filler _ (Is_out_of_slots key row h next) = record {
+    pairs = refl;
+    store = refl;
+    progress = refl;
+    pending = refl;
+    last = refl;
+    no_jobs = refl;
+    says = λ post i. absurd i;
+  }
+
+  pub of_sweep : (done : Done) → DidSweep here own done → SweepFrame own done
+  unfolding In
+  of_sweep _ (Sweeps what seated next off) = record {
+    pairs = refl;
+    copies = refl;
+    filled = refl;
+    no_letters = λ letter i. elim i [ inl e ↦ cc | inr none ↦ none ];
+    silent = λ post i. i;
+  }
 
   same_copies : (done : Done) → done.own.copies ≡ own.copies → (state : State) (cell : Cell) → has_proposed state done.own cell ≡ has_proposed state own cell
   same_copies done e state cell =
@@ -126,6 +254,8 @@ module _ (heard : Body → Type 0) (here : Here) (own : Own) where
   copies_rise _ (By_second done d) h = subst (λ (c : Copies). IsRising cell_cmp c.pending) (sym (of_second done d).copies) h
   copies_rise _ (By_holder done d) h = (of_holder heard here own done d).rises h
   copies_rise _ (By_other done d) h = (of_other heard here own done d).rises h
+  copies_rise _ (By_filler done d) h = subst (IsRising cell_cmp) (sym (of_filler done d).pending) h
+  copies_rise _ (By_sweep done d) h = subst (λ (c : Copies). IsRising cell_cmp c.pending) (sym (of_sweep done d).copies) h
 
   -- no job starts a ballot for a Caught
   pub unheld_stays : (done : Done) → Did heard here own done → (state : State) (cell : Cell) → has_proposed state own cell ≡ false
@@ -137,6 +267,9 @@ module _ (heard : Body → Type 0) (here : Here) (own : Own) where
   unheld_stays _ (By_second done d) state cell e = same_copies done (of_second done d).copies state cell ∙ e
   unheld_stays _ (By_holder done d) state cell e = same_caught done (of_holder heard here own done d).caught state cell ∙ e
   unheld_stays _ (By_other done d) state cell e = same_caught done (of_other heard here own done d).caught state cell ∙ e
+  unheld_stays _ (By_filler done d) state cell e =
+      same_caught done (λ row. ap (λ t. (unwrap_or (at link_cmp t (id_of row)) no_progress).caught) (of_filler done d).progress) state cell ∙ e
+  unheld_stays _ (By_sweep done d) state cell e = same_copies done (of_sweep done d).copies state cell ∙ e
 
   -- what follows a job up is a stage, and no letter
   pub no_letters : (done : Done) → Did heard here own done → (letter : Letter) → In (job.Letter letter) done.jobs → ⊥
@@ -148,3 +281,5 @@ module _ (heard : Body → Type 0) (here : Here) (own : Own) where
   no_letters _ (By_second done d) letter i = subst (λ (jobs : List Job). In (job.Letter letter) jobs) (of_second done d).no_jobs i
   no_letters _ (By_holder done d) letter i = (of_holder heard here own done d).no_letters letter i
   no_letters _ (By_other done d) letter i = (of_other heard here own done d).no_letters letter i
+  no_letters _ (By_filler done d) letter i = subst (λ (jobs : List Job). In (job.Letter letter) jobs) (of_filler done d).no_jobs i
+  no_letters _ (By_sweep done d) letter i = (of_sweep done d).no_letters letter i

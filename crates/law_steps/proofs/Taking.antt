@@ -25,6 +25,7 @@ pub record IsTaken (own now : Own) (op : Pending) : Type 0 where
   pub finished : now.pairs.finished ≡ own.pairs.finished
   pub last : now.pairs.last ≡ own.pairs.last
   pub copies : now.copies ≡ own.copies
+  pub filled : now.filled ≡ own.filled
 
 pub taking : (own now : Own) (op : Pending) → Taken own now op → IsTaken own now op
 taking own _ _ (As_it_is op is) = record {
@@ -41,6 +42,7 @@ taking own _ _ (As_it_is op is) = record {
   finished = refl;
   last = refl;
   copies = refl;
+  filled = refl;
 }
 taking own _ _ (As_told op reserved paired is) =
     let t = own.pairs.pending in
@@ -59,4 +61,5 @@ taking own _ _ (As_told op reserved paired is) =
       finished = refl;
       last = refl;
       copies = refl;
+      filled = refl;
     }

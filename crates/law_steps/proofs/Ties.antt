@@ -1,5 +1,5 @@
 -- What ties a server that runs to what is chosen: a Caught of its own stands at most behind its last entry.
-use Rattle.std.proofs.Common.{◌≡◌, ◌++◌, ℕ, Bool, List, [], ◌∷◌, true, Some, length, sym, ap, ◌∙◌, subst, inl, inr, arith}
+use Rattle.std.proofs.Common.{◌≡◌, ◌<◌, ◌++◌, ℕ, Bool, List, [], ◌∷◌, true, Some, length, sym, ap, ◌∙◌, subst, inl, inr, arith}
 use Rattle.global_tables.specs.Link.{has_server, other_of}
 use Rattle.global_tables.specs.declared.link.LinkRow.{LinkRow}
 use Rattle.global_tables.specs.declared.link.LinkState.TheVariants.{Both, Only}
@@ -8,11 +8,15 @@ use Rattle.petal_command.specs.declared.command.Command.{Command}
 use Rattle.petal_history.specs.Claims.{IsPrefix}
 use Rattle.petal_state.specs.CellState.{cell_link, serves}
 use Rattle.petal_state.specs.Command.{state_after}
+use Rattle.petal_state.specs.Place.{places_from}
+use Rattle.petal_state.specs.State.{start}
 use Rattle.petal_rules.specs.Progress.{has_proposed}
 use Rattle.petal_rules.specs.State.{State, id_of, is_in, is_alone_on}
 use Rattle.petal_rules.specs.World.{Setting, World, chosen_log, server_state}
-use Rattle.petal_rules.proofs.Tests.{same_numbers, same_some, true_false}
+use Rattle.petal_rules.proofs.Tests.{none_some, same_numbers, same_some, true_false}
+use Rattle.law_state.specs.Below.{HasLater}
 use Rattle.law_state.specs.Firm.{Firm}
+use Rattle.law_state.specs.Homes.{stage_at}
 use Rattle.law_state.specs.Places.{IsCaughtIn, StaysSo}
 use Rattle.law_state.specs.Rows.{ByBoth, ByNone, ByOne}
 use Rattle.law_state.specs.Started.{HasStarted}
@@ -31,7 +35,7 @@ module _ (setting : Setting) (w : World) (firm : Firm setting w) (n : ℕ) (runs
     (own : IsPrefix (w.servers n).log.applied front) (prefix : IsPrefix front more) (chosen : IsPrefix more (chosen_log setting w))
     (seat : is_in (state_after setting.servers front) n (w.servers n).life.inc ≡ true)
     (cell : Cell) (row : LinkRow) (is : cell_link (state_after setting.servers front) cell ≡ Some row) (has : has_server n row ≡ true)
-    (serving : serves n row row.state ≡ true) where
+    (serving : serves n row row.state ≡ true) (under : stage_at (state_after setting.servers more) cell < 4) where
   abbrev earlier : State
   earlier = state_after setting.servers front
 
@@ -53,7 +57,11 @@ module _ (setting : Setting) (w : World) (firm : Firm setting w) (n : ℕ) (runs
       let until_chosen = front_on c.until _ _ (front_more c.until c.entry) stands in
       let front_chosen = front_on front more _ prefix chosen in
       let seated_then = runs_at setting w firm front c.until c.behind until_chosen n runs seat in
-      let h = (log_below setting.servers front c.until (front_plain setting.servers c.until _ firm.plain until_chosen) c.behind).rows cell row is in
+      let h : HasLater earlier (state_after setting.servers c.until) cell row =
+      elim ((log_below setting.servers front c.until (front_plain setting.servers c.until _ firm.plain until_chosen) c.behind).rows cell row is) [
+        | inl on ↦ on
+        | inr died ↦ none_some died.0 c.was
+      ] in
       let same_row : h.now ≡ found = same_some (sym h.is ∙ c.was) in
       let holds = h.on n (w.servers n).life.inc has serving seat seated_then in
       let holder : acts.holder ≡ n =
@@ -86,7 +94,10 @@ module _ (setting : Setting) (w : World) (firm : Firm setting w) (n : ℕ) (runs
   by_later : {B : Type 0} → ((now : LinkRow) → cell_link later cell ≡ Some now → now.state ≡ Both → B) → (is_alone_on later n cell ≡ true → B) → B
   by_later both alone =
       let plain = front_plain setting.servers more _ firm.plain chosen in
-      let h = (log_below setting.servers front more plain prefix).rows cell row is in
+      let h : HasLater earlier later cell row = elim ((log_below setting.servers front more plain prefix).rows cell row is) [
+        | inl on ↦ on
+        | inr died ↦ (let dead = died.1 in absurd (omega (arith, under)))
+      ] in
       let on = h.on n (w.servers n).life.inc has serving seat (runs_at setting w firm front more prefix chosen n runs seat) in
       elim ((log_steady setting.servers more plain).linked cell h.now h.is).served [
         | ByBoth so one other ↦ both h.now h.is so
@@ -95,11 +106,19 @@ module _ (setting : Setting) (w : World) (firm : Firm setting w) (n : ℕ) (runs
         | ByNone one other so pair out ↦ true_false on (ap (serves n h.now) so)
       ]
 
+  -- the same place of a link that is still there
+  at_place : places_from (start setting.servers) more row ≡ places_from (start setting.servers) front row → (now : LinkRow) → cell_link later cell ≡ Some now
+      → StaysSo cell row earlier later
+  at_place same now there = elim (same_place setting.servers front more cell row (front_plain setting.servers more _ firm.plain chosen) prefix is same) [
+    | inl so ↦ so
+    | inr died ↦ none_some died.0 there
+  ]
+
   pub stays_both : row.state ≡ Both → StaysInBoth setting n front more cell row
   stays_both both = by_later
       (λ now there so.
       elim (log_both setting.servers front more (front_plain setting.servers more _ firm.plain chosen) prefix cell row now is there so) [
-        | inl same ↦ inl (same_place setting.servers front more cell row (front_plain setting.servers more _ firm.plain chosen) prefix is same)
+        | inl same ↦ inl (at_place same now there)
         | inr c ↦ (
             let own_one = own_caught c.row c.found in
             let again : row ≡ c.row = same_some (sym is ∙ ap (λ log. cell_link (state_after setting.servers log) cell) (sym own_one.at) ∙ c.found.was) in
@@ -112,7 +131,7 @@ module _ (setting : Setting) (w : World) (firm : Firm setting w) (n : ℕ) (runs
       (λ now there so.
       elim (log_both setting.servers front more (front_plain setting.servers more _ firm.plain chosen) prefix cell row now is there so) [
         | inl same ↦ (
-            let stays = same_place setting.servers front more cell row (front_plain setting.servers more _ firm.plain chosen) prefix is same in
+            let stays = at_place same now there in
             alone_not_both row n only (ap (λ (r : LinkRow). r.state) (same_some (sym stays.same ∙ there)) ∙ so))
         | inr c ↦ (
             let own_one = own_caught c.row c.found in

@@ -1,6 +1,6 @@
 -- Each step of a client is one of the kinds that the relation names.
 use Rattle.std.proofs.Common.{◌≡◌, ◌+◌, ◌++◌, ◌==◌, ◌&&◌, ℕ, Bool, true, false, List, [], ◌∷◌, Option, Some, None, length, refl, ◌∙◌, sym, ap, subst, inl, inr, append_assoc}
-use Rattle.std.specs.Prelude.{is_some, map, not, if◌then◌else◌}
+use Rattle.std.specs.Prelude.{is_some, map, nat_le, not, if◌then◌else◌}
 use Rattle.std.proofs.lemmas.Grind.{fold-append}
 use Rattle.petal_command.specs.declared.command.Command.{Command}
 use Rattle.petal_msg.specs.Kinds.{about}
@@ -19,6 +19,7 @@ use Rattle.script_lines.specs.declared.request.Request.{Request}
 use Rattle.script_lines.specs.declared.request.Request.TheVariants as request
 use Rattle.petal_state.specs.State.{latest}
 use Rattle.petal_state.specs.State as states
+use Rattle.petal_state.specs.CellState.{cell_asked}
 use Rattle.petal_state.specs.Command.{after, state_after}
 use Rattle.petal_state.specs.declared.answer.DiskView.{DiskView}
 use Rattle.petal_history.specs.Claims.{IsPrefix}
@@ -26,15 +27,15 @@ use Rattle.petal_rules.specs.Lists.{In}
 use Rattle.petal_state.specs.Settled.{is_settled}
 use Rattle.petal_rules.specs.State.{State, find, servers_of}
 use Rattle.petal_rules.specs.Server.{Post, post_to}
-use Rattle.petal_rules.specs.Clients.{Client, Asked, Reaction, Learning, rests, posts_for, write_posts, read_posts, read_posts_at, epoch_for, cell_on, to_propose, sends_or_proposes, goes_out, goes_out_where, post_in_turn, asking, asks_and_sends, called, replies, is_read, is_write, first_round, Sight, with_sight, stays_open, rounds, settles, sees_for, sees, sees_from, answers, hears, hears_of, heard, hears_any, command_of, refusal, verdict_for, answered_where, witnessed, is_witness, judged, judged_by, takes_entry, takes_all, then_goes_out, takes_entries, next_entries, ticked}
+use Rattle.petal_rules.specs.Clients.{Client, Asked, Reaction, Learning, rests, posts_for, write_posts, read_posts, read_posts_at, epoch_for, to_propose, way_now, goes_the_old_way, sends_or_proposes, goes_out, goes_out_where, post_in_turn, asking, asks_and_sends, called, replies, is_read, is_write, first_round, Sight, with_sight, stays_open, rounds, settles, sees_for, sees, sees_from, answers, hears, hears_of, heard, hears_any, command_of, refusal, verdict_for, answered_where, witnessed, is_witness, judged, judged_by, takes_entry, takes_all, then_goes_out, takes_entries, next_entries, ticked}
 use Rattle.petal_rules.specs.World.{Setting, World, MayClient, client_state, client_step, calls, line_in, next_line}
 use Rattle.petal_rules.specs.declared.step.Step.{Step}
 use Rattle.petal_rules.specs.declared.step.Step.TheVariants.{Call, Deliver, Tick, Work, StopIn, Stop, Blank, Boot, Arm, Glance}
 use Rattle.petal_rules.proofs.ListLemmas.{in-append}
-use Rattle.petal_rules.proofs.Tests.{by_test, both_true, same_numbers, only}
+use Rattle.petal_rules.proofs.Tests.{by_bool, by_test, both_true, same_numbers, only}
 use Rattle.law_state.proofs.Steady.{log_rev}
 use Rattle.law_steps.specs.Happens.{Heard}
-use Rattle.law_steps.specs.Turned.{Turned, Says, Of_the_log, A_write, A_read, OnlySays, IsSame, StaysOpen, IsReason, By_verdict, By_witness, IsJudged, Stops_it, Starts_it, Blanks_it, Has_no_space, Is_settled, Goes_on, Begins, Reads, Ends, Shown, Judges}
+use Rattle.law_steps.specs.Turned.{Turned, Says, Of_the_log, A_write, A_read, OnlySays, IsSame, WasSent, As_it_was, Anew, StaysOpen, IsReason, By_verdict, By_witness, IsJudged, Stops_it, Starts_it, Blanks_it, Has_no_space, Is_settled, Goes_on, Is_told, Begins, Reads, Ends, Shown, Judges}
 use Rattle.law_steps.proofs.Fronts.{front_itself, front_same, front_more, front_on}
 
 -- a client's step is made in a call, or else
@@ -44,14 +45,49 @@ is_call what = is_some (line_in what)
 -- ### What stays open
 
 same_itself : (rev : ℕ) (asked : Asked) → IsSame rev asked asked
-same_itself rev asked = record { line = refl; seq = refl; request = refl; sent = inl refl }
+same_itself rev asked = record { line = refl; seq = refl; request = refl; told = refl; sent = As_it_was refl refl }
+
+sent_on : (rev : ℕ) (a b c : Asked) → WasSent rev a b → WasSent rev b c → WasSent rev a c
+sent_on rev a b c one (Anew at way) = Anew at way
+sent_on rev a b c (As_it_was at way) (As_it_was same_rev same_way) = As_it_was (same_rev ∙ at) (same_way ∙ way)
+sent_on rev a b c (Anew at way) (As_it_was same_rev same_way) = Anew (same_rev ∙ at) (same_way ∙ way)
+
+-- it is so too of one that differs in other things
+sent_as : (rev : ℕ) (old new other : Asked) → other.rev ≡ new.rev → other.old_way ≡ new.old_way → WasSent rev old new → WasSent rev old other
+sent_as rev old new other same_rev same_way (As_it_was at way) = As_it_was (same_rev ∙ at) (same_way ∙ way)
+sent_as rev old new other same_rev same_way (Anew at way) = Anew (same_rev ∙ at) (same_way ∙ way)
+
+-- one that has not gone the old way does not do so when it is sent
+still_new : (rev : ℕ) (old new : Asked) → old.old_way ≡ false → WasSent rev old new → new.old_way ≡ false
+still_new rev old new e (As_it_was at way) = way ∙ e
+still_new rev old new e (Anew at way) = way
+
+-- one that was open from a revision on is sent at it
+sent_rev : (rev : ℕ) (old new : Asked) → old.rev ≡ rev → WasSent rev old new → new.rev ≡ rev
+sent_rev rev old new e (As_it_was at way) = at ∙ e
+sent_rev rev old new e (Anew at way) = at
+
+and_true : (a b : Bool) → b ≡ true → (a && b) ≡ a
+and_true true b e = e
+and_true false b e = refl
+
+and_false : (a b : Bool) → b ≡ false → (a && b) ≡ false
+and_false true b e = e
+and_false false b e = refl
+
+-- how it is sent at a state
+way_sent : (state : State) (asked : Asked) → WasSent state.rev asked (record asked { turn = asked.turn + 1; rev = state.rev; old_way = way_now state asked })
+way_sent state asked = by_bool (asked.rev == state.rev)
+    (λ same. As_it_was (sym (same_numbers asked.rev state.rev same)) (and_true asked.old_way (asked.rev == state.rev) same))
+    (λ apart. Anew refl (and_false asked.old_way (asked.rev == state.rev) apart))
 
 same_on : (rev : ℕ) (a b c : Asked) → IsSame rev a b → IsSame rev b c → IsSame rev a c
 same_on rev a b c one two = record {
   line = two.line ∙ one.line;
   seq = two.seq ∙ one.seq;
   request = two.request ∙ one.request;
-  sent = elim two.sent [ inr now ↦ inr now | inl e ↦ elim one.sent [ inl before ↦ inl (e ∙ before) | inr now ↦ inr (e ∙ now) ] ];
+  told = two.told ∙ one.told;
+  sent = sent_on rev a b c one.sent two.sent;
 }
 
 stays_itself : (rev : ℕ) (o : Option Asked) → StaysOpen rev o o
@@ -96,22 +132,23 @@ module _ (state : State) (c : ℕ) where
     write_says rev name block pattern asks (Some disk) found post h =
         post_says open_now _ _ post (λ to. A_write asked name block pattern disk to is asks found rev) h
 
-    read_says : (name : List ℕ) (snap : Option (List ℕ)) (block turn : ℕ) → asked.request ≡ request.Read name snap block → (o : Option DiskView)
-        → find state name ≡ o → (post : Post) → In post (read_posts state o snap c asked.seq (block, turn)) → Says state c open_now post
+    read_says : asked.rev ≡ state.rev → (name : List ℕ) (snap : Option (List ℕ)) (block turn : ℕ) → asked.request ≡ request.Read name snap block
+        → (o : Option DiskView) → find state name ≡ o → (post : Post)
+        → In post (read_posts state o snap c asked.seq (record { block = block; turn = turn; old_way = asked.old_way })) → Says state c open_now post
     unfolding In
-    read_says name snap block turn asks None found post h = absurd h
-    read_says name snap block turn asks (Some disk) found post h = at_epoch (epoch_for state disk snap) refl h
+    read_says rev name snap block turn asks None found post h = absurd h
+    read_says rev name snap block turn asks (Some disk) found post h = at_epoch (epoch_for state disk snap) refl h
       where
-        at_epoch : (o : Option ℕ) → epoch_for state disk snap ≡ o → In post (read_posts_at state (cell_on disk block) o c asked.seq turn)
+        at_epoch : (o : Option ℕ) → epoch_for state disk snap ≡ o → In post (read_posts_at state (cell_asked state disk block asked.old_way) o c asked.seq turn)
             → Says state c open_now post
         at_epoch None e i = absurd i
-        at_epoch (Some epoch) e i = post_says open_now _ _ post (λ to. A_read asked name snap block disk epoch to is asks found e) i
+        at_epoch (Some epoch) e i = post_says open_now _ _ post (λ to. A_read asked name snap block disk epoch to is asks found e rev) i
 
-    posts_say : asked.rev ≡ state.rev → (turn : ℕ) (what : Request) → asked.request ≡ what → (post : Post) → In post (posts_for state c asked.seq turn what)
-        → Says state c open_now post
+    posts_say : asked.rev ≡ state.rev → (turn : ℕ) (what : Request) → asked.request ≡ what → (post : Post)
+        → In post (posts_for state c asked.seq turn asked.old_way what) → Says state c open_now post
     unfolding In
     posts_say rev turn (request.Write name block pattern) e post h = write_says rev name block pattern e _ refl post h
-    posts_say rev turn (request.Read name snap block) e post h = read_says name snap block turn e _ refl post h
+    posts_say rev turn (request.Read name snap block) e post h = read_says rev name snap block turn e _ refl post h
     posts_say rev turn _ e post h = absurd h
 
   -- a reaction that answers nothing and leaves open what was
@@ -139,8 +176,9 @@ module _ (state : State) (c : ℕ) where
       by None = record {
         seq = refl;
         applied = refl;
-        stays = record { line = refl; seq = refl; request = refl; sent = inr refl };
-        says = λ post i. posts_say _ (record asked { turn = asked.turn + 1; rev = state.rev }) refl refl asked.turn asked.request refl post i;
+        stays = record { line = refl; seq = refl; request = refl; told = refl; sent = way_sent state asked };
+        says = λ post i. posts_say _ (record asked { turn = asked.turn + 1; rev = state.rev; old_way = way_now state asked })
+            refl refl asked.turn asked.request refl post i;
         unanswered = refl;
       }
       by (Some command) = record {
@@ -212,13 +250,31 @@ module _ (servers : ℕ) (lines : List Line) (w : World) (c : ℕ) where
   called_turns : (line : Line) → next_line lines c client ≡ Some line → client.asked ≡ None → Turning true (called state c client line.number line.request)
   called_turns line is free =
       let before : Client = record client { seq = client.seq + 1 } in
-      let new : Asked = record { line = line.number; seq = client.seq + 1; request = line.request; turn = 0; rev = state.rev; witnesses = 0; round = first_round line.request; seen = [] } in
+      let new : Asked = record {
+        line = line.number;
+        seq = client.seq + 1;
+        request = line.request;
+        turn = 0;
+        rev = state.rev;
+        witnesses = 0;
+        told = false;
+        old_way = false;
+        round = first_round line.request;
+        seen = [];
+      } in
       let reacted = goes_out state c before new in
       let q = goes_quiet state c before new in
       let still = still_open state.rev new reacted.client.asked q.stays in
       record {
         turned = Begins reacted line still.now is free q.seq still.is
-            (record { line_is = still.same.line; seq_is = still.same.seq; request_is = still.same.request })
+            (record {
+              line_is = still.same.line;
+              seq_is = still.same.seq;
+              request_is = still.same.request;
+              rev_is = sent_rev state.rev new still.now refl still.same.sent ∙ log_rev servers client.applied;
+              untold = still.same.told;
+              new_way = still_new state.rev new still.now refl still.same.sent;
+            })
             (only_says before (Some new) reacted q);
         grows = front_same client.applied reacted.client.applied q.applied;
       }
@@ -260,11 +316,12 @@ module _ (servers : ℕ) (lines : List Line) (w : World) (c : ℕ) where
   round_turns asked rev sight is h what at =
       let now = with_sight asked sight in
       by_test T (not (length now.seen == servers_of state)) (stays_open client now) _
-      (λ t. stays_turn asked now is (record { line = refl; seq = refl; request = refl; sent = inl refl }))
+      (λ t. stays_turn asked now is (record { line = refl; seq = refl; request = refl; told = refl; sent = As_it_was refl refl }))
       (λ all. by_test T (is_settled state (map (λ row. row.1) now.seen)) (answers client now answer.Ok) _
       (λ t. ends_turn refl (Shown asked rev sight answer.Ok h is
       (Is_settled what at (same_numbers (length now.seen) (servers_of state) (no_longer (length now.seen == servers_of state) all)) t refl)))
-      (λ t. stays_turn asked (record now { round = now.round + 1; seen = [] }) is (record { line = refl; seq = refl; request = refl; sent = inl refl })))
+      (λ t. stays_turn asked (record now { round = now.round + 1; seen = [] }) is
+      (record { line = refl; seq = refl; request = refl; told = refl; sent = As_it_was refl refl })))
     where
       no_longer : (b : Bool) → not b ≡ false → b ≡ true
       no_longer true e = refl
@@ -275,8 +332,9 @@ module _ (servers : ℕ) (lines : List Line) (w : World) (c : ℕ) where
   settle_turns asked rev sight is h what =
       by_test T sight.full (answers client asked answer.NoSpace) _
       (λ full. ends_turn refl (Shown asked rev sight answer.NoSpace h is (Has_no_space what full refl)))
-      (λ t. by_test T (sight.round == asked.round) (rounds state client (with_sight asked sight)) (rests client)
-      (λ same. round_turns asked rev sight is h what (same_numbers sight.round asked.round same)) (λ t. rests_turns))
+      (λ t. by_test T ((sight.round == asked.round) && nat_le sight.rev state.rev) (rounds state client (with_sight asked sight)) (rests client)
+      (λ same. round_turns asked rev sight is h what
+      (same_numbers sight.round asked.round (both_true (sight.round == asked.round) (nat_le sight.rev state.rev) same).0)) (λ t. rests_turns))
 
   seen_for_turns : (asked : Asked) (rev : ℕ) (sight : Sight) → client.asked ≡ Some asked → Shows asked rev sight → (what : Request) → asked.request ≡ what
       → T (sees_for state client asked sight what)
@@ -303,6 +361,18 @@ module _ (servers : ℕ) (lines : List Line) (w : World) (c : ℕ) where
 
   -- ### Other replies
 
+  -- the new map has nothing: the read goes to the old one
+  told_turns : (asked : Asked) → Heard w (actor.Client c) asked.rev (body.NotHere asked.seq) → client.asked ≡ Some asked → is_read asked.request ≡ true
+      → T (goes_the_old_way state c client asked)
+  told_turns asked h is read =
+      let now : Asked = record asked { told = true; old_way = true } in
+      let reacted = goes_out state c client now in
+      let q = goes_quiet state c client now in
+      record {
+        turned = Is_told reacted asked h is read q.seq (stays_at client (Some now) reacted q) (only_says client (Some now) reacted q);
+        grows = front_same client.applied reacted.client.applied q.applied;
+      }
+
   hears_turns : (asked : Asked) (rev : ℕ) → client.asked ≡ Some asked → (said : Body) → Heard w (actor.Client c) rev said → T (hears state c client asked rev said)
   hears_turns asked rev is (body.Data seq bytes) h = by_test T (replies asked rev (about (body.Data seq bytes)) && is_read asked.request) _ _
       (λ t. let tests = both_true (replies asked rev (about (body.Data seq bytes))) (is_read asked.request) t in
@@ -319,6 +389,10 @@ module _ (servers : ℕ) (lines : List Line) (w : World) (c : ℕ) where
   hears_turns asked rev is (body.BlockBusy seq) h = by_test T (replies asked rev (about (body.BlockBusy seq))) _ _ (λ t. again asked is) (λ t. rests_turns)
   hears_turns asked rev is (body.Held seq) h = by_test T (replies asked rev (about (body.Held seq))) _ _ (λ t. again asked is) (λ t. rests_turns)
   hears_turns asked rev is (body.WrongRev seq) h = by_test T (replies asked rev (about (body.WrongRev seq))) _ _ (λ t. again asked is) (λ t. rests_turns)
+  hears_turns asked rev is (body.NotHere seq) h = by_test T (replies asked rev (about (body.NotHere seq)) && is_read asked.request) _ _
+      (λ t. let tests = both_true (replies asked rev (about (body.NotHere seq))) (is_read asked.request) t in
+      let same = both_true (seq == asked.seq) (rev == asked.rev) tests.0 in
+      told_turns asked (heard_as (ap body.NotHere (same_numbers seq asked.seq same.0)) (same_numbers rev asked.rev same.1) h) is tests.1) (λ t. rests_turns)
   hears_turns asked rev is _ h = rests_turns
 
   reply_turns : (letter : Letter) (o : Option Asked) → client.asked ≡ o → In letter w.sent → letter.to ≡ actor.Client c → T (hears_of state c client o letter)
@@ -346,7 +420,7 @@ module _ (servers : ℕ) (lines : List Line) (w : World) (c : ℕ) where
       By_verdict command ((λ i. command_of c (sym same.seq i) (sym same.request i)) ∙ own) (ap (λ k. verdict_for k (latest at c)) (sym same.seq) ∙ so)
   reason_same rev old new given at entry same (By_witness none is so) =
       By_witness ((λ i. command_of c (sym same.seq i) (sym same.request i)) ∙ none) (ap (λ k. is_witness c k entry) (sym same.seq) ∙ is)
-      (ap (refusal at) (sym same.request) ∙ so)
+      ((λ i. refusal at (sym same.told i) (sym same.request i)) ∙ so)
 
   judged_more : (before now : List Command) (asked : Asked) (given : Answer) (entry : Command) → IsJudged servers c before now asked given
       → IsJudged servers c before (now ++ entry ∷ []) asked given
@@ -417,11 +491,17 @@ module _ (servers : ℕ) (lines : List Line) (w : World) (c : ℕ) where
           | Some given ↦ λ so. gives now entry l old asked was.1 was.2 given (By_verdict command own so) _ refl refl refl refl refl
         ] so in
         let by_state : command_of c asked.seq asked.request ≡ None → is_witness c asked.seq entry ≡ true → (o : Option Answer)
-        → refusal (after now.state entry) asked.request ≡ o → Learnt rev (witnessed (with_one now entry) asked o) =
-        λ own is o so. elim o as (λ o. refusal (after now.state entry) asked.request ≡ o → Learnt rev (witnessed (with_one now entry) asked o)) [
+        → refusal (after now.state entry) asked.told asked.request ≡ o → Learnt rev (witnessed (with_one now entry) asked o) =
+        λ own is o so. elim o as (λ o. refusal (after now.state entry) asked.told asked.request ≡ o → Learnt rev (witnessed (with_one now entry) asked o)) [
           | None ↦ λ so. leaves_open now entry l none _ refl refl refl refl
               (subst (λ x. StaysOpen rev x (Some (record asked { witnesses = asked.witnesses + 1 }))) (sym was.1)
-              (record { line = was.2.line; seq = was.2.seq; request = was.2.request; sent = was.2.sent }))
+              (record {
+                line = was.2.line;
+                seq = was.2.seq;
+                request = was.2.request;
+                told = was.2.told;
+                sent = sent_as rev old asked (record asked { witnesses = asked.witnesses + 1 }) refl refl was.2.sent;
+              }))
           | Some given ↦ λ so. gives now entry l old asked was.1 was.2 given (By_witness own is so) _ refl refl refl refl refl
         ] so in
         elim (command_of c asked.seq asked.request) as (λ o. command_of c asked.seq asked.request ≡ o → Learnt rev (judged_by c entry (with_one now entry) asked o)) [
@@ -486,7 +566,7 @@ module _ (servers : ℕ) (lines : List Line) (w : World) (c : ℕ) where
   heard_turns : (letter : Letter) → In letter w.sent → letter.to ≡ actor.Client c → (said : Body) → letter.body ≡ said → T (hears_any state c client letter said)
   heard_turns letter h own (body.News from commands) e = news_turns (next_entries client from commands)
   heard_turns letter h own (body.Seen line round running inc full) e =
-      seen_from_turns letter.rev (record { server = 0; line = line; round = round; running = running; inc = inc; full = full })
+      seen_from_turns letter.rev (record { server = 0; rev = letter.rev; line = line; round = round; running = running; inc = inc; full = full })
       (record { letter = letter; sent = h; own = own; at = refl; is = e }) letter.from
   heard_turns letter h own _ e = reply_turns letter client.asked refl h own
 

@@ -1,5 +1,5 @@
 -- What a server may have done: one constructor for each subject, whose rules stand in a file of their own.
-use Rattle.std.specs.Prelude.{◌≡◌, ◌⊎◌, ℕ, true, false, Some}
+use Rattle.std.specs.Prelude.{◌≡◌, ◌⊎◌, ℕ, Bool, true, false, Some}
 use Rattle.petal_base.specs.declared.cell.Cell.{Cell}
 use Rattle.petal_msg.specs.Kinds.{Refused, subject_of}
 use Rattle.petal_msg.specs.declared.body.Body.{Body}
@@ -17,10 +17,18 @@ use Rattle.law_steps.specs.DidLead.{DidLead}
 use Rattle.law_steps.specs.DidSecond.{DidSecond}
 use Rattle.law_steps.specs.DidHolder.{DidHolder}
 use Rattle.law_steps.specs.DidOther.{DidOther}
+use Rattle.law_steps.specs.DidFiller.{DidFiller}
+use Rattle.law_steps.specs.DidSweep.{DidSweep}
 
--- a refusal, which ends nothing
-abbrev pub IsRefusal : Body → Type 0
-IsRefusal said = subject_of said ≡ Refused
+-- the new map has nothing of what a read asked for
+abbrev pub is_not_here : Body → Bool
+is_not_here (body.NotHere seq) = true
+is_not_here _ = false
+
+-- a refusal, which ends nothing. That the new map has nothing is said of a read that may be answered
+pub record IsRefusal (said : Body) : Type 0 where
+  pub refused : subject_of said ≡ Refused
+  pub other : is_not_here said ≡ false
 
 -- why a client is told that the block is busy: another operation is pending on it at its lead, or a copy is under way
 pub data IsBusy (heard : Body → Type 0) (here : Here) (own : Own) (seq : ℕ) : Type 0 where
@@ -54,3 +62,5 @@ pub data Did (heard : Body → Type 0) (here : Here) (own : Own) : Done → Type
   By_second : (done : Done) → DidSecond heard here own done → Did heard here own done
   By_holder : (done : Done) → DidHolder heard here own done → Did heard here own done
   By_other : (done : Done) → DidOther heard here own done → Did heard here own done
+  By_filler : (done : Done) → DidFiller heard here own done → Did heard here own done
+  By_sweep : (done : Done) → DidSweep here own done → Did heard here own done

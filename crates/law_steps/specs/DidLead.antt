@@ -1,11 +1,13 @@
--- What the lead of a cell may have done for a write, rule by rule, with what was so when it was done, by its own state: as the
--- first of two servers, or as a holder that is alone.
-use Rattle.std.specs.Prelude.{◌≡◌, ◌≤◌, ℕ, Bool, true, false, List, [], Option, Some, None, option_and_then, slice_get}
+-- What the lead of a cell may have done for a write, or for an entry that moves, rule by rule, with what was so when it was done, by its own
+-- state: as the first of two servers, or as a holder that is alone. Of an operation on a cell that is no longer live nothing is said but that
+-- it goes on by its stage: that there is none is shown above.
+use Rattle.std.specs.Prelude.{◌≡◌, ◌≤◌, ◌<◌, ℕ, Bool, true, false, List, [], Option, Some, None, is_some, option_and_then, slice_get}
 use Rattle.std.specs.Ordering.{nat_cmp}
 use Rattle.busy_marks.specs.declared.marks.MarkKind.TheVariants.{Busy, Stale}
 use Rattle.global_tables.specs.declared.link.LinkRow.{LinkRow}
 use Rattle.petal_base.specs.declared.cell.Cell.{Cell}
-use Rattle.petal_base.specs.Cells.{key_at}
+use Rattle.petal_base.specs.declared.cell.Key.{Key}
+use Rattle.petal_base.specs.Cells.{cell_of, key_at}
 use Rattle.petal_table.specs.Table.{at}
 use Rattle.petal_msg.specs.Kinds.{is_logged, subject_of}
 use Rattle.petal_msg.specs.declared.body.Body.{Body}
@@ -15,21 +17,41 @@ use Rattle.petal_msg.specs.declared.copying.Copying.{Copying}
 use Rattle.petal_msg.specs.declared.operation.Ending.TheVariants as ending
 use Rattle.petal_msg.specs.declared.operation.Finished.{Finished}
 use Rattle.petal_msg.specs.declared.operation.Pending.{Pending}
-use Rattle.petal_state.specs.CellState.{cell_link}
+use Rattle.petal_state.specs.CellState.{cell_link, target}
 use Rattle.petal_rules.specs.Copies.{page_wanted}
+use Rattle.petal_rules.specs.Fills.{Moving, fill_operation, next_fill, region_to_move}
 use Rattle.petal_rules.specs.Lists.{In}
 use Rattle.petal_rules.specs.Progress.{copying_on, has_proposed, progress_on}
-use Rattle.petal_rules.specs.State.{held, second, is_lead, in_both, is_alone_on, other_in}
+use Rattle.petal_rules.specs.State.{held, second, is_in, is_lead, lead, live, in_both, is_alone_on, other_in}
 use Rattle.petal_rules.specs.Store.{Stored, chain_in, epochs_of, free_of}
 use Rattle.petal_rules.specs.Server.{Own, Here, Post, Done, says, says_to}
-use Rattle.petal_rules.specs.Writes.{Wanted, is_writes_held, operation, pending_on, with_pending, without_pending, gives_back, with_reserved, with_paired, opened, marks, puts, unmarks, finishes, ended}
+use Rattle.petal_rules.specs.Writes.{Wanted, is_writes_held, operation, pending_on, with_pending, without_pending, gives_back, with_reserved, with_paired, with_opened, opened, old_lead, next_stage, acts, ends, marks, puts, unmarks, finishes, ended}
 use Rattle.law_steps.specs.Operations.{waiting, putting, copying, answering, done_to}
 
 -- to the other server of a cell's link, which this one holds alone, where that is In
 abbrev pub other_on : Here → Cell → Option ℕ
 other_on here cell = option_and_then (other_in here.state here.me) (cell_link here.state cell)
 
--- what a pending operation asks of the second server, a copy or a page of the other one, or what speaks of the agreed log
+-- the next entry of a link that this server, which is In as itself, is to move: the first of the link and the region that the new map is not
+-- known to have. It goes to the lead of the new map's cell
+pub record IsNextFill (here : Here) (own : Own) (post : Post) : Type 0 where
+  pub seated : is_in here.state here.me here.inc ≡ true
+  pub row : LinkRow
+  pub there : In row here.state.links
+  pub region : ℕ
+  pub moves : region_to_move here.state here.me row ≡ Some region
+  pub key : Key
+  pub next : next_fill here.state row region own ≡ Some key
+  pub entry : Stored
+  pub stored : at nat_cmp (chain_in own.store.chains (cell_of key)) key.epoch ≡ Some entry
+  pub cell : Cell
+  pub goes_to : target here.state (cell_of key) ≡ Some cell
+  pub to : ℕ
+  pub lead_is : lead here.state cell ≡ Some to
+  pub is : post ≡ record { to = actor.Server to; body = body.Fill (key_at cell key.epoch) entry.bytes }
+
+-- what a pending operation asks of the second server, a copy or a page of the other one, an entry that moves of the new lead, or what speaks
+-- of the agreed log
 pub data Asks (here : Here) (own : Own) : Post → Type 0 where
   A_slot : (op : Pending) (to : ℕ) → pending_on own op.cell ≡ Some op → op.stage ≡ waiting → second here.state op.cell ≡ Some to
       → Asks here own (record { to = actor.Server to; body = body.Reserve op.op op.cell })
@@ -42,6 +64,7 @@ pub data Asks (here : Here) (own : Own) : Post → Type 0 where
       → Asks here own (record { to = actor.Server to; body = body.Sync copy.op (key_at cell row.0) row.1.version copy.index row.1.bytes })
   A_page : (row : LinkRow) (to : ℕ) → In row here.state.links → other_in here.state here.me row ≡ Some to → (progress_on own row).paged ≡ false
       → Asks here own (record { to = actor.Server to; body = page_wanted own row })
+  An_entry_to_move : (post : Post) → IsNextFill here own post → Asks here own post
   Of_the_log : (post : Post) → is_logged (subject_of post.body) ≡ true → Asks here own post
 
 -- the write's request is new to the lead, nothing is under way on its cell, no fence holds the cell's writes, and the lead wants no Caught of
@@ -54,6 +77,26 @@ pub record IsNew (heard : Body → Type 0) (here : Here) (own : Own) (want : Wan
   pub uncopied : copying_on own want.cell ≡ None
   pub unfenced : is_writes_held (held here.state want.cell) ≡ false
   pub unheld : has_proposed here.state own want.cell ≡ false
+
+-- an entry that moves is new to the lead, which is In as itself: nothing is under way on its cell, the chain has nothing of its epoch, and the
+-- lead wants no Caught of the cell's link
+pub record IsNewFill (heard : Body → Type 0) (here : Here) (own : Own) (moving : Moving) : Type 0 where
+  pub wanted : heard (body.Fill moving.key moving.bytes)
+  pub seated : is_in here.state here.me here.inc ≡ true
+  pub lead : is_lead here.state here.me (cell_of moving.key) ≡ true
+  pub none : pending_on own (cell_of moving.key) ≡ None
+  pub uncopied : copying_on own (cell_of moving.key) ≡ None
+  pub lacks : at nat_cmp (chain_in own.store.chains (cell_of moving.key)) moving.key.epoch ≡ None
+  pub unheld : has_proposed here.state own (cell_of moving.key) ≡ false
+
+-- an entry that moves is there, at a lead that is In as itself, and nothing is under way on its cell
+pub record IsFilled (heard : Body → Type 0) (here : Here) (own : Own) (moving : Moving) : Type 0 where
+  pub wanted : heard (body.Fill moving.key moving.bytes)
+  pub seated : is_in here.state here.me here.inc ≡ true
+  pub lead : is_lead here.state here.me (cell_of moving.key) ≡ true
+  pub none : pending_on own (cell_of moving.key) ≡ None
+  pub uncopied : copying_on own (cell_of moving.key) ≡ None
+  pub has : is_some (at nat_cmp (chain_in own.store.chains (cell_of moving.key)) moving.key.epoch) ≡ true
 
 -- the operation, as letters of the second server may have told of it
 abbrev pub told : Pending → (reserved paired : Bool) → Pending
@@ -76,7 +119,7 @@ pub data DidLead (heard : Body → Type 0) (here : Here) (own : Own) : Done → 
       → DidLead heard here own (finishes own want.client want.seq ending.Full)
   Gives_up : (op : Pending) → heard (body.PairFull op.op op.cell) → pending_on own op.cell ≡ Some op → op.stage.reserved ≡ false
       → op.stage.put ≡ false
-      → DidLead heard here own (finishes (gives_back (without_pending own op.cell)) op.client op.seq ending.Full)
+      → DidLead heard here own (ends here (gives_back (without_pending own op.cell)) op op.kind ending.Full)
   Opens : (want : Wanted) → IsNew heard here own want → in_both here.state want.cell ≡ true
       → DidLead heard here own (says_to (opened here own want) (second here.state want.cell) (body.Reserve own.pairs.next want.cell))
   Marks : (op : Pending) → heard (body.Reserved op.op op.cell) → pending_on own op.cell ≡ Some op → in_both here.state op.cell ≡ true
@@ -88,7 +131,7 @@ pub data DidLead (heard : Body → Type 0) (here : Here) (own : Own) : Done → 
       → op.stage ≡ copying
       → DidLead heard here own (unmarks (with_pending own (with_paired op)) (with_paired op) Busy)
   Closes : (op : Pending) → pending_on own op.cell ≡ Some op → in_both here.state op.cell ≡ true → op.stage ≡ answering
-      → DidLead heard here own (finishes (without_pending own op.cell) op.client op.seq ending.Written)
+      → DidLead heard here own (ends here (without_pending own op.cell) op op.kind ending.Written)
   Opens_alone : (want : Wanted) → IsNew heard here own want → is_alone_on here.state here.me want.cell ≡ true
       → DidLead heard here own (marks (opened here own want) (operation here own.pairs.next want) Stale)
   Marks_alone : (now : Own) (op : Pending) → Taken own now op → is_alone_on here.state here.me op.cell ≡ true → op.stage.stale ≡ false
@@ -101,4 +144,17 @@ pub data DidLead (heard : Body → Type 0) (here : Here) (own : Own) : Done → 
       → DidLead heard here own (unmarks now op Busy)
   Closes_alone : (now : Own) (op : Pending) → Taken own now op → is_alone_on here.state here.me op.cell ≡ true → op.stage.stale ≡ true
       → op.stage.put ≡ true → op.stage.busy ≡ false
-      → DidLead heard here own (finishes (without_pending now op.cell) op.client op.seq ending.Written)
+      → DidLead heard here own (ends here (without_pending now op.cell) op op.kind ending.Written)
+  Opens_fill : (moving : Moving) → IsNewFill heard here own moving → 0 < free_of own.store → in_both here.state (cell_of moving.key) ≡ true
+      → DidLead heard here own
+      (says_to (with_opened own (fill_operation here own.pairs.next moving)) (second here.state (cell_of moving.key))
+      (body.Reserve own.pairs.next (cell_of moving.key)))
+  Opens_fill_alone : (moving : Moving) → IsNewFill heard here own moving → 0 < free_of own.store
+      → is_alone_on here.state here.me (cell_of moving.key) ≡ true
+      → DidLead heard here own (marks (with_opened own (fill_operation here own.pairs.next moving)) (fill_operation here own.pairs.next moving) Stale)
+  Has_fill : (moving : Moving) → IsFilled heard here own moving
+      → DidLead heard here own (says_to own (old_lead here.state (cell_of moving.key)) (body.Filled moving.key))
+  Has_no_room : (moving : Moving) → IsNewFill heard here own moving → free_of own.store ≡ 0
+      → DidLead heard here own (says_to own (old_lead here.state (cell_of moving.key)) (body.FillFull moving.key))
+  Goes_on_dead : (now : Own) (op : Pending) → Taken own now op → live here.state op.cell ≡ false
+      → DidLead heard here own (acts here now op (next_stage here.state here.me op))

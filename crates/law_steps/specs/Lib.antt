@@ -4,6 +4,8 @@ pub mod DidLead
 pub mod DidSecond
 pub mod DidHolder
 pub mod DidOther
+pub mod DidFiller
+pub mod DidSweep
 pub mod Did
 pub mod Turned
 pub mod Happens
@@ -11,3 +13,4 @@ pub mod Resting
 pub mod Ready
 pub mod Ties
 pub mod Waking
+pub mod Coming

@@ -1,16 +1,17 @@
 -- How far an operation is, at its lead and at its second server.
-use Rattle.std.specs.Prelude.{◌≡◌, ℕ, ◌+◌, Bool, true, false, Option, Some, None}
+use Rattle.std.specs.Prelude.{◌≡◌, ◌≤◌, ◌⊎◌, ℕ, ◌+◌, Bool, true, false, Option, Some, None}
 use Rattle.petal_base.specs.declared.cell.Cell.{Cell}
 use Rattle.petal_base.specs.Cells.{cell_of}
 use Rattle.petal_msg.specs.declared.operation.Far.{Far}
 use Rattle.petal_msg.specs.declared.operation.Far.TheVariants as far
 use Rattle.petal_msg.specs.declared.operation.Finished.{Finished}
 use Rattle.petal_msg.specs.declared.operation.LastOp.{LastOp}
+use Rattle.petal_msg.specs.declared.operation.OpKind.TheVariants as kind
 use Rattle.petal_msg.specs.declared.operation.Pending.{Pending}
 use Rattle.petal_msg.specs.declared.operation.Stage.{Stage}
-use Rattle.petal_rules.specs.State.{State, is_lead, in_both}
-use Rattle.petal_rules.specs.Draining.{is_clients}
+use Rattle.petal_rules.specs.State.{State, in_both, leads_link, live}
 use Rattle.petal_rules.specs.Writes.{first_stage}
+use Rattle.law_state.specs.Homes.{stage_at}
 
 -- the stages that an operation rests in while its link is in Both: it waits for its slot at the second server; its block is marked, and it is to put;
 -- it has put, and waits for the second server's copy; the mark is gone, and it is to answer
@@ -32,15 +33,22 @@ pub data AtRest (stage : Stage) : Type 0 where
   Copying : stage ≡ copying → AtRest stage
   Answering : stage ≡ answering → AtRest stage
 
--- an operation that is pending on a cell at a server, by this state, is of a client's write. At a holder that is alone it may rest in any
--- stage; and the server has started no ballot for the Caught of the cell's link, for which it would be held
+-- what an operation was opened for: a client's write, or an entry that moves, which is of no client
+pub data IsOpenedFor (op : Pending) : Type 0 where
+  A_write : op.kind ≡ kind.Write → IsOpenedFor op
+  A_fill : op.kind ≡ kind.Fill → op.client ≡ 0 → op.seq ≡ 0 → IsOpenedFor op
+
+-- an operation that is pending on a cell at a server, by this state: the cell was live when it was opened, and while it is, the server leads
+-- its link, and has started no ballot for the link's Caught, for which the operation would be held. At a holder that is alone it may rest in
+-- any stage
 pub record IsStaged (state : State) (me : ℕ) (held : Cell → Bool) (cell : Cell) (op : Pending) : Type 0 where
   pub own : op.cell ≡ cell
-  pub clients : is_clients op.kind ≡ true
+  pub opened : IsOpenedFor op
   pub keyed : cell_of op.key ≡ cell
-  pub lead : is_lead state me cell ≡ true
-  pub stage : in_both state cell ≡ true → AtRest op.stage
-  pub unheld : held cell ≡ false
+  pub born : 1 ≤ stage_at state cell
+  pub leads : live state cell ≡ true → leads_link state me cell ≡ true
+  pub stage : live state cell ≡ true → in_both state cell ≡ true → AtRest op.stage
+  pub unheld : live state cell ≡ true → held cell ≡ false
 
 -- above the number of each request that is finished
 abbrev pub done_to : Option Finished → ℕ

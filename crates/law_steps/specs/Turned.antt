@@ -14,6 +14,7 @@ use Rattle.script_lines.specs.declared.request.Line.{Line}
 use Rattle.script_lines.specs.declared.request.Pattern.{Pattern}
 use Rattle.script_lines.specs.declared.request.Request.TheVariants as request
 use Rattle.petal_state.specs.State.{latest}
+use Rattle.petal_state.specs.CellState.{cell_asked}
 use Rattle.petal_state.specs.Command.{state_after}
 use Rattle.petal_state.specs.declared.answer.DiskView.{DiskView}
 use Rattle.petal_history.specs.Claims.{IsPrefix}
@@ -22,7 +23,7 @@ use Rattle.petal_state.specs.Settled.{is_settled}
 use Rattle.petal_rules.specs.State.{State, find, servers_of}
 use Rattle.petal_rules.specs.Server.{Post}
 use Rattle.petal_rules.specs.Writes.{ended}
-use Rattle.petal_rules.specs.Clients.{Client, Asked, Reaction, Sight, with_sight, answers, is_read, is_write, cell_on, epoch_for, command_of, refusal, verdict_for, is_witness}
+use Rattle.petal_rules.specs.Clients.{Client, Asked, Reaction, Sight, with_sight, answers, is_read, is_write, epoch_for, command_of, refusal, verdict_for, is_witness}
 use Rattle.petal_rules.specs.World.{lines_of, next_line}
 
 -- the line of a client's request of this number. The first has number 1
@@ -36,16 +37,19 @@ answer_of ending.Full = answer.NoSpace
 
 -- ### What it sends
 
--- what a client may send that has this request open, at this state: words of the agreed log, or its request. A write is of
--- the revision of its latest send
+-- what a client may send that has this request open, at this state: words of the agreed log, or its request, which is of the revision of its
+-- latest send. A read that was told at this revision that the new map has nothing goes to the old one
 pub data Says (state : State) (c : ℕ) (open_now : Option Asked) : Post → Type 0 where
   Of_the_log : (post : Post) → is_logged (subject_of post.body) ≡ true → Says state c open_now post
   A_write : (asked : Asked) (name : List ℕ) (block : ℕ) (pattern : Pattern) (disk : DiskView) (to : ℕ) → open_now ≡ Some asked
       → asked.request ≡ request.Write name block pattern → find state name ≡ Some disk → asked.rev ≡ state.rev
-      → Says state c open_now (record { to = actor.Server to; body = body.Write c asked.seq (cell_on disk block) disk.epoch (pattern_block pattern) })
+      → Says state c open_now (record {
+        to = actor.Server to;
+        body = body.Write c asked.seq (cell_asked state disk block false) disk.epoch (pattern_block pattern);
+      })
   A_read : (asked : Asked) (name : List ℕ) (snap : Option (List ℕ)) (block : ℕ) (disk : DiskView) (epoch to : ℕ) → open_now ≡ Some asked
-      → asked.request ≡ request.Read name snap block → find state name ≡ Some disk → epoch_for state disk snap ≡ Some epoch
-      → Says state c open_now (record { to = actor.Server to; body = body.Read c asked.seq (cell_on disk block) epoch })
+      → asked.request ≡ request.Read name snap block → find state name ≡ Some disk → epoch_for state disk snap ≡ Some epoch → asked.rev ≡ state.rev
+      → Says state c open_now (record { to = actor.Server to; body = body.Read c asked.seq (cell_asked state disk block asked.old_way) epoch })
 
 -- it sends nothing else, at the state that the step leaves, and answers nothing
 pub record OnlySays (servers c : ℕ) (reacted : Reaction) : Type 0 where
@@ -54,24 +58,34 @@ pub record OnlySays (servers c : ℕ) (reacted : Reaction) : Type 0 where
 
 -- ### What stays open
 
+-- how a request stands that may have been sent once more: at the revision of its latest send it goes on by the way that it went; at another
+-- one, which is that of the step's end, it is sent as ever
+pub data WasSent (rev : ℕ) (old new : Asked) : Type 0 where
+  As_it_was : new.rev ≡ old.rev → new.old_way ≡ old.old_way → WasSent rev old new
+  Anew : new.rev ≡ rev → new.old_way ≡ false → WasSent rev old new
+
 -- a request that stays open may have been sent once more, at the revision that the step leaves, or had a Witness more, or, of a
 -- settle, a server more in its round, or another round
 pub record IsSame (rev : ℕ) (old new : Asked) : Type 0 where
   pub line : new.line ≡ old.line
   pub seq : new.seq ≡ old.seq
   pub request : new.request ≡ old.request
-  pub sent : (new.rev ≡ old.rev) ⊎ (new.rev ≡ rev)
+  pub told : new.told ≡ old.told
+  pub sent : WasSent rev old new
 
 abbrev pub StaysOpen : ℕ → Option Asked → Option Asked → Type 0
 StaysOpen rev None None = Unit {0}
 StaysOpen rev (Some old) (Some new) = IsSame rev old new
 StaysOpen rev _ _ = ⊥
 
--- the request of this line is open under this number
-pub record IsCalled (line : Line) (seq : ℕ) (asked : Asked) : Type 0 where
+-- the request of this line is open under this number, from this revision on
+pub record IsCalled (line : Line) (seq rev : ℕ) (asked : Asked) : Type 0 where
   pub line_is : asked.line ≡ line.number
   pub seq_is : asked.seq ≡ seq
   pub request_is : asked.request ≡ line.request
+  pub rev_is : asked.rev ≡ rev
+  pub untold : asked.told ≡ false
+  pub new_way : asked.old_way ≡ false
 
 -- ### Answers by an entry
 
@@ -80,7 +94,7 @@ pub record IsCalled (line : Line) (seq : ℕ) (asked : Asked) : Type 0 where
 pub data IsReason (c : ℕ) (asked : Asked) (given : Answer) (state : State) (entry : Command) : Type 0 where
   By_verdict : (command : Command) → command_of c asked.seq asked.request ≡ Some command → verdict_for asked.seq (latest state c) ≡ Some given
       → IsReason c asked given state entry
-  By_witness : command_of c asked.seq asked.request ≡ None → is_witness c asked.seq entry ≡ true → refusal state asked.request ≡ Some given
+  By_witness : command_of c asked.seq asked.request ≡ None → is_witness c asked.seq entry ≡ true → refusal state asked.told asked.request ≡ Some given
       → IsReason c asked given state entry
 
 -- an entry that the client applied in this step answers its request
@@ -109,13 +123,18 @@ pub data IsSeenAs (state : State) (asked : Asked) (sight : Sight) (given : Answe
 -- ### What it does
 
 -- what a client may have done, in a call or else having heard only what `heard` knows, with the revision of its sender. A
--- reply that ends a request is of the revision of the latest send
+-- reply that ends a request is of the revision of the latest send, and so is one by which a read goes to the old map
 pub data Turned (heard : ℕ → Body → Type 0) (servers : ℕ) (lines : List Line) (c : ℕ) (client : Client) : (in_call : Bool) → Reaction → Type 0 where
   Goes_on : (reacted : Reaction) → reacted.client.seq ≡ client.seq → StaysOpen (length reacted.client.applied) client.asked reacted.client.asked
       → OnlySays servers c reacted
       → Turned heard servers lines c client false reacted
+  Is_told : (reacted : Reaction) (asked : Asked) → heard asked.rev (body.NotHere asked.seq) → client.asked ≡ Some asked → is_read asked.request ≡ true
+      → reacted.client.seq ≡ client.seq
+      → StaysOpen (length reacted.client.applied) (Some (record asked { told = true; old_way = true })) reacted.client.asked
+      → OnlySays servers c reacted
+      → Turned heard servers lines c client false reacted
   Begins : (reacted : Reaction) (line : Line) (asked : Asked) → next_line lines c client ≡ Some line → client.asked ≡ None
-      → reacted.client.seq ≡ client.seq + 1 → reacted.client.asked ≡ Some asked → IsCalled line (client.seq + 1) asked → OnlySays servers c reacted
+      → reacted.client.seq ≡ client.seq + 1 → reacted.client.asked ≡ Some asked → IsCalled line (client.seq + 1) (length client.applied) asked → OnlySays servers c reacted
       → Turned heard servers lines c client true reacted
   Reads : (asked : Asked) (bytes : List ℕ) → heard asked.rev (body.Data asked.seq bytes) → client.asked ≡ Some asked → is_read asked.request ≡ true
       → Turned heard servers lines c client false (answers client asked (answer.Data bytes))

@@ -5,7 +5,7 @@
 //! or the plain machine, and not of what two copies have in common.
 #![tactic(auto)]
 
-ghost use Rattle.std.specs.Prelude.{◌≡◌, ◌++◌, ℕ, Bool, true, List, [], ◌∷◌, Some};
+ghost use Rattle.std.specs.Prelude.{◌≡◌, ◌<◌, ◌++◌, ℕ, Bool, true, List, [], ◌∷◌, Some};
 ghost use Rattle.petal_base.specs.declared.cell.Cell.{Cell};
 ghost use Rattle.global_tables.specs.Link.{has_server};
 ghost use Rattle.global_tables.specs.declared.link.LinkRow.{LinkRow};
@@ -22,7 +22,9 @@ ghost use Rattle.petal_history.specs.Legal.{IsLegal, world_after};
 ghost use Rattle.petal_history.specs.Sound.{IsSound};
 ghost use Rattle.petal_history.specs.declared.record.Record.{Record};
 ghost use Rattle.law_state.specs.Below.{IsBelow};
+ghost use Rattle.law_state.specs.Homes.{stage_at};
 ghost use Rattle.law_state.specs.Steady.{IsSteady};
+ghost use Rattle.law_steps.specs.Coming.{AreComing};
 ghost use Rattle.law_steps.specs.Happens.{Happens};
 ghost use Rattle.law_steps.specs.Ready.{IsReady, Rests};
 ghost use Rattle.law_steps.specs.Ties.{StaysAloneOrCaught, StaysInBoth};
@@ -33,14 +35,20 @@ pub fn what_is_chosen_is_steady()
     ensures { (script : Script) (records : List Record) → IsSound script → IsLegal script records → IsSteady (chosen_state (setting_of script) (world_after (setting_of script) (start (setting_of script)) records)) }
 {}
 
-/// After every legal history, what waits in a queue was sent to its server, and a pending operation is of a client's write, on a cell that
-/// its server leads, by the server's own state, and rests in one of four stages where the cell is in Both; and the server has started no
-/// ballot for the Caught of the cell's link. While the server runs this is so by what is chosen, too. A copy that is under way is of a
-/// link that the server holds alone by its own state, and whose pages are done; and the last copy to a server is of a link that the other
-/// one holds.
+/// After every legal history, what waits in a queue was sent to its server, and a pending operation is of a client's write or an entry that
+/// moves. While its cell is live, by the server's own state, the server leads the cell's link, and the operation rests in one of four stages
+/// where the link is in Both; and the server has started no ballot for the Caught of the link. While the server runs this is so by what is
+/// chosen, too. A copy that is under way is of a live cell of a link that the server holds alone by its own state, and whose pages are
+/// done; and the last copy to a server is of a link that the other one holds, or of a dead cell.
 pub fn operations_rest_in_four_stages()
     ensures chosen { (script : Script) (records : List Record) → IsSound script → IsLegal script records → (n : ℕ) → ((world_after (setting_of script) (start (setting_of script)) records).servers n).life.running ≡ true → IsReady (chosen_state (setting_of script) (world_after (setting_of script) (start (setting_of script)) records)) n (has_proposed (server_state (setting_of script) (world_after (setting_of script) (start (setting_of script)) records) n) ((world_after (setting_of script) (start (setting_of script)) records).servers n).own) ((world_after (setting_of script) (start (setting_of script)) records).servers n).own.pairs.pending }
     ensures own { (script : Script) (records : List Record) → IsSound script → IsLegal script records → Rests (setting_of script) (world_after (setting_of script) (start (setting_of script)) records) }
+{}
+
+/// After every legal history, each entry that was ever sent so that it moves is of a cell whose region was on its way at the letter's
+/// revision, and so is each operation that was opened for one, at the revision at which it was.
+pub fn entries_move_to_cells_on_their_way()
+    ensures { (script : Script) (records : List Record) → IsSound script → IsLegal script records → AreComing (setting_of script) (world_after (setting_of script) (start (setting_of script)) records) }
 {}
 
 /// The step that each record of a legal history tells of is of one of the kinds that the relation names, at every state from
@@ -51,8 +59,8 @@ pub fn each_step_is_of_a_kind()
 
 /// While a server runs, and is In as itself, it is tied to what is chosen from its own entries on: a link that was in Both is so at the
 /// same place, or the server holds it alone; and one that it held alone it holds so still, or it is in Both by a Caught for which the
-/// server has started the ballot, right behind its own entries.
+/// server has started the ballot, right behind its own entries. This is said while the cell is not dead.
 pub fn a_running_server_is_tied_to_what_is_chosen()
-    ensures both { (script : Script) (records : List Record) → IsSound script → IsLegal script records → (n : ℕ) (front more : List Command) → ((world_after (setting_of script) (start (setting_of script)) records).servers n).life.running ≡ true → IsPrefix ((world_after (setting_of script) (start (setting_of script)) records).servers n).log.applied front → IsPrefix front more → IsPrefix more (chosen_log (setting_of script) (world_after (setting_of script) (start (setting_of script)) records)) → is_in (state_after script.servers front) n ((world_after (setting_of script) (start (setting_of script)) records).servers n).life.inc ≡ true → (cell : Cell) (row : LinkRow) → cell_link (state_after script.servers front) cell ≡ Some row → has_server n row ≡ true → row.state ≡ Both → StaysInBoth (setting_of script) n front more cell row }
-    ensures alone { (script : Script) (records : List Record) → IsSound script → IsLegal script records → (n : ℕ) (front more : List Command) → ((world_after (setting_of script) (start (setting_of script)) records).servers n).life.running ≡ true → IsPrefix ((world_after (setting_of script) (start (setting_of script)) records).servers n).log.applied front → IsPrefix front more → IsPrefix more (chosen_log (setting_of script) (world_after (setting_of script) (start (setting_of script)) records)) → is_in (state_after script.servers front) n ((world_after (setting_of script) (start (setting_of script)) records).servers n).life.inc ≡ true → (cell : Cell) (row : LinkRow) → cell_link (state_after script.servers front) cell ≡ Some row → has_server n row ≡ true → (whole : Bool) → row.state ≡ Only n whole → StaysAloneOrCaught (setting_of script) (world_after (setting_of script) (start (setting_of script)) records) n front more cell }
+    ensures both { (script : Script) (records : List Record) → IsSound script → IsLegal script records → (n : ℕ) (front more : List Command) → ((world_after (setting_of script) (start (setting_of script)) records).servers n).life.running ≡ true → IsPrefix ((world_after (setting_of script) (start (setting_of script)) records).servers n).log.applied front → IsPrefix front more → IsPrefix more (chosen_log (setting_of script) (world_after (setting_of script) (start (setting_of script)) records)) → is_in (state_after script.servers front) n ((world_after (setting_of script) (start (setting_of script)) records).servers n).life.inc ≡ true → (cell : Cell) (row : LinkRow) → cell_link (state_after script.servers front) cell ≡ Some row → has_server n row ≡ true → stage_at (state_after script.servers more) cell < 4 → row.state ≡ Both → StaysInBoth (setting_of script) n front more cell row }
+    ensures alone { (script : Script) (records : List Record) → IsSound script → IsLegal script records → (n : ℕ) (front more : List Command) → ((world_after (setting_of script) (start (setting_of script)) records).servers n).life.running ≡ true → IsPrefix ((world_after (setting_of script) (start (setting_of script)) records).servers n).log.applied front → IsPrefix front more → IsPrefix more (chosen_log (setting_of script) (world_after (setting_of script) (start (setting_of script)) records)) → is_in (state_after script.servers front) n ((world_after (setting_of script) (start (setting_of script)) records).servers n).life.inc ≡ true → (cell : Cell) (row : LinkRow) → cell_link (state_after script.servers front) cell ≡ Some row → has_server n row ≡ true → stage_at (state_after script.servers more) cell < 4 → (whole : Bool) → row.state ≡ Only n whole → StaysAloneOrCaught (setting_of script) (world_after (setting_of script) (start (setting_of script)) records) n front more cell }
 {}

@@ -1,4 +1,4 @@
--- No job makes a store wait to be filled, or takes that away; and a ballot leaves the store as it is.
+-- No job makes a store wait to be filled by others, or takes that away; and a ballot leaves the store as it is.
 use Rattle.std.proofs.Common.{◌≡◌, refl, ◌∙◌}
 use Rattle.busy_marks.specs.Marks.{above}
 use Rattle.global_tables.specs.declared.link.LinkRow.{LinkRow}
@@ -8,8 +8,16 @@ use Rattle.petal_command.specs.declared.command.Command.TheVariants.{Caught}
 use Rattle.petal_msg.specs.declared.body.Body.{Body}
 use Rattle.petal_msg.specs.declared.copying.Copying.{Copying}
 use Rattle.petal_msg.specs.declared.copying.LastCopy.{LastCopy}
+use Rattle.petal_msg.specs.declared.dead.Dead.{Dead}
+use Rattle.petal_msg.specs.declared.dead.Dead.TheVariants as dead
+use Rattle.petal_msg.specs.declared.operation.Action.{Action}
+use Rattle.petal_msg.specs.declared.operation.Action.TheVariants as action
+use Rattle.petal_msg.specs.declared.operation.Ending.{Ending}
+use Rattle.petal_msg.specs.declared.operation.Ending.TheVariants as ending
 use Rattle.petal_msg.specs.declared.operation.Far.{Far}
 use Rattle.petal_msg.specs.declared.operation.Far.TheVariants as far
+use Rattle.petal_msg.specs.declared.operation.OpKind.{OpKind}
+use Rattle.petal_msg.specs.declared.operation.OpKind.TheVariants as kind
 use Rattle.petal_msg.specs.declared.operation.Pending.{Pending}
 use Rattle.std.specs.Prelude.{ℕ, Bool, Option, Some, None}
 use Rattle.petal_rules.specs.Copies.{with_copied, with_page}
@@ -17,13 +25,16 @@ use Rattle.petal_rules.specs.Progress.{progress_on, with_progress}
 use Rattle.petal_rules.specs.Returns.{holds_link, proposed}
 use Rattle.petal_rules.specs.Server.{Own, Here, Done}
 use Rattle.petal_rules.specs.State.{State, link_named}
-use Rattle.petal_rules.specs.Writes.{tells}
+use Rattle.petal_rules.specs.Sweeping.{without_dead}
+use Rattle.petal_rules.specs.Writes.{acts, ends, gives_back, gives_up, next_stage, tells, without_pending}
 use Rattle.petal_rules.proofs.Tests.{by_test}
-use Rattle.law_steps.specs.Did.{Did, Ignores, Refuses, By_read, By_lead, By_second, By_holder, By_other}
+use Rattle.law_steps.specs.Did.{Did, Ignores, Refuses, By_read, By_lead, By_second, By_holder, By_other, By_filler, By_sweep}
+use Rattle.law_steps.specs.DidFiller.{DidFiller, Is_filled, Is_out_of_slots}
 use Rattle.law_steps.specs.DidHolder.{DidHolder, CopyStep, Asks_to_trim, Sends, Unmarks_copied, Closes_copy, TakenCopy, Copy_as_is, Copy_trimmed, Copy_synced, Asks_page, Turns_page, Begins_copy, Goes_on_copying, Finds_it_full, Tidies}
-use Rattle.law_steps.specs.DidLead.{DidLead, Asks_for, Repeats, Is_full, Opens, Marks, Puts, Gives_up, Unmarks, Closes, Opens_alone, Marks_alone, Puts_alone, Unmarks_alone, Closes_alone, Taken, As_it_is, As_told}
+use Rattle.law_steps.specs.DidLead.{DidLead, Asks_for, Repeats, Is_full, Opens, Marks, Puts, Gives_up, Unmarks, Closes, Opens_alone, Marks_alone, Puts_alone, Unmarks_alone, Closes_alone, Opens_fill, Opens_fill_alone, Has_fill, Has_no_room, Goes_on_dead, Taken, As_it_is, As_told}
 use Rattle.law_steps.specs.DidOther.{DidOther, TrimStep, Is_trimmed, Drops_entry, Answers_page, Is_copied_to, Goes_on_trimming, Puts_entry, Has_entry, Has_no_slot}
-use Rattle.law_steps.specs.DidRead.{DidRead, Shows}
+use Rattle.law_steps.specs.DidRead.{DidRead, Shows, Not_here}
+use Rattle.law_steps.specs.DidSweep.{DidSweep, Sweeps}
 use Rattle.law_steps.specs.DidSecond.{DidSecond, Sets_apart, Promises, Declines, Follows}
 
 -- whether the own part's store waits to be filled
@@ -43,27 +54,51 @@ page_waits own row (Some block) = refl
 
 module _ (heard : Body → Type 0) (here : Here) (own : Own) where
   read_waits : (done : Done) → DidRead heard here own done → waits done.own ≡ waits own
-  read_waits _ (Shows client seq cell epoch h seat reads free) = refl
+  read_waits _ (Shows client seq cell epoch h found) = refl
+  read_waits _ (Not_here client seq cell epoch h comes none) = refl
 
   taken_waits : (now : Own) (op : Pending) → Taken own now op → waits now ≡ waits own
   taken_waits _ _ (As_it_is op is) = refl
   taken_waits _ _ (As_told op reserved paired is) = refl
 
+  ends_waits : (now : Own) (op : Pending) (what : OpKind) (how : Ending) → waits (ends here now op what how).own ≡ waits now
+  ends_waits now op kind.Write how = refl
+  ends_waits now op kind.Fill how = refl
+  ends_waits now op kind.Copy how = refl
+
+  up_waits : (now : Own) (op : Pending) → waits (gives_up now op) ≡ waits now
+  up_waits now op = by_test (λ (left : Own). waits left ≡ waits now) op.stage.put _ _ (λ e. refl) (λ e. refl)
+
+  act_waits : (now : Own) (op : Pending) (what : Action) → waits (acts here now op what).own ≡ waits now
+  act_waits now op action.Reserve = refl
+  act_waits now op (action.Mark kind) = refl
+  act_waits now op action.Put = refl
+  act_waits now op action.Replicate = refl
+  act_waits now op (action.Unmark kind) = refl
+  act_waits now op action.Answer = ends_waits (without_pending now op.cell) op op.kind ending.Written
+  act_waits now op action.Drop = up_waits now op
+
   lead_waits : (done : Done) → DidLead heard here own done → waits done.own ≡ waits own
   lead_waits _ (Asks_for posts h) = refl
   lead_waits _ (Repeats want last h lead is e) = refl
   lead_waits _ (Is_full want new no_room) = refl
-  lead_waits _ (Gives_up op h is reserved put) = refl
+  lead_waits _ (Gives_up op h is reserved put) = ends_waits (gives_back (without_pending own op.cell)) op op.kind ending.Full
   lead_waits _ (Opens want new both) = refl
   lead_waits _ (Marks op h is both stage) = refl
   lead_waits _ (Puts op is both stage) = refl
   lead_waits _ (Unmarks op h is both stage) = refl
-  lead_waits _ (Closes op is both stage) = refl
+  lead_waits _ (Closes op is both stage) = ends_waits (without_pending own op.cell) op op.kind ending.Written
   lead_waits _ (Opens_alone want new on) = refl
   lead_waits _ (Marks_alone now op taken on fresh) = taken_waits now op taken
   lead_waits _ (Puts_alone now op taken on stale put) = taken_waits now op taken
   lead_waits _ (Unmarks_alone now op taken on stale put busy) = taken_waits now op taken
-  lead_waits _ (Closes_alone now op taken on stale put free) = taken_waits now op taken
+  lead_waits _ (Closes_alone now op taken on stale put free) =
+      ends_waits (without_pending now op.cell) op op.kind ending.Written ∙ taken_waits now op taken
+  lead_waits _ (Opens_fill moving new room both) = refl
+  lead_waits _ (Opens_fill_alone moving new room on) = refl
+  lead_waits _ (Has_fill moving there) = refl
+  lead_waits _ (Has_no_room moving new full) = refl
+  lead_waits _ (Goes_on_dead now op taken dead) = act_waits now op (next_stage here.state here.me op) ∙ taken_waits now op taken
 
   told_waits : (cell : Cell) (number : ℕ) (how : Far) → waits (tells here own cell number how).own ≡ waits own
   told_waits cell number far.Reserved = refl
@@ -106,6 +141,17 @@ module _ (heard : Body → Type 0) (here : Here) (own : Own) where
   other_waits _ (Has_entry entry holder last of_copy lt) = refl
   other_waits _ (Has_no_slot entry holder last of_copy at full) = refl
 
+  filler_waits : (done : Done) → DidFiller heard here own done → waits done.own ≡ waits own
+  filler_waits _ (Is_filled key row posts h next only) = refl
+  filler_waits _ (Is_out_of_slots key row h next) = refl
+
+  dead_waits : (what : Dead) → (without_dead own.store what).fresh ≡ waits own
+  dead_waits (dead.Key key) = refl
+  dead_waits (dead.Mark kind cell) = refl
+
+  sweep_waits : (done : Done) → DidSweep here own done → waits done.own ≡ waits own
+  sweep_waits _ (Sweeps what seat next gone) = dead_waits what
+
   pub did_waits : (done : Done) → Did heard here own done → waits done.own ≡ waits own
   did_waits _ Ignores = refl
   did_waits _ (Refuses to said is busy held) = refl
@@ -114,6 +160,8 @@ module _ (heard : Body → Type 0) (here : Here) (own : Own) where
   did_waits _ (By_second done d) = second_waits done d
   did_waits _ (By_holder done d) = holder_waits done d
   did_waits _ (By_other done d) = other_waits done d
+  did_waits _ (By_filler done d) = filler_waits done d
+  did_waits _ (By_sweep done d) = sweep_waits done d
 
 link_store : (own : Own) (o : Option LinkRow) → (holds_link own o).store ≡ own.store
 link_store own None = refl

@@ -8,9 +8,10 @@ use Rattle.petal_base.specs.declared.cell.Cell.{Cell}
 use Rattle.petal_table.specs.Table.{Table, at, without}
 use Rattle.petal_msg.specs.declared.operation.Ending.TheVariants.{Full}
 use Rattle.petal_msg.specs.declared.operation.Pending.{Pending}
-use Rattle.petal_rules.specs.Server.{Own, Here, silent}
-use Rattle.petal_rules.specs.Store.{Store, cell_cmp, without_ticket}
-use Rattle.petal_rules.specs.Writes.{acts, finishes, gives_back, goes_on, goes_on_with, next_stage, without_pending}
+use Rattle.petal_rules.specs.Server.{Own, Here, letters_of, sender, silent}
+use Rattle.petal_rules.specs.Server.{Done as Rule}
+use Rattle.petal_rules.specs.Store.{cell_cmp, without_ticket}
+use Rattle.petal_rules.specs.Writes.{acts, ends, gives_back, goes_on, goes_on_with, next_stage, without_pending}
 use Rattle.petal_rules.specs.Writes.{hears_reserved, hears_replicated, is_reserving, is_replicating, on_reserved, on_replicated}
 use Rattle.petal_rules.specs.Writes.{with_pending, with_paired, with_reserved}
 use Rattle.petal_rules.proofs.CellTables.{cell_same}
@@ -21,6 +22,7 @@ use Rattle.pair_side.specs.declared.done.Done.{Done}
 use Rattle.pair_side.specs.Side.{Side, HasTicketsAt, needs_own, own_of}
 use Rattle.pair_side.specs.Done.{IsSaid}
 use Rattle.pair_side.proofs.Tickets as tickets
+use Rattle.lead_write.proofs.Ends.{ends_pending, ends_with, own_with}
 
 pub reserving : (op : Pending) (number : ℕ) → op.op ≡ number → op.stage.reserved ≡ false → is_reserving op number ≡ true
 reserving op number same waits = grind (arith, nat_tests, same, waits)
@@ -52,29 +54,27 @@ pub full_slot : {D : Type 0} (side : Side) (store : Holdings D) (op : Pending) �
 full_slot side store op h there unused =
     tickets.own_slot side.pending side.last side.own side.apart store.tickets h op.cell (ap needs_own there ∙ ap not unused)
 
--- the own part with nothing pending on a cell, and with this store
-abbrev ended_own : Cell → Store → Own → Own
-ended_own cell s own = record { pairs = record own.pairs { pending = without cell_cmp own.pairs.pending cell }; copies = own.copies; store = s }
-
 module _ {D : Type 0} (here : Here) (side after : Side) (store : Holdings D) (op : Pending) (done : Done) where
-  -- nothing else is pending where a request was done with
-  pub finished_pending : IsSaid here side after store store (Ok done) (finishes (own_of side store) op.client op.seq Full) → after.pending ≡ side.pending
-  finished_pending said = ap (λ (own : Own). own.pairs.pending) said.done.own
+  -- nothing else is pending where an operation ended
+  pub finished_pending : IsSaid here side after store store (Ok done) (ends here (own_of side store) op op.kind Full) → after.pending ≡ side.pending
+  finished_pending said = ap (λ (own : Own). own.pairs.pending) said.done.own ∙ ends_pending here (own_of side store) op op.kind Full
 
   pub full_is : (new : Table Cell Pending) (own : Table Cell ℕ) (left : Holdings D) (slot : ℕ) → new ≡ without cell_cmp after.pending op.cell
       → IsStrictlySortedBy cell_cmp (keys_of after.own) → at cell_cmp after.own op.cell ≡ Some slot → own ≡ without cell_cmp after.own op.cell
       → left ≡ record store { tickets = lists.without store.tickets slot }
-      → IsSaid here side after store store (Ok done) (finishes (own_of side store) op.client op.seq Full)
-      → IsSaid here side (record after { pending = new; own = own }) store left (Ok done) (finishes (gives_back (without_pending (own_of side store) op.cell)) op.client op.seq Full)
+      → IsSaid here side after store store (Ok done) (ends here (own_of side store) op op.kind Full)
+      → IsSaid here side (record after { pending = new; own = own }) store left (Ok done) (ends here (gives_back (without_pending (own_of side store) op.cell)) op op.kind Full)
   full_is new own left slot table sorted has gone rest said =
       let out = tickets.own_out after.pending after.last after.own after.apart store.tickets said.keeps op.cell slot has in
       let given = tickets.given_is store (record store { tickets = lists.without store.tickets slot }) slot out refl in
+      let closed : Table Cell Pending = without cell_cmp side.pending op.cell in
+      let left_is : without cell_cmp after.pending op.cell ≡ closed = ap (λ (t : Table Cell Pending). without cell_cmp t op.cell) (finished_pending said) in
+      let with_closed = sym (ends_with here (own_of side store) op op.kind Full closed (without_ticket (store_of store))) in
       rw (table, gone, rest) (record {
         done = record {
-          own = ap (λ (s : Store). ended_own op.cell s (own_of after store)) given
-              ∙ ap (ended_own op.cell (without_ticket (store_of store))) said.done.own;
-          letters = said.done.letters;
-          jobs = said.done.jobs;
+          own = (λ i. own_with (left_is i) (given i) (said.done.own i)) ∙ ap (λ (r : Rule). r.own) with_closed;
+          letters = said.done.letters ∙ ap (λ (r : Rule). letters_of (sender here) 0 r.posts) with_closed;
+          jobs = said.done.jobs ∙ ap (λ (r : Rule). r.jobs) with_closed;
         };
         keeps = tickets.kept_dropped after.pending after.last after.own after.apart store.tickets said.keeps op.cell slot sorted has;
         err = tt;

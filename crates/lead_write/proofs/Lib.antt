@@ -1,3 +1,5 @@
+pub mod Ends
 pub mod Moves
 pub mod Opens
 pub mod Leads
+pub mod Begun

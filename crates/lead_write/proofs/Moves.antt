@@ -16,7 +16,7 @@ use Rattle.petal_rules.specs.declared.job.Job.TheVariants as job
 use Rattle.petal_rules.specs.Server.{Own, Here, Post, silent, sender, letters_of}
 use Rattle.petal_rules.specs.Server.{Done as Rule}
 use Rattle.petal_rules.specs.Store.{Store, cell_cmp, chain_in, version_of, with_entry}
-use Rattle.petal_rules.specs.Writes.{acts, finishes, gives_back, goes_on, goes_on_with, next_stage, with_flag, with_mark_at, with_pending, without_pending}
+use Rattle.petal_rules.specs.Writes.{acts, ends, gives_back, goes_on, goes_on_with, next_stage, with_flag, with_mark_at, with_pending, without_pending}
 use Rattle.petal_rules.proofs.CellTables.{cell_cmp_total}
 use Rattle.pair_lock.specs.Pairs.{staged, at_stage, at_version, versioned}
 use Rattle.server_store.specs.Holdings.{Holdings}
@@ -30,6 +30,7 @@ use Rattle.pair_side.specs.Side.{Side, HasTickets, HasTicketsAt, needs_own, own_
 use Rattle.pair_side.specs.Done.{IsBy, IsDone, IsSaid, only}
 use Rattle.pair_side.proofs.Tickets as tickets
 use Rattle.lead_write.specs.Moved.{IsMoved}
+use Rattle.lead_write.proofs.Ends.{ends_pending, ends_with, own_with}
 
 -- the own part with something else pending
 abbrev pub re_pending : Table Cell Pending → Own → Own
@@ -64,16 +65,18 @@ module _ {D : Type 0} (here : Here) (side : Side) (store : Holdings D) (op : Pen
   closed_is = without_put cell_cmp cell_cmp_total side.pending op.cell op
 
   pub answers_is : (after : Side) (new : Table Cell Pending) (done : Done) → op.stage.put ≡ true → new ≡ without cell_cmp after.pending op.cell
-      → IsSaid here side after store store (Ok done) (finishes (own_of side store) op.client op.seq Written)
+      → IsSaid here side after store store (Ok done) (ends here (own_of side store) op op.kind Written)
       → IsSaid here side (record after { pending = new }) store store (Ok done) (acts here (with_pending (own_of side store) op) op action.Answer)
   answers_is after new done used table said =
-      let same : after.pending ≡ side.pending = ap (λ (own : Own). own.pairs.pending) said.done.own in
+      let closed : Table Cell Pending = without cell_cmp (put cell_cmp side.pending op.cell op) op.cell in
+      let same : after.pending ≡ side.pending = ap (λ (own : Own). own.pairs.pending) said.done.own ∙ ends_pending here (own_of side store) op op.kind Written in
+      let left : without cell_cmp after.pending op.cell ≡ closed = ap (λ (t : Table Cell Pending). without cell_cmp t op.cell) same ∙ sym closed_is in
+      let with_closed = sym (ends_with here (own_of side store) op op.kind Written closed (store_of store)) in
       rw table (record {
         done = record {
-          own = ap (λ (own : Own). re_pending (without cell_cmp own.pairs.pending op.cell) own) said.done.own
-              ∙ ap (λ (t : Table Cell Pending). re_pending t (finishes (own_of side store) op.client op.seq Written).own) (sym closed_is);
-          letters = said.done.letters;
-          jobs = said.done.jobs;
+          own = (λ i. own_with (left i) (store_of store) (said.done.own i)) ∙ ap (λ (r : Rule). r.own) with_closed;
+          letters = said.done.letters ∙ ap (λ (r : Rule). letters_of (sender here) 0 r.posts) with_closed;
+          jobs = said.done.jobs ∙ ap (λ (r : Rule). r.jobs) with_closed;
         };
         keeps = tickets.kept_closed after.pending after.last after.own after.apart store.tickets said.keeps op.cell
             (ap (λ (t : Table Cell Pending). needs_own (at cell_cmp t op.cell)) same ∙ needs ∙ ap not used);
@@ -105,7 +108,7 @@ module _ {D : Type 0} (here : Here) (side : Side) (store : Holdings D) (op : Pen
       let given = tickets.given_is store (record store { tickets = lists.without store.tickets slot }) slot out refl in
       rw (table, is, gone, rest) (record {
         done = record {
-          own = (λ i. record { pairs = record (own_of side store).pairs { pending = sym closed_is i }; copies = side.copies; store = given i })
+          own = (λ i. record { pairs = record (own_of side store).pairs { pending = sym closed_is i }; copies = side.copies; filled = side.filled; store = given i })
               ∙ sym (ap (given_up (with_pending (own_of side store) op) op.cell) unused);
           letters = refl;
           jobs = refl;
@@ -127,7 +130,7 @@ module _ {D : Type 0} (here : Here) (side : Side) (store : Holdings D) (op : Pen
 
   -- the own part after a put with this version, where these are pending and this is the store
   abbrev put_own : Table Cell Pending → Store → Own
-  put_own t s = record { pairs = record (own_of side store).pairs { pending = t }; copies = side.copies; store = s }
+  put_own t s = record { pairs = record (own_of side store).pairs { pending = t }; copies = side.copies; filled = side.filled; store = s }
 
   pub puts_done : (new : Table Cell Pending) (own : Table Cell ℕ) (after : Holdings D) (version : ℕ) (done : Done)
       → new ≡ versioned side.pending op.cell version (record op.stage { put = true }) (at cell_cmp side.pending op.cell)

@@ -1,4 +1,3 @@
 pub mod Moved
 pub mod Opened
 pub mod Wanted
-pub mod Anew

@@ -4,13 +4,13 @@ ghost use Rattle.std.specs.Prelude.{◌≡◌, ◌+◌, ◌++◌, length, IfOk};
 ghost use Rattle.std.specs.List.{flat_map};
 ghost use Rattle.petal_rules.specs.Server.{Own, letters_of, sender};
 ghost use Rattle.petal_rules.specs.Jobs.{sent_anew};
-ghost use Rattle.lead_write.specs.Anew.{posts_of};
+ghost use Rattle.pair_side.specs.Letters.{posts_of};
 
 use crate::stage::next_stage;
 use pair_lock::PairLock;
-use pair_side::{Here, Side};
+use pair_side::{Here, Side, with_letter};
 use petal_base::{NoMemory, Sequence, ServerId};
-use petal_msg::{Action, Actor, Body, Letter, Pending};
+use petal_msg::{Action, Body, Letter, Pending};
 
 /// The letter that an operation sends, with its content, if it waits for an answer.
 fn awaited(here: &Here, op: &Pending) -> Result<Option<(ServerId, Body)>, NoMemory>
@@ -42,19 +42,13 @@ fn awaited(here: &Here, op: &Pending) -> Result<Option<(ServerId, Body)>, NoMemo
 /// The letters of the step so far with those of one operation more, and the number of the next letter.
 fn with_awaited(
     here: &Here,
-    mut letters: Sequence<Letter>,
+    letters: Sequence<Letter>,
     nth: u32,
     op: &Pending,
 ) -> Result<(Sequence<Letter>, u32), NoMemory>
     ensures { IfOk result (λ more. (own : Own) → (more.0 ≡ letters ++ letters_of (sender here.now) nth (sent_anew here.now own op.now)) × (more.1 ≡ nth + length (sent_anew here.now own op.now))) }
 {
-    match awaited(here, op)? {
-        None => Ok((letters, nth)),
-        Some((to, body)) => {
-            letters.push(here.letter(Actor::Server(to), nth, body))?;
-            Ok((letters, nth.checked_add(1).ok_or(NoMemory)?))
-        }
-    }
+    with_letter(here, letters, nth, awaited(here, op)?)
 }
 
 fn all_after(

@@ -10,7 +10,8 @@ ghost use Rattle.pair_side.specs.Side.{own_of, HasTicketsAt};
 ghost use Rattle.pair_side.specs.Done.{HasVersions, IsDone, IsSaid};
 
 use crate::acts::acts;
-use pair_side::{Done, Here, Side, WorkError, finishes, give_back, silent};
+use crate::end::ends;
+use pair_side::{Done, Here, Side, WorkError, give_back, silent};
 use petal_base::{Cell, Op};
 use petal_disk::Disk;
 use petal_msg::{Ending, Pending};
@@ -66,9 +67,9 @@ fn ends_full<D: Disk>(
     requires there { at cell_cmp side.old.pending op.now.cell ≡ Some op.now }
     requires unused { op.now.stage.put ≡ false }
     ensures { IsSaid here.now side.old side.new store.old store.new result
-        (writes.finishes (writes.gives_back (writes.without_pending (own_of side.old store.old) op.now.cell)) op.now.client op.now.seq ending.Full) }
+        (writes.ends here.now (writes.gives_back (writes.without_pending (own_of side.old store.old) op.now.cell)) op.now op.now.kind ending.Full) }
 {
-    let done = finishes(here, side, store, op.client, op.seq, Ending::Full)?;
+    let done = ends(here, side, store, op, Ending::Full)?;
     side.locks.close(op.cell);
     give_back(&mut side.own, store, op.cell);
     Ok(done)
@@ -87,7 +88,7 @@ pub fn on_pair_full<D: Disk>(
     cell: Cell,
 ) -> Result<Done, WorkError>
     requires tickets { HasTicketsAt side.old store.old }
-    ensures { IsSaid here.now side.old side.new store.old store.new result (writes.on_pair_full (own_of side.old store.old) op cell) }
+    ensures { IsSaid here.now side.old side.new store.old store.new result (writes.on_pair_full here.now (own_of side.old store.old) op cell) }
 {
     match side.pending_on(cell)? {
         Some(pending) if pending.op == op && !pending.stage.reserved && !pending.stage.put => {

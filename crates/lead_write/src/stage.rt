@@ -7,6 +7,21 @@ use busy_marks::MarkKind;
 use pair_side::Here;
 use petal_msg::{Action, Pending, Stage};
 
+/// Nothing is done yet.
+pub fn first_stage() -> Stage
+    ensures { result ≡ writes.first_stage }
+{
+    Stage {
+        reserved: false,
+        busy: false,
+        stale: false,
+        put: false,
+        paired: false,
+        trimmed: false,
+        index: 0,
+    }
+}
+
 /// What a pending operation does next, by its cell's link as it now is; `Drop` exactly where this server does not lead the link.
 pub fn next_stage(here: &Here, pending: &Pending) -> Action
     ensures { result ≡ writes.next_stage here.now.state here.now.me pending.now }

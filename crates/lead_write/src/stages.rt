@@ -11,9 +11,10 @@ ghost use Rattle.pair_side.specs.Side.{own_of, HasTicketsAt};
 ghost use Rattle.pair_side.specs.Done.{HasVersions, IsDone, IsSaid};
 ghost use Rattle.lead_write.specs.Moved.{IsMoved};
 
+use crate::end::ends;
 use busy_marks::MarkKind;
 use kept_chains::{mark, next_version, unmark};
-use pair_side::{Done, FollowUp, Here, Side, WorkError, finishes, give_back, only, spend};
+use pair_side::{Done, FollowUp, Here, Side, WorkError, give_back, only, spend};
 use petal_base::{Cell, Sequence};
 use petal_disk::Disk;
 use petal_msg::{Body, Ending, Pending, Stage};
@@ -37,7 +38,7 @@ pub fn waits<D: Disk>(
     Ok(only(letters))
 }
 
-/// The client is told that its write is done.
+/// What the operation was opened for is done.
 pub fn answers<D: Disk>(
     here: &Here,
     side: &mut Side,
@@ -50,7 +51,7 @@ pub fn answers<D: Disk>(
     ensures { IsSaid here.now side.old side.new store.now store.now result
         (writes.acts here.now (writes.with_pending (own_of side.old store.now) op.now) op.now action.Answer) }
 {
-    let done = finishes(here, side, store, op.client, op.seq, Ending::Written)?;
+    let done = ends(here, side, store, op, Ending::Written)?;
     side.locks.close(op.cell);
     Ok(done)
 }

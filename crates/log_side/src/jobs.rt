@@ -128,7 +128,7 @@ impl LogSide {
     {
         match job {
             Job::Letter(letter) => self.on_letter(alloc, state, letter),
-            Job::Stage(_) | Job::Mend(_) | Job::Start => self.quiet(alloc, state),
+            Job::Stage(_) | Job::Mend(_) | Job::Sweep | Job::Start => self.quiet(alloc, state),
             Job::Apply => self.applied(alloc, state),
         }
     }

@@ -1,5 +1,5 @@
 -- However a job's step is called, it leaves the same.
-use Rattle.std.proofs.Common.{◌≡◌, Bool, true, false, refl, sym, ap}
+use Rattle.std.proofs.Common.{◌≡◌, Bool, true, false, refl, ap}
 use Rattle.petal_rules.specs.declared.step.Step.TheVariants.{Boot, Work}
 use Rattle.petal_rules.specs.declared.step.WorkEnd.{WorkEnd}
 use Rattle.petal_rules.specs.declared.step.WorkEnd.TheVariants.{Done, Fault}

@@ -69,6 +69,7 @@ commits here server (job.Apply ∷ rest) = record { once = inl (applies_records 
 commits here server (job.Letter letter ∷ rest) = one_part here server (job.Letter letter) rest (is_log_job (job.Letter letter))
 commits here server (job.Stage cell ∷ rest) = one_part here server (job.Stage cell) rest false
 commits here server (job.Mend link ∷ rest) = one_part here server (job.Mend link) rest false
+commits here server (job.Sweep ∷ rest) = one_part here server job.Sweep rest false
 commits here server (job.Start ∷ rest) = record { once = inr (ap on_device (proposed_store here.state server.own _)); life = refl }
 
 works_is : (here : Here) (server : Server) (queue : List Job) → (after_first here server queue).own.store.records ≤ journal_records
@@ -83,7 +84,7 @@ abbrev pub left_with : ℕ → Store → List StateRecord → Server
 left_with inc store records = record {
   life = record { running = false; inc = inc };
   log = record first_log { records = records };
-  own = record { pairs = no_pairs; copies = no_copies; store = on_device store };
+  own = record { pairs = no_pairs; copies = no_copies; filled = []; store = on_device store };
   queue = [];
 }
 

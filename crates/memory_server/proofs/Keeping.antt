@@ -1,9 +1,6 @@
 -- What stays known of a server whose data device may be a blank one.
-use Rattle.std.proofs.Common.{◌≡◌, ◌≤◌, ℕ, ◌+◌, Bool, true, false, Option, None, Some, refl, sym, ap, subst, ◌∙◌, arith}
-use Rattle.std.specs.Prelude.{IfSome, is_some, if◌then◌else◌}
-use Rattle.log_side.specs.Done as logs
-use Rattle.pair_side.specs.Done.{HoldsAt}
-use Rattle.pair_side.specs.Side.{HasTicketsAt, Side}
+use Rattle.std.proofs.Common.{◌≡◌, ◌≤◌, Bool, true, false, Option, None, Some, refl, sym, ap, ◌∙◌}
+use Rattle.std.specs.Prelude.{is_some, if◌then◌else◌}
 use Rattle.petal_disk.specs.declared.disk.Disk.{Ghosts}
 use Rattle.server_core.specs.Core.{Core}
 use Rattle.server_store.specs.Holdings.{Holdings}

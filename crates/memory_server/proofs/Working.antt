@@ -1,5 +1,5 @@
 -- A job that was done, or that met a full journal, as the rules have it.
-use Rattle.std.proofs.Common.{◌≡◌, true, false, List, [], None, sym, ap, subst, ◌∙◌}
+use Rattle.std.proofs.Common.{◌≡◌, false, List, [], None, sym, ap, subst, ◌∙◌}
 use Rattle.kept_chains.specs.Kept.{store_of}
 use Rattle.log_side.specs.Done as logs
 use Rattle.pair_side.specs.Done.{HoldsAt}

@@ -22,25 +22,25 @@ use Rattle.pair_side.specs.Copies.{by_link, id_of_key, key_of, restored, with_pr
 abbrev pub key_cmp : LinkKey → LinkKey → Ordering
 key_cmp a b = ordering_then (nat_cmp a.map b.map) (nat_cmp a.link b.link)
 
-pub at_link : (rows : Table LinkKey Progress) (id : LinkId) → at link_cmp (by_link rows) id ≡ at key_cmp rows (key_of id)
+pub at_link : {X : Type 0} (rows : Table LinkKey X) (id : LinkId) → at link_cmp (by_link rows) id ≡ at key_cmp rows (key_of id)
 unfolding at
 at_link [] id = refl
 at_link (row ∷ rows) id = ap (cond (is_eq (key_cmp (key_of id) row.0)) (Some row.1)) (at_link rows id)
 
-pub put_link : (rows : Table LinkKey Progress) (id : LinkId) (progress : Progress)
-    → by_link (put key_cmp rows (key_of id) progress) ≡ put link_cmp (by_link rows) id progress
+pub put_link : {X : Type 0} (rows : Table LinkKey X) (id : LinkId) (value : X)
+    → by_link (put key_cmp rows (key_of id) value) ≡ put link_cmp (by_link rows) id value
 unfolding put
-put_link [] id progress = refl
-put_link (row ∷ rows) id progress =
-    let later = put_link rows id progress in
-    elim (key_cmp (key_of id) row.0) as (λ o. by_link (match_ordering o ((key_of id, progress) ∷ row ∷ rows) ((row.0, progress) ∷ rows) (row ∷ insert_entry key_cmp rows (key_of id) progress))
-    ≡ match_ordering o ((id, progress) ∷ by_link (row ∷ rows)) ((id_of_key row.0, progress) ∷ by_link rows) ((id_of_key row.0, row.1) ∷ insert_entry link_cmp (by_link rows) id progress)) [
+put_link [] id value = refl
+put_link (row ∷ rows) id value =
+    let later = put_link rows id value in
+    elim (key_cmp (key_of id) row.0) as (λ o. by_link (match_ordering o ((key_of id, value) ∷ row ∷ rows) ((row.0, value) ∷ rows) (row ∷ insert_entry key_cmp rows (key_of id) value))
+    ≡ match_ordering o ((id, value) ∷ by_link (row ∷ rows)) ((id_of_key row.0, value) ∷ by_link rows) ((id_of_key row.0, row.1) ∷ insert_entry link_cmp (by_link rows) id value)) [
       | Less ↦ refl
       | Equal ↦ refl
       | Greater ↦ ap (λ more. (id_of_key row.0, row.1) ∷ more) later
     ]
 
-pub left_links : (test : LinkId → Bool) (rows : Table LinkKey Progress)
+pub left_links : {X : Type 0} (test : LinkId → Bool) (rows : Table LinkKey X)
     → by_link (filter (λ row. test (id_of_key row.0)) rows) ≡ filter (λ row. test row.0) (by_link rows)
 left_links test [] = refl
 left_links test (row ∷ rows) =
@@ -51,17 +51,17 @@ left_links test (row ∷ rows) =
       | false ↦ later
     ]
 
-pub without_link : (rows : Table LinkKey Progress) (id : LinkId) → by_link (without key_cmp rows (key_of id)) ≡ without link_cmp (by_link rows) id
+pub without_link : {X : Type 0} (rows : Table LinkKey X) (id : LinkId) → by_link (without key_cmp rows (key_of id)) ≡ without link_cmp (by_link rows) id
 unfolding without
 without_link rows id = left_links (λ other. not (is_eq (link_cmp id other))) rows
 
-above_links : (key : LinkKey) (rows : Table LinkKey Progress) → AllByRecursion (λ k. key_cmp key k ≡ Less) (keys_of rows)
+above_links : {X : Type 0} (key : LinkKey) (rows : Table LinkKey X) → AllByRecursion (λ k. key_cmp key k ≡ Less) (keys_of rows)
     → AllByRecursion (λ k. link_cmp (id_of_key key) k ≡ Less) (keys_of (by_link rows))
 above_links key [] h = h
 above_links key (row ∷ rows) h = (h.0, above_links key rows h.1)
 
 -- rows that rise by key rise by the links' names
-pub sorted_links : (rows : Table LinkKey Progress) → IsStrictlySortedBy key_cmp (keys_of rows) → IsStrictlySortedBy link_cmp (keys_of (by_link rows))
+pub sorted_links : {X : Type 0} (rows : Table LinkKey X) → IsStrictlySortedBy key_cmp (keys_of rows) → IsStrictlySortedBy link_cmp (keys_of (by_link rows))
 unfolding IsStrictlySortedBy
 sorted_links [] h = h
 sorted_links (row ∷ rows) h = (above_links row.0 rows h.0, sorted_links rows h.1)

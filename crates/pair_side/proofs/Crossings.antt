@@ -14,16 +14,19 @@ use Rattle.petal_command.specs.declared.command.Command.{Command}
 use Rattle.petal_table.specs.Table.{Table, at, without}
 use Rattle.petal_table.proofs.Rows.{at-where, remove_is_without}
 use Rattle.petal_msg.specs.declared.operation.LastOp.{LastOp}
-use Rattle.petal_rules.specs.Crossing.{copies_crossed, loses_slot, touches_cell}
+use Rattle.petal_base.specs.declared.cell.Key.{Key}
+use Rattle.petal_msg.specs.declared.copying.LinkId.{LinkId}
+use Rattle.petal_state.specs.Command as commands
+use Rattle.petal_rules.specs.Crossing.{copies_crossed, ends_cell, loses_slot}
 use Rattle.petal_rules.specs.Server.{Copies}
-use Rattle.petal_rules.specs.State.{State}
+use Rattle.petal_rules.specs.State.{State, link_named}
 use Rattle.petal_rules.specs.Store.{cell_cmp}
 use Rattle.petal_rules.specs.Writes.{has_slot}
 use Rattle.petal_rules.proofs.CellTables.{cell_cmp_same, cell_cmp_total}
 use Rattle.server_store.specs.Holdings.{Holdings}
 use Rattle.server_store.specs.Tickets as store
 use Rattle.kept_chains.proofs.Puts.{tied}
-use Rattle.pair_side.specs.Crossed.{AreFreed, IsCrossed}
+use Rattle.pair_side.specs.Crossed.{AreFreed, IsCrossed, cell_ends, copies_left}
 use Rattle.pair_side.specs.Side.{Side, HasTicketsAt, needs_apart, pairs_of, times}
 use Rattle.pair_side.specs.Slots.{IsOutAt}
 use Rattle.kept_chains.specs.Kept.{store_of}
@@ -251,15 +254,15 @@ needs_is : (found : Option LastOp) → needs_apart found ≡ has_value has_slot_
 needs_is None = refl
 needs_is (Some last) = refl
 
-module _ {D : Type 0} (state : State) (entry : Command) where
+module _ {D : Type 0} (test : Cell → Bool) where
   -- nothing was given back yet
-  pub freed_none : (apart : Table Cell ℕ) (held : Holdings D) → find (touches_cell state entry) (keys_of apart) ≡ None → AreFreed state entry apart apart held held
-  freed_none apart held none = record { table = sym (all_left (touches_cell state entry) apart none); store = refl; out = λ slot. refl; number = refl }
+  pub freed_none : (apart : Table Cell ℕ) (held : Holdings D) → find test (keys_of apart) ≡ None → AreFreed test apart apart held held
+  freed_none apart held none = record { table = sym (all_left test apart none); store = refl; out = λ slot. refl; number = refl }
 
   module _ (apart : Table Cell ℕ) (held : Holdings D) (c : Cell) (below : (slot : ℕ) → times slot (values_of apart) ≤ times slot held.tickets)
-      (sorted : IsStrictlySortedBy cell_cmp (keys_of apart)) (found : find (touches_cell state entry) (keys_of apart) ≡ Some c) where
+      (sorted : IsStrictlySortedBy cell_cmp (keys_of apart)) (found : find test (keys_of apart) ≡ Some c) where
     freed_slot : (slot : ℕ) × (at cell_cmp apart c ≡ Some slot)
-    freed_slot = slot_by (at cell_cmp apart c) (found_there (touches_cell state entry) apart c found)
+    freed_slot = slot_by (at cell_cmp apart c) (found_there test apart c found)
 
     pub freed_some : IsSome (at cell_cmp apart c)
     freed_some = let is = freed_slot.1 in grind (arith, is)
@@ -286,15 +289,15 @@ module _ {D : Type 0} (state : State) (entry : Command) where
       below_still slot = let a = one_less slot in let b = one_back slot in let all = below slot in omega (arith, a, b, all)
 
       rows_less : length rest + 1 ≡ length apart
-      rows_less = ap (λ (t : Table Cell ℕ). length t + 1) table ∙ without_length c apart sorted (found_there (touches_cell state entry) apart c found)
+      rows_less = ap (λ (t : Table Cell ℕ). length t + 1) table ∙ without_length c apart sorted (found_there test apart c found)
 
       pub less_rows : length rest < length apart
       less_rows = let rows = rows_less in omega (arith, rows)
 
       -- and then the others
-      pub freed_more : (last : Table Cell ℕ) (after : Holdings D) → AreFreed state entry rest last kept after → AreFreed state entry apart last held after
+      pub freed_more : (last : Table Cell ℕ) (after : Holdings D) → AreFreed test rest last kept after → AreFreed test apart last held after
       freed_more last after freed = record {
-        table = freed.table ∙ ap (left (touches_cell state entry)) table ∙ left_but (touches_cell state entry) c apart (found_taken (touches_cell state entry) apart c found);
+        table = freed.table ∙ ap (left test) table ∙ left_but test c apart (found_taken test apart c found);
         store = freed.store ∙ ap (λ (s : Holdings D). record s { tickets = after.tickets }) (given freed_slot.0 freed_slot.1);
         out = λ slot. let a = one_less slot in let b = one_back slot in let all = freed.out slot in omega (arith, a, b, all);
         number =
@@ -304,24 +307,33 @@ module _ {D : Type 0} (state : State) (entry : Command) where
             omega (arith, rows, fewer, all);
       }
 
-  -- ### Both tables
+-- ### Both tables
 
-  module _ (old : Side) (before after : Holdings D) (h : HasTicketsAt old before) (last : Table Cell LastOp) (apart : Table Cell ℕ)
+module _ (state next : State) (entry : Command) (made : next ≡ commands.after state entry) where
+  abbrev ending : Cell → Bool
+  ending = cell_ends state next entry
+
+  -- so the rule has it
+  ends_is : ending ≡ ends_cell state entry
+  ends_is = ap (λ (n : State). cell_ends state n entry) made
+
+  module _ {D : Type 0} (old : Side) (before after : Holdings D) (h : HasTicketsAt old before) (last : Table Cell LastOp) (apart : Table Cell ℕ)
       (sorted : IsStrictlySortedBy cell_cmp (keys_of old.apart)) (other : IsStrictlySortedBy cell_cmp (keys_of old.last))
-      (freed : AreFreed state entry old.apart apart before after) (dropped : last ≡ left (touches_cell state entry) old.last) where
-    lost_is : length (taken (touches_cell state entry) old.apart) ≡ length (filter (loses_slot state entry) old.last)
+      (freed : AreFreed ending old.apart apart before after) (dropped : last ≡ left ending old.last) where
+    lost_is : length (taken ending old.apart) ≡ length (filter (loses_slot state entry) old.last)
     lost_is =
-        number_taken (touches_cell state entry) old.apart
-        ∙ ap (λ (cells : List Cell). length (filter (touches_cell state entry) cells)) (same_cells has_slot_last old.apart old.last sorted other (λ c. h.kept c ∙ needs_is (at cell_cmp old.last c)))
-        ∙ sym (number_taken (touches_cell state entry) (filter (λ row. has_slot_last row.1) old.last))
-        ∙ number_both (touches_cell state entry) has_slot_last old.last
+        number_taken ending old.apart
+        ∙ ap (λ (cells : List Cell). length (filter ending cells)) (same_cells has_slot_last old.apart old.last sorted other (λ c. h.kept c ∙ needs_is (at cell_cmp old.last c)))
+        ∙ sym (number_taken ending (filter (λ row. has_slot_last row.1) old.last))
+        ∙ number_both ending has_slot_last old.last
+        ∙ ap (λ (test : Cell → Bool). length (filter (λ row. test row.0 && has_slot row.1.far) old.last)) ends_is
 
     number_is : length after.tickets ≡ length before.tickets - length (filter (loses_slot state entry) old.last)
     number_is =
         let lost = lost_is in
         let all = freed.number in
-        let rest : length apart ≡ length (left (touches_cell state entry) old.apart) = ap length freed.table in
-        let split = number_split (touches_cell state entry) old.apart in
+        let rest : length apart ≡ length (left ending old.apart) = ap length freed.table in
+        let split = number_split ending old.apart in
         omega (arith, lost, all, rest, split)
 
     out_is : (slot : ℕ) → times slot after.tickets ≡ times slot (values_of old.own) + times slot (values_of apart)
@@ -330,21 +342,26 @@ module _ {D : Type 0} (state : State) (entry : Command) where
     kept_is : (c : Cell) → is_some (at cell_cmp apart c) ≡ needs_apart (at cell_cmp last c)
     kept_is c =
         ap (λ (t : Table Cell ℕ). is_some (at cell_cmp t c)) freed.table
-        ∙ ap is_some (at_left (touches_cell state entry) old.apart c)
-        ∙ elim ((touches_cell state entry) c) as (λ b. is_some (cond (not b) (at cell_cmp old.apart c) None) ≡ needs_apart (cond (not b) (at cell_cmp old.last c) None)) [
+        ∙ ap is_some (at_left ending old.apart c)
+        ∙ elim (ending c) as (λ b. is_some (cond (not b) (at cell_cmp old.apart c) None) ≡ needs_apart (cond (not b) (at cell_cmp old.last c) None)) [
           | true ↦ refl
           | false ↦ h.kept c
         ]
-        ∙ sym (ap needs_apart (at_left (touches_cell state entry) old.last c))
+        ∙ sym (ap needs_apart (at_left ending old.last c))
         ∙ sym (ap (λ (t : Table Cell LastOp). needs_apart (at cell_cmp t c)) dropped)
 
     store_is : store_of after ≡ record (store_of before) { tickets = length before.tickets - length (filter (loses_slot state entry) old.last) }
     store_is = ap (λ (s : Holdings D). store_of s) freed.store ∙ ap (with_tickets before) number_is
 
-    pub crossed_is : (copies : Copies) → copies ≡ copies_crossed state entry old.copies
-        → IsCrossed state entry old (record old { last = last; apart = apart; copies = copies }) before after
-    crossed_is copies ended = record {
-      own = λ i. record { pairs = record (pairs_of old) { last = dropped i }; copies = ended i; store = store_is i };
+    pub crossed_is : (copies : Copies) → copies ≡ copies_left state next entry old.copies
+        → (filled : Table LinkId Key) → filled ≡ filter (λ row. is_some (link_named next row.0)) old.filled
+        → IsCrossed state entry old (record old { last = last; apart = apart; copies = copies; filled = filled }) before after
+    crossed_is copies ended filled live = record {
+      own =
+          let last_is : last ≡ left (ends_cell state entry) old.last = dropped ∙ ap (λ (test : Cell → Bool). left test old.last) ends_is in
+          let copies_is : copies ≡ copies_crossed state entry old.copies = ended ∙ ap (λ (n : State). copies_left state n entry old.copies) made in
+          let filled_is = live ∙ ap (λ (n : State). filter (λ row. is_some (link_named n row.0)) old.filled) made in
+          λ i. record { pairs = record (pairs_of old) { last = last_is i }; copies = copies_is i; filled = filled_is i; store = store_is i };
       keeps = record { out = out_is; owned = h.owned; kept = kept_is };
       store = freed.store;
     }

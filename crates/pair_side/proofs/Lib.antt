@@ -7,3 +7,6 @@ pub mod Crossings
 pub mod ByLink
 pub mod Letters
 pub mod Entering
+pub mod Looks
+pub mod Linked
+pub mod Reading

@@ -23,7 +23,7 @@ abbrev pub id_of_key : LinkKey → LinkId
 id_of_key key = record { map = key.map; link = key.link }
 
 -- the rows with the links' names
-abbrev pub by_link : Table LinkKey Progress → Table LinkId Progress
+abbrev pub by_link : {X : Type 0} → Table LinkKey X → Table LinkId X
 by_link rows = map (λ row. (id_of_key row.0, row.1)) rows
 
 -- ### Lookups

@@ -27,6 +27,7 @@ abbrev pub follow_up : Option FollowUp → List Job
 follow_up None = []
 follow_up (Some (follow.Stage cell)) = job.Stage cell ∷ []
 follow_up (Some (follow.Mend link)) = job.Mend link ∷ []
+follow_up (Some follow.Sweep) = job.Sweep ∷ []
 
 -- what a job left of the server's own part, its letters and the jobs that follow it up are what the rule says
 pub record IsBy (here : Here) (left : Own) (done : Done) (rule : Rule) : Type 0 where

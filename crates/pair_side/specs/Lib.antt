@@ -4,3 +4,4 @@ pub mod Done
 pub mod Refusals
 pub mod Slots
 pub mod Crossed
+pub mod Letters

@@ -3,6 +3,8 @@ use Rattle.std.specs.Prelude.{◌≡◌, ℕ, ◌+◌, ◌==◌, not, Bool, fals
 use Rattle.std.specs.Map.{values_of}
 use Rattle.petal_base.specs.declared.cell.Cell.{Cell}
 use Rattle.petal_table.specs.Table.{Table, at}
+use Rattle.petal_base.specs.declared.cell.Key.{Key}
+use Rattle.petal_msg.specs.declared.copying.LinkId.{LinkId}
 use Rattle.petal_msg.specs.declared.operation.Finished.{Finished}
 use Rattle.petal_msg.specs.declared.operation.LastOp.{LastOp}
 use Rattle.petal_msg.specs.declared.operation.Pending.{Pending}
@@ -13,19 +15,21 @@ use Rattle.server_store.specs.Holdings.{Holdings}
 use Rattle.kept_chains.specs.Kept.{store_of}
 
 -- the number of the next operation, what is pending, what is finished for each client, the last operation that was followed on
--- each cell, what is remembered of copies, and the slots set apart: for operations of this server's own, and for the lead of a cell
+-- each cell, what is remembered of copies, the last key of each link that the new map is known to have, and the slots set apart: for
+-- operations of this server's own, and for the lead of a cell
 pub record Side : Type 0 where
   pub next : ℕ
   pub pending : Table Cell Pending
   pub finished : Table ℕ Finished
   pub last : Table Cell LastOp
   pub copies : Copies
+  pub filled : Table LinkId Key
   pub own : Table Cell ℕ
   pub apart : Table Cell ℕ
 
 -- a side on which nothing was done yet
 abbrev pub new_side : Side
-new_side = record { next = 1; pending = []; finished = []; last = []; copies = no_copies; own = []; apart = [] }
+new_side = record { next = 1; pending = []; finished = []; last = []; copies = no_copies; filled = []; own = []; apart = [] }
 
 -- what the rules know of it
 abbrev pub pairs_of : Side → Pairs
@@ -33,7 +37,7 @@ pairs_of side = record { pending = side.pending; next = side.next; finished = si
 
 -- a server's own part: its side of its pairs, and its store
 abbrev pub own_of : {D : Type 0} → Side → Holdings D → Own
-own_of side store = record { pairs = pairs_of side; copies = side.copies; store = store_of store }
+own_of side store = record { pairs = pairs_of side; copies = side.copies; filled = side.filled; store = store_of store }
 
 -- how often a number stands in a list
 abbrev pub times : ℕ → List ℕ → ℕ

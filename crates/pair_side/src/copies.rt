@@ -4,16 +4,17 @@ ghost use Rattle.std.specs.Prelude.{◌≡◌, not, filter, length, IsSome, OnOk
 ghost use Rattle.std.specs.List.Sorted.{IsStrictlySortedBy};
 ghost use Rattle.std.specs.Map.{keys_of};
 ghost use Rattle.petal_table.specs.Table.{at, put, without};
-ghost use Rattle.petal_rules.specs.Crossing.{copies_crossed, touches_cell};
 ghost use Rattle.petal_rules.specs.Progress.{no_progress};
 ghost use Rattle.petal_rules.specs.Server.{no_copies};
 ghost use Rattle.petal_rules.specs.State.{link_cmp};
 ghost use Rattle.petal_rules.specs.Store.{cell_cmp};
 ghost use Rattle.pair_side.specs.Copies as copies;
+ghost use Rattle.pair_side.specs.Crossed.{cell_ends, copies_left};
 
-use crate::crossing::drops_cells;
+use crate::crossing::{drops_cells, ends_cell};
 use crate::links::LinkTable;
 use crate::{Here, link_id};
+use global_state::GlobalState;
 use petal_base::{Cell, NoMemory};
 use petal_command::Command;
 use petal_msg::{Copying, LastCopy, LinkId, Progress};
@@ -28,7 +29,7 @@ use std::marker::Model;
 /// the rules do.
 #[derive(Drop)]
 pub struct Copies {
-    progress: LinkTable,
+    progress: LinkTable<Progress>,
     pending: BTreeMap<Cell, Copying>,
     last: Table<Cell, LastCopy>,
     full: bool,
@@ -61,10 +62,15 @@ fn ends(pending: &mut BTreeMap<Cell, Copying>, cell: Cell)
     let _ = pending.remove(&cell);
 }
 
-fn drops_pending(here: &Here, entry: &Command, pending: &mut BTreeMap<Cell, Copying>)
-    ensures { pending.new.entries ≡ filter (λ row. not (touches_cell here.now.state entry.now row.0)) pending.old.entries }
+fn drops_pending(
+    here: &Here,
+    entry: &Command,
+    next: &GlobalState,
+    pending: &mut BTreeMap<Cell, Copying>,
+)
+    ensures { pending.new.entries ≡ filter (λ row. not (cell_ends here.now.state next.now entry.now row.0)) pending.old.entries }
 {
-    pending.retain(|cell, _| !here.touches(entry, *cell));
+    pending.retain(|cell, _| !ends_cell(here, entry, next, *cell));
 }
 
 impl Copies {
@@ -226,12 +232,12 @@ impl Copies {
         self.full = full;
     }
 
-    /// Nothing is left of the copies on the links that the entry touches. It takes no memory.
-    pub(crate) fn crosses(&mut self, here: &Here, entry: &Command)
-        ensures { self.new ≡ copies_crossed here.now.state entry.now self.old }
+    /// Nothing is left of the copies of which nothing is kept behind the entry, which makes this next state. It takes no memory.
+    pub(crate) fn crosses(&mut self, here: &Here, entry: &Command, next: &GlobalState)
+        ensures { self.new ≡ copies_left here.now.state next.now entry.now self.old }
     {
-        self.progress.drop_touched(here, entry);
-        drops_pending(here, entry, &mut self.pending);
-        drops_cells(here, entry, &mut self.last);
+        self.progress.drop_ended(here, entry, next);
+        drops_pending(here, entry, next, &mut self.pending);
+        drops_cells(here, entry, next, &mut self.last);
     }
 }

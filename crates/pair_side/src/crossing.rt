@@ -10,7 +10,7 @@ ghost use Rattle.petal_rules.specs.Crossing.{touches_cell};
 ghost use Rattle.petal_rules.specs.State.{id_of};
 ghost use Rattle.petal_rules.specs.Store.{Store as Stored, cell_cmp};
 ghost use Rattle.petal_rules.specs.declared.job.Job.TheVariants as job;
-ghost use Rattle.pair_side.specs.Crossed.{AreFreed, IsCrossed, IsEntered, lacks_room};
+ghost use Rattle.pair_side.specs.Crossed.{AreFreed, IsCrossed, IsEntered, cell_ends, lacks_room};
 ghost use Rattle.pair_side.specs.Side.{HasTicketsAt, pairs_of, times};
 
 use crate::{Here, Side, WorkError, give_back, link_id};
@@ -26,51 +26,79 @@ use petal_table::Table;
 use server_store::{Store, Ticket};
 use std::alloc::{AllocError, Global};
 
-fn first_touched(here: &Here, entry: &Command, table: &Table<Cell, Ticket>) -> Option<Cell>
-    ensures found { result ≡ find (touches_cell here.now.state entry.now) (keys_of table.now) }
+/// Whether what is kept of the cell for others ends with the entry, which makes this next state: the entry touches the cell's
+/// link, or the cell is live no longer.
+pub fn ends_cell(here: &Here, entry: &Command, next: &GlobalState, cell: Cell) -> bool
+    ensures { result ≡ cell_ends here.now.state next.now entry.now cell }
+{
+    here.touches(entry, cell) || (here.state().live(cell) && !next.live(cell))
+}
+
+fn first_ended(
+    here: &Here,
+    entry: &Command,
+    next: &GlobalState,
+    table: &Table<Cell, Ticket>,
+) -> Option<Cell>
+    ensures found { result ≡ find (cell_ends here.now.state next.now entry.now) (keys_of table.now) }
     ensures sorted { IsStrictlySortedBy cell_cmp (keys_of table.now) }
 {
     table
         .keys()
         .copied()
-        .find(|cell| here.touches(entry, *cell))
+        .find(|cell| ends_cell(here, entry, next, *cell))
 }
 
-/// The slots set apart for others on the cells that the entry touches are free again.
+/// The slots set apart for others on the cells that end with the entry are free again.
 fn frees<D: Disk>(
     here: &Here,
     entry: &Command,
+    next: &GlobalState,
     apart: &mut Table<Cell, Ticket>,
     store: &mut Store<D>,
 )
     requires below { (slot : ℕ) → times slot (values_of apart.old) ≤ times slot store.old.tickets }
-    ensures freed { AreFreed here.now.state entry.now apart.old apart.new store.old store.new }
+    ensures freed { AreFreed (cell_ends here.now.state next.now entry.now) apart.old apart.new store.old store.new }
     ensures sorted { IsStrictlySortedBy cell_cmp (keys_of apart.old) }
 {
     // What `len` promises tells the proof that the rows rise by cell.
     let _ = apart.len();
-    while let Some(cell) = first_touched(here, entry, apart) {
+    while let Some(cell) = first_ended(here, entry, next, apart) {
         give_back(apart, store, cell);
     }
 }
 
-/// The rows go on the cells that the entry touches.
-pub fn drops_cells<X: Drop>(here: &Here, entry: &Command, table: &mut Table<Cell, X>)
-    ensures rows { table.new ≡ filter (λ row. not (touches_cell here.now.state entry.now row.0)) table.old }
+/// The rows go on the cells that end with the entry.
+pub fn drops_cells<X: Drop>(
+    here: &Here,
+    entry: &Command,
+    next: &GlobalState,
+    table: &mut Table<Cell, X>,
+)
+    ensures rows { table.new ≡ filter (λ row. not (cell_ends here.now.state next.now entry.now row.0)) table.old }
     ensures sorted { IsStrictlySortedBy cell_cmp (keys_of table.old) }
 {
-    table.retain(|cell, _| !here.touches(entry, *cell));
+    table.retain(|cell, _| !ends_cell(here, entry, next, *cell));
 }
 
-/// What others asked of this server on the links that the entry touches is dropped with all that is remembered of copies there,
-/// and the slots set apart for others are free. The state is that before the entry. It takes no memory.
-fn crosses<D: Disk>(here: &Here, entry: &Command, side: &mut Side, store: &mut Store<D>)
-    requires { HasTicketsAt side.old store.old }
+/// What others asked of this server on the cells that end with the entry is dropped with all that is remembered of copies there,
+/// and the slots set apart for others are free; what is known of fills is dropped with their map. The state is that before the
+/// entry, which makes the next one. It takes no memory.
+fn crosses<D: Disk>(
+    here: &Here,
+    entry: &Command,
+    next: &GlobalState,
+    side: &mut Side,
+    store: &mut Store<D>,
+)
+    requires tickets { HasTicketsAt side.old store.old }
+    requires next { next.now ≡ after here.now.state entry.now }
     ensures { IsCrossed here.now.state entry.now side.old side.new store.old store.new }
 {
-    frees(here, entry, &mut side.apart, store);
-    drops_cells(here, entry, &mut side.last);
-    side.copies.crosses(here, entry);
+    frees(here, entry, next, &mut side.apart, store);
+    drops_cells(here, entry, next, &mut side.last);
+    side.copies.crosses(here, entry, next);
+    side.filled.keep_live(next);
 }
 
 /// Whether the entry is this incarnation's own Join with an empty store.
@@ -93,21 +121,24 @@ pub fn lacks_room<D: Disk>(here: &Here, entry: &Command, store: &Store<D>) -> bo
 }
 
 /// The entry does to the server's own part what it does: what it drops is dropped, and with its own Join a server that came back
-/// with nothing waits for nobody any more, which is the one commit. The state is that before the entry. It takes no memory.
+/// with nothing waits for nobody any more, which is the one commit. The state is that before the entry, which makes the next one. It
+/// takes no memory.
 ///
 /// # Errors
 /// `Failed`, where the device failed.
 pub fn enters<D: Disk>(
     here: &Here,
     entry: &Command,
+    next: &GlobalState,
     side: &mut Side,
     store: &mut Store<D>,
 ) -> Result<(), WorkError>
     requires tickets { HasTicketsAt side.old store.old }
+    requires next { next.now ≡ after here.now.state entry.now }
     requires room { lacks_room here.now.me here.now.inc (Some entry.now) store.old ≡ false }
     ensures { IsEntered D.Disk here.now (Some entry.now) side.old side.new store.old store.new result }
 {
-    crosses(here, entry, side, store);
+    crosses(here, entry, next, side, store);
     if !is_blank_join(here, entry) {
         return Ok(());
     }
@@ -173,7 +204,7 @@ pub fn entry_jobs(
 ) -> Result<Vec<Job>, NoMemory>
     requires { next.now ≡ after here.now.state entry.now }
     ensures { (store : Stored) → IfOk result (λ jobs. jobs.items ≡ rules.jobs_by here.now.state here.now.me (Some entry.now)
-        (record { pairs = pairs_of side.now; copies = side.now.copies; store = store })) }
+        (record { pairs = pairs_of side.now; copies = side.now.copies; filled = side.now.filled; store = store })) }
 {
     let mut jobs = stages(here.alloc(), here, entry, &side.locks)?;
     let mut links = mends(here.alloc(), here, entry, next)?;

@@ -13,6 +13,8 @@ pub enum FollowUp {
     Stage(Cell),
     /// The link is mended further.
     Mend(LinkId),
+    /// The next entry or mark of a cell that is no longer live is dropped.
+    Sweep,
 }
 
 /// What a job leaves to its caller, beside what it changed.

@@ -11,6 +11,7 @@ mod error;
 mod here;
 mod links;
 mod replies;
+mod sending;
 mod side;
 mod slots;
 
@@ -19,7 +20,8 @@ pub use crossing::{enters, entry_jobs, lacks_room};
 pub use done::{Done, FollowUp, only};
 pub use error::WorkError;
 pub use here::Here;
-pub use links::link_id;
+pub use links::{LinkTable, link_id};
 pub use replies::{ended, finishes, says, says_to, silent};
+pub use sending::with_letter;
 pub use side::Side;
 pub use slots::{give_back, keep, put_new, spend};

@@ -1,18 +1,18 @@
-//! How far the holder is with each of its links.
+//! What is known of links: how far a holder is, and what is filled.
 
-ghost use Rattle.std.specs.Prelude.{◌≡◌, [], not, filter, IsSome, OnOk, OnErr};
+ghost use Rattle.std.specs.Prelude.{◌≡◌, [], not, filter, is_some, IsSome, OnOk, OnErr};
 ghost use Rattle.std.specs.List.Sorted.{IsStrictlySortedBy};
 ghost use Rattle.std.specs.Map.{keys_of};
 ghost use Rattle.petal_table.specs.Table.{at, put, without};
-ghost use Rattle.petal_rules.specs.Crossing.{touches_link};
-ghost use Rattle.petal_rules.specs.State.{id_of, link_cmp};
-ghost use Rattle.pair_side.specs.Copies.{key_of};
+ghost use Rattle.petal_rules.specs.State.{id_of, link_cmp, link_named};
+ghost use Rattle.pair_side.specs.Copies.{id_of_key, key_of};
+ghost use Rattle.pair_side.specs.Crossed.{link_ends};
 
 use crate::Here;
-use global_state::LinkRow;
+use global_state::{GlobalState, LinkRow};
 use petal_base::{MapId, NoMemory};
 use petal_command::Command;
-use petal_msg::{LinkId, Progress};
+use petal_msg::LinkId;
 use petal_table::Table;
 use std::alloc::Global;
 use std::marker::Model;
@@ -24,19 +24,18 @@ pub struct LinkKey {
     pub link: u8,
 }
 
-/// How far the holder is with each link. Contracts see the rows by rising link.
+/// What stands at each link. Contracts see the rows by rising link.
 #[derive(Drop)]
-pub struct LinkTable {
-    rows: Table<LinkKey, Progress>,
+pub struct LinkTable<X> {
+    rows: Table<LinkKey, X>,
 }
 
-impl Model for LinkTable {
+impl<X> Model for LinkTable<X> {
     ghost use Rattle.std.specs.Prelude.{List};
     ghost use Rattle.petal_msg.specs.declared.copying.LinkId.{LinkId};
-    ghost use Rattle.petal_msg.specs.declared.copying.Progress.{Progress};
     ghost use Rattle.pair_side.specs.Copies.{by_link};
 
-    ghost Value = { List (LinkId × Progress) };
+    ghost Value = { List (LinkId × X) };
 
     ghost view = { λ l. by_link l.rows };
 }
@@ -60,9 +59,16 @@ pub fn link_id(row: &LinkRow) -> LinkId
     }
 }
 
-impl LinkTable {
+/// Whether what is kept of the link ends with the entry, which makes this next state.
+fn ends(here: &Here, entry: &Command, next: &GlobalState, key: LinkKey) -> bool
+    ensures { result ≡ link_ends here.now.state next.now entry.now (id_of_key key) }
+{
+    here.touches_link(entry, key.map, key.link) || next.link_row(key.map, key.link).is_none()
+}
+
+impl<X: Copy + Drop> LinkTable<X> {
     /// No link. It takes no memory.
-    pub fn new(alloc: Global) -> LinkTable
+    pub fn new(alloc: Global) -> LinkTable<X>
         ensures { result ≡ [] }
     {
         LinkTable {
@@ -72,7 +78,7 @@ impl LinkTable {
 
     /// What stands at the link.
     #[tactic(auto, using(crate::proofs::ByLink::at_link, crate::proofs::ByLink::sorted_links))]
-    pub fn get(&self, link: LinkId) -> Option<Progress>
+    pub fn get(&self, link: LinkId) -> Option<X>
         ensures value { result ≡ at link_cmp self.now link }
         ensures sorted { IsStrictlySortedBy link_cmp (keys_of self.now) }
     {
@@ -82,20 +88,20 @@ impl LinkTable {
     }
 
     /// It stands at the link from now on.
-    pub fn put(&mut self, link: LinkId, progress: Progress) -> Result<(), NoMemory>
-        ensures ok { OnOk result (self.new ≡ put link_cmp self.old link progress) }
+    pub fn put(&mut self, link: LinkId, value: X) -> Result<(), NoMemory>
+        ensures ok { OnOk result (self.new ≡ put link_cmp self.old link value) }
         ensures err { OnErr result (self.new ≡ self.old) }
     {
-        self.rows.put(key(link), progress)
+        self.rows.put(key(link), value)
     }
 
     /// It stands at a link at which something stood. It takes no memory.
     #[tactic(auto, using(crate::proofs::ByLink::at_link))]
-    pub fn replace(&mut self, link: LinkId, progress: Progress)
+    pub fn replace(&mut self, link: LinkId, value: X)
         requires { IsSome (at link_cmp self.old link) }
-        ensures { self.new ≡ put link_cmp self.old link progress }
+        ensures { self.new ≡ put link_cmp self.old link value }
     {
-        self.rows.replace(key(link), progress);
+        self.rows.replace(key(link), value);
     }
 
     /// Nothing stands at the link from now on.
@@ -105,11 +111,18 @@ impl LinkTable {
         let _ = self.rows.remove(&key(link));
     }
 
-    /// Nothing stands from now on at the links that the entry touches.
-    pub fn drop_touched(&mut self, here: &Here, entry: &Command)
-        ensures { self.new ≡ filter (λ row. not (touches_link here.now.state entry.now row.0)) self.old }
+    /// Nothing stands from now on at the links of which nothing is kept behind the entry, which makes this next state.
+    pub fn drop_ended(&mut self, here: &Here, entry: &Command, next: &GlobalState)
+        ensures { self.new ≡ filter (λ row. not (link_ends here.now.state next.now entry.now row.0)) self.old }
+    {
+        self.rows.retain(|key, _| !ends(here, entry, next, *key));
+    }
+
+    /// Only what stands at links of this state's live maps stays.
+    pub fn keep_live(&mut self, state: &GlobalState)
+        ensures { self.new ≡ filter (λ row. is_some (link_named state.now row.0)) self.old }
     {
         self.rows
-            .retain(|key, _| !here.touches_link(entry, key.map, key.link));
+            .retain(|key, _| state.link_row(key.map, key.link).is_some());
     }
 }

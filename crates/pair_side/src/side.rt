@@ -9,8 +9,9 @@ ghost use Rattle.petal_rules.specs.Store.{cell_cmp};
 ghost use Rattle.pair_side.specs.Side.{new_side};
 
 use crate::Copies;
+use crate::links::LinkTable;
 use pair_lock::PairLock;
-use petal_base::{Cell, ClientId, NoMemory, Op};
+use petal_base::{Cell, ClientId, Key, NoMemory, Op};
 use petal_msg::{Finished, LastOp, Pending};
 use petal_table::Table;
 use server_store::Ticket;
@@ -18,8 +19,8 @@ use std::alloc::Global;
 use std::marker::Model;
 
 /// One server's side of its pairs, for its life: the number of its next operation, what is pending, what it finished for each
-/// client, the last operation that it followed on each cell, what it remembers of copies, and the tickets for the slots set
-/// apart, for operations of its own and for the leads of cells.
+/// client, the last operation that it followed on each cell, what it remembers of copies, the last key of each link that the new
+/// map is known to have, and the tickets for the slots set apart, for operations of its own and for the leads of cells.
 #[derive(Drop)]
 pub struct Side {
     pub next: Op,
@@ -27,6 +28,7 @@ pub struct Side {
     pub finished: Table<ClientId, Finished>,
     pub last: Table<Cell, LastOp>,
     pub copies: Copies,
+    pub filled: LinkTable<Key>,
     pub own: Table<Cell, Ticket>,
     pub apart: Table<Cell, Ticket>,
 }
@@ -36,7 +38,7 @@ impl Model for Side {
 
     ghost Value = { sides.Side };
 
-    ghost view = { λ s. record { next = s.next; pending = s.locks; finished = s.finished; last = s.last; copies = s.copies; own = s.own; apart = s.apart } };
+    ghost view = { λ s. record { next = s.next; pending = s.locks; finished = s.finished; last = s.last; copies = s.copies; filled = s.filled; own = s.own; apart = s.apart } };
 }
 
 impl Side {
@@ -50,6 +52,7 @@ impl Side {
             finished: Table::new(alloc),
             last: Table::new(alloc),
             copies: Copies::new(alloc),
+            filled: LinkTable::new(alloc),
             own: Table::new(alloc),
             apart: Table::new(alloc),
         }

@@ -4,6 +4,9 @@ use Rattle.std.specs.Option.{option_map_or}
 use Rattle.global_tables.specs.Disk.{named, snapshot_named}
 use Rattle.petal_command.specs.declared.command.Command.{Command}
 use Rattle.petal_command.specs.declared.command.Command.TheVariants.{Witness}
+use Rattle.petal_msg.specs.declared.body.Body.TheVariants.{NotHere}
+use Rattle.petal_msg.specs.declared.letter.Actor.TheVariants.{Client}
+use Rattle.petal_msg.specs.declared.letter.Letter.{Letter}
 use Rattle.petal_state.specs.Command.{is_taken}
 use Rattle.petal_state.specs.State.{latest}
 use Rattle.script_lines.specs.Requests.{is_snap}
@@ -17,12 +20,22 @@ use Rattle.petal_rules.specs.Lists.{In}
 use Rattle.petal_rules.specs.State.{State}
 use Rattle.petal_rules.specs.World.{Setting, World, lines_of, chosen_log, state_at}
 
--- a Witness of the request is chosen, and in the state at its place the request can't be served, for this cause
+-- a letter told the client that the new map has nothing for this request
+pub record WasTold (w : World) (client seq : ℕ) : Type 0 where
+  pub letter : Letter
+  pub sent : In letter w.sent
+  pub to : letter.to ≡ Client client
+  pub is : letter.body ≡ NotHere seq
+
+-- a Witness of the request is chosen, and in the state at its place the request can't be served, for this cause: also not by the old map,
+-- where it was told that the new one has nothing
 pub record HasWitness (setting : Setting) (w : World) (client seq : ℕ) (asked : Request) (cause : Answer) : Type 0 where
   pub place : ℕ
   pub turn : ℕ
+  pub told : Bool
+  pub why : told ≡ true → WasTold w client seq
   pub is : slice_get (chosen_log setting w) place ≡ Some (Witness client seq turn)
-  pub so : refusal (state_at setting w (place + 1)) asked ≡ Some cause
+  pub so : refusal (state_at setting w (place + 1)) told asked ≡ Some cause
 
 -- the name that the request would give is taken in this state: it is that of a disk; or that of a snapshot of the request's disk, or of one
 -- that waits for its fence
@@ -34,12 +47,19 @@ is_name_taken state _ = false
 -- the request is for a disk that the state doesn't know
 abbrev pub lacks_disk : State → Request → Bool
 lacks_disk state (request.Snap name snap) = is_none (named state.disks.rows name)
+lacks_disk state (request.Move name tuple) = is_none (named state.disks.rows name)
 lacks_disk state _ = false
 
--- what the request asked for is there: its disk, or its snapshot of its disk
+-- the disk that the request would move is on the move
+abbrev pub is_moving : State → Request → Bool
+is_moving state (request.Move name tuple) = option_map_or (λ row. is_some row.moving) (named state.disks.rows name) false
+is_moving state _ = false
+
+-- what the request asked for is there: its disk, its snapshot of its disk, or its disk is on the move
 abbrev pub has_made : State → Request → Bool
 has_made state (request.Disk name tuple) = is_some (named state.disks.rows name)
 has_made state (request.Snap name snap) = option_map_or (λ row. is_some (snapshot_named row.snaps snap)) (named state.disks.rows name) false
+has_made state (request.Move name tuple) = is_moving state (request.Move name tuple)
 has_made state _ = false
 
 -- the request's own command is chosen, and its verdict says this: in the state right after its first place or, where a snapshot is taken,
@@ -59,6 +79,8 @@ pub record HasVerdict (setting : Setting) (w : World) (client seq : ℕ) (asked 
   pub at_once : is_snap asked ≡ false → judged ≡ place
   pub taken : cause ≡ answer.Exists → is_name_taken (state_at setting w place) asked ≡ true
   pub unknown : cause ≡ answer.NoDisk → lacks_disk (state_at setting w place) asked ≡ true
+  pub moving : cause ≡ answer.Moving → is_moving (state_at setting w place) asked ≡ true
+  pub still : cause ≡ answer.Ok → is_moving (state_at setting w place) asked ≡ false
   pub free : cause ≡ answer.Ok → is_name_taken (state_at setting w place) asked ≡ false
   pub known : cause ≡ answer.Ok → lacks_disk (state_at setting w place) asked ≡ false
   pub made : cause ≡ answer.Ok → has_made (state_at setting w (judged + 1)) asked ≡ true

@@ -1,12 +1,15 @@
 -- What every legal history keeps. These are statements; `law_run` shows them.
-use Rattle.std.specs.Prelude.{◌≡◌, ◌≢◌, ◌⊎◌, ◌+◌, ◌&&◌, ◌++◌, [], ◌∷◌, ◌≤◌, ◌<◌, ℕ, Bool, List, slice_get, Option, Some, None, true, false}
+use Rattle.std.specs.Prelude.{◌≡◌, ◌≢◌, ◌⊎◌, ◌+◌, ◌&&◌, ◌++◌, [], ◌∷◌, ◌≤◌, ◌<◌, ℕ, Bool, List, slice_get, Option, Some, None, true, false, is_some}
 use Rattle.std.specs.Ordering.{nat_cmp}
 use Rattle.busy_marks.specs.declared.marks.MarkKind.TheVariants.{Busy, Stale}
+use Rattle.petal_base.specs.Cells.{cell_of}
 use Rattle.petal_base.specs.declared.cell.Cell.{Cell}
+use Rattle.petal_base.specs.declared.cell.Key.{Key}
 use Rattle.petal_command.specs.declared.command.Command.{Command}
 use Rattle.petal_paxos.specs.Kept.{known_at}
 use Rattle.petal_table.specs.Table.{at, put}
 use Rattle.global_tables.specs.Disk.{named}
+use Rattle.global_tables.specs.Region.{region_of}
 use Rattle.global_tables.specs.Link.{other_of}
 use Rattle.global_tables.specs.declared.link.LinkRow.{LinkRow}
 use Rattle.global_tables.specs.declared.disk.DiskRow.{DiskRow}
@@ -24,14 +27,16 @@ use Rattle.script_lines.specs.declared.script.Script.{Script}
 use Rattle.petal_rules.specs.Clients.{Asked}
 use Rattle.petal_rules.specs.Lists.{In}
 use Rattle.petal_rules.specs.Progress.{has_proposed}
-use Rattle.petal_state.specs.CellState.{cell_link}
+use Rattle.petal_state.specs.CellState.{cell_link, source}
+use Rattle.petal_state.specs.CellState.{noted as is_noted}
 use Rattle.petal_state.specs.Command.{is_alone}
 use Rattle.petal_state.specs.declared.answer.Hold.TheVariants.{No}
-use Rattle.petal_rules.specs.State.{State, first, second, is_in, is_lead, is_whole, leads_link, held}
+use Rattle.petal_rules.specs.State.{State, authority, coming, first, second, is_in, is_lead, is_whole, lead, leads_link, leaving, live, held}
 use Rattle.petal_rules.specs.Store.{Chain, Store, cell_cmp, chain_in, version_of, is_marked}
 use Rattle.petal_rules.specs.Log.{rev_of}
-use Rattle.petal_rules.specs.World.{Setting, World, start, setting_of, server_state, devices, chosen_log, chosen_state, counted}
-use Rattle.petal_history.specs.Contents.{content_at, has_content, has_content_of}
+use Rattle.petal_rules.specs.World.{Setting, World, start, setting_of, server_state, devices, chosen_log, chosen_state, counted, kept}
+use Rattle.petal_rules.specs.Writes.{is_clients}
+use Rattle.petal_history.specs.Contents.{content_at, has_content_at}
 use Rattle.petal_history.specs.Events.{IsRunOf, events_of}
 use Rattle.petal_history.specs.Legal.{IsLegal, stepped, world_after}
 use Rattle.petal_history.specs.Sound.{IsSound}
@@ -75,12 +80,13 @@ AreCovered row holder other cell =
 -- the rule for a cell that one server holds alone
 abbrev pub Covered : State → World → Cell → Type 0
 Covered state w cell =
-    (row : LinkRow) (holder : ℕ) → cell_link state cell ≡ Some row → is_alone holder row.state ≡ true
+    (row : LinkRow) (holder : ℕ) → live state cell ≡ true → cell_link state cell ≡ Some row → is_alone holder row.state ≡ true
     → AreCovered row (w.servers holder).own.store (w.servers (other_of holder row)).own.store cell
 
--- where a step changes a cell's chain at a running server that leads the cell's link by its own state, the block was marked there
+-- where a step changes a cell's chain at a running server that by its own state leads the cell's link, and by which the cell is live, the block
+-- was marked there. What is not live is swept
 pub record ChangesMarked (setting : Setting) (w v : World) (n : ℕ) (cell : Cell) : Type 0 where
-  pub marked : (w.servers n).life.running ≡ true → leads_link (server_state setting w n) n cell ≡ true
+  pub marked : (w.servers n).life.running ≡ true → live (server_state setting w n) cell ≡ true → leads_link (server_state setting w n) n cell ≡ true
       → chain_in (v.servers n).own.store.chains cell ≢ chain_in (w.servers n).own.store.chains cell
       → IsMarked (w.servers n).own.store cell
 
@@ -107,7 +113,8 @@ IsLateAt setting w letter client seq cell n =
 
 -- a request that its client has answered is pending at no running server, and its Write letters come too late, or are held, everywhere
 pub record Requests (setting : Setting) (w : World) : Type 0 where
-  pub pending : (n : ℕ) (cell : Cell) (op : Pending) → (w.servers n).life.running ≡ true → at cell_cmp (w.servers n).own.pairs.pending cell ≡ Some op → IsOver w op.client op.seq → ⊥
+  pub pending : (n : ℕ) (cell : Cell) (op : Pending) → (w.servers n).life.running ≡ true → at cell_cmp (w.servers n).own.pairs.pending cell ≡ Some op → is_clients op.kind ≡ true
+      → IsOver w op.client op.seq → ⊥
   pub late : (letter : Letter) (client seq epoch : ℕ) (cell : Cell) (bytes : List ℕ) → In letter w.sent → letter.body ≡ body.Write client seq cell epoch bytes → IsOver w client seq
       → (n : ℕ) → IsLateAt setting w letter client seq cell n
 
@@ -129,45 +136,87 @@ machine_after None = blank
 machine_after (Some events) = replay blank events
 
 -- the machine's snapshots are these, in their order, each with the contents at its epoch, where a block has one
-abbrev pub AreSnapshots : List machine.Snapshot → List Snapshot → (has : ℕ → Bool) → (contents : (epoch block : ℕ) → List ℕ) → Type 0
+abbrev pub AreSnapshots : List machine.Snapshot → List Snapshot → (has : (epoch block : ℕ) → Bool) → (contents : (epoch block : ℕ) → List ℕ) → Type 0
 AreSnapshots [] [] has contents = Unit {0}
 AreSnapshots (taken ∷ later) (snap ∷ snaps) has contents =
-    (taken.name ≡ snap.name) × ((block : ℕ) → has block ≡ true → content taken.blocks block ≡ contents snap.epoch block)
+    (taken.name ≡ snap.name) × ((block : ℕ) → has snap.epoch block ≡ true → content taken.blocks block ≡ contents snap.epoch block)
     × AreSnapshots later snaps has contents
 AreSnapshots _ _ has contents = ⊥
 
 -- the machine has the disk, with these contents at its epoch and at that of each of its snapshots, where a block has one
-pub record Holds (disks : List Disk) (row : DiskRow) (has : ℕ → Bool) (contents : (epoch block : ℕ) → List ℕ) : Type 0 where
+pub record Holds (disks : List Disk) (row : DiskRow) (has : (epoch block : ℕ) → Bool) (contents : (epoch block : ℕ) → List ℕ) : Type 0 where
   pub disk : Disk
   pub is : disk_of disks row.name ≡ Some disk
-  pub same : (block : ℕ) → has block ≡ true → content disk.now block ≡ contents row.epoch block
+  pub same : (block : ℕ) → has row.epoch block ≡ true → content disk.now block ≡ contents row.epoch block
   pub snapshots : AreSnapshots disk.snaps row.snaps has contents
 
 -- the machine has the disks of the chosen state, each with its contents but for links that are Lost, and no other
 pub record AreHeld (setting : Setting) (w : World) (disks : List Disk) : Type 0 where
   pub known : (row : DiskRow) → In row (chosen_state setting w).disks.rows
-      → Holds disks row (has_content (chosen_state setting w) row) (content_at setting w row.id)
+      → Holds disks row (has_content_at setting w row.id) (content_at setting w row.id)
   pub unknown : (name : List ℕ) → named (chosen_state setting w).disks.rows name ≡ None → disk_of disks name ≡ None
 
 -- at each epoch below that of a disk its contents are the same in the later world, where a block has one in both
 abbrev pub IsStill : Setting → (w later : World) → Type 0
 IsStill setting w later =
     (row : DiskRow) (epoch block : ℕ) → In row (chosen_state setting w).disks.rows → epoch < row.epoch
-    → has_content_of (chosen_state setting w) row.id block ≡ true → has_content_of (chosen_state setting later) row.id block ≡ true
+    → has_content_at setting w row.id epoch block ≡ true → has_content_at setting later row.id epoch block ≡ true
     → content_at setting later row.id epoch block ≡ content_at setting w row.id epoch block
 
 -- a store that waits to be filled is empty
 abbrev pub AreEmpty : World → Type 0
 AreEmpty w = (n : ℕ) → (w.servers n).own.store.fresh ≡ true → ((w.servers n).own.store.chains ≡ []) × ((w.servers n).own.store.marks ≡ [])
 
--- what a world keeps: agreement, the rules of two copies for each cell, by the stores that count, that of empty stores, and the rule of
--- requests
+-- ### Moves
+
+-- where a chain has an epoch, it has each greater one of the other chain
+abbrev pub HasNewer : Chain → (epoch : ℕ) → Chain → Type 0
+HasNewer before epoch chain =
+    (later : ℕ) → epoch < later → is_some (at nat_cmp before later) ≡ true → is_some (at nat_cmp chain later) ≡ true
+
+-- a server's copy of the cell counts, or it takes the cell's writes
+abbrev pub Matters : State → Cell → ℕ → Type 0
+Matters state cell n = (authority state cell ≡ Some n) ⊎ (lead state cell ≡ Some n)
+
+-- the chain that a cell of a new map is filled from
+pub record IsFilledFrom (setting : Setting) (w : World) (cell : Cell) (before : Chain) : Type 0 where
+  pub old : Cell
+  pub is : source (chosen_state setting w) cell ≡ Some old
+  pub frozen : w.frozen old ≡ Some before
+
+-- the two-copy rule in a region that is on its way: no client's write is pending under the old map, whose copies are still; what the new map
+-- has of a block, or can still get, has all that is newer behind it; and where a link is noted the new map has all of it
+pub record Moves (setting : Setting) (w : World) : Type 0 where
+  pub unwritten : (n : ℕ) (cell : Cell) (op : Pending) → (w.servers n).life.running ≡ true
+      → at cell_cmp (w.servers n).own.pairs.pending cell ≡ Some op → is_clients op.kind ≡ true → leaving (chosen_state setting w) cell ≡ false
+  pub still : (cell : Cell) (n : ℕ) → leaving (chosen_state setting w) cell ≡ true → authority (chosen_state setting w) cell ≡ Some n
+      → w.frozen cell ≡ Some (chain_in (kept setting w n).chains cell)
+  pub equal : (cell : Cell) (n m : ℕ) → leaving (chosen_state setting w) cell ≡ true → first (chosen_state setting w) cell ≡ Some n
+      → second (chosen_state setting w) cell ≡ Some m → chain_in (kept setting w n).chains cell ≡ chain_in (kept setting w m).chains cell
+  pub stored : (cell : Cell) (n epoch : ℕ) (before : Chain) → coming (chosen_state setting w) cell ≡ true → Matters (chosen_state setting w) cell n
+      → IsFilledFrom setting w cell before → is_some (at nat_cmp (chain_in (kept setting w n).chains cell) epoch) ≡ true
+      → HasNewer before epoch (chain_in (kept setting w n).chains cell)
+  pub pending : (cell : Cell) (n m : ℕ) (before : Chain) (op : Pending) → coming (chosen_state setting w) cell ≡ true
+      → Matters (chosen_state setting w) cell n → IsFilledFrom setting w cell before → (w.servers m).life.running ≡ true
+      → at cell_cmp (w.servers m).own.pairs.pending cell ≡ Some op → is_clients op.kind ≡ false
+      → HasNewer before op.key.epoch (chain_in (kept setting w n).chains cell)
+  pub sent : (letter : Letter) (key : Key) (bytes : List ℕ) (n : ℕ) (before : Chain) → In letter w.sent → letter.body ≡ body.Fill key bytes
+      → coming (chosen_state setting w) (cell_of key) ≡ true → Matters (chosen_state setting w) (cell_of key) n
+      → IsFilledFrom setting w (cell_of key) before → HasNewer before key.epoch (chain_in (kept setting w n).chains (cell_of key))
+  pub noted : (cell old : Cell) (row : LinkRow) (n epoch : ℕ) (before : Chain) → coming (chosen_state setting w) cell ≡ true
+      → source (chosen_state setting w) cell ≡ Some old → w.frozen old ≡ Some before → cell_link (chosen_state setting w) old ≡ Some row
+      → is_noted (chosen_state setting w) row.map (region_of cell.block) row.link ≡ true → authority (chosen_state setting w) cell ≡ Some n
+      → is_some (at nat_cmp before epoch) ≡ true → is_some (at nat_cmp (chain_in (kept setting w n).chains cell) epoch) ≡ true
+
+-- what a world keeps: agreement, the rules of two copies for each cell, by the stores that count, that of empty stores, the rule of requests,
+-- and those of moves
 pub record Stands (setting : Setting) (w : World) : Type 0 where
   pub agrees : Agrees setting w
   pub copies : (cell : Cell) → TwoCopies (chosen_state setting w) (counted setting w) cell
   pub covered : (cell : Cell) → Covered (chosen_state setting w) (counted setting w) cell
   pub empty : AreEmpty w
   pub requests : Requests setting w
+  pub moves : Moves setting w
 
 -- the chosen log after a list of records is at the front of that after more of them
 abbrev pub Grows : Script → List Record → Type 0

@@ -1,5 +1,5 @@
 -- What of a history the plain machine is told.
-use Rattle.std.specs.Prelude.{ℕ, ◌==◌, ◌&&◌, not, Bool, false, List, [], ◌∷◌, ◌++◌, map, filter, find, drop, length, if◌then◌else◌, Option, Some, None}
+use Rattle.std.specs.Prelude.{ℕ, ◌==◌, ◌&&◌, ◌||◌, not, Bool, false, option_map, List, [], ◌∷◌, ◌++◌, map, filter, find, drop, length, if◌then◌else◌, Option, Some, None}
 use Rattle.std.specs.List.{flat_map, range_with_len, fold, filter_map}
 use Rattle.std.specs.Ordering.{nat_cmp}
 use Rattle.petal_table.specs.Table.{Table, put}
@@ -27,11 +27,13 @@ use Rattle.script_lines.specs.declared.request.Request.TheVariants as request
 use Rattle.script_lines.specs.declared.script.Script.{Script}
 use Rattle.petal_rules.specs.Clients.{Asked}
 use Rattle.petal_rules.specs.Server.{Server}
-use Rattle.petal_rules.specs.State.{State}
-use Rattle.petal_rules.specs.World.{Setting, World, start, setting_of, chosen_state, counted}
+use Rattle.petal_rules.specs.State.{State, leaving}
+use Rattle.petal_rules.specs.World.{Setting, World, start, setting_of, chosen_state, counted, server_state}
+use Rattle.petal_rules.specs.declared.job.Job.{Job}
+use Rattle.petal_rules.specs.declared.job.Job.TheVariants as job
 use Rattle.petal_rules.specs.declared.step.Step.{Step}
 use Rattle.petal_rules.specs.declared.step.Step.TheVariants.{Call, Deliver}
-use Rattle.petal_history.specs.Contents.{content_in, content_where, has_content_where}
+use Rattle.petal_history.specs.Contents.{content_in, content_where, has_content, has_content_where}
 use Rattle.petal_history.specs.Legal.{stepped}
 use Rattle.petal_history.specs.declared.record.Record.{Record}
 
@@ -110,11 +112,20 @@ before_step change row block = content_in change.chosen change.w row row.epoch b
 abbrev pub after_step : Change → DiskRow → ℕ → List ℕ
 after_step change row block = content_where change.chosen_next change.next (disk_at change.chosen_next.disks.rows row.id) row.epoch block
 
--- the block has a content after the step, and it is another one
+-- the block has a content at the disk's epoch before the step, or after it
+abbrev pub had_content : Change → DiskRow → ℕ → Bool
+had_content change row block = has_content change.chosen change.w row row.epoch block
+
+abbrev pub has_content_next : Change → DiskRow → ℕ → Bool
+has_content_next change row block =
+    has_content_where change.chosen_next change.next (disk_at change.chosen_next.disks.rows row.id) row.epoch block
+
+-- the block has a content after the step, and had none or another one. It can have one again where nobody's copy counted: a region is on its
+-- way from a link that was Lost, and the block is written under the new map
 abbrev pub is_changed : Change → DiskRow → ℕ → Bool
 is_changed change row block =
-    has_content_where change.chosen_next (disk_at change.chosen_next.disks.rows row.id) block
-    && not (same_bytes (before_step change row block) (after_step change row block))
+    has_content_next change row block
+    && (not (had_content change row block) || not (same_bytes (before_step change row block) (after_step change row block)))
 
 -- the blocks of a disk whose content is another after the step, by number
 abbrev pub changed_blocks : Change → DiskRow → List ℕ
@@ -217,13 +228,80 @@ abbrev pub look_for : List Line → Option ℕ → List ℕ → List Event
 look_for lines None bytes = []
 look_for lines (Some number) bytes = flat_map (λ line. if line.number == number then look_by line.request bytes else []) lines
 
-abbrev pub look_of : List Line → List Record → Letter → Body → List Event
-look_of lines later letter (body.Data seq bytes) = look_for lines (accepted later letter) bytes
-look_of lines later letter _ = []
+-- the letter asks for a cell of an old map, in a region that is on its way
+abbrev pub asks_old : State → Body → Bool
+asks_old state (body.Read client seq cell epoch) = leaving state cell
+asks_old state _ = false
 
--- the step that sent a letter whose data answers a read tells that the read looks
-abbrev pub looks : List Line → List Record → List Letter → List Event
-looks lines later sent = flat_map (λ letter. look_of lines later letter letter.body) sent
+abbrev pub job_asks_old : State → List Job → Bool
+job_asks_old state (job.Letter letter ∷ jobs) = asks_old state letter.body
+job_asks_old state _ = false
+
+-- a step of this actor handles such a letter
+abbrev pub reads_old : Setting → World → Actor → Bool
+reads_old setting w (actor.Server n) = job_asks_old (server_state setting w n) (w.servers n).queue
+reads_old setting w (actor.Client c) = false
+
+-- the client's open request asks the old map, by its latest send at this revision
+abbrev pub is_old_way : Option Asked → Bool
+is_old_way None = false
+is_old_way (Some asked) = asked.old_way
+
+abbrev pub goes_old : World → Actor → Bool
+goes_old w (actor.Server n) = false
+goes_old w (actor.Client c) = is_old_way (w.clients c).asked
+
+-- the record is the delivery of this letter
+abbrev pub delivers : Letter → Step → Bool
+delivers letter (Deliver other) = same_name letter other
+delivers letter _ = false
+
+-- with the delivery of this letter the client asks the old map
+abbrev pub turns : Letter → World → Record → (next : World) → Bool
+turns letter w own next = delivers letter own.step && not (goes_old w own.actor) && goes_old next own.actor
+
+-- the letter that told of this read that the new map has nothing
+pub record NotThere : Type 0 where
+  pub letter : Letter
+  pub seq : ℕ
+
+-- data that was sent for this read under the old map, at the letter's revision, and that answers the client's line in one of these records
+abbrev pub data_of : NotThere → List Record → Letter → Body → Option (ℕ × List ℕ)
+data_of told later letter (body.Data seq bytes) =
+    if same_actor told.letter.to letter.to && (told.letter.rev == letter.rev) && (told.seq == seq)
+    then option_map (λ line. (line, bytes)) (accepted later letter) else None
+data_of told later letter _ = None
+
+abbrev pub first_data : Option (ℕ × List ℕ) → Option (ℕ × List ℕ) → Option (ℕ × List ℕ)
+first_data None other = other
+first_data (Some given) other = Some given
+
+abbrev pub data_among : NotThere → List Record → List Letter → Option (ℕ × List ℕ)
+data_among told later [] = None
+data_among told later (letter ∷ letters) = first_data (data_of told later letter letter.body) (data_among told later letters)
+
+-- the data that a read gets by the old map, which this letter made it ask
+abbrev pub old_data : Setting → World → List Record → NotThere → (turned : Bool) → Option (ℕ × List ℕ)
+old_data setting w [] told turned = None
+old_data setting w (own ∷ later) told turned =
+    let next = (stepped setting w own).world in
+    let now = if turned && reads_old setting w own.actor then data_among told later own.sent else None in
+    first_data now (old_data setting next later told (turned || turns told.letter w own next))
+
+abbrev pub look_for_data : List Line → Option (ℕ × List ℕ) → List Event
+look_for_data lines None = []
+look_for_data lines (Some given) = look_for lines (Some given.0) given.1
+
+-- the step that sent a letter whose data answers a read tells that the read looks. Where that was read under the old map of a region that is
+-- on its way, the step tells it that sent the NotHere which made the client ask there
+abbrev pub look_of : Setting → (w next : World) → Actor → List Record → Letter → Body → List Event
+look_of setting w next who later letter (body.Data seq bytes) =
+    if reads_old setting w who then [] else look_for setting.lines (accepted later letter) bytes
+look_of setting w next who later letter (body.NotHere seq) = look_for_data setting.lines (old_data setting next later (record { letter = letter; seq = seq }) false)
+look_of setting w next who later letter _ = []
+
+abbrev pub looks : Setting → (w next : World) → Record → List Record → List Event
+looks setting w next own later = flat_map (λ letter. look_of setting w next own.actor later letter letter.body) own.sent
 
 -- ### All steps
 
@@ -236,7 +314,7 @@ abbrev pub told : Setting → World → Record → List Record → Option (List 
 told setting w own later =
     let next = (stepped setting w own).world in
     let change = change_by setting w next in
-    told_with (begins own.step own.actor next) (takes change) (makes change ++ freezes change ++ looks setting.lines later own.sent ++ ends own.actor w own.answer)
+    told_with (begins own.step own.actor next) (takes change) (makes change ++ freezes change ++ looks setting w next own later ++ ends own.actor w own.answer)
 
 abbrev pub joined : Option (List Event) → Option (List Event) → Option (List Event)
 joined None events = None

@@ -33,7 +33,7 @@ abbrev pub awake : Server → Server
 awake server = record {
   life = record server.life { running = true };
   log = read_log server.log;
-  own = record { pairs = no_pairs; copies = no_copies; store = record server.own.store { tickets = 0 } };
+  own = record { pairs = no_pairs; copies = no_copies; filled = []; store = record server.own.store { tickets = 0 } };
   queue = [];
 }
 

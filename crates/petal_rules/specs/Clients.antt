@@ -1,12 +1,12 @@
 -- What a client does: at a call, with a letter that comes, and at a tick.
-use Rattle.std.specs.Prelude.{ℕ, ◌+◌, ◌-◌, ◌%◌, ◌==◌, ◌&&◌, not, Bool, true, false, nat_le, List, [], ◌∷◌, ◌++◌, length, map, filter, fold, drop, slice_get, if◌then◌else◌, Option, Some, None, is_some}
+use Rattle.std.specs.Prelude.{ℕ, ◌+◌, ◌-◌, ◌%◌, ◌==◌, ◌&&◌, ◌||◌, not, Bool, true, false, nat_le, List, [], ◌∷◌, ◌++◌, length, map, filter, fold, drop, slice_get, if◌then◌else◌, Option, Some, None, is_some}
 use Rattle.std.specs.List.{range_with_len}
 use Rattle.std.specs.Option.{option_map_or}
 use Rattle.std.specs.Ordering.{nat_cmp}
 use Rattle.petal_table.specs.Table.{Table, put}
 use Rattle.petal_base.specs.declared.cell.Cell.{Cell}
 use Rattle.petal_command.specs.declared.command.Command.{Command}
-use Rattle.petal_command.specs.declared.command.Command.TheVariants.{MakeDisk, Snap, Witness}
+use Rattle.petal_command.specs.declared.command.Command.TheVariants.{MakeDisk, Snap, StartMove, Witness}
 use Rattle.global_tables.specs.declared.disk.Latest.{Latest}
 use Rattle.global_tables.specs.declared.disk.Verdict.{Verdict}
 use Rattle.global_tables.specs.declared.disk.Verdict.TheVariants as verdict
@@ -22,6 +22,7 @@ use Rattle.script_lines.specs.declared.answer.Answer.{Answer}
 use Rattle.script_lines.specs.declared.answer.Answer.TheVariants as answer
 use Rattle.script_lines.specs.declared.request.Request.{Request}
 use Rattle.script_lines.specs.declared.request.Request.TheVariants as request
+use Rattle.petal_state.specs.CellState.{cell_asked}
 use Rattle.petal_state.specs.Settled.{is_settled}
 use Rattle.petal_state.specs.State.{latest}
 use Rattle.petal_state.specs.Command.{after}
@@ -30,8 +31,9 @@ use Rattle.petal_rules.specs.State.{State, servers_of, find, snapshot, lead, rea
 use Rattle.petal_rules.specs.Server.{Post, Sender, post_to}
 
 -- a request that is open: its line, its number, how often it was sent, the revision of the latest send, and how many
--- Witnesses of it were applied. Of a settle too, in which round of glances it is, counted from 1, and which servers this round
--- showed so far, each with the incarnation as which it runs
+-- Witnesses of it were applied. Of a read also whether it was ever told that the new map has nothing, and whether its latest send asks the
+-- old map for this. Of a settle too, in which round of glances it is, counted from 1, and which servers this round showed so far, each with
+-- the incarnation as which it runs
 pub record Asked : Type 0 where
   pub line : ℕ
   pub seq : ℕ
@@ -39,6 +41,8 @@ pub record Asked : Type 0 where
   pub turn : ℕ
   pub rev : ℕ
   pub witnesses : ℕ
+  pub told : Bool
+  pub old_way : Bool
   pub round : ℕ
   pub seen : Table ℕ (Option ℕ)
 
@@ -74,10 +78,6 @@ readers state cell = filter (λ n. readable state n cell) (range_with_len 0 (ser
 abbrev pub in_turn : List ℕ → ℕ → Option ℕ
 in_turn servers turn = slice_get servers (turn % length servers)
 
--- the cell of a block under a disk's map
-abbrev pub cell_on : DiskView → ℕ → Cell
-cell_on disk block = record { map = disk.map; block = block }
-
 -- the epoch that a read asks for: the snapshot's, or the disk's own
 abbrev pub epoch_for : State → DiskView → Option (List ℕ) → Option ℕ
 epoch_for state disk None = Some disk.epoch
@@ -86,47 +86,64 @@ epoch_for state disk (Some snap) = snapshot state disk.disk snap
 abbrev pub write_posts : State → Option DiskView → (client seq block : ℕ) → List ℕ → List Post
 write_posts state None client seq block bytes = []
 write_posts state (Some disk) client seq block bytes =
-    post_to (lead state (cell_on disk block)) (body.Write client seq (cell_on disk block) disk.epoch bytes)
+    post_to (lead state (cell_asked state disk block false)) (body.Write client seq (cell_asked state disk block false) disk.epoch bytes)
 
 abbrev pub read_posts_at : State → Cell → Option ℕ → (client seq turn : ℕ) → List Post
 read_posts_at state cell None client seq turn = []
 read_posts_at state cell (Some epoch) client seq turn = post_to (in_turn (readers state cell) turn) (body.Read client seq cell epoch)
 
-abbrev pub read_posts : State → Option DiskView → Option (List ℕ) → (client seq : ℕ) → ℕ × ℕ → List Post
-read_posts state None snap client seq at = []
-read_posts state (Some disk) snap client seq at = read_posts_at state (cell_on disk at.0) (epoch_for state disk snap) client seq at.1
+-- a read of a block, in turn, by the old map or not
+pub record Turn : Type 0 where
+  pub block : ℕ
+  pub turn : ℕ
+  pub old_way : Bool
 
--- what is sent for a request: a write goes to the lead, a read to the servers that may read, in turn at each send
-abbrev pub posts_for : State → (client seq turn : ℕ) → Request → List Post
-posts_for state client seq turn (request.Write name block pattern) = write_posts state (find state name) client seq block (pattern_block pattern)
-posts_for state client seq turn (request.Read name snap block) = read_posts state (find state name) snap client seq (block, turn)
-posts_for state client seq turn _ = []
+abbrev pub read_posts : State → Option DiskView → Option (List ℕ) → (client seq : ℕ) → Turn → List Post
+read_posts state None snap client seq at = []
+read_posts state (Some disk) snap client seq at =
+    read_posts_at state (cell_asked state disk at.block at.old_way) (epoch_for state disk snap) client seq at.turn
+
+-- what is sent for a request: a write goes to the lead, a read to the servers that may read, in turn at each send. In a region that is on its
+-- way both ask the new map, and a read that was told that it has nothing the old one
+abbrev pub posts_for : State → (client seq turn : ℕ) → (old_way : Bool) → Request → List Post
+posts_for state client seq turn old_way (request.Write name block pattern) = write_posts state (find state name) client seq block (pattern_block pattern)
+posts_for state client seq turn old_way (request.Read name snap block) =
+    read_posts state (find state name) snap client seq (record { block = block; turn = turn; old_way = old_way })
+posts_for state client seq turn old_way _ = []
 
 -- ### Commands of a client
 
--- the command that carries the request out. Moves send nothing at this stage
+-- the command that carries the request out
 abbrev pub command_of : (client seq : ℕ) → Request → Option Command
 command_of client seq (request.Disk name tuple) = Some (MakeDisk client seq name tuple)
 command_of client seq (request.Snap name snap) = Some (Snap client seq name snap)
+command_of client seq (request.Move name tuple) = Some (StartMove client seq name tuple)
 command_of client seq _ = None
 
 abbrev pub write_refusal : State → Option DiskView → ℕ → Option Answer
 write_refusal state None block = Some answer.NoDisk
-write_refusal state (Some disk) block = if is_some (lead state (cell_on disk block)) then None else Some answer.Unavailable
+write_refusal state (Some disk) block = if is_some (lead state (cell_asked state disk block false)) then None else Some answer.Unavailable
 
-abbrev pub read_refusal_at : State → Cell → Option ℕ → Option Answer
-read_refusal_at state cell None = Some answer.NoSnap
-read_refusal_at state cell (Some epoch) = if length (readers state cell) == 0 then Some answer.Unavailable else None
+-- no server may read the cell
+abbrev pub is_unread : State → Cell → Bool
+is_unread state cell = length (readers state cell) == 0
 
-abbrev pub read_refusal : State → Option DiskView → Option (List ℕ) → ℕ → Option Answer
-read_refusal state None snap block = Some answer.NoDisk
-read_refusal state (Some disk) snap block = read_refusal_at state (cell_on disk block) (epoch_for state disk snap)
+-- the cell that is asked first, and the one that is asked where that has nothing
+abbrev pub read_refusal_at : State → (asked old : Cell) → Option ℕ → Option Answer
+read_refusal_at state asked old None = Some answer.NoSnap
+read_refusal_at state asked old (Some epoch) = if is_unread state asked || is_unread state old then Some answer.Unavailable else None
 
--- why a read or write can't be served in this state: its disk or snapshot is unknown, or it has no usable server
-unfoldable pub refusal : State → Request → Option Answer
-refusal state (request.Write name block pattern) = write_refusal state (find state name) block
-refusal state (request.Read name snap block) = read_refusal state (find state name) snap block
-refusal state _ = None
+abbrev pub read_refusal : State → Option DiskView → Option (List ℕ) → ℕ → (told : Bool) → Option Answer
+read_refusal state None snap block told = Some answer.NoDisk
+read_refusal state (Some disk) snap block told =
+    read_refusal_at state (cell_asked state disk block false) (cell_asked state disk block told) (epoch_for state disk snap)
+
+-- why a read or write can't be served in this state: its disk or snapshot is unknown, or it has no usable server. A read that was ever told
+-- that the new map has nothing needs a server of either map, while the block's region is on its way
+unfoldable pub refusal : State → (told : Bool) → Request → Option Answer
+refusal state told (request.Write name block pattern) = write_refusal state (find state name) block
+refusal state told (request.Read name snap block) = read_refusal state (find state name) snap block told
+refusal state told _ = None
 
 -- a place of the log from which the client can tell that its request can't be served
 abbrev pub witness_of : ℕ → Asked → Command
@@ -142,7 +159,7 @@ or_command (Some command) other = Some command
 
 -- what is to be proposed for the open request: its own command, or a Witness where the state can't serve it
 abbrev pub to_propose : State → ℕ → Asked → Option Command
-to_propose state me asked = or_command (command_of me asked.seq asked.request) (witness_where (refusal state asked.request) me asked)
+to_propose state me asked = or_command (command_of me asked.seq asked.request) (witness_where (refusal state asked.told asked.request) me asked)
 
 -- ### Sending the open request
 
@@ -153,11 +170,15 @@ post_in_turn client said = record { to = actor.Server client.asks; body = said }
 abbrev pub next_asked : State → Client → Client
 next_asked state client = record client { asks = (client.asks + 1) % servers_of state }
 
+-- it asks the old map only at the revision at which it was told
+abbrev pub way_now : State → Asked → Bool
+way_now state asked = asked.old_way && (asked.rev == state.rev)
+
 -- the request goes to its servers, at the client's revision
 abbrev pub sends : State → ℕ → Client → Asked → Reaction
 sends state me client asked = record {
-  client = record client { asked = Some (record asked { turn = asked.turn + 1; rev = state.rev }) };
-  posts = posts_for state me asked.seq asked.turn asked.request;
+  client = record client { asked = Some (record asked { turn = asked.turn + 1; rev = state.rev; old_way = way_now state asked }) };
+  posts = posts_for state me asked.seq asked.turn (way_now state asked) asked.request;
   answer = None;
 }
 
@@ -209,6 +230,8 @@ called state me client line asked =
       turn = 0;
       rev = state.rev;
       witnesses = 0;
+      told = false;
+      old_way = false;
       round = first_round asked;
       seen = [];
     } in
@@ -232,7 +255,11 @@ replies asked rev what = option_map_or (counts_as asked rev what.any_rev) what.s
 abbrev pub answers : Client → Asked → Answer → Reaction
 answers client asked given = record { client = record client { asked = None }; posts = []; answer = Some (asked.line, given) }
 
--- Data answers only a read, Written and Full only a write. What was refused for a while, or at another revision, is sent
+-- the new map has nothing: the old one is asked, at the same revision; behind another one the request starts again
+abbrev pub goes_the_old_way : State → ℕ → Client → Asked → Reaction
+goes_the_old_way state me client asked = goes_out state me client (record asked { told = true; old_way = true })
+
+-- Data and NotHere answer only a read, Written and Full only a write. What was refused for a while, or at another revision, is sent
 -- again, and the client asks what follows
 abbrev pub hears : State → ℕ → Client → Asked → ℕ → Body → Reaction
 hears state me client asked rev (body.Down server inc) = rests client
@@ -253,7 +280,8 @@ hears state me client asked rev (body.Held seq) =
     if replies asked rev (about (body.Held seq)) then asks_and_sends state me client asked else rests client
 hears state me client asked rev (body.WrongRev seq) =
     if replies asked rev (about (body.WrongRev seq)) then asks_and_sends state me client asked else rests client
-hears state me client asked rev (body.NotHere seq) = rests client
+hears state me client asked rev (body.NotHere seq) =
+    if replies asked rev (about (body.NotHere seq)) && is_read asked.request then goes_the_old_way state me client asked else rests client
 hears state me client asked rev (body.Read to seq cell epoch) = rests client
 hears state me client asked rev (body.Write to seq cell epoch bytes) = rests client
 hears state me client asked rev (body.Reserve number cell) = rests client
@@ -278,9 +306,10 @@ hears_of state me client (Some asked) letter = hears state me client asked lette
 
 -- ### Glances
 
--- what a glance showed of a server, and for which line and round
+-- what a glance showed of a server, at which of the server's revisions, and for which line and round
 pub record Sight : Type 0 where
   pub server : ℕ
+  pub rev : ℕ
   pub line : ℕ
   pub round : ℕ
   pub running : Bool
@@ -301,11 +330,12 @@ rounds state client asked =
     else if is_settled state (map (λ row. row.1) asked.seen) then answers client asked answer.Ok
     else stays_open client (record asked { round = asked.round + 1; seen = [] })
 
--- a settle has no space where a server's last copy found no slot
+-- a settle has no space where a server's last copy found no slot. A glance at a server that is ahead of the operator is not counted: the
+-- operator's state doesn't tell yet of all that this server knows to be under way
 abbrev pub settles : State → Client → Asked → Sight → Reaction
 settles state client asked sight =
     if sight.full then answers client asked answer.NoSpace
-    else if sight.round == asked.round then rounds state client (with_sight asked sight)
+    else if (sight.round == asked.round) && nat_le sight.rev state.rev then rounds state client (with_sight asked sight)
     else rests client
 
 -- a stop is done; a start, or a blank, has failed where the server doesn't run
@@ -364,7 +394,7 @@ is_witness me seq _ = false
 -- a request with a command of its own waits for its verdict; another one for its own Witness
 abbrev pub judged_by : ℕ → Command → Learning → Asked → Option Command → Learning
 judged_by me entry now asked (Some command) = answered_where now asked (verdict_for asked.seq (latest now.state me))
-judged_by me entry now asked None = if is_witness me asked.seq entry then witnessed now asked (refusal now.state asked.request) else now
+judged_by me entry now asked None = if is_witness me asked.seq entry then witnessed now asked (refusal now.state asked.told asked.request) else now
 
 abbrev pub judged : ℕ → Command → Learning → Option Asked → Learning
 judged me entry now None = now
@@ -397,7 +427,8 @@ takes_entries state me client (entry ∷ entries) =
 
 abbrev pub hears_any : State → ℕ → Client → Letter → Body → Reaction
 hears_any state me client letter (body.Seen line round running inc full) =
-    sees_from state client letter.from (record { server = 0; line = line; round = round; running = running; inc = inc; full = full })
+    sees_from state client letter.from
+    (record { server = 0; rev = letter.rev; line = line; round = round; running = running; inc = inc; full = full })
 hears_any state me client letter (body.News from commands) = takes_entries state me client (next_entries client from commands)
 hears_any state me client letter _ = hears_of state me client client.asked letter
 

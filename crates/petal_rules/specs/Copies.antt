@@ -26,7 +26,7 @@ use Rattle.petal_msg.specs.declared.copying.Progress.{Progress}
 use Rattle.petal_state.specs.CellState.{cell_link}
 use Rattle.petal_rules.specs.Progress.{progress_on, with_progress, copying_on, with_copying, without_copying, last_copy, with_last_copy, with_full}
 use Rattle.petal_rules.specs.Server.{Own, Here, Done, Post, post_to, silent, says_to}
-use Rattle.petal_rules.specs.State.{State, id_of, link_named, is_on, other_in, holder_of, is_whole}
+use Rattle.petal_rules.specs.State.{State, id_of, link_named, is_on, live, other_in, holder_of, is_whole}
 use Rattle.petal_rules.specs.Store.{Store, Stored, chain_in, free_of, with_ticket, with_entry, without_entry, epochs_of, mark_left, with_mark_on, without_mark_on}
 use Rattle.petal_rules.specs.Writes.{is_under_way}
 use Rattle.petal_rules.specs.declared.job.Job.{Job}
@@ -38,13 +38,17 @@ use Rattle.petal_rules.specs.declared.job.Job.TheVariants as job
 abbrev pub cell_at : LinkRow → ℕ → Cell
 cell_at row block = record { map = row.map; block = block }
 
+-- the cell lies on the link and is live: what is left of others is swept and not copied
+abbrev pub is_kept_on : State → LinkRow → Cell → Bool
+is_kept_on state row cell = is_on state row cell && live state cell
+
 -- the blocks that are marked here, of either kind
 abbrev pub marked_blocks : State → LinkRow → Own → List ℕ
-marked_blocks state row own = map (λ m. m.cell.block) (filter (λ m. is_on state row m.cell) own.store.marks)
+marked_blocks state row own = map (λ m. m.cell.block) (filter (λ m. is_kept_on state row m.cell) own.store.marks)
 
 -- the blocks that have an entry here
 abbrev pub stored_blocks : State → LinkRow → Own → List ℕ
-stored_blocks state row own = map (λ chain. chain.0.block) (filter (λ chain. is_on state row chain.0) own.store.chains)
+stored_blocks state row own = map (λ chain. chain.0.block) (filter (λ chain. is_kept_on state row chain.0) own.store.chains)
 
 -- the least of these numbers
 abbrev pub least : List ℕ → Option ℕ

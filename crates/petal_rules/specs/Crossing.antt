@@ -2,7 +2,7 @@
 -- servers In or Out, all is dropped that the server keeps of the link but its own pending operations: what others asked of it,
 -- how far the pages and copies are, and the copies under way. Its own operations stay, with their slots, and go on by the link
 -- as it now is. And with its own Join a server that came back with nothing waits for nobody any more.
-use Rattle.std.specs.Prelude.{ℕ, ◌-◌, ◌==◌, ◌&&◌, not, Bool, true, false, List, [], ◌++◌, map, filter, length, if◌then◌else◌, Option, Some, None, is_some}
+use Rattle.std.specs.Prelude.{ℕ, ◌-◌, ◌==◌, ◌&&◌, ◌||◌, not, Bool, true, false, List, [], ◌++◌, map, filter, length, if◌then◌else◌, Option, Some, None, is_none, is_some}
 use Rattle.std.specs.Option.{option_map_or}
 use Rattle.global_tables.specs.Link.{has_server}
 use Rattle.global_tables.specs.declared.link.LinkRow.{LinkRow}
@@ -16,34 +16,47 @@ use Rattle.petal_msg.specs.declared.operation.LastOp.{LastOp}
 use Rattle.petal_state.specs.Command.{after}
 use Rattle.petal_state.specs.Place.{touches}
 pub use Rattle.petal_state.specs.Place.{touches_cell}
-use Rattle.petal_rules.specs.State.{State, id_of, link_named, other_in}
+use Rattle.petal_rules.specs.State.{State, id_of, link_named, live, other_in}
 use Rattle.petal_rules.specs.Server.{Own, Here, Copies}
 use Rattle.petal_rules.specs.Store.{settled}
 use Rattle.petal_rules.specs.Writes.{has_slot}
 use Rattle.petal_rules.specs.declared.job.Job.{Job}
 use Rattle.petal_rules.specs.declared.job.Job.TheVariants as job
 
--- a slot is set apart here for an operation of another server on a cell that the entry touches
+-- with the entry the cell is no longer live: its region is under the new map
+abbrev pub dies : State → Command → Cell → Bool
+dies state entry cell = live state cell && not (live (after state entry) cell)
+
+-- what is kept of the cell for others ends with the entry
+abbrev pub ends_cell : State → Command → Cell → Bool
+ends_cell state entry cell = touches_cell state entry cell || dies state entry cell
+
+-- a slot is set apart here for an operation of another server on such a cell
 abbrev pub loses_slot : State → Command → Cell × LastOp → Bool
-loses_slot state entry row = touches_cell state entry row.0 && has_slot row.1.far
+loses_slot state entry row = ends_cell state entry row.0 && has_slot row.1.far
 
 -- the entry touches the link of this name
 abbrev pub touches_link : State → Command → LinkId → Bool
 touches_link state entry id = option_map_or (touches state entry) (link_named state id) false
 
+-- what is kept of the link ends with the entry: it touches it, or its map is dead
+abbrev pub ends_link : State → Command → LinkId → Bool
+ends_link state entry id = touches_link state entry id || is_none (link_named (after state entry) id)
+
 -- nothing is left of the copies on the links that the entry touches
 abbrev pub copies_crossed : State → Command → Copies → Copies
 copies_crossed state entry copies = record copies {
-  progress = filter (λ row. not (touches_link state entry row.0)) copies.progress;
-  pending = filter (λ row. not (touches_cell state entry row.0)) copies.pending;
-  last = filter (λ row. not (touches_cell state entry row.0)) copies.last;
+  progress = filter (λ row. not (ends_link state entry row.0)) copies.progress;
+  pending = filter (λ row. not (ends_cell state entry row.0)) copies.pending;
+  last = filter (λ row. not (ends_cell state entry row.0)) copies.last;
 }
 
 -- what others asked of it on the links that the entry touches is dropped, and the slots set apart for them are free
 abbrev pub crossed : State → Command → Own → Own
 crossed state entry own = record {
-  pairs = record own.pairs { last = filter (λ row. not (touches_cell state entry row.0)) own.pairs.last };
+  pairs = record own.pairs { last = filter (λ row. not (ends_cell state entry row.0)) own.pairs.last };
   copies = copies_crossed state entry own.copies;
+  filled = filter (λ row. is_some (link_named (after state entry) row.0)) own.filled;
   store = record own.store { tickets = own.store.tickets - length (filter (loses_slot state entry) own.pairs.last) };
 }
 

@@ -1,27 +1,19 @@
 -- Fences: what a server reports so that the active fence takes effect. It has drained once none of its clients' writes is under way on a
 -- cell of which the fence holds the writes; from the entry that makes the fence active it takes no new one, until it has applied the
 -- entry with which the fence takes effect.
-use Rattle.std.specs.Prelude.{ℕ, ◌&&◌, not, Bool, true, false, nat_eq, List, [], ◌∷◌, if◌then◌else◌, Option, Some, None}
+use Rattle.std.specs.Prelude.{ℕ, ◌&&◌, not, Bool, nat_eq, List, [], ◌∷◌, if◌then◌else◌, Option, Some, None}
 use Rattle.std.specs.List.{list_any}
 use Rattle.global_tables.specs.View.{head}
 use Rattle.global_tables.specs.declared.fence.Fence.{Fence}
 use Rattle.petal_command.specs.declared.command.Command.{Command}
 use Rattle.petal_command.specs.declared.command.Command.TheVariants.{Drained}
-use Rattle.petal_msg.specs.declared.operation.OpKind.{OpKind}
-use Rattle.petal_msg.specs.declared.operation.OpKind.TheVariants as kind
 use Rattle.petal_rules.specs.Server.{Own, Here}
 use Rattle.petal_rules.specs.State.{State, held, is_in}
-use Rattle.petal_rules.specs.Writes.{is_writes_held}
+use Rattle.petal_rules.specs.Writes.{is_clients, is_writes_held}
 
 -- the fence waits for the server's report
 abbrev pub awaits : Fence → ℕ → Bool
 awaits fence server = list_any (nat_eq server) fence.waiting
-
--- the operation was opened for a client's write
-abbrev pub is_clients : OpKind → Bool
-is_clients kind.Write = true
-is_clients kind.Fill = false
-is_clients kind.Copy = false
 
 -- a client's write is under way on a cell of which the active fence holds the writes
 abbrev pub has_held_write : State → Own → Bool

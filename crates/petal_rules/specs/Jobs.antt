@@ -25,6 +25,8 @@ use Rattle.petal_rules.specs.Crossing.{crossed_by, jobs_by}
 use Rattle.petal_rules.specs.Progress.{copying_on}
 use Rattle.petal_rules.specs.Returns.{returning, proposed}
 use Rattle.petal_rules.specs.Draining.{draining}
+use Rattle.petal_rules.specs.Fills.{fill_posts, moving, on_fill, on_filled, on_fill_full}
+use Rattle.petal_rules.specs.Sweeping.{sweep_jobs, sweeps}
 use Rattle.petal_rules.specs.declared.step.CommitEnd.{CommitEnd}
 use Rattle.petal_rules.specs.declared.step.CommitEnd.TheVariants.{Before, After}
 use Rattle.petal_rules.specs.declared.job.Job.{Job}
@@ -49,7 +51,7 @@ handles here own (body.Written seq) = silent own
 handles here own (body.Full seq) = silent own
 handles here own (body.Reserve number cell) = on_reserve here own number cell
 handles here own (body.Reserved number cell) = on_reserved here own number cell
-handles here own (body.PairFull number cell) = on_pair_full own number cell
+handles here own (body.PairFull number cell) = on_pair_full here own number cell
 handles here own (body.Replicate number key version bytes) = on_replicate here own number key bytes
 handles here own (body.Replicated number cell) = on_replicated here own number cell
 handles here own (body.HelloAsk map link after) = on_hello_ask here own (record { map = map; link = link }) after
@@ -60,9 +62,9 @@ handles here own (body.Sync number key version index bytes) =
     on_sync here own (record { op = number; key = key; index = index; stored = record { version = version; bytes = bytes } })
 handles here own (body.Synced number cell index) = on_synced here own number cell index
 handles here own (body.SyncFull number cell) = on_sync_full own number cell
-handles here own (body.Fill key bytes) = silent own
-handles here own (body.Filled key) = silent own
-handles here own (body.FillFull key) = silent own
+handles here own (body.Fill key bytes) = on_fill here own (record { key = key; bytes = bytes })
+handles here own (body.Filled key) = on_filled here own key
+handles here own (body.FillFull key) = on_fill_full here own key
 
 abbrev pub wrong_rev : Own → ℕ → Option ℕ → Done
 wrong_rev own client None = silent own
@@ -100,6 +102,7 @@ unfoldable pub does : Here → Own → Job → Done
 does here own (job.Letter letter) = on_letter here own letter
 does here own (job.Stage cell) = if is_in here.state here.me here.inc then stages here own cell else silent own
 does here own (job.Mend link) = if is_in here.state here.me here.inc then mends here own link else silent own
+does here own job.Sweep = if is_in here.state here.me here.inc then sweeps here own else silent own
 does here own job.Apply = silent own
 does here own job.Start = silent own
 
@@ -119,6 +122,7 @@ unfoldable pub log_does : Voter → Log → Job → LogDone
 log_does voter log (job.Letter letter) = hears_log voter log letter letter.body
 log_does voter log (job.Stage cell) = keeps log
 log_does voter log (job.Mend link) = keeps log
+log_does voter log job.Sweep = keeps log
 log_does voter log job.Apply = applies log
 log_does voter log job.Start = keeps log
 
@@ -127,6 +131,7 @@ abbrev pub is_log_job : Job → Bool
 is_log_job (job.Letter letter) = is_logged (subject_of letter.body)
 is_log_job (job.Stage cell) = false
 is_log_job (job.Mend link) = false
+is_log_job job.Sweep = false
 is_log_job job.Apply = true
 is_log_job job.Start = true
 
@@ -169,9 +174,10 @@ crossing here server rest entry done = record {
   letters = letters_of (sender here) 0 done.posts;
 }
 
--- what a server wants chosen by its own part: that it and its links return, and that the active fence takes effect
+-- what a server wants chosen by its own part: that it and its links return, that the active fence takes effect, and that what it has moved is
+-- noted
 abbrev pub own_wants : Here → Own → List Command
-own_wants here own = returning here own ++ draining here own
+own_wants here own = returning here own ++ draining here own ++ moving here own
 
 -- what a server wants chosen, the most urgent first
 abbrev pub wanted_by : Here → Server → List Command
@@ -272,9 +278,10 @@ awaited here own op action.Drop = []
 abbrev pub sent_anew : Here → Own → Pending → List Post
 sent_anew here own op = awaited here own op (next_stage here.state here.me op)
 
--- of copies too, while the server is In as itself
+-- of copies and fills too, while the server is In as itself
 abbrev pub copies_anew : Here → Own → List Post
-copies_anew here own = if is_in here.state here.me here.inc then copy_posts here own ++ page_posts here own else []
+copies_anew here own =
+    if is_in here.state here.me here.inc then copy_posts here own ++ page_posts here own ++ fill_posts here own else []
 
 -- each letter that is not yet answered goes out again, and one of the other servers is asked what follows
 abbrev pub tick_posts : Here → Server → List Post
@@ -288,7 +295,7 @@ tick_posts here server =
 abbrev pub tick_jobs : Here → Server → List Job
 tick_jobs here server =
     start_jobs server.log.phase (wanted_by here server)
-    ++ (if is_in here.state here.me here.inc then mend_jobs here server.own else [])
+    ++ (if is_in here.state here.me here.inc then mend_jobs here server.own ++ sweep_jobs here server.own else [])
 
 -- a tick: letters go out again, and jobs are queued
 abbrev pub ticks : Here → Server → Acted

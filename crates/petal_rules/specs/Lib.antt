@@ -13,6 +13,8 @@ pub mod Copies
 pub mod Crossing
 pub mod Returns
 pub mod Draining
+pub mod Fills
+pub mod Sweeping
 pub mod Jobs
 pub mod Boots
 pub mod Blanked

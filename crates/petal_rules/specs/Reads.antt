@@ -1,5 +1,6 @@
 -- Reads: what a server that may read a cell says.
-use Rattle.std.specs.Prelude.{ℕ, ◌&&◌, Bool, true, false, if◌then◌else◌}
+use Rattle.std.specs.Prelude.{ℕ, ◌&&◌, Bool, true, false, if◌then◌else◌, Option, Some, None}
+use Rattle.petal_base.specs.Block.{zero_block}
 use Rattle.petal_base.specs.declared.cell.Cell.{Cell}
 use Rattle.petal_msg.specs.declared.body.Body.{Body}
 use Rattle.petal_msg.specs.declared.body.Body.TheVariants as body
@@ -7,8 +8,8 @@ use Rattle.petal_msg.specs.declared.letter.Actor.TheVariants as actor
 use Rattle.petal_msg.specs.declared.operation.Reply.{Reply}
 use Rattle.petal_msg.specs.declared.operation.Reply.TheVariants.{Data, NotHere, BlockBusy, Held}
 use Rattle.petal_state.specs.declared.answer.Hold.TheVariants as hold
-use Rattle.petal_rules.specs.State.{Hold, held, is_lead, readable}
-use Rattle.petal_rules.specs.Store.{chain_in, entry_at, bytes_of}
+use Rattle.petal_rules.specs.State.{State, Hold, coming, held, is_lead, readable}
+use Rattle.petal_rules.specs.Store.{Stored, chain_in, entry_at}
 use Rattle.petal_rules.specs.Server.{Own, Here, Done, silent, says}
 use Rattle.petal_rules.specs.Writes.{is_under_way}
 
@@ -17,12 +18,17 @@ is_all_held hold.No = false
 is_all_held hold.Writes = false
 is_all_held hold.All = true
 
+-- a cell without an entry at the epoch is zeros; but in a region that is on its way the old map may have one
+abbrev pub reply_of : State → Cell → Option Stored → Reply
+reply_of state cell None = if coming state cell then NotHere else Data zero_block
+reply_of state cell (Some entry) = Data entry.bytes
+
 -- a fence, or what is under way at the lead, keeps a read back; else it gives the entry of the greatest epoch not above its own
 abbrev pub reply_to : Here → Own → Cell → ℕ → Reply
 reply_to here own cell epoch =
     if is_all_held (held here.state cell) then Held
     else if is_lead here.state here.me cell && is_under_way own cell then BlockBusy
-    else Data (bytes_of (entry_at (chain_in own.store.chains cell) epoch))
+    else reply_of here.state cell (entry_at (chain_in own.store.chains cell) epoch)
 
 abbrev pub said : ℕ → Reply → Body
 said seq (Data bytes) = body.Data seq bytes

@@ -1,6 +1,7 @@
 -- A server: its life, its part of the agreed log, its tables of pair operations, its store and its queue.
 use Rattle.std.specs.Prelude.{ℕ, Bool, false, List, [], ◌∷◌, Option}
 use Rattle.petal_base.specs.declared.cell.Cell.{Cell}
+use Rattle.petal_base.specs.declared.cell.Key.{Key}
 use Rattle.petal_table.specs.Table.{Table}
 use Rattle.petal_msg.specs.declared.body.Body.{Body}
 use Rattle.petal_msg.specs.declared.copying.Copying.{Copying}
@@ -39,10 +40,12 @@ pub record Copies : Type 0 where
   pub last : Table Cell LastCopy
   pub full : Bool
 
--- a server's own part in the pairs of its cells: what a job of the pairs may change
+-- a server's own part in the pairs of its cells: what a job of the pairs may change. Of each link of an old map that it leads it remembers
+-- the last key of which it was told that the new map has it
 pub record Own : Type 0 where
   pub pairs : Pairs
   pub copies : Copies
+  pub filled : Table LinkId Key
   pub store : Store
 
 -- a server: its life, its part of the agreed log, its own part in the pairs, and its jobs in the order in which they came
@@ -65,7 +68,7 @@ abbrev pub first_server : (running : Bool) → ℕ → Server
 first_server running slots = record {
   life = record { running = running; inc = 1 };
   log = first_log;
-  own = record { pairs = no_pairs; copies = no_copies; store = empty_store slots };
+  own = record { pairs = no_pairs; copies = no_copies; filled = []; store = empty_store slots };
   queue = [];
 }
 

@@ -15,7 +15,7 @@ use Rattle.petal_state.specs.State.{is_up, is_up_as}
 use Rattle.petal_state.specs.CellState.{cell_link, view_of}
 use Rattle.petal_state.specs.declared.answer.DiskView.{DiskView}
 pub use Rattle.petal_state.specs.State.{State}
-pub use Rattle.petal_state.specs.CellState.{live, lead, readable, held, snapshot}
+pub use Rattle.petal_state.specs.CellState.{live, leaving, coming, lead, readable, held, snapshot}
 pub use Rattle.petal_state.specs.Role.{is_the, is_lead, leads_link, row_in_both, both, in_both, first, second, is_second}
 pub use Rattle.petal_state.specs.declared.answer.Hold.{Hold}
 

@@ -1,6 +1,7 @@
 -- The world of all servers and clients, and its steps.
-use Rattle.std.specs.Prelude.{◌≡◌, ◌≢◌, ◌⊎◌, ℕ, ◌+◌, ◌==◌, ◌||◌, ◌&&◌, ◌<◌, max, Bool, true, false, nat_lt, List, [], ◌∷◌, ◌++◌, map, filter, slice_get, take, Option, Some, None}
+use Rattle.std.specs.Prelude.{◌≡◌, ◌≢◌, ◌⊎◌, ℕ, ◌+◌, ◌==◌, ◌||◌, ◌&&◌, ◌<◌, max, Bool, true, false, nat_lt, List, [], ◌∷◌, ◌++◌, map, filter, slice_get, take, if◌then◌else◌, not, option_map, Option, Some, None}
 use Rattle.std.specs.Option.{option_map_or}
+use Rattle.petal_base.specs.declared.cell.Cell.{Cell}
 use Rattle.petal_command.specs.declared.command.Command.{Command}
 use Rattle.petal_msg.specs.declared.letter.Actor.{Actor}
 use Rattle.petal_msg.specs.declared.letter.Actor.TheVariants as actor
@@ -17,8 +18,8 @@ use Rattle.petal_state.specs.State as empty
 use Rattle.petal_rules.specs.Blanked.{BeforeBlank, blank_joins_from, kept_store}
 use Rattle.petal_rules.specs.Lists.{In, put_at}
 use Rattle.petal_rules.specs.Log.{state_in}
-use Rattle.petal_rules.specs.State.{State}
-use Rattle.petal_rules.specs.Store.{Store, top_of}
+use Rattle.petal_rules.specs.State.{State, authority, leaving}
+use Rattle.petal_rules.specs.Store.{Chain, Store, chain_in, top_of}
 use Rattle.petal_rules.specs.Server.{Own, Server, first_server, letters_of}
 use Rattle.petal_rules.specs.Jobs.{Acted, here_of, works, delivered, ticks, faults, stops, glances, operator}
 use Rattle.petal_rules.specs.Boots.{boots, blanked, stays}
@@ -46,8 +47,8 @@ pub record Control : Type 0 where
   pub glanced : Option ℕ
 
 -- all servers and clients, by number, with the stamp of the last step of each; all letters ever sent, the newest first; the
--- answers given so far, each with its line; what was done of the operator's last line; and of each server that was blanked the store
--- from before, which no rule reads
+-- answers given so far, each with its line; what was done of the operator's last line; and, which no rule reads, of each server that was
+-- blanked the store from before, and of each cell of an old map the chain that it had when its region's fence took effect
 pub record World : Type 0 where
   pub servers : ℕ → Server
   pub clients : ℕ → Client
@@ -57,6 +58,7 @@ pub record World : Type 0 where
   pub answers : List (ℕ × Answer)
   pub control : Control
   pub before_blank : ℕ → Option BeforeBlank
+  pub frozen : Cell → Option Chain
 
 -- the servers run, nothing was stored, called or sent
 abbrev pub start : Setting → World
@@ -69,6 +71,7 @@ start setting = record {
   answers = [];
   control = record { hand = None; glanced = None };
   before_blank = λ n. None;
+  frozen = λ cell. None;
 }
 
 -- ### What a script sets
@@ -176,6 +179,24 @@ before_blanks Blank setting w n =
     put_at w.before_blank n (Some (record { joins = blank_joins_in setting (chosen_log setting w) n; store = kept setting w n }))
 before_blanks _ setting w n = w.before_blank
 
+-- ### What a move starts from
+
+-- the chain of the server whose copy of a live cell counts, where there is one
+abbrev pub chain_that_counts : Setting → World → Cell → Option Chain
+chain_that_counts setting w cell =
+    option_map (λ n. chain_in (kept setting w n).chains cell) (authority (chosen_state setting w) cell)
+
+-- the cell's region is on its way by the chosen state, and was not before
+abbrev pub begins_to_leave : Setting → (w next : World) → Cell → Bool
+begins_to_leave setting w next cell = leaving (chosen_state setting next) cell && not (leaving (chosen_state setting w) cell)
+
+-- what is frozen once a step has chosen the entry with which a region's fence takes effect
+abbrev pub frozen_by : Setting → (w next : World) → Cell → Option Chain
+frozen_by setting w next cell = if begins_to_leave setting w next cell then chain_that_counts setting next cell else w.frozen cell
+
+abbrev pub with_frozen : Setting → (w next : World) → World
+with_frozen setting w next = record next { frozen = frozen_by setting w next }
+
 -- ### What a step does
 
 -- a server's step, at its state
@@ -229,13 +250,13 @@ controls _ n control = control
 
 abbrev pub acts : Setting → World → ℕ → Step → ℕ → Acted → Stepped
 acts setting w n what stamp acted = record {
-  world = record w {
+  world = with_frozen setting w (record w {
     servers = put_at w.servers n acted.server;
     server_clocks = put_at w.server_clocks n stamp;
     sent = stamped stamp acted.letters ++ w.sent;
     control = controls what n w.control;
     before_blank = before_blanks what setting w n;
-  };
+  });
   letters = stamped stamp acted.letters;
   answer = None;
 }

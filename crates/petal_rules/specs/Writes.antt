@@ -1,7 +1,7 @@
 -- Writes: what the lead of a cell does, and what its second server does ("Petal: Distributed Virtual Disks", 1996, 3.2,
 -- over chained declustering; the second server's slot is reserved first, and the lead commits before the second server). A
 -- block is marked at its lead before the lead puts: busy where a second server is to follow, stale where there is none.
-use Rattle.std.specs.Prelude.{ℕ, ◌+◌, ◌==◌, ◌&&◌, ◌||◌, not, Bool, true, false, nat_lt, List, [], ◌∷◌, if◌then◌else◌, Option, Some, None, is_some}
+use Rattle.std.specs.Prelude.{ℕ, ◌+◌, ◌==◌, ◌&&◌, ◌||◌, not, Bool, true, false, nat_lt, List, [], ◌∷◌, if◌then◌else◌, Option, Some, None, is_some, option_and_then}
 use Rattle.std.specs.Ordering.{nat_cmp}
 use Rattle.busy_marks.specs.declared.marks.MarkKind.{MarkKind}
 use Rattle.busy_marks.specs.declared.marks.MarkKind.TheVariants as mark
@@ -20,10 +20,12 @@ use Rattle.petal_msg.specs.declared.operation.Far.{Far}
 use Rattle.petal_msg.specs.declared.operation.Far.TheVariants as far
 use Rattle.petal_msg.specs.declared.operation.Finished.{Finished}
 use Rattle.petal_msg.specs.declared.operation.LastOp.{LastOp}
+use Rattle.petal_msg.specs.declared.operation.OpKind.{OpKind}
 use Rattle.petal_msg.specs.declared.operation.OpKind.TheVariants as kind
 use Rattle.petal_msg.specs.declared.operation.Pending.{Pending}
 use Rattle.petal_msg.specs.declared.operation.Stage.{Stage}
 use Rattle.petal_state.specs.declared.answer.Hold.TheVariants as hold
+use Rattle.petal_state.specs.CellState.{cell_link, row_lead, source}
 use Rattle.petal_rules.specs.State.{State, Hold, held, is_lead, leads_link, in_both, is_second, first, second}
 use Rattle.petal_rules.specs.Store.{cell_cmp, chain_in, version_of, free_of, with_ticket, without_ticket, with_entry, with_mark_on, without_mark_on}
 use Rattle.petal_rules.specs.Progress.{copying_on, has_proposed}
@@ -130,13 +132,28 @@ unmarks own op kind = record {
 abbrev pub gives_up : Own → Pending → Own
 gives_up own op = if op.stage.put then without_pending own op.cell else gives_back (without_pending own op.cell)
 
+-- the lead of the old map's link from which a fill of the cell came, by the present state: at its revision it is the server that sent it
+abbrev pub old_lead : State → Cell → Option ℕ
+old_lead state cell = option_and_then (row_lead state) (option_and_then (cell_link state) (source state cell))
+
+-- how a fill went
+abbrev pub moved_as : Key → Ending → Body
+moved_as key Written = body.Filled key
+moved_as key Full = body.FillFull key
+
+-- what an operation was opened for ends: a client's request is done with; of a fill the old lead is told
+abbrev pub ends : Here → Own → Pending → OpKind → Ending → Done
+ends here own op kind.Write ending = finishes own op.client op.seq ending
+ends here own op kind.Fill ending = says_to own (old_lead here.state op.cell) (moved_as op.key ending)
+ends here own op kind.Copy ending = silent own
+
 abbrev pub acts : Here → Own → Pending → Action → Done
 acts here own op action.Reserve = says_to own (second here.state op.cell) (body.Reserve op.op op.cell)
 acts here own op (action.Mark kind) = marks own op kind
 acts here own op action.Put = puts own op
 acts here own op action.Replicate = says_to own (second here.state op.cell) (body.Replicate op.op op.key op.version op.bytes)
 acts here own op (action.Unmark kind) = unmarks own op kind
-acts here own op action.Answer = finishes (without_pending own op.cell) op.client op.seq Written
+acts here own op action.Answer = ends here (without_pending own op.cell) op op.kind Written
 acts here own op action.Drop = silent (gives_up own op)
 
 abbrev pub goes_on_with : Here → Own → Option Pending → Done
@@ -172,9 +189,15 @@ is_writes_held hold.No = false
 is_writes_held hold.Writes = true
 is_writes_held hold.All = true
 
+-- the operation was opened for a client's write
+abbrev pub is_clients : OpKind → Bool
+is_clients kind.Write = true
+is_clients kind.Fill = false
+is_clients kind.Copy = false
+
 -- the operation was opened for this request
 abbrev pub is_for : Pending → Wanted → Bool
-is_for op want = (op.client == want.client) && (op.seq == want.seq)
+is_for op want = is_clients op.kind && (op.client == want.client) && (op.seq == want.seq)
 
 -- nothing is done yet
 abbrev pub first_stage : Stage
@@ -195,11 +218,15 @@ operation here number want = record {
   bytes = want.bytes;
 }
 
--- the own with the write's operation opened, and a slot of its own set apart
-abbrev pub opened : Here → Own → Wanted → Own
-opened here own want =
-    let with_op = with_pending own (operation here own.pairs.next want) in
+-- the own with an operation opened under its next number, and a slot of its own set apart
+abbrev pub with_opened : Own → Pending → Own
+with_opened own op =
+    let with_op = with_pending own op in
     record with_op { pairs = record with_op.pairs { next = own.pairs.next + 1 }; store = with_ticket own.store }
+
+-- the same for a write
+abbrev pub opened : Here → Own → Wanted → Own
+opened here own want = with_opened own (operation here own.pairs.next want)
 
 -- a write that is neither finished nor pending
 abbrev pub opens : Here → Own → Wanted → (room : Bool) → Done
@@ -262,15 +289,15 @@ unfoldable pub on_reserved : Here → Own → ℕ → Cell → Done
 on_reserved here own number cell = hears_reserved here own number (pending_on own cell)
 
 -- the lead gives its slot back, and answers that there is none; an operation whose copy is put goes on
-abbrev pub hears_pair_full : Own → ℕ → Option Pending → Done
-hears_pair_full own number None = silent own
-hears_pair_full own number (Some op) =
-    if is_reserving op number && not op.stage.put then finishes (gives_back (without_pending own op.cell)) op.client op.seq Full
+abbrev pub hears_pair_full : Here → Own → ℕ → Option Pending → Done
+hears_pair_full here own number None = silent own
+hears_pair_full here own number (Some op) =
+    if is_reserving op number && not op.stage.put then ends here (gives_back (without_pending own op.cell)) op op.kind Full
     else silent own
 
 -- only an operation that still waits for its reservation is refused
-unfoldable pub on_pair_full : Own → ℕ → Cell → Done
-on_pair_full own number cell = hears_pair_full own number (pending_on own cell)
+unfoldable pub on_pair_full : Here → Own → ℕ → Cell → Done
+on_pair_full here own number cell = hears_pair_full here own number (pending_on own cell)
 
 abbrev pub hears_replicated : Here → Own → ℕ → Option Pending → Done
 hears_replicated here own number None = silent own

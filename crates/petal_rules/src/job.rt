@@ -12,6 +12,8 @@ pub enum Job {
     Stage(Cell),
     /// The next page or copy of a link that is held alone, or the next mark to take away on one in `Both`.
     Mend(LinkId),
+    /// One entry or mark of a cell that is no longer live is dropped.
+    Sweep,
     /// The next entry of the log, which is known to be chosen, is applied.
     Apply,
     /// A ballot is started for the first command that is wanted.

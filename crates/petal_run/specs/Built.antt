@@ -1,8 +1,8 @@
--- The lines that are built: clients make disks and snapshots of them, write blocks, and read those of disks and of snapshots; the
--- operator stops, starts and blanks servers, and waits until they are settled.
+-- The lines that are built: clients make disks and snapshots of them, move them, write blocks, and read those of disks and of
+-- snapshots; the operator stops, starts and blanks servers, and waits until they are settled.
 use Rattle.std.specs.Prelude.{ℕ, Bool, true, false, ◌&&◌, ◌||◌, nat_lt, List, [], ◌∷◌, Option, Some, None, if◌then◌else◌}
 use Rattle.script_lines.specs.declared.request.Request.{Request}
-use Rattle.script_lines.specs.declared.request.Request.TheVariants.{Disk, Write, Read, Snap, Stop, Start, Blank, Settle}
+use Rattle.script_lines.specs.declared.request.Request.TheVariants.{Disk, Write, Read, Snap, Move, Stop, Start, Blank, Settle}
 use Rattle.script_lines.specs.declared.request.Line.{Line}
 
 abbrev pub is_built_request : Request → Bool
@@ -10,6 +10,7 @@ is_built_request (Disk name tuple) = true
 is_built_request (Write name block pattern) = true
 is_built_request (Read name snap block) = true
 is_built_request (Snap name snap) = true
+is_built_request (Move name tuple) = true
 is_built_request (Stop server) = true
 is_built_request (Start server) = true
 is_built_request (Blank server) = true

@@ -1,5 +1,5 @@
-//! The lines that are built so far: clients make disks and snapshots of them, write blocks, and read those of disks and of
-//! snapshots; the operator stops, starts and blanks servers, and waits until they are settled.
+//! The lines that are built so far: clients make disks and snapshots of them, move them, write blocks, and read those of disks and
+//! of snapshots; the operator stops, starts and blanks servers, and waits until they are settled.
 
 ghost use Rattle.std.specs.Prelude.{◌≡◌};
 ghost use Rattle.petal_run.specs.Built.{is_built, is_built_request, is_operators, first_not_built};
@@ -15,11 +15,12 @@ fn is_built_request(request: &Request) -> bool
         | Request::Write { .. }
         | Request::Read { .. }
         | Request::Snap { .. }
+        | Request::Move { .. }
         | Request::Stop { .. }
         | Request::Start { .. }
         | Request::Blank { .. }
         | Request::Settle => true,
-        Request::Move { .. } | Request::StopAt { .. } | Request::Fault { .. } => false,
+        Request::StopAt { .. } | Request::Fault { .. } => false,
     }
 }
 

@@ -70,6 +70,34 @@ is_fenced New = false
 abbrev pub leaving : State → Cell → Bool
 leaving s cell = option_map_or (λ row. is_fenced (move_region (region_of cell.block) row.moving)) (mover s cell.map) false
 
+-- the cell of the map that the disk leaves, from which the entries of a cell of its new map come
+abbrev pub source_in : Cell → DiskRow → Option Cell
+source_in cell row =
+    if row.map == cell.map then option_map (λ (move : Move). record { map = move.old_map; block = cell.block }) row.moving else None
+
+abbrev pub source : State → Cell → Option Cell
+source s cell = option_and_then (source_in cell) (owner s cell.map)
+
+-- the cell of the disk's new map to which the entries of a cell of the old one go
+abbrev pub target : State → Cell → Option Cell
+target s cell = option_map (λ (row : DiskRow). record { map = row.map; block = cell.block }) (mover s cell.map)
+
+abbrev pub comes_under : Cell → DiskRow → Bool
+comes_under cell row = row.map == cell.map && is_fenced (move_region (region_of cell.block) row.moving)
+
+-- the cell is under the new map of a move, in the region that is on its way
+abbrev pub coming : State → Cell → Bool
+coming s cell = option_map_or (comes_under cell) (owner s cell.map) false
+
+-- the region that is on its way
+abbrev pub region_on_way : Option Move → Option ℕ
+region_on_way None = None
+region_on_way (Some move) = find (λ region. is_fenced (move_region region (Some move))) (range_with_len 0 16)
+
+-- the region that is on its way from this map
+abbrev pub region_leaving : State → (map : ℕ) → Option ℕ
+region_leaving s of = option_and_then (λ (row : DiskRow). region_on_way row.moving) (mover s of)
+
 -- the link of a cell
 abbrev pub cell_link : State → Cell → Option LinkRow
 cell_link s cell = option_and_then (λ tuple. link_at s.links cell.map (link_of (length tuple) cell.block)) (tuple_of s.maps cell.map)
@@ -173,6 +201,17 @@ read_map of move New = of
 
 abbrev pub read_cell : DiskRow → ℕ → Cell
 read_cell row block = record { map = read_map row.map row.moving (move_region (region_of block) row.moving); block = block }
+
+-- the map under which a disk as its users see it has a block, by how far the block's region is; of one that is on its way the new one,
+-- and the old one for a read that was told that the new one has nothing
+abbrev pub map_asked : DiskView → (told : Bool) → RegionState → ℕ
+map_asked disk told Old = unwrap_or disk.old_map disk.map
+map_asked disk false Fenced = disk.map
+map_asked disk true Fenced = unwrap_or disk.old_map disk.map
+map_asked disk told New = disk.map
+
+abbrev pub cell_asked : State → DiskView → ℕ → (told : Bool) → Cell
+cell_asked s disk block told = record { map = map_asked disk told (region_at (disk_at s.disks.rows disk.disk) (region_of block)); block = block }
 
 -- some server may read the cell
 abbrev pub can_read : State → Cell → Bool

@@ -174,6 +174,8 @@ done_posts (job.Stage cell) here server rest stamp =
 done_posts (job.Mend link) here server rest stamp =
     by_kind (is_log_job (job.Mend link)) here server rest (log_does (voter_of here) server.log (job.Mend link))
     (does here server.own (job.Mend link)) stamp
+done_posts job.Sweep here server rest stamp =
+    by_kind (is_log_job job.Sweep) here server rest (log_does (voter_of here) server.log job.Sweep) (does here server.own job.Sweep) stamp
 done_posts job.Start here server rest stamp =
     record { sender = sender here; posts = (starts (voter_of here) server.log (wanted_by here server)).posts; from = refl; are = refl }
 

@@ -60,6 +60,10 @@ next_block_of map after (e ∷ es) =
     then lesser (Some e.key.block) (next_block_of map after es)
     else next_block_of map after es
 
+-- a map's entries of the blocks above a number
+abbrev pub map_entries : ℕ → Option ℕ → List Entry → List Entry
+map_entries map after entries = filter (λ e. e.key.map == map && above after e.key.block) entries
+
 -- of all entries, the least map above a number
 abbrev pub next_map_of : Option ℕ → List Entry → Option ℕ
 next_map_of after [] = None

@@ -1,7 +1,7 @@
 //! The map from keys to entries.
 
 ghost use Rattle.std.specs.Prelude.{◌≡◌, ◌≤◌, ◌<◌, ◌+◌, ◌⊎◌, [], vec_len, vec_capacity, is_some, if◌then◌else◌, insert, remove, slice_get, OnOk, IfOk, IsSome};
-ghost use Rattle.physical_map.specs.Entries.{key_of, slot_of, without_key, chain_of, top_of, version_of, next_block_of, next_map_of};
+ghost use Rattle.physical_map.specs.Entries.{key_of, slot_of, without_key, chain_of, map_entries, top_of, version_of, next_block_of, next_map_of};
 ghost use Rattle.physical_map.specs.Keys.{placed, newest, IsInOrder};
 ghost use Rattle.physical_map.specs.Replaced.{entry_of, slot_in, version_in};
 
@@ -98,6 +98,27 @@ impl PhysicalMap {
         ensures { IfOk result (λ chain. chain ≡ chain_of cell self.now.entries) }
     {
         Ok(Sequence::of(search::chain(&self.entries, &cell).to_vec(alloc)?))
+    }
+
+    /// All entries in the order of their keys.
+    pub fn entries(&self) -> &[Entry]
+        ensures { result.now ≡ self.now.entries }
+    {
+        &self.entries
+    }
+
+    /// The entries of a cell by rising epoch, as they stand.
+    pub fn chain_at(&self, cell: Cell) -> &[Entry]
+        ensures { result.now ≡ chain_of cell self.now.entries }
+    {
+        search::chain(&self.entries, &cell)
+    }
+
+    /// A map's entries of the blocks above `after`, as they stand.
+    pub fn of_map(&self, map: MapId, after: Option<BlockNo>) -> &[Entry]
+        ensures { result.now ≡ map_entries map after self.now.entries }
+    {
+        search::of_map(&self.entries, map, after)
     }
 
     /// The entry of a cell at this place of its chain, counted from 0.

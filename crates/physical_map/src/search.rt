@@ -2,7 +2,7 @@
 
 ghost use Rattle.std.specs.Prelude.{◌≡◌, ◌≤◌, ℕ, Some, not, max, length};
 ghost use Rattle.std.specs.List.{prefix_len};
-ghost use Rattle.physical_map.specs.Entries.{key_of, slot_of, in_cell, chain_of, top_of, version_of, above, next_block_of, next_map_of};
+ghost use Rattle.physical_map.specs.Entries.{key_of, slot_of, in_cell, chain_of, top_of, version_of, above, map_entries, next_block_of, next_map_of};
 ghost use Rattle.physical_map.specs.Keys.{key_below, same_key, sees, newest, IsInOrder};
 ghost use Rattle.physical_map.specs.Next.{before_blocks};
 
@@ -106,6 +106,15 @@ pub fn chain<'a>(entries: &'a [Entry], cell: &Cell) -> &'a [Entry]
     };
     let rest = &entries[rank_of(entries, &first)..];
     &rest[..cell_prefix(rest, cell)]
+}
+
+/// A map's entries of the blocks above `after`, which stand together.
+pub fn of_map<'a>(entries: &'a [Entry], map: u32, after: Option<u64>) -> &'a [Entry]
+    requires { IsInOrder key_of entries.now }
+    ensures { result.now ≡ map_entries map after entries.now }
+{
+    let rest = &entries[rank_of_block(entries, map, after)..];
+    &rest[..rank_of_map(rest, Some(map))]
 }
 
 /// The greatest version of a cell's entries.

@@ -55,11 +55,11 @@ fn is_refusal(body: &Body) -> bool {
     }
 }
 
-/// Whether a server that hears this goes on with the pages or with a copy. A copy that is only trimmed may find no slot: were that
-/// counted, it would begin again at once for ever, and its block would never be free for a read.
+/// Whether a server that hears this goes on with the pages, with a copy or with what is to be moved. A copy that is only trimmed may
+/// find no slot: were that counted, it would begin again at once for ever, and its block would never be free for a read.
 fn is_of_copy(body: &Body) -> bool {
     match body {
-        Body::Hello { .. } | Body::Synced { .. } => true,
+        Body::Hello { .. } | Body::Synced { .. } | Body::Filled { .. } => true,
         _ => false,
     }
 }

@@ -1,15 +1,17 @@
 //! The reply to a read.
 
-ghost use Rattle.std.specs.Prelude.{◌≡◌, true, IfOk};
+ghost use Rattle.std.specs.Prelude.{◌≡◌, ◌&&◌, not, true, is_some, IfOk};
 ghost use Rattle.petal_disk.specs.Keeping.{KeepsDevice};
 ghost use Rattle.petal_rules.specs.Reads as reads;
-ghost use Rattle.petal_rules.specs.State.{readable};
+ghost use Rattle.petal_rules.specs.State.{coming, readable};
+ghost use Rattle.petal_rules.specs.Store.{chain_in, entry_at};
+ghost use Rattle.kept_chains.specs.Kept.{chains_of};
 ghost use Rattle.kept_chains.specs.Reading.{IsReadFault};
 ghost use Rattle.pair_side.specs.Side.{own_of};
 ghost use Rattle.pair_side.specs.Done.{HoldsAt};
 
 use global_state::Hold;
-use kept_chains::{ReadError, read_at};
+use kept_chains::{ReadError, has_below, read_at};
 use pair_side::{Here, Side};
 use petal_base::{Cell, Epoch, Seq};
 use petal_disk::Disk;
@@ -25,12 +27,20 @@ fn is_all_held(held: Hold) -> bool
     }
 }
 
+/// Whether the cell is on its way from an old map, and has nothing here yet that counts at the epoch.
+fn is_elsewhere<D: Disk>(here: &Here, store: &Store<D>, cell: Cell, epoch: Epoch) -> bool
+    ensures { result ≡ (coming here.now.state cell && not (is_some (entry_at (chain_in (chains_of store.now.entries) cell) epoch))) }
+{
+    here.state().coming(cell) && !has_below(store, cell, epoch)
+}
+
 /// What a server that may read the cell says: a fence, or at the lead what is under way on the block, keeps the read back; else it
-/// gives the bytes of the entry of the greatest epoch not above, or zeros where there is none. Nothing of the store changes,
-/// and the device keeps it as before.
+/// gives the bytes of the entry of the greatest epoch not above. Where there is none it gives zeros, or, of a cell that is on its way
+/// from an old map, says so. Nothing of the store changes, and the device keeps it as before.
 ///
 /// # Errors
 /// `Failed` where the device failed, and out of memory.
+#[tactic(auto, using(crate::proofs::Replies::not_here, crate::proofs::Replies::read_here))]
 pub fn answer_read<D: Disk>(
     here: &Here,
     side: &Side,
@@ -51,6 +61,9 @@ pub fn answer_read<D: Disk>(
     }
     if here.is_lead(cell) && side.is_under_way(cell) {
         return Ok(Reply::BlockBusy);
+    }
+    if is_elsewhere(here, store, cell, epoch) {
+        return Ok(Reply::NotHere);
     }
     Ok(Reply::Data(read_at(here.alloc(), store, cell, epoch)?))
 }

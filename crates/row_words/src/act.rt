@@ -14,6 +14,7 @@ pub enum Want {
     NoSnap,
     Unavailable,
     Exists,
+    Moving,
     /// The server that the line starts or blanks does not run.
     DoesNotRun,
     /// There is none yet.
@@ -100,6 +101,7 @@ fn want_of(words: &[&str]) -> Result<Want, usize> {
         ["nosnap"] => Ok(Want::NoSnap),
         ["unavailable"] => Ok(Want::Unavailable),
         ["exists"] => Ok(Want::Exists),
+        ["moving"] => Ok(Want::Moving),
         ["failed"] => Ok(Want::DoesNotRun),
         ["open"] => Ok(Want::Open),
         ["fill", word] => fill(word),

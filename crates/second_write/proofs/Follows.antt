@@ -65,7 +65,7 @@ module _ {D : Type 0} (here : Here) (side : Side) (store : Holdings D) (cell : C
   anew_is last apart after letters room has free kept table said =
       rw (free, table, said, kept.table, kept.store) (record {
         done = record {
-          own = ap (λ (s : Store). record { pairs = pairs_of (record side { last = put cell_cmp side.last cell (reserved number) }); copies = side.copies; store = s })
+          own = ap (λ (s : Store). record { pairs = pairs_of (record side { last = put cell_cmp side.last cell (reserved number) }); copies = side.copies; filled = side.filled; store = s })
               (tickets.kept_is store _ kept.slot refl);
           letters = refl;
           jobs = refl;
@@ -88,7 +88,7 @@ module _ {D : Type 0} (here : Here) (side : Side) (store : Holdings D) (cell : C
       → IsBy here (own_of (record side { last = last; apart = apart }) after) done (follows_in here (own_of side store) number key bytes cell)
   follows_done key bytes last apart after version done table counted kept said =
       rw (table, said) (record {
-        own = ap (λ (s : Store). record { pairs = pairs_of (record side { last = put cell_cmp side.last cell (replicated number) }); copies = side.copies; store = s })
+        own = ap (λ (s : Store). record { pairs = pairs_of (record side { last = put cell_cmp side.last cell (replicated number) }); copies = side.copies; filled = side.filled; store = s })
             (kept ∙ ap (λ (v : ℕ). with_entry (store_of store) key (record { version = v; bytes = bytes })) counted);
         letters = refl;
         jobs = refl;

@@ -1,11 +1,13 @@
 -- The job that applies an entry, with what the entry does to the store.
-use Rattle.std.proofs.Common.{◌≡◌, ◌≤◌, ℕ, ◌+◌, ◌++◌, true, List, Some, Option, Result, Ok, Err, drop, length, refl, sym, subst, ap, ◌∙◌, arith}
-use Rattle.std.specs.Prelude.{slice_get, IsErr}
+use Rattle.std.proofs.Common.{◌≡◌, ◌≤◌, ℕ, ◌+◌, ◌++◌, true, List, [], ◌∷◌, None, Some, Option, Result, Ok, Err, drop, length, refl, sym, subst, ap, ◌∙◌, arith}
+use Rattle.std.specs.Prelude.{slice_get, option_map, IfSome, IsErr}
 use Rattle.kept_chains.specs.Kept.{store_of}
 use Rattle.kept_chains.specs.Standing.{StandsAsEither}
 use Rattle.kept_chains.proofs.Commits.{still_moments}
 use Rattle.log_side.specs.Done.{IsBy, follow_ups}
-use Rattle.log_side.specs.Part.{log_of, sender_of}
+use Rattle.log_side.specs.Entered.{entry_of}
+use Rattle.log_side.specs.Part.{Part, log_of, sender_of, state_of}
+use Rattle.log_side.specs.declared.entries.Entered.{Entered}
 use Rattle.log_side.specs.declared.done.LogDone.{LogDone}
 use Rattle.pair_side.specs.Crossed.{IsEntered, lacks_room}
 use Rattle.pair_side.specs.Done.{HoldsAt}
@@ -18,7 +20,10 @@ use Rattle.petal_disk.specs.Disk.{LeavesOnly}
 use Rattle.petal_disk.specs.declared.disk.Disk.{Ghosts}
 use Rattle.petal_paxos.specs.declared.record.StateRecord.{StateRecord}
 use Rattle.petal_rules.specs.Crossing.{crossed_by, jobs_by}
-use Rattle.petal_rules.specs.Entries.{applies}
+use Rattle.petal_rules.specs.Entries.{applies, applies_known, with_entry}
+use Rattle.petal_rules.proofs.Applied.{state_append}
+use Rattle.petal_rules.specs.State.{State}
+use Rattle.petal_state.specs.Command.{after, state_after}
 use Rattle.petal_rules.specs.Jobs.{journal_records}
 use Rattle.petal_rules.specs.Log.{Log, known, next_place}
 use Rattle.petal_rules.specs.Server.{Own}
@@ -33,6 +38,21 @@ use Rattle.server_store.specs.Holdings.{Holdings}
 -- the entry that a server knows to be next
 abbrev pub next_of : Core → List StateRecord → Option Command
 next_of core records = known (log_of core.log records) (next_place (log_of core.log records))
+
+-- an entry that was applied makes the state after it
+pub state_entered : (old new : Part) (records : List StateRecord) (done : LogDone) (entered : Option Entered)
+    → IsBy (sender_of old) (log_of new records) done (applies (log_of old records)) → new.voter ≡ old.voter
+    → option_map entry_of entered ≡ known (log_of old records) (next_place (log_of old records)) → IfSome entered (λ it. it.before ≡ state_of old)
+    → IfSome entered (λ it. state_of new ≡ after it.before it.entry)
+unfolding applies
+state_entered old new records done None by voter is before = tt
+state_entered old new records done (Some it) by voter is before =
+    let log : log_of new records ≡ with_entry (log_of old records) it.entry =
+    by.log ∙ ap (λ (found : Option Command). (applies_known (log_of old records) found).log) (sym is) in
+    let applied : new.applied ≡ old.applied ++ it.entry ∷ [] = ap (λ (l : Log). l.applied) log in
+    (λ i. state_after (voter i).servers (applied i))
+    ∙ sym (state_append old.voter.servers old.applied (it.entry ∷ []))
+    ∙ ap (λ (s : State). after s it.entry) (sym before)
 
 module _ {D : Type 0} (device : Ghosts D) (records : List StateRecord) (old : Core) (before : Holdings D) (there : slice_get old.queue 0 ≡ Some job.Apply) where
   abbrev rule : Own

@@ -9,3 +9,4 @@ pub mod Pairing
 pub mod Boots
 pub mod Noting
 pub mod Entering
+mod Looking

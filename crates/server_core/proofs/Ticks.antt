@@ -14,6 +14,7 @@ use Rattle.petal_rules.specs.Log.{Voter}
 use Rattle.petal_rules.specs.Server.{Own, Post, Sender, letters_of, sender}
 use Rattle.petal_rules.specs.State.{is_in}
 use Rattle.petal_rules.specs.Store.{Store}
+use Rattle.petal_rules.specs.Sweeping.{sweep_jobs}
 use Rattle.petal_rules.specs.declared.job.Job.{Job}
 use Rattle.server_core.specs.Core.{Core, acted, here_in, own_in, server_of, wants_in}
 use Rattle.server_core.proofs.Works.{voter_is}
@@ -53,15 +54,22 @@ tick_all core store records ballot pending copies all first second third last = 
         rw is (tick_sent (sender_of core.log) (ballot_posts core.log.voter core.log.phase) _ (copies_anew (here_in core) (own_in core.side store))
         (ask_posts core.log.voter (log_of core.log records)) ballot pending copies all first (second (server_of core store records).own) third last)
 
+-- the jobs of a tick that are of links and of what is kept
+abbrev pub link_jobs : Core → Store → List Job
+link_jobs core store =
+    let here = here_in core in
+    let own = own_in core.side store in
+    if is_in here.state core.log.voter.me core.log.voter.inc then mend_jobs here own ++ sweep_jobs here own else []
+
 -- the jobs that a tick queues
-pub tick_queued : (core : Core) (store : Store) (records : List StateRecord) (starts mends all : List Job)
+pub tick_queued : (core : Core) (store : Store) (records : List StateRecord) (starts links all : List Job)
     → starts ≡ start_jobs core.log.phase (wants_in core.log core.side store)
-    → mends ≡ (if is_in (here_in core).state core.log.voter.me core.log.voter.inc then mend_jobs (here_in core) (own_in core.side store) else [])
-    → all ≡ starts ++ mends → all ≡ tick_jobs (here_in core) (server_of core store records)
-tick_queued core store records starts mends all first second is =
+    → links ≡ link_jobs core store
+    → all ≡ starts ++ links → all ≡ tick_jobs (here_in core) (server_of core store records)
+tick_queued core store records starts links all first second is =
     is ∙ (λ i. first i ++ second i)
     ∙ ap (λ (voter : Voter). start_jobs core.log.phase (wanted voter (log_of core.log records) (own_wants (here_in core) (own_in core.side store)))
-    ++ (if is_in (here_in core).state core.log.voter.me core.log.voter.inc then mend_jobs (here_in core) (own_in core.side store) else []))
+    ++ link_jobs core store)
     (sym (voter_is core))
 
 -- a tick is done as the rule says

@@ -42,6 +42,7 @@ job_pair here server job.Apply rest is = absurd (cc)
 job_pair here server (job.Letter letter) rest is = rw (not_pairs (is_log_job (job.Letter letter)) is) refl
 job_pair here server (job.Stage cell) rest is = refl
 job_pair here server (job.Mend link) rest is = refl
+job_pair here server job.Sweep rest is = refl
 job_pair here server job.Start rest is = absurd (cc)
 
 -- only the job by which an entry is applied is of both
@@ -51,6 +52,7 @@ apply_first (job.Apply ∷ rest) is = refl
 apply_first (job.Letter letter ∷ rest) is = absurd (no_entry (is_log_job (job.Letter letter)) is)
 apply_first (job.Stage cell ∷ rest) is = absurd (cc)
 apply_first (job.Mend link ∷ rest) is = absurd (cc)
+apply_first (job.Sweep ∷ rest) is = absurd (cc)
 apply_first (job.Start ∷ rest) is = absurd (cc)
 
 -- ### Room
@@ -154,6 +156,7 @@ log_entered core store records job.Apply kind = absurd (cc)
 log_entered core store records (job.Letter letter) kind = rw (not_log (is_log_job (job.Letter letter)) kind) refl
 log_entered core store records (job.Stage cell) kind = absurd (cc)
 log_entered core store records (job.Mend link) kind = absurd (cc)
+log_entered core store records job.Sweep kind = absurd (cc)
 log_entered core store records job.Start kind = refl
 
 module _ (core : Core) (store : Store) (records : List StateRecord)

@@ -1,5 +1,5 @@
 -- A server in memory, and the server of the rules that it is with its two stores.
-use Rattle.std.specs.Prelude.{◌≡◌, ◌≤◌, ◌<◌, ◌⊎◌, ℕ, ◌==◌, ◌||◌, Bool, List, [], ◌∷◌, if◌then◌else◌, Option, None, Some, Result, Err}
+use Rattle.std.specs.Prelude.{◌≡◌, ◌≤◌, ◌<◌, ◌⊎◌, ℕ, ◌==◌, ◌||◌, ◌++◌, Bool, List, [], ◌∷◌, if◌then◌else◌, Option, None, Some, Result, Err}
 use Rattle.epoch_snapshot.specs.Report.{report, reported_as}
 use Rattle.log_side.specs.Part.{Part, log_of, state_of, wants_of}
 use Rattle.pair_side.specs.Side.{Side, pairs_of}
@@ -11,7 +11,9 @@ use Rattle.petal_msg.specs.declared.letter.Letter.{Letter}
 use Rattle.petal_paxos.specs.declared.record.StateRecord.{StateRecord}
 use Rattle.petal_rules.specs.Store.{Store, top_of}
 use Rattle.petal_rules.specs.Log.{Voter}
-use Rattle.petal_rules.specs.Server.{Server, Here, Own, letters_of}
+use Rattle.petal_rules.specs.Copies.{copy_posts, page_posts}
+use Rattle.petal_rules.specs.Fills.{fill_posts}
+use Rattle.petal_rules.specs.Server.{Server, Here, Own, Post, letters_of}
 use Rattle.petal_rules.specs.Jobs.{Acted, down_posts, job_done, own_wants, works}
 use Rattle.petal_rules.specs.State.{is_in}
 use Rattle.petal_rules.specs.World.{greatest_u64}
@@ -34,7 +36,11 @@ here_in core = here_by core.log
 
 -- its own part in the pairs, with this store
 abbrev pub own_in : Side → Store → Own
-own_in side store = record { pairs = pairs_of side; copies = side.copies; store = store }
+own_in side store = record { pairs = pairs_of side; copies = side.copies; filled = side.filled; store = store }
+
+-- the letters of copies, pages and entries that move that are not yet answered
+abbrev pub unanswered : Here → Own → List Post
+unanswered here own = copy_posts here own ++ page_posts here own ++ fill_posts here own
 
 -- its report to the active fence, while it is In as itself
 abbrev pub report_of : Part → Side → List Command

@@ -1,7 +1,7 @@
 //! One job.
 
 ghost use Rattle.std.specs.Prelude.{◌≡◌, true, false, IfOk, IfErr, Err};
-ghost use Rattle.petal_msg.specs.Kinds.{Copied, asked_by, subject_of};
+ghost use Rattle.petal_msg.specs.Kinds.{Copied, Filling, asked_by, subject_of};
 ghost use Rattle.petal_rules.specs.State.{is_in};
 ghost use Rattle.petal_rules.specs.Jobs.{at_other_rev, does, handles, is_from_in, on_letter, stages};
 ghost use Rattle.petal_rules.specs.Reads.{on_read};
@@ -14,12 +14,14 @@ use copy_recovery::{
 };
 use global_state::GlobalState;
 use kept_chains::ReadError;
+use lead_write::{Moving, on_fill};
 use pair_side::{says, silent};
 use petal_base::{Cell, ClientId, Epoch, Inc, MapId, Seq, ServerId};
 use petal_disk::Disk;
 use petal_msg::{Actor, Body, Letter, LinkId};
 use petal_rules::Job;
 use read_either::{answer_read, said};
+use redistribute::{on_fill_full, on_filled, sweeps};
 use server_store::Store;
 use write_pair::{Done, Here, Side, WorkError};
 
@@ -155,6 +157,28 @@ fn copies<D: Disk>(
     }
 }
 
+/// What is done with a letter of an entry that moves.
+#[tactic(auto, unfolding(petal_rules::specs::Jobs::handles))]
+fn fills<D: Disk>(
+    here: &Here,
+    side: &mut Side,
+    store: &mut Store<D>,
+    body: &Body,
+) -> Result<Done, WorkError>
+    requires tickets { HasTicketsAt side.old store.old }
+    requires versions { HasVersions store.old }
+    requires fills { subject_of body.now ≡ Filling }
+    ensures { IsDone D.Disk here.now side.old side.new store.old store.new result
+        (handles here.now (own_of side.old store.old) body.now) }
+{
+    match body {
+        Body::Fill { key, bytes } => on_fill(here, side, store, &Moving { key: *key, bytes }),
+        Body::Filled { key } => on_filled(here, side, store, *key),
+        Body::FillFull { key } => on_fill_full(here, side, store, *key),
+        _ => silent(here, side, store),
+    }
+}
+
 /// What is done with a letter's content, at a server that handles it.
 #[tactic(auto, unfolding(petal_rules::specs::Jobs::handles))]
 fn handles<D: Disk>(
@@ -202,7 +226,7 @@ fn handles<D: Disk>(
         | Body::Synced { .. }
         | Body::SyncFull { .. } => copies(here, side, store, &letter.body),
         Body::Fill { .. } | Body::Filled { .. } | Body::FillFull { .. } => {
-            silent(here, side, store)
+            fills(here, side, store, &letter.body)
         }
     }
 }
@@ -276,6 +300,13 @@ pub fn does<D: Disk>(
         Job::Mend(link) => {
             if is_in(here.state(), here.me(), here.inc()) {
                 mends(here, side, store, *link)
+            } else {
+                silent(here, side, store)
+            }
+        }
+        Job::Sweep => {
+            if is_in(here.state(), here.me(), here.inc()) {
+                sweeps(here, side, store)
             } else {
                 silent(here, side, store)
             }

@@ -34,7 +34,7 @@ pub fn is_log_job(job: &Job) -> bool
 {
     match job {
         Job::Letter(letter) => is_logged(&letter.get().body),
-        Job::Stage(_) | Job::Mend(_) => false,
+        Job::Stage(_) | Job::Mend(_) | Job::Sweep => false,
         Job::Apply | Job::Start => true,
     }
 }
@@ -93,6 +93,7 @@ pub fn go_on(jobs: &mut VecDeque<Job>, follow: Option<FollowUp>)
     match follow {
         Some(FollowUp::Stage(cell)) => jobs.push_back_reserved(Job::Stage(cell)),
         Some(FollowUp::Mend(link)) => jobs.push_back_reserved(Job::Mend(link)),
+        Some(FollowUp::Sweep) => jobs.push_back_reserved(Job::Sweep),
         None => {}
     }
 }

@@ -79,6 +79,7 @@ impl RecentBlocks {
             Body::Write { cell, bytes, .. } => self.keep(*cell, bytes),
             Body::Replicate { key, bytes, .. } => self.keep(key.cell(), bytes),
             Body::Sync { key, bytes, .. } => self.keep(key.cell(), bytes),
+            Body::Fill { key, bytes } => self.keep(key.cell(), bytes),
             _ => {}
         }
         letters

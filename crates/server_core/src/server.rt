@@ -6,6 +6,7 @@ ghost use Rattle.petal_paxos.specs.declared.record.StateRecord.{StateRecord};
 ghost use Rattle.petal_rules.specs.Ballots.{start_jobs};
 ghost use Rattle.petal_rules.specs.Jobs as jobs;
 ghost use Rattle.petal_rules.specs.Copies.{mend_jobs};
+ghost use Rattle.petal_rules.specs.Sweeping.{sweep_jobs};
 ghost use Rattle.petal_rules.specs.Jobs.{copies_anew, tick_posts, ticks};
 ghost use Rattle.petal_rules.specs.State.{is_in};
 ghost use Rattle.petal_rules.specs.Server.{letters_of, sender};
@@ -15,8 +16,9 @@ ghost use Rattle.petal_disk.specs.Keeping.{KeepsDevice};
 ghost use Rattle.kept_chains.specs.Reading.{IsReadFault};
 ghost use Rattle.pair_side.specs.Done.{HoldsAt};
 ghost use Rattle.kept_chains.specs.Kept.{store_of};
+ghost use Rattle.pair_side.specs.Letters.{IsLook};
 ghost use Rattle.pair_side.specs.Side.{new_side};
-ghost use Rattle.server_core.specs.Core.{acted, here_in, is_spent, own_in, server_of, wants_in};
+ghost use Rattle.server_core.specs.Core.{acted, here_in, is_spent, own_in, server_of, unanswered, wants_in};
 
 use crate::jobs::is_in;
 use crate::queue::{add_all, make_room};
@@ -31,6 +33,7 @@ use petal_command::ServerNumber;
 use petal_disk::Disk;
 use petal_msg::{Actor, Body, Letter, SharedLetter};
 use petal_rules::Job;
+use redistribute::{fills_after, has_dead};
 use server_store::Store;
 use std::alloc::Global;
 use std::collections::VecDeque;
@@ -60,7 +63,22 @@ impl Model for ServerCore {
     ghost invariant = { λ c. c.running ≡ true → c.farewell ≡ farewell_of c.log.voter };
 }
 
-/// These letters of a step, and after them those of copies and pages that are not yet answered, while the server is In as itself.
+/// These letters of a step, and after them those of copies, pages and entries that move that are not yet answered.
+fn unanswered_after<D: Disk>(
+    here: &Here,
+    side: &Side,
+    store: &mut Store<D>,
+    before: Sequence<Letter>,
+) -> Result<Sequence<Letter>, ReadError>
+    ensures letters { IfOk result (λ letters. D.told → letters
+        ≡ before ++ letters_of (sender here.now) (length before) (unanswered here.now (own_in side.now (store_of store.old)))) }
+    ensures look { IsLook D.Disk store.old store.new result }
+{
+    let copies = copy_recovery::letters_after(here, side, store, before)?;
+    fills_after(here, side, store, copies)
+}
+
+/// The same while the server is In as itself, and else the letters alone.
 fn copies_after<D: Disk>(
     here: &Here,
     side: &Side,
@@ -69,25 +87,21 @@ fn copies_after<D: Disk>(
 ) -> Result<Sequence<Letter>, ReadError>
     ensures letters { IfOk result (λ letters. D.told → letters
         ≡ before ++ letters_of (sender here.now) (length before) (copies_anew here.now (own_in side.now (store_of store.old)))) }
-    ensures same { store.new ≡ record store.old { disk = store.new.disk } }
-    ensures device { KeepsDevice D.size D.seen D.may_leave D.moment D.left_since store.old.disk store.new.disk }
-    ensures holds { D.told → HoldsAt D.Disk store.old → HoldsAt D.Disk store.new }
-    ensures cause { IsReadFault (D.faults store.old.disk) (D.faults store.new.disk) result }
-    ensures run { D.came_to store.old.disk store.new.disk }
+    ensures look { IsLook D.Disk store.old store.new result }
 {
     if !is_in(here.state(), here.me(), here.inc()) {
         return Ok(before);
     }
-    copy_recovery::letters_after(here, side, store, before)
+    unanswered_after(here, side, store, before)
 }
 
-/// That a ballot is started, where one may be.
-fn start_job(alloc: Global, may: bool) -> Result<Vec<Job>, NoMemory>
-    ensures { IfOk result (λ queued. queued.items ≡ (if may then job.Start ∷ [] else [])) }
+/// This job, where it is to be done.
+fn job_where(alloc: Global, may: bool, job: Job) -> Result<Vec<Job>, NoMemory>
+    ensures { IfOk result (λ queued. queued.items ≡ (if may then job ∷ [] else [])) }
 {
     let mut queued = Vec::new(alloc);
     if may {
-        queued.push(Job::Start)?;
+        queued.push(job)?;
     }
     Ok(queued)
 }
@@ -213,8 +227,9 @@ impl ServerCore {
     }
 
     /// A tick: each letter of a ballot, of a pending operation or of a copy that is not yet answered goes out again, another server
-    /// is asked what follows, an idle proposer is to start a ballot where a command is wanted, and links of which something waits
-    /// are to be mended. The letters have the stamp 0. Of the store nothing changes; the entry that a copy sends again is read.
+    /// is asked what follows, an idle proposer is to start a ballot where a command is wanted, links of which something waits are to
+    /// be mended, and what is left of cells that are live no longer is to be dropped. The next entry of each link that the server is
+    /// to move goes out. The letters have the stamp 0. Of the store nothing changes; the entries that are sent are read.
     ///
     /// # Errors
     /// `Failed` where the data device failed, and out of memory. The server is as it was.
@@ -268,19 +283,22 @@ impl ServerCore {
     {
         let wants = own_wants(alloc, &self.log, &self.side, store)?;
         let may = self.log.may_start(alloc, wants.as_slice())?;
-        start_job(alloc, may)
+        job_where(alloc, may, Job::Start)
     }
 
-    /// Links of which something waits are to be mended.
+    /// Links of which something waits are to be mended, and what is left of cells that are live no longer is to be dropped.
     fn link_jobs<D: Disk>(&self, alloc: Global, store: &Store<D>) -> Result<Vec<Job>, NoMemory>
         ensures { IfOk result (λ jobs. jobs.items ≡ (if is_in (state_of self.now.log) self.now.log.voter.me self.now.log.voter.inc
-            then mend_jobs (here_in self.now) (own_in self.now.side (store_of store.now)) else [])) }
+            then mend_jobs (here_in self.now) (own_in self.now.side (store_of store.now)) ++ sweep_jobs (here_in self.now) (own_in self.now.side (store_of store.now)) else [])) }
     {
         if !is_in(self.log.state(), self.log.me(), self.log.inc()) {
             return Ok(Vec::new(alloc));
         }
         let here = Here::new(alloc, self.log.state(), self.log.me(), self.log.inc());
-        mend_jobs(&here, &self.side, store)
+        let mut queued = mend_jobs(&here, &self.side, store)?;
+        let mut sweeps = job_where(alloc, has_dead(self.log.state(), store), Job::Sweep)?;
+        queued.append(&mut sweeps)?;
+        Ok(queued)
     }
 
     /// What a tick sends.

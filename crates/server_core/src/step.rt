@@ -26,6 +26,7 @@ use crate::jobs::does;
 use crate::queue::{Kind, add_all, enter, go_on, kind_of, make_room};
 use crate::server::ServerCore;
 use crate::wants::start_wanted;
+use global_state::GlobalState;
 use log_side::{Entered, LogDone, LogSide, Next};
 use pair_side::{enters, entry_jobs, lacks_room};
 use petal_base::{Inc, NoMemory, Sequence, ServerId};
@@ -81,10 +82,12 @@ fn enters_by<D: Disk>(
     me: ServerId,
     inc: Inc,
     entered: &Option<Entered>,
+    next: &GlobalState,
     side: &mut Side,
     store: &mut Store<D>,
 ) -> Result<(), WorkError>
     requires tickets { HasTicketsAt side.old store.old }
+    requires next { IfSome entered.now (λ it. next.now ≡ after it.before it.entry) }
     requires room { lacks_room me inc (option_map entry_of entered.now) store.old ≡ false }
     ensures { (state : State) → IfSome entered.now (λ it. it.before ≡ state)
         → IsEntered D.Disk (record { state = state; me = me; inc = inc }) (option_map entry_of entered.now) side.old side.new store.old store.new result }
@@ -92,7 +95,7 @@ fn enters_by<D: Disk>(
     match entered {
         Some(entered) => {
             let here = Here::new(alloc, &entered.before, me, inc);
-            enters(&here, &entered.entry, side, store)
+            enters(&here, &entered.entry, next, side, store)
         }
         None => Ok(()),
     }
@@ -134,7 +137,9 @@ fn does_log<D: Disk, E: Disk>(
 {
     match job {
         Job::Start => start_wanted(alloc, log, side, store, state),
-        Job::Letter(_) | Job::Stage(_) | Job::Mend(_) | Job::Apply => log.does(alloc, state, job),
+        Job::Letter(_) | Job::Stage(_) | Job::Mend(_) | Job::Sweep | Job::Apply => {
+            log.does(alloc, state, job)
+        }
     }
 }
 
@@ -255,7 +260,15 @@ impl ServerCore {
         }
         let (me, inc) = (self.log.me(), self.log.inc());
         let (done, entered) = self.log.apply(alloc, state, next)?;
-        match enters_by(alloc, me, inc, &entered, &mut self.side, store) {
+        match enters_by(
+            alloc,
+            me,
+            inc,
+            &entered,
+            self.log.state(),
+            &mut self.side,
+            store,
+        ) {
             Ok(()) => {
                 enter(&mut self.queue, done.apply, done.again);
                 add_all(&mut self.queue, jobs);

@@ -1,11 +1,12 @@
 //! What a server wants chosen, and the ballots that it starts for it.
 
-ghost use Rattle.std.specs.Prelude.{◌≡◌, IfOk, OnOk, OnErr, option_map};
+ghost use Rattle.std.specs.Prelude.{◌≡◌, ◌++◌, IfOk, OnOk, OnErr, option_map};
 ghost use Rattle.kept_chains.specs.Kept.{store_of};
 ghost use Rattle.log_side.specs.Done as logs;
 ghost use Rattle.log_side.specs.Part.{log_of};
 ghost use Rattle.epoch_snapshot.specs.Report.{reported_as};
 ghost use Rattle.petal_rules.specs.Ballots.{starts_for};
+ghost use Rattle.petal_rules.specs.Fills as fills;
 ghost use Rattle.petal_rules.specs.Jobs.{own_wants};
 ghost use Rattle.petal_rules.specs.Returns as returns;
 ghost use Rattle.petal_rules.specs.State.{id_of};
@@ -70,7 +71,34 @@ fn draining(log: &LogSide, side: &Side) -> Result<Option<Command>, NoMemory>
     reported(log, drained(log.state(), log.me(), &side.locks))
 }
 
-/// What the server wants chosen by its own part: that it and its links return, and then its report to the active fence.
+/// The wants so far, and the report, if any.
+fn with_report(wants: &mut Vec<Command>, report: Option<Command>) -> Result<(), NoMemory>
+    ensures { OnOk result (wants.new.items ≡ wants.old.items ++ commands_of report) }
+{
+    match report {
+        Some(report) => Ok(wants.push(report)?),
+        None => Ok(()),
+    }
+}
+
+/// The Moved of each link of which nothing is left to move, while the server is In as itself.
+fn moving<D: Disk>(
+    alloc: Global,
+    log: &LogSide,
+    side: &Side,
+    store: &Store<D>,
+) -> Result<Vec<Command>, NoMemory>
+    ensures { IfOk result (λ wants. wants.items ≡ fills.moving (here_by log.now) (own_in side.now (store_of store.now))) }
+{
+    if !is_in(log.state(), log.me(), log.inc()) {
+        return Ok(Vec::new(alloc));
+    }
+    let here = Here::new(alloc, log.state(), log.me(), log.inc());
+    redistribute::moving(&here, side, store)
+}
+
+/// What the server wants chosen by its own part: that it and its links return, then its report to the active fence, and that what
+/// it has moved is noted.
 pub fn own_wants<D: Disk>(
     alloc: Global,
     log: &LogSide,
@@ -79,11 +107,12 @@ pub fn own_wants<D: Disk>(
 ) -> Result<Sequence<Command>, NoMemory>
     ensures { IfOk result (λ wants. wants ≡ own_wants (here_by log.now) (own_in side.now (store_of store.now))) }
 {
-    let mut wants = returning(alloc, log, side, store)?;
-    if let Some(report) = draining(log, side)? {
-        wants.push(report)?;
-    }
-    Ok(wants)
+    let mut wants = returning(alloc, log, side, store)?.into_vec();
+    let report = draining(log, side)?;
+    with_report(&mut wants, report)?;
+    let mut moved = moving(alloc, log, side, store)?;
+    wants.append(&mut moved)?;
+    Ok(Sequence::of(wants))
 }
 
 /// The link whose `Caught` it is.

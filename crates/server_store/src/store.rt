@@ -8,7 +8,7 @@ ghost use Rattle.petal_disk.specs.Disk.{LeavesOnly};
 ghost use Rattle.petal_disk.specs.Faults.{HasCause};
 ghost use Rattle.petal_disk.specs.Keeping.{KeepsDevice};
 ghost use Rattle.petal_disk.specs.Plans.{beneath, plan_state};
-ghost use Rattle.physical_map.specs.Entries.{key_of, slot_of, without_key, chain_of, top_of, version_of, next_block_of, lesser};
+ghost use Rattle.physical_map.specs.Entries.{key_of, slot_of, without_key, chain_of, map_entries, top_of, version_of, next_block_of, lesser};
 ghost use Rattle.physical_map.specs.Keys.{placed, newest, IsInOrder};
 ghost use Rattle.data_device.specs.Device.{header, bodies_of, AreSpelled, StandsFor, Logs};
 ghost use Rattle.data_device.specs.Errors.{IsFormatError, IsReserveError, IsCommitError, IsMarkError, HasFault};
@@ -25,7 +25,7 @@ ghost use Rattle.store_record.specs.declared.record.StoreRecord.TheVariants as r
 
 use crate::Opened;
 use crate::commit::{commit, commit_put};
-use busy_marks::{MarkKind, Marks};
+use busy_marks::{Mark, MarkKind, Marks};
 use data_device::{Header, RecordLog, StoreError, read_device, write_format};
 use petal_base::{Block, BlockNo, Cell, Epoch, Key, MapId, NoMemory, Sequence, Version};
 use petal_disk::{Disk, Failed, Plan, Planned};
@@ -461,6 +461,34 @@ impl<D: Disk> Store<D> {
         ensures { IfOk result (λ chain. chain ≡ chain_of cell (listed self.now.entries)) }
     {
         self.ledger.map().chain(alloc, cell)
+    }
+
+    /// All entries in the order of their keys.
+    pub fn entries(&self) -> &[Entry]
+        ensures { result.now ≡ listed self.now.entries }
+    {
+        self.ledger.map().entries()
+    }
+
+    /// The entries of a cell by rising epoch, as they stand.
+    pub fn chain_at(&self, cell: Cell) -> &[Entry]
+        ensures { result.now ≡ chain_of cell (listed self.now.entries) }
+    {
+        self.ledger.map().chain_at(cell)
+    }
+
+    /// A map's entries of the blocks above `after`, as they stand.
+    pub fn of_map(&self, map: MapId, after: Option<BlockNo>) -> &[Entry]
+        ensures { result.now ≡ map_entries map after (listed self.now.entries) }
+    {
+        self.ledger.map().of_map(map, after)
+    }
+
+    /// The marks in the order in which they were set.
+    pub fn marks(&self) -> &[Mark]
+        ensures { result.now ≡ self.now.marks }
+    {
+        self.marks.as_slice()
     }
 
     /// The entry of a cell at this place of its chain, counted from 0.

@@ -7,8 +7,8 @@ use petal_disk::{CallKind, Plan, Which};
 use std::alloc::Global;
 use std::test::Fail;
 use world_runs::{
-    Chance, Count, Habit, script_by, script_with_blanks, script_with_cuts, script_with_starts,
-    script_with_stops, simulate,
+    Chance, Count, Habit, script_by, script_with_blanks, script_with_cuts,
+    script_with_moves_and_starts, script_with_starts, script_with_stops, simulate,
 };
 
 fn simulate_seed(alloc: Global, seed: u32) -> Result<Count, Fail> {
@@ -135,5 +135,26 @@ fn worlds_whose_servers_stop_right_after_a_commit(rt: HostRuntime) -> Result<(),
     assert!(rt; all.answered >= 300, "{all:?}");
     assert!(rt; all.cut_jobs >= 12, "{all:?}");
     assert!(rt; all.cut_boots >= 20, "{all:?}");
+    Ok(())
+}
+
+fn simulate_moves(alloc: Global, seed: u32) -> Result<Count, Fail> {
+    let mut chance = Chance::new(seed);
+    let text = script_with_moves_and_starts(alloc, &mut chance)?;
+    let run = start(alloc, text.as_str())?;
+    simulate(alloc, seed, Habit::Long, chance, run)
+}
+
+#[test]
+fn worlds_that_move_a_disk_while_servers_stop(rt: HostRuntime) -> Result<(), Fail> {
+    let mut all = Count::new();
+    for seed in 1..21 {
+        all = all.and(simulate_moves(rt.alloc(), seed)?);
+    }
+    assert!(rt; all.answered >= 400, "{all:?}");
+    assert!(rt; all.moves >= 15, "{all:?}");
+    assert!(rt; all.fills >= 25, "{all:?}");
+    assert!(rt; all.by_old_map >= 10, "{all:?}");
+    assert!(rt; all.boots >= 8, "{all:?}");
     Ok(())
 }

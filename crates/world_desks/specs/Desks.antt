@@ -21,7 +21,7 @@ abbrev pub on_devices : Server → Server
 on_devices server = record {
   life = server.life;
   log = record first_log { records = server.log.records };
-  own = record { pairs = no_pairs; copies = no_copies; store = record server.own.store { tickets = 0 } };
+  own = record { pairs = no_pairs; copies = no_copies; filled = []; store = record server.own.store { tickets = 0 } };
   queue = [];
 }
 

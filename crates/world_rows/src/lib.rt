@@ -5,6 +5,8 @@
 #[cfg(test)]
 mod chances;
 #[cfg(test)]
+mod moves;
+#[cfg(test)]
 mod rows;
 #[cfg(test)]
 mod snapshots;

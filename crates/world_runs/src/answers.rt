@@ -51,6 +51,13 @@ fn is_exists(answer: Option<&Answer>) -> bool {
     }
 }
 
+fn is_moving(answer: Option<&Answer>) -> bool {
+    match answer {
+        Some(Answer::Moving) => true,
+        _ => false,
+    }
+}
+
 /// The block that a read was answered with.
 fn shown(answer: Option<&Answer>) -> Option<&SharedBlock> {
     match answer {
@@ -97,6 +104,7 @@ pub fn is_so<H: Host>(run: &Run<H>, line: u32, want: &Want) -> bool {
         Want::NoSnap => is_no_snap(answer),
         Want::Unavailable => is_unavailable(answer),
         Want::Exists => is_exists(answer),
+        Want::Moving => is_moving(answer),
         Want::DoesNotRun => is_failed(answer),
         Want::Open => answer.is_none(),
         Want::Fill(fill) => is_filled(answer, *fill),

@@ -2,8 +2,10 @@
 
 use crate::answers::{is_done, is_no_space, is_shown, is_unavailable};
 use crate::run::Run;
+use petal_msg::Body;
 use petal_world::{Host, Step, WorkEnd};
 use script_lines::{Answer, Request};
+use world_told::old_reads;
 
 /// What was counted in some runs.
 #[derive(Clone, Copy, Debug, PartialEq, Eq)]
@@ -18,6 +20,12 @@ pub struct Count {
     pub snapshots: usize,
     /// The reads of a snapshot that were answered with a block.
     pub old_reads: usize,
+    /// The moves that began.
+    pub moves: usize,
+    /// How often a server was told that the new map of a move has an entry.
+    pub fills: usize,
+    /// The reads that were answered by the map that their disk leaves.
+    pub by_old_map: usize,
     /// How often a server was stopped by the operator.
     pub stops: usize,
     /// How often one got a blank data device.
@@ -43,6 +51,9 @@ impl Count {
             unavailable: 0,
             snapshots: 0,
             old_reads: 0,
+            moves: 0,
+            fills: 0,
+            by_old_map: 0,
             stops: 0,
             blanks: 0,
             boots: 0,
@@ -61,6 +72,9 @@ impl Count {
             unavailable: self.unavailable.saturating_add(more.unavailable),
             snapshots: self.snapshots.saturating_add(more.snapshots),
             old_reads: self.old_reads.saturating_add(more.old_reads),
+            moves: self.moves.saturating_add(more.moves),
+            fills: self.fills.saturating_add(more.fills),
+            by_old_map: self.by_old_map.saturating_add(more.by_old_map),
             stops: self.stops.saturating_add(more.stops),
             blanks: self.blanks.saturating_add(more.blanks),
             boots: self.boots.saturating_add(more.boots),
@@ -77,6 +91,10 @@ impl Count {
             Request::Snap { .. } => is_done(answer),
             _ => false,
         };
+        let moved = match request {
+            Request::Move { .. } => is_done(answer),
+            _ => false,
+        };
         let read = match request {
             Request::Read { snap: Some(_), .. } => is_shown(answer),
             _ => false,
@@ -87,6 +105,7 @@ impl Count {
             unavailable: usize::from(is_unavailable(answer)),
             snapshots: usize::from(snapped),
             old_reads: usize::from(read),
+            moves: usize::from(moved),
             ..Count::new()
         };
         *self = self.and(more);
@@ -100,12 +119,29 @@ fn steps<H: Host>(run: &Run<H>, step: &Step) -> usize {
         .count()
 }
 
+fn is_filled(body: &Body) -> bool {
+    match body {
+        Body::Filled { .. } => true,
+        _ => false,
+    }
+}
+
+// How often a server was told that the new map has an entry.
+fn fills<H: Host>(run: &Run<H>) -> usize {
+    run.sent
+        .iter()
+        .filter(|letter| is_filled(&letter.get().body))
+        .count()
+}
+
 /// What is counted of a run, but for what was cut off, which only its choices know.
 pub fn counted<H: Host>(run: &Run<H>) -> Count {
     let mut count = Count::new();
     for line in run.script().lines.as_slice() {
         count.add(&line.request, run.answer(line.number));
     }
+    count.fills = fills(run);
+    count.by_old_map = old_reads(run.records());
     count.stops = steps(run, &Step::Stop);
     count.blanks = steps(run, &Step::Blank);
     count.boots = steps(run, &Step::Boot(WorkEnd::Done));

@@ -21,7 +21,7 @@ pub use count::Count;
 pub use run::Run;
 pub use schedule::{Row, play_row};
 pub use scripts::{
-    script_by, script_with_blanks, script_with_cuts, script_with_snaps, script_with_starts,
-    script_with_stops,
+    script_by, script_with_blanks, script_with_cuts, script_with_moves,
+    script_with_moves_and_starts, script_with_snaps, script_with_starts, script_with_stops,
 };
 pub use simulation::{Habit, simulate};

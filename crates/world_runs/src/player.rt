@@ -48,6 +48,7 @@ fn block_of(body: &Body) -> Option<&SharedBlock> {
         Body::Write { bytes, .. }
         | Body::Replicate { bytes, .. }
         | Body::Sync { bytes, .. }
+        | Body::Fill { bytes, .. }
         | Body::Data { bytes, .. } => Some(bytes),
         _ => None,
     }

@@ -7,7 +7,7 @@ use petal_world::Host;
 use std::alloc::Global;
 
 /// A run that is not over after so many rounds is taken to hang.
-const MOST_ROUNDS: u32 = 1_000;
+const MOST_ROUNDS: u32 = 4_000;
 
 /// In every such round one server ticks, and all clients.
 const TICK_EVERY: u32 = 8;

@@ -29,7 +29,7 @@
 //!
 //! | expectation | what is so at this place |
 //! |---|---|
-//! | `line 3 ok`, `line 3 nospace`, `line 3 nodisk`, `line 3 nosnap`, `line 3 unavailable`, `line 3 exists`, `line 3 failed` | the line has this answer |
+//! | `line 3 ok`, `line 3 nospace`, `line 3 nodisk`, `line 3 nosnap`, `line 3 unavailable`, `line 3 exists`, `line 3 moving`, `line 3 failed` | the line has this answer |
 //! | `line 3 open` | the line has no answer yet |
 //! | `line 5 fill 7`, `line 5 fill 1\|2` | it is answered with a block of this byte, or of one of the two |
 //! | `line 8 as 7` | it is answered with the same block as line 7 |

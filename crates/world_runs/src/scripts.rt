@@ -118,14 +118,15 @@ pub fn script_with_cuts(alloc: Global, chance: &mut Chance) -> Result<String, Al
     Ok(text)
 }
 
-// A read of one of three blocks, as one of so many snapshots has it.
+// A read of one of these blocks, as one of so many snapshots has it.
 fn old_read(
     alloc: Global,
     chance: &mut Chance,
+    blocks: [u8; 3],
     client: &str,
     snaps: usize,
 ) -> Result<String, AllocError> {
-    let block = chance.below(3);
+    let block = blocks[chance.below(3)];
     if snaps == 0 {
         return format!(in alloc; "{client} read vol {block}\n");
     }
@@ -133,14 +134,15 @@ fn old_read(
     format!(in alloc; "{client} read vol@s{snap} {block}\n")
 }
 
-// A client's write or read of one of three blocks.
+// A client's write or read of one of these blocks.
 fn own_line(
     alloc: Global,
     chance: &mut Chance,
+    blocks: [u8; 3],
     client: &str,
     fill: u8,
 ) -> Result<String, AllocError> {
-    let block = chance.below(3);
+    let block = blocks[chance.below(3)];
     if chance.below(2) == 0 {
         format!(in alloc; "{client} write vol {block} fill {fill}\n")
     } else {
@@ -148,11 +150,15 @@ fn own_line(
     }
 }
 
-/// A script of three servers and three clients, of which `a` takes snapshots of the disk that is made in a first phase, and mostly
-/// reads them.
-pub fn script_with_snaps(alloc: Global, chance: &mut Chance) -> Result<String, AllocError> {
-    let mut text = format!(in alloc; "servers 3 slots 64\na disk vol on 0 1 2\nwait\n")?;
-    let mut snaps: usize = 0;
+// Lines of three clients, of which `a` takes snapshots and mostly reads them. There are so many snapshots before.
+fn add_snap_lines(
+    alloc: Global,
+    chance: &mut Chance,
+    blocks: [u8; 3],
+    before: usize,
+    text: &mut String,
+) -> Result<(), AllocError> {
+    let mut snaps = before;
     for fill in 1..=LINES {
         let client = chance.below(3);
         let line = match (client, chance.below(6)) {
@@ -160,10 +166,61 @@ pub fn script_with_snaps(alloc: Global, chance: &mut Chance) -> Result<String, A
                 snaps = snaps.saturating_add(1);
                 format!(in alloc; "a snap vol s{snaps}\n")?
             }
-            (0, 1..=3) | (_, 0) => old_read(alloc, chance, client_word(client), snaps)?,
-            _ => own_line(alloc, chance, client_word(client), fill)?,
+            (0, 1..=3) | (_, 0) => old_read(alloc, chance, blocks, client_word(client), snaps)?,
+            _ => own_line(alloc, chance, blocks, client_word(client), fill)?,
         };
         text.push_str(line.as_str())?;
     }
+    Ok(())
+}
+
+/// A script of three servers and three clients, of which `a` takes snapshots of the disk that is made in a first phase, and mostly
+/// reads them.
+pub fn script_with_snaps(alloc: Global, chance: &mut Chance) -> Result<String, AllocError> {
+    let mut text = format!(in alloc; "servers 3 slots 64\na disk vol on 0 1 2\nwait\n")?;
+    add_snap_lines(alloc, chance, [0, 1, 2], 0, &mut text)?;
+    Ok(text)
+}
+
+fn new_map(chance: &mut Chance) -> &'static str {
+    match chance.below(4) {
+        0 => "1 2 0",
+        1 => "0 2 1",
+        2 => "2 1",
+        _ => "2 0",
+    }
+}
+
+// The first phase of a disk of three servers, which is written in two epochs and is to move. Block 9 is of the second region.
+fn moving_head(alloc: Global, chance: &mut Chance) -> Result<String, AllocError> {
+    let mut text = String::new(alloc);
+    text.push_str(
+        "servers 3 slots 64\na disk vol on 0 1 2\na write vol 0 fill 251\na write vol 1 fill 252\na write vol 9 fill 253\n",
+    )?;
+    text.push_str("a snap vol s1\na write vol 0 fill 254\na write vol 9 fill 255\n")?;
+    let line = format!(in alloc; "a move vol on {}\nwait\n", new_map(chance))?;
+    text.push_str(line.as_str())?;
+    Ok(text)
+}
+
+/// The same, where the disk is written in the first phase and is to move from then on.
+pub fn script_with_moves(alloc: Global, chance: &mut Chance) -> Result<String, AllocError> {
+    let mut text = moving_head(alloc, chance)?;
+    add_snap_lines(alloc, chance, [0, 1, 9], 1, &mut text)?;
+    Ok(text)
+}
+
+/// The same, where the operator again and again stops one of the servers and starts it.
+pub fn script_with_moves_and_starts(
+    alloc: Global,
+    chance: &mut Chance,
+) -> Result<String, AllocError> {
+    let mut text = moving_head(alloc, chance)?;
+    for _ in 0..8 {
+        let server = chance.below(3);
+        let orders = format!(in alloc; "op stop {server}\nop start {server}\n")?;
+        text.push_str(orders.as_str())?;
+    }
+    add_snap_lines(alloc, chance, [0, 1, 9], 1, &mut text)?;
     Ok(text)
 }

@@ -13,8 +13,11 @@ use std::test::Fail;
 
 const STEPS: usize = 2_000;
 
+/// The steps of a long run.
+const LONG: usize = 8_000;
+
 /// A run with so many choices is taken to hang.
-const CHOICES: usize = 20_000;
+const CHOICES: usize = 80_000;
 
 /// Mostly one of so many letters is handed over that wait the longest.
 const OLDEST: usize = 6;
@@ -33,6 +36,25 @@ pub enum Habit {
     /// The first phase is over when the choices begin, several letters are handed over in one, few of them late, and ticks come
     /// when nothing waits, most of them to servers: so that what takes many ballots, as a snapshot does, comes about.
     Brisk,
+    /// The same, over 8,000 steps.
+    Long,
+}
+
+impl Habit {
+    fn is_brisk(self) -> bool {
+        match self {
+            Habit::Brisk | Habit::Long => true,
+            Habit::Even | Habit::CutOff => false,
+        }
+    }
+
+    // How many steps a run takes.
+    fn steps(self) -> usize {
+        match self {
+            Habit::Long => LONG,
+            Habit::Even | Habit::CutOff | Habit::Brisk => STEPS,
+        }
+    }
 }
 
 /// What chooses the steps of a run: what it favours, the letters that were never handed over, how many letters were looked at for
@@ -87,17 +109,16 @@ impl Choice {
 
     // Whether the letter that is handed over is any that was ever sent.
     fn is_late(&mut self) -> bool {
-        match self.habit {
-            Habit::Brisk => self.chance.below(16) == 0,
-            Habit::Even | Habit::CutOff => self.chance.below(4) == 0,
-        }
+        let one_of = if self.habit.is_brisk() { 16 } else { 4 };
+        self.chance.below(one_of) == 0
     }
 
     // Whether it is a server that ticks, and no client.
     fn is_for_server(&mut self) -> bool {
-        match self.habit {
-            Habit::Brisk => self.chance.below(4) > 0,
-            Habit::Even | Habit::CutOff => self.chance.below(2) == 0,
+        if self.habit.is_brisk() {
+            self.chance.below(4) > 0
+        } else {
+            self.chance.below(2) == 0
         }
     }
 
@@ -127,7 +148,7 @@ impl Choice {
     }
 
     fn deliver<H: Host>(&mut self, alloc: Global, run: &mut Run<H>) -> Result<bool, NoMemory> {
-        let letters = if self.habit == Habit::Brisk { 3 } else { 1 };
+        let letters = if self.habit.is_brisk() { 3 } else { 1 };
         let mut taken = false;
         for _ in 0..letters {
             taken = self.hand_over(alloc, run)? || taken;
@@ -212,7 +233,7 @@ impl Choice {
 
     // A choice of a step, which the world takes if it is one of its own. Gives whether it was.
     fn choose<H: Host>(&mut self, alloc: Global, run: &mut Run<H>) -> Result<bool, NoMemory> {
-        if self.habit == Habit::Brisk && self.fresh.is_empty() {
+        if self.habit.is_brisk() && self.fresh.is_empty() {
             return self.go_ahead(alloc, run);
         }
         match self.chance.below(64) {
@@ -230,11 +251,11 @@ impl Choice {
         }
     }
 
-    // Takes steps until there are 2,000. Gives whether it came to that.
+    // Takes steps until there are as many as the habit says. Gives whether it came to that.
     fn go_on<H: Host>(&mut self, alloc: Global, run: &mut Run<H>) -> Result<bool, NoMemory> {
         for _ in 0..CHOICES {
             self.choose(alloc, run)?;
-            if run.records().len() >= STEPS {
+            if run.records().len() >= self.habit.steps() {
                 return Ok(true);
             }
             self.note_sent(run)?;
@@ -243,7 +264,7 @@ impl Choice {
     }
 }
 
-/// Takes 2,000 steps of a run that begins, chosen by chance, all of which the plain machine takes. Gives what was counted.
+/// Takes the steps of a run that begins, chosen by chance, all of which the plain machine takes. Gives what was counted.
 ///
 /// # Errors
 /// Which seed takes too few steps, or which step the plain machine refuses.
@@ -255,7 +276,7 @@ pub fn simulate<H: Host>(
     run: Run<H>,
 ) -> Result<Count, Fail> {
     let mut run = run;
-    if habit == Habit::Brisk && !begin(alloc, &mut run)? {
+    if habit.is_brisk() && !begin(alloc, &mut run)? {
         return Err(Fail::new(format_args!("seed {seed}: the first phase doesn't end")));
     }
     let mut choice = Choice {

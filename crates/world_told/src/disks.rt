@@ -1,8 +1,11 @@
-//! The disks that chosen commands make, and their links.
+//! The disks that chosen commands make, their maps and the links of these.
 
-use crate::fences::Fences;
+use crate::fences::{Fences, Scope};
 use crate::members::Members;
-use petal_base::{Cell, Inc, MapId, Name, NoMemory, ServerId, Tuple};
+use crate::moves::{Moves, Noted};
+use petal_base::{
+    Cell, ClientId, Epoch, Inc, MapId, Name, NoMemory, OPERATOR, Seq, ServerId, Tuple,
+};
 use petal_command::Command;
 use std::alloc::Global;
 
@@ -83,13 +86,24 @@ impl Link {
     }
 }
 
-/// The disks by map, their links, who is in, and the snapshots that wait.
+/// A disk, and how many of its snapshots were told.
+#[derive(Drop)]
+struct Disk {
+    name: Name,
+    epoch: Epoch,
+}
+
+/// The disks in the order of making; the disk of each map; the maps' links; who is in; the fences that wait; the moves that are under
+/// way; and of each client the number of its last command that was chosen.
 #[derive(Drop)]
 pub struct Disks {
-    names: Vec<Name>,
+    disks: Vec<Disk>,
+    maps: Vec<usize>,
     links: Vec<Link>,
     members: Members,
     fences: Fences,
+    moves: Moves,
+    latest: Vec<Seq>,
 }
 
 /// What some commands have done: the disks that they made; the links whose secondary they took out, so that the copies of the
@@ -122,17 +136,64 @@ impl Done {
 impl Disks {
     /// No disk is made, and all of so many servers are in.
     pub fn new(alloc: Global, servers: u8) -> Result<Disks, NoMemory> {
+        let mut latest = Vec::new(alloc);
+        for _ in 0..=OPERATOR {
+            latest.push(0)?;
+        }
         Ok(Disks {
-            names: Vec::new(alloc),
+            disks: Vec::new(alloc),
+            maps: Vec::new(alloc),
             links: Vec::new(alloc),
             members: Members::new(alloc, servers)?,
             fences: Fences::new(alloc),
+            moves: Moves::new(alloc),
+            latest,
         })
     }
 
-    /// The disk of a map.
-    pub fn name(&self, map: MapId) -> Option<&Name> {
-        self.names.get(map as usize)
+    /// The disk of a map, where this is its epoch.
+    pub fn name_at(&self, map: MapId, epoch: Epoch) -> Option<&Name> {
+        let disk = self.maps.get(map as usize)?;
+        match self.disks.get(*disk) {
+            Some(disk) if disk.epoch == epoch => Some(&disk.name),
+            _ => None,
+        }
+    }
+
+    /// A snapshot of the disk is told: its epoch rises.
+    pub fn rise(&mut self, name: &Name) {
+        for disk in self.disks.iter_mut() {
+            if disk.name == *name {
+                disk.epoch = disk.epoch.saturating_add(1);
+            }
+        }
+    }
+
+    // The place of the disk of this name.
+    fn place(&self, name: &Name) -> Option<usize> {
+        self.disks.iter().position(|disk| disk.name == *name)
+    }
+
+    // The map that the disk got last.
+    fn map_of(&self, place: usize) -> usize {
+        let mut last = 0;
+        for (map, disk) in self.maps.iter().enumerate() {
+            if *disk == place {
+                last = map;
+            }
+        }
+        last
+    }
+
+    // Whether the client's command is no earlier one than its last. From now on it is the last one.
+    fn is_new(&mut self, client: ClientId, seq: Seq) -> bool {
+        match self.latest.get_mut(client as usize) {
+            Some(latest) if *latest < seq => {
+                *latest = seq;
+                true
+            }
+            _ => false,
+        }
     }
 
     /// How many records there were when the cell's link last began to be of both.
@@ -152,9 +213,10 @@ impl Disks {
         }
     }
 
-    // A new map has these servers.
-    fn add_links(&mut self, tuple: &Tuple) -> Result<(), NoMemory> {
-        let map = self.names.len();
+    // The disk gets a map of these servers.
+    fn add_map(&mut self, disk: usize, tuple: &Tuple) -> Result<(), NoMemory> {
+        let map = self.maps.len();
+        self.maps.push(disk)?;
         let ids = tuple.ids();
         for (place, primary) in ids.iter().enumerate() {
             let next = if place + 1 == ids.len() { 0 } else { place + 1 };
@@ -175,13 +237,43 @@ impl Disks {
     }
 
     fn make(&mut self, name: &Name, tuple: &Tuple, done: &mut Done) -> Result<(), NoMemory> {
-        if self.names.contains(name) {
+        if self.place(name).is_some() {
             return Ok(());
         }
-        self.add_links(tuple)?;
-        self.names.push(name.again())?;
+        let place = self.disks.len();
+        self.add_map(place, tuple)?;
+        self.disks.push(Disk {
+            name: name.again(),
+            epoch: 0,
+        })?;
         done.made.push(name.again())?;
         Ok(())
+    }
+
+    // A known disk begins to move that is not on the move.
+    fn start_move(&mut self, name: &Name, tuple: &Tuple) -> Result<(), NoMemory> {
+        match self.place(name) {
+            Some(disk) if !self.moves.has(disk) => {
+                let map = self.map_of(disk);
+                self.moves.begin(disk, map)?;
+                self.add_map(disk, tuple)?;
+                self.fences.ask_region(disk, 0, &self.members)
+            }
+            _ => Ok(()),
+        }
+    }
+
+    // A link of an old map has moved all that it had of a region.
+    fn moved(&mut self, map: usize, region: u8, link: u8) -> Result<(), NoMemory> {
+        let links = self.links.iter().filter(|own| own.map == map).count();
+        match self.moves.note(map, region, link, links)? {
+            Noted::Nothing => Ok(()),
+            Noted::Next(disk, next) => self.fences.ask_region(disk, next, &self.members),
+            Noted::Over => {
+                self.links.retain(|own| own.map != map);
+                Ok(())
+            }
+        }
     }
 
     fn leave(&mut self, server: ServerId, inc: Inc, done: &mut Done) -> Result<(), NoMemory> {
@@ -219,30 +311,59 @@ impl Disks {
 
     // A snapshot of a known disk waits for its fence.
     fn snap(&mut self, disk: &Name, name: &Name) -> Result<(), NoMemory> {
-        match self.names.iter().position(|other| other == disk) {
+        match self.place(disk) {
             Some(disk) => self.fences.ask(disk, name, &self.members),
             None => Ok(()),
         }
     }
 
-    // Each fence that awaits nobody takes its snapshot, one after the other.
-    fn freeze(&mut self, done: &mut Done) -> Result<(), NoMemory> {
-        for _ in 0..MOST_FENCES {
-            let Some((disk, name)) = self.fences.take(&self.members)? else {
-                return Ok(());
-            };
-            if let Some(disk) = self.names.get(disk) {
-                let disk = disk.again();
-                done.frozen.push(Frozen { disk, name })?;
+    // What a fence does.
+    fn freeze(&mut self, scope: Scope, done: &mut Done) -> Result<(), NoMemory> {
+        match scope {
+            Scope::Whole(disk, name) => {
+                if let Some(disk) = self.disks.get(disk) {
+                    let disk = disk.name.again();
+                    done.frozen.push(Frozen { disk, name })?;
+                }
             }
+            Scope::Region(disk, region) => self.moves.fence(disk, region),
         }
         Ok(())
+    }
+
+    // Each fence that awaits nobody takes effect, one after the other.
+    fn let_through(&mut self, done: &mut Done) -> Result<(), NoMemory> {
+        for _ in 0..MOST_FENCES {
+            let Some(scope) = self.fences.take(&self.members)? else {
+                return Ok(());
+            };
+            self.freeze(scope, done)?;
+        }
+        Ok(())
+    }
+
+    // What a client's command does, which counts where it is no earlier one than the client's last.
+    fn serve(&mut self, command: &Command, done: &mut Done) -> Result<(), NoMemory> {
+        let (client, seq) = match command {
+            Command::MakeDisk { client, seq, .. }
+            | Command::Snap { client, seq, .. }
+            | Command::StartMove { client, seq, .. } => (client.get(), *seq),
+            _ => return Ok(()),
+        };
+        if !self.is_new(client, seq) {
+            return Ok(());
+        }
+        match command {
+            Command::MakeDisk { name, tuple, .. } => self.make(name, tuple, done),
+            Command::Snap { disk, name, .. } => self.snap(disk, name),
+            Command::StartMove { disk, tuple, .. } => self.start_move(disk, tuple),
+            _ => Ok(()),
+        }
     }
 
     // What the command does by itself.
     fn act(&mut self, command: &Command, records: usize, done: &mut Done) -> Result<(), NoMemory> {
         match command {
-            Command::MakeDisk { name, tuple, .. } => self.make(name, tuple, done),
             Command::Leave { server, inc } => self.leave(server.get(), *inc, done),
             Command::Join { server, inc, blank } => {
                 self.join(server.get(), *inc, *blank);
@@ -265,13 +386,15 @@ impl Disks {
                 self.catch(&own, records);
                 Ok(())
             }
-            Command::Snap { disk, name, .. } => self.snap(disk, name),
             Command::Drained { server, inc, fence } => {
                 self.fences
                     .report(server.get(), *inc, *fence, &self.members);
                 Ok(())
             }
-            _ => Ok(()),
+            Command::Moved { map, region, link } => {
+                self.moved(*map as usize, region.get(), link.get())
+            }
+            _ => self.serve(command, done),
         }
     }
 
@@ -283,6 +406,6 @@ impl Disks {
         done: &mut Done,
     ) -> Result<(), NoMemory> {
         self.act(command, records, done)?;
-        self.freeze(done)
+        self.let_through(done)
     }
 }

@@ -7,13 +7,15 @@
 
 use crate::choices::Choices;
 use crate::disks::{Disks, Done, Link};
-use crate::operations::{Operation, ahead_on, bytes_of, is_replicated_in, replicated_by};
-use crate::reads::accepted;
+use crate::operations::{
+    Operation, ahead_on, entry_of, is_brought_in, is_replicated_in, replicated_by,
+};
+use crate::reads::{accepted, is_by_old_map, old_data};
 use crate::writes::Writers;
-use petal_base::{ClientId, NoMemory, SharedBlock};
+use petal_base::{ClientId, Key, NoMemory, SharedBlock};
 use petal_history::Record;
-use petal_machine::{Event, WriteEnd};
-use petal_msg::{Actor, Body, Letter, SharedLetter};
+use petal_machine::{Event, Write, WriteEnd};
+use petal_msg::{Actor, Body, Letter};
 use petal_rules::Step;
 use script_lines::{Answer, Request, Script};
 use std::alloc::Global;
@@ -26,13 +28,14 @@ pub struct Told {
     pub event: Option<Event>,
 }
 
-/// A record, its number, and the records before and after it.
+/// A record, its number, the records before and after it, and all of them.
 #[derive(Drop)]
 struct Here<'a> {
     step: usize,
     before: &'a [Record],
     own: &'a Record,
     later: &'a [Record],
+    all: &'a [Record],
 }
 
 /// What is told so far of a script's history, and the clients as they are so far.
@@ -142,6 +145,7 @@ impl<'a> Telling<'a> {
             self.tell(step, Some(Event::Make { disk }))?;
         }
         for frozen in done.frozen {
+            self.disks.rise(&frozen.disk);
             self.tell(
                 step,
                 Some(Event::Freeze {
@@ -176,13 +180,23 @@ impl<'a> Telling<'a> {
         from(here.before, self.disks.since(operation.cell))
     }
 
+    // The open write of which the entry comes: it is of its disk's epoch.
+    fn write_of(&mut self, key: Key, bytes: &SharedBlock) -> Result<Option<Write>, NoMemory> {
+        match self.disks.name_at(key.map, key.epoch) {
+            Some(disk) => self.writers.take(disk, key.block, bytes),
+            None => Ok(None),
+        }
+    }
+
+    // The operation's entry counts from now on. What comes from the map that its disk leaves changes no content.
     fn take(&mut self, here: &Here, operation: Operation) -> Result<(), NoMemory> {
-        let bytes = bytes_of(self.beside(here, operation), operation);
-        let disk = self.disks.name(operation.cell.map);
-        let write = match (disk, bytes) {
-            (Some(disk), Some(bytes)) => self.writers.take(disk, operation.cell.block, bytes)?,
-            _ => None,
+        let Some((key, bytes)) = entry_of(self.beside(here, operation), operation) else {
+            return self.tell(here.step, None);
         };
+        let write = self.write_of(key, bytes)?;
+        if write.is_none() && is_brought_in(here.before, operation, (key, bytes)) {
+            return Ok(());
+        }
         self.tell(here.step, write.map(Event::Take))
     }
 
@@ -226,29 +240,38 @@ impl<'a> Telling<'a> {
         Ok(())
     }
 
-    fn look(
-        &mut self,
-        here: &Here,
-        letter: &SharedLetter,
-        bytes: &SharedBlock,
-    ) -> Result<(), NoMemory> {
-        let Some(line) = accepted(here.later, letter.get()) else {
-            return Ok(());
-        };
+    // The line's read gives these bytes.
+    fn look(&mut self, step: usize, line: u32, bytes: &SharedBlock) -> Result<(), NoMemory> {
         let Some(request) = request_of(self.script, line) else {
             return Ok(());
         };
         match look_by(request, bytes)? {
-            Some(event) => self.tell(here.step, Some(event)),
+            Some(event) => self.tell(step, Some(event)),
+            None => Ok(()),
+        }
+    }
+
+    // A read that the old map answers has looked when the letter was sent that made its client ask there.
+    fn looks_by(&mut self, here: &Here, letter: &Letter) -> Result<(), NoMemory> {
+        let found = match &letter.body {
+            Body::Data { bytes, .. } => match accepted(here.later, letter) {
+                Some(line) if !is_by_old_map(here.all, here.before.len(), letter) => {
+                    Some((line, bytes))
+                }
+                _ => None,
+            },
+            Body::NotHere { .. } => old_data(here.all, here.before.len(), letter),
+            _ => None,
+        };
+        match found {
+            Some((line, bytes)) => self.look(here.step, line, bytes),
             None => Ok(()),
         }
     }
 
     fn looks(&mut self, here: &Here) -> Result<(), NoMemory> {
         for letter in here.own.sent.as_slice() {
-            if let Body::Data { seq: _, bytes } = &letter.get().body {
-                self.look(here, letter, bytes)?;
-            }
+            self.looks_by(here, letter.get())?;
         }
         Ok(())
     }
@@ -272,6 +295,7 @@ fn tell_all(telling: &mut Telling, records: &[Record]) -> Result<(), NoMemory> {
             before: &records[..at],
             own: &records[at],
             later: &records[at + 1..],
+            all: records,
         };
         telling.begins(&here)?;
         let done = telling.chooses(&here)?;
@@ -295,4 +319,20 @@ pub fn told_of(alloc: Global, script: &Script, records: &[Record]) -> Result<Vec
     };
     tell_all(&mut telling, records)?;
     Ok(telling.told)
+}
+
+/// How many reads were answered by the map that their disk leaves.
+pub fn old_reads(records: &[Record]) -> usize {
+    let mut count: usize = 0;
+    for (at, record) in records.iter().enumerate() {
+        for letter in record.sent.as_slice() {
+            let letter = letter.get();
+            let told = match &letter.body {
+                Body::NotHere { .. } => old_data(records, at, letter).is_some(),
+                _ => false,
+            };
+            count = count.saturating_add(usize::from(told));
+        }
+    }
+    count
 }

@@ -1,4 +1,4 @@
-//! The snapshots that chosen commands ask for, and the fences that wait for the servers' reports before they take them.
+//! The snapshots and the moves that chosen commands ask for, and the fences that wait for the servers' reports before they take effect.
 
 use crate::members::Members;
 use petal_base::{Inc, Name, NoMemory, ServerId};
@@ -12,11 +12,20 @@ struct Snapshot {
     name: Name,
 }
 
+/// What a fence does to the disk of a place.
+#[derive(Drop)]
+pub enum Scope {
+    /// It takes a snapshot of this name.
+    Whole(usize, Name),
+    /// It brings the region between the disk's two maps.
+    Region(usize, u8),
+}
+
 /// A fence of the queue, and the servers whose report it awaits where it is the first one.
 #[derive(Drop)]
 struct Fence {
     number: u32,
-    snapshot: Snapshot,
+    scope: Scope,
     awaited: Vec<ServerId>,
 }
 
@@ -46,6 +55,22 @@ impl Fences {
             .any(|snapshot| snapshot.disk == disk && snapshot.name == *name)
     }
 
+    // One fence more waits.
+    fn add(&mut self, scope: Scope, members: &Members) -> Result<(), NoMemory> {
+        self.queued = self.queued.saturating_add(1);
+        let awaited = if self.queue.is_empty() {
+            members.all_in(self.alloc)?
+        } else {
+            Vec::new(self.alloc)
+        };
+        self.queue.push_back(Fence {
+            number: self.queued,
+            scope,
+            awaited,
+        })?;
+        Ok(())
+    }
+
     /// A snapshot of this disk is asked for. It waits, where its name is new.
     pub fn ask(&mut self, disk: usize, name: &Name, members: &Members) -> Result<(), NoMemory> {
         if self.is_asked(disk, name) {
@@ -55,21 +80,17 @@ impl Fences {
             disk,
             name: name.again(),
         })?;
-        self.queued = self.queued.saturating_add(1);
-        let awaited = if self.queue.is_empty() {
-            members.all_in(self.alloc)?
-        } else {
-            Vec::new(self.alloc)
-        };
-        self.queue.push_back(Fence {
-            number: self.queued,
-            snapshot: Snapshot {
-                disk,
-                name: name.again(),
-            },
-            awaited,
-        })?;
-        Ok(())
+        self.add(Scope::Whole(disk, name.again()), members)
+    }
+
+    /// The turn of the disk's region comes to move.
+    pub fn ask_region(
+        &mut self,
+        disk: usize,
+        region: u8,
+        members: &Members,
+    ) -> Result<(), NoMemory> {
+        self.add(Scope::Region(disk, region), members)
     }
 
     /// The active fence awaits all servers that are in.
@@ -99,9 +120,8 @@ impl Fences {
         }
     }
 
-    /// The active fence takes its snapshot, where it awaits nobody, and the next one awaits all servers that are in. Gives the
-    /// snapshot's disk and its name.
-    pub fn take(&mut self, members: &Members) -> Result<Option<(usize, Name)>, NoMemory> {
+    /// The active fence takes effect, where it awaits nobody, and the next one awaits all servers that are in. Gives what it does.
+    pub fn take(&mut self, members: &Members) -> Result<Option<Scope>, NoMemory> {
         if !self.is_ready() {
             return Ok(None);
         }
@@ -109,7 +129,6 @@ impl Fences {
             return Ok(None);
         };
         self.renew(members)?;
-        let snapshot = &fence.snapshot;
-        Ok(Some((snapshot.disk, snapshot.name.again())))
+        Ok(Some(fence.scope))
     }
 }

@@ -10,8 +10,9 @@ mod disks;
 mod events;
 mod fences;
 mod members;
+mod moves;
 mod operations;
 mod reads;
 mod writes;
 
-pub use events::{Told, made, tells, told_of};
+pub use events::{Told, made, old_reads, tells, told_of};

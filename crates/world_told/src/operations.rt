@@ -1,7 +1,7 @@
 //! Operations of pairs of servers, as letters name them.
 
 use crate::disks::Link;
-use petal_base::{Cell, NoMemory, Op, SharedBlock};
+use petal_base::{Cell, Key, NoMemory, Op, SharedBlock};
 use petal_history::Record;
 use petal_msg::{Actor, Body, Letter};
 use std::alloc::Global;
@@ -39,22 +39,47 @@ fn says_it(record: &Record, operation: Operation) -> bool {
         .any(|letter| replicated_by(letter.get()) == Some(operation))
 }
 
-/// The bytes that the operation's lead asks its second server to put.
-pub fn bytes_of(records: &[Record], operation: Operation) -> Option<&SharedBlock> {
+/// The key and the bytes that the operation's lead asks its second server to put.
+pub fn entry_of(records: &[Record], operation: Operation) -> Option<(Key, &SharedBlock)> {
     for record in records {
         for letter in record.sent.as_slice() {
-            if let Some(bytes) = bytes_asked(letter.get(), operation) {
-                return Some(bytes);
+            if let Some(entry) = entry_asked(letter.get(), operation) {
+                return Some(entry);
             }
         }
     }
     None
 }
 
-fn bytes_asked(letter: &Letter, operation: Operation) -> Option<&SharedBlock> {
+fn entry_asked(letter: &Letter, operation: Operation) -> Option<(Key, &SharedBlock)> {
     match &letter.body {
-        Body::Replicate { bytes, .. } if asked_by(letter) == Some(operation) => Some(bytes),
+        Body::Replicate { key, bytes, .. } if asked_by(letter) == Some(operation) => {
+            Some((*key, bytes))
+        }
         _ => None,
+    }
+}
+
+/// Whether one of the records brings the operation's lead this entry from the map that its disk leaves.
+pub fn is_brought_in(records: &[Record], operation: Operation, entry: (Key, &SharedBlock)) -> bool {
+    records
+        .iter()
+        .any(|record| brings(record, operation, entry))
+}
+
+fn brings(record: &Record, operation: Operation, entry: (Key, &SharedBlock)) -> bool {
+    record
+        .sent
+        .as_slice()
+        .iter()
+        .any(|letter| is_entry(letter.get(), operation, entry))
+}
+
+fn is_entry(letter: &Letter, operation: Operation, entry: (Key, &SharedBlock)) -> bool {
+    let (own, old) = entry;
+    match &letter.body {
+        Body::Fill { key, bytes } => letter.to == operation.lead && *key == own && *bytes == *old,
+        _ => false,
     }
 }
 

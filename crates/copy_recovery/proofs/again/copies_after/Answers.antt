@@ -9,7 +9,7 @@ use Rattle.kept_chains.specs.Kept.{store_of}
 use Rattle.pair_side.specs.Side.{own_of}
 use Rattle.pair_side.proofs.Letters.{next_letters}
 use Rattle.copy_recovery.specs.Walks.{side_own}
-use Rattle.copy_recovery.proofs.Looks.{seen_then}
+use Rattle.pair_side.proofs.Looks.{seen_then}
 use Rattle.copy_recovery.proofs.again.copies_after.Goals as goal
 
 pub loop-cell-preserved : goal.loop-cell-preserved

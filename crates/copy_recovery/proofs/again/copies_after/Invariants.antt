@@ -5,7 +5,7 @@ use Rattle.petal_rules.specs.Copies.{copy_awaited, copy_stage}
 use Rattle.petal_rules.specs.Server.{letters_of, sender}
 use Rattle.kept_chains.specs.Kept.{store_of}
 use Rattle.pair_side.specs.Side.{own_of}
-use Rattle.copy_recovery.proofs.Looks.{IsSeen}
+use Rattle.pair_side.proofs.Looks.{IsSeen}
 use Rattle.copy_recovery.proofs.again.copies_after.Given as goal
 
 abbrev pub invariant-loop-cell : goal.invariant-loop-cell

@@ -5,7 +5,7 @@ use Rattle.petal_rules.specs.Copies.{page_for}
 use Rattle.petal_rules.specs.Server.{Post, letters_of, sender}
 use Rattle.petal_rules.specs.State.{other_in}
 use Rattle.pair_side.specs.Side.{own_of}
-use Rattle.copy_recovery.proofs.Looks.{count_more, letters_more}
+use Rattle.pair_side.proofs.Looks.{count_more, letters_more}
 use Rattle.copy_recovery.proofs.again.pages_after.Goals as goal
 
 abbrev no_row : LinkRow

@@ -22,6 +22,7 @@ returns-in-Err g c =
       finished = c.side.inside.finished;
       last = c.side.inside.last;
       copies = c.side.inside.copies;
+      filled = c.side.inside.filled;
       own = c.side.inside.own;
       apart = c.side.inside.apart;
     } in

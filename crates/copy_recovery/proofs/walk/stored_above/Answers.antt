@@ -9,20 +9,20 @@ use Rattle.copy_recovery.proofs.Least.{least_above, less_room, walk_hit, walk_no
 use Rattle.copy_recovery.proofs.Links.{stored_is}
 use Rattle.copy_recovery.proofs.walk.stored_above.Goals as goal
 
-pub returns-then-is_on : goal.returns-then-is_on
-returns-then-is_on g c =
+pub returns-then-is_kept : goal.returns-then-is_kept
+returns-then-is_kept g c =
     let here = c.args.here.now.state in
     let row = c.args.row.now in
     let all = stored_in row.map (chains_of c.args.store.now.entries) in
     let hit = sym c.next_stored.ensures ∙ c.in-Some.is in
     sym (sym c.loop-block.invariant
     ∙ ap (λ (l : List ℕ). least (filter (above c.loop-block.after) l)) (stored_is here row (chains_of c.args.store.now.entries))
-    ∙ walk_hit (on_link here row) c.loop-block.after all c.in-Some.block hit (sym c.is_on.ensures.value ∙ c.if-is_on.true))
+    ∙ walk_hit (on_link here row) c.loop-block.after all c.in-Some.block hit (sym c.is_kept.ensures.value ∙ c.if-is_kept.true))
 
 pub loop-block-smaller : goal.loop-block-smaller
 loop-block-smaller g c =
     let all = stored_in c.args.row.now.map (chains_of c.args.store.now.entries) in
-    less_room c.loop-block.after c.in-Some.block (least_above c.loop-block.after all c.in-Some.block (sym c.next_stored.ensures ∙ c.in-Some.is)) c.is_on.ensures.fits
+    less_room c.loop-block.after c.in-Some.block (least_above c.loop-block.after all c.in-Some.block (sym c.next_stored.ensures ∙ c.in-Some.is)) c.is_kept.ensures.fits
 
 pub loop-block-preserved : goal.loop-block-preserved
 loop-block-preserved g c =
@@ -32,7 +32,7 @@ loop-block-preserved g c =
     let hit = sym c.next_stored.ensures ∙ c.in-Some.is in
     let is = stored_is here row (chains_of c.args.store.now.entries) in
     ap (λ (l : List ℕ). least (filter (above (Some c.in-Some.block)) l)) is
-    ∙ walk_on (on_link here row) c.loop-block.after all c.in-Some.block hit (sym c.is_on.ensures.value ∙ c.if-is_on.false)
+    ∙ walk_on (on_link here row) c.loop-block.after all c.in-Some.block hit (sym c.is_kept.ensures.value ∙ c.if-is_kept.false)
     ∙ ap (λ (l : List ℕ). least (filter (above c.loop-block.after) l)) (sym is) ∙ c.loop-block.invariant
 
 pub returns : goal.returns

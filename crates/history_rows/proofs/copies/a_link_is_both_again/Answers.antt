@@ -10,11 +10,12 @@ use Rattle.petal_rules.specs.Copies.{next_copy, copies_on, mends, on_hello_ask, 
 use Rattle.petal_rules.specs.Writes.{goes_on, on_write}
 use Rattle.petal_rules.specs.Jobs.{handles, hears_log, does, log_does}
 use Rattle.petal_rules.specs.Clients.{heard, refusal}
+use Rattle.petal_rules.specs.Sweeping.{next_dead}
 use Rattle.petal_rules.specs.World.{step}
 use Rattle.history_rows.proofs.copies.a_link_is_both_again.Goals as goal
 
 pub returns : goal.returns
-unfolding number nobody at put without put_at on_pax starts learns applies next_copy copies_on mends on_hello_ask on_hello on_trim trims_on on_trimmed on_sync on_synced on_sync_full goes_on on_write handles hears_log does log_does heard refusal step
+unfolding number nobody at put without put_at on_pax starts learns applies next_copy copies_on mends on_hello_ask on_hello on_trim trims_on on_trimmed on_sync on_synced on_sync_full goes_on on_write handles hears_log does log_does heard refusal next_dead step
 returns c = record {
   both = refl;
   content = refl;

@@ -5,12 +5,13 @@ use Rattle.petal_rules.specs.Lists.{put_at}
 use Rattle.petal_rules.specs.Copies.{next_copy, copies_on, mends, on_hello_ask, on_hello, on_trim, trims_on, on_trimmed, on_sync, on_synced, on_sync_full}
 use Rattle.petal_rules.specs.Jobs.{handles, hears_log, does, log_does}
 use Rattle.petal_rules.specs.Clients.{heard, refusal}
+use Rattle.petal_rules.specs.Sweeping.{next_dead}
 use Rattle.petal_rules.specs.World.{step}
 use Rattle.history_rows.proofs.Lines.{few, none_of_three, none_yet, settle_of}
 use Rattle.history_rows.proofs.settles.a_copy_finds_no_slot.Goals as goal
 
 pub returns : goal.returns
-unfolding at put without put_at next_copy copies_on mends on_hello_ask on_hello on_trim trims_on on_trimmed on_sync on_synced on_sync_full handles hears_log does log_does heard refusal step
+unfolding at put without put_at next_copy copies_on mends on_hello_ask on_hello on_trim trims_on on_trimmed on_sync on_synced on_sync_full handles hears_log does log_does heard refusal next_dead step
 returns c = record {
   chain = refl;
   marked = refl;

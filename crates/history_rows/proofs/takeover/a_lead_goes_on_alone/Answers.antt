@@ -9,10 +9,11 @@ use Rattle.petal_rules.specs.Entries.{learns, on_news, applies, on_ask}
 use Rattle.petal_rules.specs.Writes.{goes_on, on_write, on_reserve, on_reserved}
 use Rattle.petal_rules.specs.Jobs.{handles, hears_log, does, log_does}
 use Rattle.petal_rules.specs.Clients.{heard, ticked, refusal}
+use Rattle.petal_rules.specs.Sweeping.{next_dead}
 use Rattle.petal_rules.specs.World.{step}
 use Rattle.history_rows.proofs.takeover.a_lead_goes_on_alone.Goals as goal
 
 pub returns : goal.returns
 unfolding number nobody at put without put_at on_down on_pax starts learns on_news applies on_ask
-    goes_on on_write on_reserve on_reserved handles hears_log does log_does heard ticked refusal step
+    goes_on on_write on_reserve on_reserved handles hears_log does log_does heard ticked refusal next_dead step
 returns c = record { answers = refl; primary = refl; secondary = refl; marked = refl; pending = refl }

@@ -10,7 +10,7 @@ use Rattle.lead_write.proofs.lead.ends_full.Goals as goal
 
 pub give_back-requires-clause-out : goal.give_back-requires-clause-out
 give_back-requires-clause-out g c = λ _ _ slot is.
-    let after = c.finishes.new.side in
+    let after = c.ends.new.side in
     own_out after.pending after.last after.own after.apart c.args.store.now.tickets c.in_ok-done.ensures.keeps c.args.op.now.cell slot
     (ap (λ (s : Side). at cell_cmp s.own c.args.op.now.cell) (sym c.side.view_is) ∙ is)
 
@@ -23,6 +23,7 @@ returns g c =
       finished = c.side.inside.finished;
       last = c.side.inside.last;
       copies = c.side.inside.copies;
+      filled = c.side.inside.filled;
       own = c.side.inside.own;
       apart = c.side.inside.apart;
     } in

@@ -1,8 +1,8 @@
 use Rattle.std.proofs.Common.{not, rules}
 use Rattle.std.proofs.lemmas.Map.Made.{filter_same_pairs}
-use Rattle.petal_rules.specs.Crossing.{touches_cell}
+use Rattle.pair_side.specs.Crossed.{cell_ends}
 use Rattle.pair_side.proofs.copies.drops_pending.Goals as goal
 
 pub returns : goal.returns
 returns c =
-    filter_same_pairs _ (λ row. not (touches_cell c.args.here.now.state c.args.entry.now row.0)) _ (λ k v b w f' t. search rules) _ _ c.retain.ensures.filtered
+    filter_same_pairs _ (λ row. not (cell_ends c.args.here.now.state c.args.next.now c.args.entry.now row.0)) _ (λ k v b w f' t. search rules) _ _ c.retain.ensures.filtered

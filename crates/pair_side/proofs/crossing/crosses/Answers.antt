@@ -10,10 +10,11 @@ frees-requires-clause-below g c = λ _ _.
       finished = c.side.inside.finished;
       last = c.side.inside.last;
       copies = c.side.inside.copies;
+      filled = c.side.inside.filled;
       own = c.side.inside.own;
       apart = c.side.inside.apart;
     } in
-    apart_below side c.args.store.now (rw (← c.side.view_is) at c.requires)
+    apart_below side c.args.store.now (rw (← c.side.view_is) at c.requires.tickets)
 
 pub returns : goal.returns
 returns g c =
@@ -24,9 +25,11 @@ returns g c =
       finished = c.side.inside.finished;
       last = c.side.inside.last;
       copies = c.side.inside.copies;
+      filled = c.side.inside.filled;
       own = c.side.inside.own;
       apart = c.side.inside.apart;
     } in
-    crossed_is c.args.here.now.state c.args.entry.now side c.args.store.now c.frees.new.store (rw (← c.side.view_is) at c.requires)
+    crossed_is c.args.here.now.state c.args.next.now c.args.entry.now c.requires.next side c.args.store.now c.frees.new.store
+    (rw (← c.side.view_is) at c.requires.tickets)
     c.drops_cells.new.table c.frees.new.apart c.frees.ensures.sorted c.drops_cells.ensures.sorted c.frees.ensures.freed c.drops_cells.ensures.rows
-    c.crosses.new.self c.crosses.ensures)
+    c.crosses.new.self c.crosses.ensures c.keep_live.new.self c.keep_live.ensures)

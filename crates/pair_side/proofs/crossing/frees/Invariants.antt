@@ -4,14 +4,14 @@ use Rattle.std.specs.Map.{values_of}
 use Rattle.petal_base.specs.declared.cell.Cell.{Cell}
 use Rattle.petal_table.specs.Table.{Table}
 use Rattle.server_store.specs.Holdings.{Holdings}
-use Rattle.pair_side.specs.Crossed.{AreFreed}
+use Rattle.pair_side.specs.Crossed.{AreFreed, cell_ends}
 use Rattle.pair_side.specs.Side.{times}
 use Rattle.pair_side.proofs.crossing.frees.Given as goal
 
 abbrev pub invariant-loop-cell : goal.invariant-loop-cell
 invariant-loop-cell g l = record {
   below : (slot : ℕ) → times slot (values_of l.apart) ≤ times slot l.store.tickets;
-  more : (last : Table Cell ℕ) (after : Holdings _) → AreFreed l.here.state l.entry l.apart last l.store after → AreFreed l.here.state l.entry l.fn.apart last l.fn.store after;
+  more : (last : Table Cell ℕ) (after : Holdings _) → AreFreed (cell_ends l.here.state l.next l.entry) l.apart last l.store after → AreFreed (cell_ends l.here.state l.next l.entry) l.fn.apart last l.fn.store after;
 }
 
 abbrev pub decreases-loop-cell : goal.decreases-loop-cell

@@ -9,6 +9,9 @@ use Rattle.petal_paxos.specs.declared.record.StateRecord.TheVariants.{Inc}
 use Rattle.petal_state.specs.Command.{state_after}
 use Rattle.petal_rules.proofs.Tests.{true_false}
 use Rattle.petal_rules.specs.Lists.{In}
+use Rattle.petal_base.specs.declared.cell.Cell.{Cell}
+use Rattle.std.specs.Prelude.{true, false}
+use Rattle.petal_rules.specs.State.{coming, leaving}
 use Rattle.petal_rules.specs.Store.{cell_cmp}
 use Rattle.petal_rules.specs.World.{Setting, start, setting_of, devices, chosen_log, chosen_state}
 use Rattle.script_lines.specs.declared.script.Script.{Script}
@@ -37,6 +40,12 @@ nothing_chosen setting = empty_from setting 1 (last_place setting.servers (devic
 no_disks : (setting : Setting) → (chosen_state setting (start setting)).disks.rows ≡ []
 no_disks setting = ap (λ log. (state_after setting.servers log).disks.rows) (nothing_chosen setting)
 
+none_leaves : (setting : Setting) (cell : Cell) → leaving (chosen_state setting (start setting)) cell ≡ false
+none_leaves setting cell = ap (λ log. leaving (state_after setting.servers log) cell) (nothing_chosen setting)
+
+none_comes : (setting : Setting) (cell : Cell) → coming (chosen_state setting (start setting)) cell ≡ false
+none_comes setting cell = ap (λ log. coming (state_after setting.servers log) cell) (nothing_chosen setting)
+
 not_in : {A B : Type 0} (x : A) (xs : List A) → xs ≡ [] → In x xs → B
 unfolding In
 not_in x xs none h = let there : In x [] = subst (In x) none h in absurd there
@@ -63,11 +72,20 @@ returns c script = record {
       clients = λ n. record { later = chosen_log (setting_of script) (start (setting_of script)); is = refl };
     };
     copies = λ cell n m is_first is_second. inl refl;
-    covered = λ cell row holder is alone. inl refl;
+    covered = λ cell row holder lives is alone. inl refl;
     empty = λ n fresh. true_false fresh refl;
     requests = record {
-      pending = λ n cell op runs is over. none_some (sym (at-empty cell_cmp cell) ∙ is);
+      pending = λ n cell op runs is clients over. none_some (sym (at-empty cell_cmp cell) ∙ is);
       late = λ letter client seq epoch cell bytes h. absurd h;
+    };
+    moves = record {
+      unwritten = λ n cell op runs is clients. none_some (sym (at-empty cell_cmp cell) ∙ is);
+      still = λ cell n leaves counts. true_false leaves (none_leaves (setting_of script) cell);
+      equal = λ cell n m leaves is_first is_second. true_false leaves (none_leaves (setting_of script) cell);
+      stored = λ cell n epoch before comes matters from there. true_false comes (none_comes (setting_of script) cell);
+      pending = λ cell n m before op comes matters from runs is clients. true_false comes (none_comes (setting_of script) cell);
+      sent = λ letter key bytes n before h. absurd h;
+      noted = λ cell old row n epoch before comes is frozen linked noted counts there. true_false comes (none_comes (setting_of script) cell);
     };
   };
   grows = grows script;

@@ -4,4 +4,4 @@ use Rattle.pair_side.proofs.ByLink.{without_link}
 use Rattle.pair_side.proofs.links.LinkTable.remove.Goals as goal
 
 pub returns : goal.returns
-returns c = rw (← c.self.view_is) (ap by_link (rw c.key.ensures at c.remove.ensures.rest) ∙ without_link c.self.inside.rows c.args.link)
+returns g c = rw (← c.self.view_is) (ap by_link (rw c.key.ensures at c.remove.ensures.rest) ∙ without_link c.self.inside.rows c.args.link)

@@ -4,5 +4,5 @@ use Rattle.pair_side.proofs.ByLink.{put_link}
 use Rattle.pair_side.proofs.links.LinkTable.replace.Goals as goal
 
 pub returns : goal.returns
-returns c =
-    rw (← c.self.view_is) (ap by_link (rw c.key.ensures at c.replace.ensures) ∙ put_link c.self.inside.rows c.args.link c.args.progress)
+returns g c =
+    rw (← c.self.view_is) (ap by_link (rw c.key.ensures at c.replace.ensures) ∙ put_link c.self.inside.rows c.args.link c.args.value)

@@ -5,4 +5,4 @@ use Rattle.server_core.proofs.server.ServerCore.start_jobs.Goals as goal
 pub returns : goal.returns
 returns g c =
     rw (← c.self.view_is)
-    (IfOk-weaker c.start_job.result _ _ (λ queued is. is ∙ (rw (c.as_slice.ensures ∙ c.in_ok-wants.ensures) at c.in_ok-may.ensures) []) c.start_job.ensures)
+    (IfOk-weaker c.job_where.result _ _ (λ queued is. is ∙ (rw (c.as_slice.ensures ∙ c.in_ok-wants.ensures) at c.in_ok-may.ensures) []) c.job_where.ensures)

@@ -1,11 +1,14 @@
-use Rattle.std.proofs.Common.{◌≡◌, ◌++◌, true, Option, Some, refl, sym, ap, ◌∙◌}
+use Rattle.std.proofs.Common.{◌≡◌, ◌++◌, true, Option, Some, refl, sym, subst, ap, ◌∙◌}
+use Rattle.std.specs.Prelude.{IfSome}
+use Rattle.petal_rules.specs.State.{State}
+use Rattle.petal_state.specs.Command.{after}
 use Rattle.log_side.specs.Part.{state_of}
 use Rattle.kept_chains.specs.Kept.{store_of}
 use Rattle.pair_side.specs.Crossed.{lacks_room}
 use Rattle.petal_command.specs.declared.command.Command.{Command}
 use Rattle.petal_rules.specs.Crossing.{jobs_by}
 use Rattle.server_core.specs.Core.{Core, own_in}
-use Rattle.server_core.proofs.Entering.{applied_failed, applied_full, applied_work}
+use Rattle.server_core.proofs.Entering.{applied_failed, applied_full, applied_work, state_entered}
 use Rattle.server_core.proofs.Works.{apply_first}
 use Rattle.server_core.proofs.server.ServerCore.work_apply.Goals as goal
 use Rattle.server_core.proofs.server.ServerCore.work_apply.Goals.{in-Some-6, in-None-6}
@@ -20,6 +23,12 @@ returns-then-next_lacks_room g c =
     (applied_full g.D.Disk c.args.state.now.records old c.args.store.now there law.stays law.only_now
     (rw c.in_ok-next.ensures.0 at (sym c.next_lacks_room.ensures ∙ c.if-next_lacks_room.true)) _
     (ap (λ jobs. record { running = it.running; log = it.log; side = it.side; queue = jobs }) c.make_room.ensures.same))
+
+pub enters_by-requires-clause-next : goal.enters_by-requires-clause-next
+enters_by-requires-clause-next g c = λ _ _.
+    let done = c.in_ok-done.ensures in
+    subst (λ (s : State). IfSome c.in_ok-done.entered (λ it. s ≡ after it.before it.entry)) (sym c.state.ensures)
+    (state_entered c.self.inside.log c.apply.new.self c.args.state.now.records c.in_ok-done.done c.in_ok-done.entered done.done done.voter done.entry done.before)
 
 pub returns-in-Err : goal.returns-in-Err
 returns-in-Err g c =

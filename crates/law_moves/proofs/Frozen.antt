@@ -1,0 +1,132 @@
+-- What is kept of an old map's cells as their region's fence took effect: the step that chooses that entry writes it, from the copy that counts
+-- then, and no other one changes it.
+use Rattle.std.proofs.Common.{◌≡◌, ◌≢◌, ◌≤◌, ◌⊎◌, ◌++◌, ◌&&◌, not, if◌then◌else◌, ℕ, List, [], ◌∷◌, Bool, true, false, Option, Some, None, refl, ap, ◌∙◌, inl, inr, arith}
+use Rattle.petal_base.specs.declared.cell.Cell.{Cell}
+use Rattle.script_lines.specs.declared.script.Script.{Script}
+use Rattle.petal_rules.specs.State.{State, leaving}
+use Rattle.petal_rules.specs.Store.{Chain}
+use Rattle.petal_rules.specs.World.{Setting, World, begins_to_leave, chain_that_counts, chosen_log, chosen_state, frozen_by, setting_of}
+use Rattle.petal_rules.proofs.Tests.{both_true, by_bool, none_some, true_false}
+use Rattle.petal_history.specs.Legal.{IsLegal}
+use Rattle.petal_history.specs.Sound.{IsSound}
+use Rattle.petal_history.specs.declared.record.Record.{Record}
+use Rattle.law_state.specs.Homes.{HasStage, stage_at}
+use Rattle.law_state.specs.Plain.{IsPlainLog}
+use Rattle.law_state.proofs.Steady.{log_below}
+use Rattle.law_log.proofs.Histories.{history_grows, history_is_firm}
+use Rattle.law_steps.specs.Happens.{Happens, Serves, Blanks, Turns}
+use Rattle.law_steps.proofs.Coming.{stage_facts}
+use Rattle.law_steps.proofs.Firms.{always_firm}
+use Rattle.law_steps.proofs.Fronts.{below_itself}
+use Rattle.law_steps.proofs.Histories.{last_happens}
+use Rattle.law_stores.proofs.Ways.{At, along, before_part}
+use Rattle.law_copies.proofs.Places.{at_most_or_above}
+
+-- ### One step
+
+-- a client's step chooses nothing
+stays_frozen : (leaves : Bool) (made kept : Option Chain) → kept ≡ (if leaves && not leaves then made else kept)
+stays_frozen true made kept = refl
+stays_frozen false made kept = refl
+
+frozen_is : (setting : Setting) (state : State) (w v : World) → Happens setting state w v → (cell : Cell) → v.frozen cell ≡ frozen_by setting w v cell
+frozen_is setting state w _ (Serves n stamp what acted lt within unblanked serving) cell = refl
+frozen_is setting state w _ (Blanks n stamp lt within asleep) cell = refl
+frozen_is setting state w v (Turns c stamp in_call reacted lt within turned onward) cell =
+    stays_frozen (leaving (chosen_state setting w) cell) (chain_that_counts setting v cell) (w.frozen cell)
+
+module _ (script : Script) (sound : IsSound script) (front : List Record) (own : Record) (legal : IsLegal script (front ++ own ∷ [])) (cell : Cell) where
+  abbrev setting : Setting
+  setting = setting_of script
+
+  abbrev w : World
+  w = At script front
+
+  abbrev v : World
+  v = At script (front ++ own ∷ [])
+
+  abbrev stage_was : ℕ
+  stage_was = stage_at (chosen_state setting w) cell
+
+  abbrev stage_now : ℕ
+  stage_now = stage_at (chosen_state setting v) cell
+
+  was_frozen : v.frozen cell ≡ frozen_by setting w v cell
+  was_frozen =
+      let state = chosen_state setting v in
+      frozen_is setting state w v (last_happens script front own (always_firm script (front ++ own ∷ []) sound legal) legal state (below_itself state)) cell
+
+  plain_was : IsPlainLog script.servers (chosen_log setting w)
+  plain_was = (history_is_firm script front sound (before_part script front (own ∷ []) legal)).plain
+
+  plain_now : IsPlainLog script.servers (chosen_log setting v)
+  plain_now = (history_is_firm script (front ++ own ∷ []) sound legal).plain
+
+  pub stage_grows : stage_was ≤ stage_now
+  stage_grows =
+      (log_below script.servers (chosen_log setting w) (chosen_log setting v) plain_now
+      (history_grows script (front ++ own ∷ []) sound legal front (own ∷ []) refl)).stages cell
+
+  facts_was : HasStage (chosen_state setting w) cell
+  facts_was = stage_facts script.servers (chosen_log setting w) plain_was cell
+
+  facts_now : HasStage (chosen_state setting v) cell
+  facts_now = stage_facts script.servers (chosen_log setting v) plain_now cell
+
+  begins : Bool
+  begins = begins_to_leave setting w v cell
+
+  -- it begins to leave where it comes to the stage of leaving
+  begins_so : begins ≡ true → (stage_was ≤ 2) × (stage_now ≡ 3)
+  unfolding begins
+  begins_so e =
+      let both = both_true (leaving (chosen_state setting v) cell) (not (leaving (chosen_state setting w) cell)) e in
+      let now = facts_now.leaves both.0 in
+      let up = stage_grows in (
+        elim (at_most_or_above stage_was 2) [
+          | inl low ↦ low
+          | inr high ↦ true_false both.1 (ap not (facts_was.left (omega arith)))
+        ],
+        now,
+      )
+
+  so_begins : stage_was ≤ 2 → stage_now ≡ 3 → begins ≡ true
+  unfolding begins
+  so_begins low three =
+      let stays : leaving (chosen_state setting w) cell ≡ false =
+      by_bool (leaving (chosen_state setting w) cell) (λ t. let is = facts_was.leaves t in absurd (omega arith)) (λ no. no) in
+      (λ i. facts_now.left three i && not (stays i))
+
+  pub frozen_same : (3 ≤ stage_was) ⊎ (stage_now ≢ 3) → v.frozen cell ≡ w.frozen cell
+  unfolding begins
+  frozen_same why =
+      was_frozen ∙ ap (λ b. if b then chain_that_counts setting v cell else w.frozen cell) (by_bool begins
+      (λ t. let so = begins_so t in elim why [ inl three ↦ let low = so.0 in absurd (omega arith) | inr apart ↦ absurd (apart so.1) ]) (λ no. no))
+
+  -- what is written is the copy that counts, by what is then chosen
+  pub frozen_at : stage_was ≤ 2 → stage_now ≡ 3 → v.frozen cell ≡ chain_that_counts setting v cell
+  unfolding begins
+  frozen_at low three = was_frozen ∙ ap (λ b. if b then chain_that_counts setting v cell else w.frozen cell) (so_begins low three)
+
+-- ### Every history
+
+abbrev NoneEarly : Script → World → Type 0
+NoneEarly script w = (cell : Cell) → stage_at (chosen_state (setting_of script) w) cell ≤ 2 → w.frozen cell ≡ None
+
+-- nothing is frozen of a cell that has not begun to leave
+pub none_early : (script : Script) (records : List Record) → IsSound script → IsLegal script records → NoneEarly script (At script records)
+none_early script records sound legal =
+    along script (NoneEarly script) (λ front own part old cell low.
+    let up = stage_grows script sound front own part cell in
+    frozen_same script sound front own part cell (inr (λ three. omega arith)) ∙ old cell (omega arith)) [] records legal (λ cell low. refl)
+
+-- so what is frozen stays so
+pub frozen_stays : (script : Script) (front back : List Record) (cell : Cell) (before : Chain) → IsSound script → IsLegal script (front ++ back)
+    → (At script front).frozen cell ≡ Some before → (At script (front ++ back)).frozen cell ≡ Some before
+frozen_stays script front back cell before sound legal is =
+    along script (λ w. w.frozen cell ≡ Some before) (λ moment own part old.
+    let early = none_early script moment sound (before_part script moment (own ∷ []) part) cell in
+    elim (at_most_or_above (stage_at (chosen_state (setting_of script) (At script moment)) cell) 2) [
+      | inl low ↦ none_some (early low) old
+      | inr high ↦ frozen_same script sound moment own part cell (inl high) ∙ old
+    ]) front back legal is

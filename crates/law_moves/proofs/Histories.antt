@@ -1,0 +1,186 @@
+-- All that is kept of moves is so after each legal history: by each step, where it was so after each front of the records.
+use Rattle.std.proofs.Common.{◌≡◌, ◌≤◌, ◌++◌, ℕ, List, [], ◌∷◌, false, Some, refl, sym, ap, ◌∙◌, subst, inl, inr, arith, append_assoc}
+use Rattle.std.specs.Prelude.{fold, map, max}
+use Rattle.std.specs.List.{flat_map, range_with_len}
+use Rattle.std.proofs.lemmas.List.{append-nil}
+use Rattle.petal_base.specs.Cells.{cell_of}
+use Rattle.petal_base.specs.declared.cell.Cell.{Cell}
+use Rattle.petal_base.specs.declared.cell.Key.{Key}
+use Rattle.petal_command.specs.declared.command.Command.{Command}
+use Rattle.petal_table.proofs.Rows.{at-empty}
+use Rattle.petal_msg.specs.declared.operation.Pending.{Pending}
+use Rattle.petal_table.specs.Table.{at}
+use Rattle.petal_state.specs.Command.{state_after}
+use Rattle.petal_state.specs.State.{start as first_state}
+use Rattle.script_lines.specs.declared.script.Script.{Script}
+use Rattle.petal_history.specs.Claims.{IsPrefix}
+use Rattle.petal_history.specs.Legal.{IsLegal}
+use Rattle.petal_history.specs.Sound.{IsSound}
+use Rattle.petal_history.specs.declared.record.Record.{Record}
+use Rattle.petal_rules.specs.Lists.{In}
+use Rattle.petal_rules.specs.State.{id_of, link_cmp}
+use Rattle.petal_rules.specs.Store.{cell_cmp}
+use Rattle.petal_paxos.specs.Chosen.{chosen_from, vote_place}
+use Rattle.petal_rules.specs.World.{Setting, World, chosen_log, chosen_state, devices, setting_of, start}
+use Rattle.petal_rules.specs.Writes.{is_clients}
+use Rattle.petal_rules.proofs.Tests.{none_some}
+use Rattle.law_state.specs.Homes.{stage_at}
+use Rattle.law_steps.proofs.Records.{none_before_none, split_last}
+use Rattle.law_stores.proofs.Ways.{At, before_part}
+use Rattle.law_moves.specs.Fills.{AreFilled, IsFrozen, IsThere, WasFilled}
+use Rattle.law_moves.specs.Still.{AreStill}
+use Rattle.law_moves.proofs.Followed.{followed_next}
+use Rattle.law_moves.proofs.Kept.{before}
+use Rattle.law_moves.proofs.Knows.{AllKnown, Known, Knows}
+use Rattle.law_moves.proofs.Newer.{newest_next}
+use Rattle.law_moves.proofs.Newest.{stored_newest}
+use Rattle.law_moves.proofs.Newness.{AllNewest, start_newest}
+use Rattle.law_moves.proofs.Pending.{lacks_next, numbered_next, opened_next, puts_next, unsaid_next}
+use Rattle.law_moves.proofs.Still.{moved_now, still_next}
+use Rattle.law_moves.proofs.Telling.{asked_next, begun_next, sent_next, told_next}
+use Rattle.law_moves.proofs.Then.{frozen_early}
+use Rattle.law_moves.proofs.There.{born_next, filled_next}
+use Rattle.law_moves.proofs.Visits.{unsaid_at}
+
+module _ (script : Script) (sound : IsSound script) (front : List Record) (own : Record) (legal : IsLegal script (front ++ own ∷ []))
+    (all : AllKnown script front) where
+  abbrev setting : Setting
+  setting = setting_of script
+
+  abbrev v : World
+  v = At script (front ++ own ∷ [])
+
+  known : Known script front
+  known = before script sound front own legal all
+
+  there : (key : Key) → WasFilled v key → IsThere setting v (cell_of key) key.epoch
+  there = filled_next script sound front own legal all
+
+  asked : (m : ℕ) (cell : Cell) (op : Pending) → at cell_cmp (v.servers m).own.pairs.pending cell ≡ Some op → is_clients op.kind ≡ false
+      → IsFrozen setting v op.rev op.key op.bytes
+  asked = asked_next script sound front own legal known
+
+  numbered : (m : ℕ) (cell : Cell) (op : Pending) → at cell_cmp (v.servers m).own.pairs.pending cell ≡ Some op → 1 ≤ op.op
+  numbered = numbered_next script sound front own legal all known.numbered
+
+  newest : AllNewest setting v
+  newest = newest_next script sound front own legal known known.newest
+
+  filled : AreFilled setting v
+  filled = record {
+    sent = sent_next script sound front own legal known;
+    filled = there;
+    opened = opened_next script sound front own legal all asked;
+    asked = asked;
+    unsaid = unsaid_next script sound front own legal all;
+    lacks = lacks_next script sound front own legal all asked;
+    stored = stored_newest script sound (front ++ own ∷ []) legal newest there;
+    told = told_next script sound front own legal known;
+    moved = moved_now script sound front own legal all;
+  }
+
+  pub known_next : Known script (front ++ own ∷ [])
+  known_next = record {
+    still = still_next script sound front own legal all there asked;
+    filled = filled;
+    early = frozen_early script (front ++ own ∷ []) sound legal;
+    begun = begun_next script sound front own legal known;
+    followed = followed_next script sound front own legal all there asked numbered;
+    visits = unsaid_at script sound front own legal all;
+    born = born_next script sound front own legal all;
+    puts = puts_next script sound front own legal all;
+    newest = newest;
+    numbered = numbered;
+  }
+
+-- ### The beginning
+
+-- nobody has voted, and nothing is chosen
+none_voted : (setting : Setting) (xs : List ℕ) → fold max 0 (map vote_place (flat_map (devices (start setting)) xs)) ≡ 0
+none_voted setting [] = refl
+none_voted setting (x ∷ xs) = none_voted setting xs
+
+none_chosen : (setting : Setting) → chosen_log setting (start setting) ≡ []
+none_chosen setting = ap (chosen_from setting.servers (devices (start setting)) 1) (none_voted setting (range_with_len 0 setting.servers))
+
+first_stage : (servers : ℕ) (cell : Cell) → stage_at (first_state servers) cell ≡ 0
+first_stage servers cell = refl
+
+-- by each front of what is chosen no cell is there
+none_there : (setting : Setting) (f : List Command) → IsPrefix f (chosen_log setting (start setting)) → (cell : Cell)
+    → stage_at (state_after setting.servers f) cell ≡ 0
+none_there setting f lies cell =
+    ap (λ log. stage_at (state_after setting.servers log) cell) (none_before_none f lies.later (sym (none_chosen setting) ∙ lies.is))
+    ∙ first_stage setting.servers cell
+
+none_now : (setting : Setting) (cell : Cell) → stage_at (chosen_state setting (start setting)) cell ≡ 0
+none_now setting cell = ap (λ log. stage_at (state_after setting.servers log) cell) (none_chosen setting) ∙ first_stage setting.servers cell
+
+none_in : (f : List Command) (entry : Command) → [] ≡ (f ++ entry ∷ []) → ⊥
+none_in [] entry e = cc
+none_in (x ∷ f) entry e = cc
+
+start_still : (setting : Setting) → AreStill setting (start setting)
+start_still setting = record {
+  now = λ n cell three serving. let none = none_now setting cell in absurd (omega arith);
+  own = λ n f cell runs on lies seat three serving. let none = none_there setting f lies cell in absurd (omega arith);
+  early = λ cell low. refl;
+}
+
+start_filled : (setting : Setting) → AreFilled setting (start setting)
+unfolding In
+start_filled setting = record {
+  sent = λ letter key bytes i e. absurd i;
+  filled = λ key told. absurd told.sent;
+  opened = λ m cell op runs is fills. none_some (at-empty cell_cmp cell) is;
+  asked = λ m cell op is fills. none_some (at-empty cell_cmp cell) is;
+  unsaid = λ m cell op runs is fills told. absurd told.sent;
+  lacks = λ m cell op runs is fills fresh. none_some (at-empty cell_cmp cell) is;
+  stored = λ cell n epoch frozen one from serving has. let none = none_now setting cell in absurd (omega arith);
+  told = λ y f old new row last runs lies way is. none_some (at-empty link_cmp (id_of row)) is;
+  moved = λ f region old new row lies way of.
+      absurd (none_in f _ (sym (none_before_none _ lies.later (sym (none_chosen setting) ∙ lies.is))));
+}
+
+start_known : (setting : Setting) → Knows setting [] (start setting)
+unfolding In
+start_known setting = record {
+  still = start_still setting;
+  filled = start_filled setting;
+  early = λ cell frozen epoch is has. none_some refl is;
+  begun = λ y id last is. none_some (at-empty link_cmp id) is;
+  followed = λ m f cell row letter number key version bytes runs on lies seat linked both second low high i. absurd i;
+  visits = λ n place cell pairs op row was is fills linked at told. absurd told.sent;
+  born = λ key told. absurd told.sent;
+  puts = λ m cell op runs is fills put. none_some (at-empty cell_cmp cell) is;
+  newest = start_newest setting;
+  numbered = λ m cell op is. none_some (at-empty cell_cmp cell) is;
+}
+
+-- ### Legal histories
+
+start_all : (script : Script) → AllKnown script []
+start_all script past later e = subst (Known script) (sym (none_before_none past later e)) (start_known (setting_of script))
+
+all_next : (script : Script) → IsSound script → (front : List Record) (own : Record) → IsLegal script (front ++ own ∷ []) → AllKnown script front
+    → AllKnown script (front ++ own ∷ [])
+all_next script sound front own legal all past later e = elim (split_last front own past later e) [
+  | inl whole ↦ subst (Known script) (sym whole) (known_next script sound front own legal all)
+  | inr part ↦ all past part.0 part.1
+]
+
+all_after : (script : Script) → IsSound script → (done later : List Record) → IsLegal script (done ++ later) → AllKnown script done
+    → AllKnown script (done ++ later)
+all_after script sound done [] legal all = subst (AllKnown script) (sym (append-nil done)) all
+all_after script sound done (own ∷ later) legal all =
+    let e = append_assoc done (own ∷ []) later in
+    let whole : IsLegal script ((done ++ own ∷ []) ++ later) = subst (IsLegal script) (sym e) legal in
+    subst (AllKnown script) e
+    (all_after script sound (done ++ own ∷ []) later whole
+    (all_next script sound done own (before_part script (done ++ own ∷ []) later whole) all))
+
+pub all_known : (script : Script) → IsSound script → (records : List Record) → IsLegal script records → AllKnown script records
+all_known script sound records legal = all_after script sound [] records legal (start_all script)
+
+pub known_after : (script : Script) → IsSound script → (records : List Record) → IsLegal script records → Known script records
+known_after script sound records legal = all_known script sound records legal records [] (sym (append-nil records))

@@ -1,0 +1,95 @@
+-- What is kept of moves after the records of a history, all of it: each step keeps it where it held after each front of the records.
+use Rattle.std.specs.Prelude.{◌≡◌, ◌≤◌, ◌+◌, ◌++◌, ℕ, true, false, List, length, Some}
+use Rattle.global_tables.specs.declared.link.LinkRow.{LinkRow}
+use Rattle.global_tables.specs.declared.link.LinkState.TheVariants.{Both}
+use Rattle.petal_base.specs.Cells.{cell_of}
+use Rattle.petal_base.specs.declared.cell.Cell.{Cell}
+use Rattle.petal_base.specs.declared.cell.Key.{Key}
+use Rattle.petal_command.specs.declared.command.Command.{Command}
+use Rattle.petal_table.specs.Table.{at}
+use Rattle.petal_msg.specs.declared.body.Body.TheVariants as body
+use Rattle.petal_msg.specs.declared.copying.LinkId.{LinkId}
+use Rattle.petal_msg.specs.declared.letter.Letter.{Letter}
+use Rattle.petal_msg.specs.declared.operation.Pending.{Pending}
+use Rattle.script_lines.specs.declared.script.Script.{Script}
+use Rattle.petal_history.specs.Claims.{IsPrefix}
+use Rattle.petal_history.specs.declared.record.Record.{Record}
+use Rattle.petal_rules.specs.Lists.{In}
+use Rattle.petal_rules.specs.Server.{Pairs}
+use Rattle.petal_rules.specs.State.{is_in, link_cmp}
+use Rattle.petal_rules.specs.Store.{Chain, cell_cmp, chain_in}
+use Rattle.petal_rules.specs.World.{Setting, World, chosen_log, chosen_state, setting_of}
+use Rattle.petal_rules.specs.Writes.{is_clients}
+use Rattle.petal_state.specs.Command.{state_after}
+use Rattle.law_state.specs.Homes.{epoch_at, stage_at}
+use Rattle.law_steps.specs.Operations.{progress}
+use Rattle.law_stores.proofs.Ways.{At}
+use Rattle.law_copies.specs.Visits.{IsLinked, WasThere, place_by}
+use Rattle.law_moves.specs.Fills.{AreFilled, Has, WasFilled}
+use Rattle.law_moves.specs.Still.{AreStill}
+use Rattle.law_moves.proofs.Newness.{AllNewest}
+
+-- what is frozen is of no epoch above that of the cell's disk
+abbrev pub AreFrozenEarly : Setting → World → Type 0
+AreFrozenEarly setting w = (cell : Cell) (before : Chain) (epoch : ℕ) → w.frozen cell ≡ Some before → Has before epoch
+    → epoch ≤ epoch_at (chosen_state setting w) cell
+
+-- the last key of a link of which a server was told is of the link's map, and of a region that was leaving by some of the server's entries
+pub record HasBegun (setting : Setting) (log : List Command) (id : LinkId) (last : Key) : Type 0 where
+  pub map : last.map ≡ id.map
+  pub front : List Command
+  pub lies : IsPrefix front log
+  pub leaves : stage_at (state_after setting.servers front) (cell_of last) ≡ 3
+
+abbrev pub HaveBegun : Setting → World → Type 0
+HaveBegun setting w = (y : ℕ) (id : LinkId) (last : Key) → at link_cmp (w.servers y).own.filled id ≡ Some last
+    → HasBegun setting (w.servers y).log.applied id last
+
+-- of a cell that is leaving, or has left, no second server will put what its lead asked for: each such letter of a front of the log at which the
+-- server is second is one that it followed, at this place
+abbrev pub HaveFollowed : Setting → World → Type 0
+HaveFollowed setting w = (m : ℕ) (front : List Command) (cell : Cell) (row : LinkRow) (letter : Letter) (number : ℕ) (key : Key) (version : ℕ)
+    (bytes : List ℕ) → (w.servers m).life.running ≡ true → IsPrefix (w.servers m).log.applied front → IsPrefix front (chosen_log setting w)
+    → is_in (state_after setting.servers front) m (w.servers m).life.inc ≡ true → IsLinked setting front cell row → row.state ≡ Both → row.secondary ≡ m
+    → stage_at (state_after setting.servers front) cell ≤ 3 → 3 ≤ stage_at (chosen_state setting w) cell
+    → In letter w.sent → letter.body ≡ body.Replicate number key version bytes → cell_of key ≡ cell → letter.rev ≡ length front
+    → (place_by setting (w.servers m).log.applied row ≡ place_by setting front row)
+    × (number + number + 1 ≤ progress (at cell_cmp (w.servers m).own.pairs.last cell))
+
+-- a fill that a server had pending when it was last at the place that a link has by what is chosen: no letter says that its entry is there
+abbrev pub AreUnsaid : Setting → List Record → World → Type 0
+AreUnsaid setting records w = (n place : ℕ) (cell : Cell) (pairs : Pairs) (op : Pending) (row : LinkRow) → WasThere setting records n place cell pairs
+    → at cell_cmp pairs.pending cell ≡ Some op → is_clients op.kind ≡ false → IsLinked setting (chosen_log setting w) cell row
+    → place_by setting (chosen_log setting w) row ≡ place → WasFilled w op.key → ⊥
+
+-- what was told to be there was told of a cell that is live, or has been
+abbrev pub AreBorn : Setting → World → Type 0
+AreBorn setting w = (key : Key) → WasFilled w key → 1 ≤ stage_at (chosen_state setting w) (cell_of key)
+
+-- a fill that a server has put is there
+abbrev pub HavePut : World → Type 0
+HavePut w = (m : ℕ) (cell : Cell) (op : Pending) → (w.servers m).life.running ≡ true → at cell_cmp (w.servers m).own.pairs.pending cell ≡ Some op
+    → is_clients op.kind ≡ false → op.stage.put ≡ true → Has (chain_in (w.servers m).own.store.chains cell) op.key.epoch
+
+-- operations are numbered from 1
+abbrev pub AreNumbered : World → Type 0
+AreNumbered w = (m : ℕ) (cell : Cell) (op : Pending) → at cell_cmp (w.servers m).own.pairs.pending cell ≡ Some op → 1 ≤ op.op
+
+pub record Knows (setting : Setting) (records : List Record) (w : World) : Type 0 where
+  pub still : AreStill setting w
+  pub filled : AreFilled setting w
+  pub early : AreFrozenEarly setting w
+  pub begun : HaveBegun setting w
+  pub followed : HaveFollowed setting w
+  pub visits : AreUnsaid setting records w
+  pub born : AreBorn setting w
+  pub puts : HavePut w
+  pub newest : AllNewest setting w
+  pub numbered : AreNumbered w
+
+-- after these records, and after each front of them
+abbrev pub Known : Script → List Record → Type 0
+Known script records = Knows (setting_of script) records (At script records)
+
+abbrev pub AllKnown : Script → List Record → Type 0
+AllKnown script records = (before later : List Record) → records ≡ before ++ later → Known script before

@@ -1,0 +1,6 @@
+-- By what is kept of moves.
+use Rattle.law_moves.proofs.Afterwards.{rule_after}
+use Rattle.law_moves.proofs.moves_keep_the_rule.Goals as goal
+
+pub returns : goal.returns
+returns c = rule_after

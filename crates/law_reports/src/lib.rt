@@ -1,0 +1,17 @@
+//! The rule of reports: what a server that has reported to a fence may have pending.
+#![tactic(auto)]
+
+ghost use Rattle.std.specs.Prelude.{List};
+ghost use Rattle.script_lines.specs.declared.script.Script.{Script};
+ghost use Rattle.petal_rules.specs.World.{setting_of, start};
+ghost use Rattle.petal_history.specs.Legal.{IsLegal, world_after};
+ghost use Rattle.petal_history.specs.Sound.{IsSound};
+ghost use Rattle.petal_history.specs.declared.record.Record.{Record};
+ghost use Rattle.law_reports.specs.Reports.{WritesNothingHeld};
+
+/// After every legal history of a sound script, a running server whose report to a fence is chosen has no client's write pending
+/// on a cell whose writes were held from the report's place up to the server's own: so also until it has applied the entry at
+/// which the fence takes effect.
+pub fn a_server_that_reported_writes_nothing()
+    ensures { (script : Script) (records : List Record) → IsSound script → IsLegal script records → WritesNothingHeld (setting_of script) (world_after (setting_of script) (start (setting_of script)) records) }
+{}

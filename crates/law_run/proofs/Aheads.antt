@@ -1,0 +1,36 @@
+-- Where two copies of a cell differ, the first server is one put ahead of the second one.
+use Rattle.std.proofs.Common.{◌≡◌, ◌+◌, Bool, true, false, Some, None, refl, subst, ◌⊎◌, inl, inr, arith, ◌≤◌, Option}
+use Rattle.std.proofs.lemmas.Bool.{cases_lt}
+use Rattle.petal_table.specs.Table.{at, put}
+use Rattle.petal_msg.specs.declared.operation.Pending.{Pending}
+use Rattle.petal_history.specs.Claims.{one_put_ahead}
+use Rattle.law_copies.specs.Pair.{AreCopies, IsAhead, Pair, PairOk, Working, far}
+
+-- a pair's operation that is put at the first server
+pub put_ahead : (pair : Pair) (op : Pending) → PairOk pair → pair.pending ≡ Some op → op.stage.put ≡ true
+    → IsAhead pair.first pair.second (far pair) op
+put_ahead pair op ok is put =
+    let copies : AreCopies pair.first pair.second (far pair) (Some op) = subst (AreCopies pair.first pair.second (far pair)) is ok.copies in
+    subst (Working pair.first pair.second (far pair) op) put copies
+
+-- where two copies differ, the first server's operation is put, and the second server has not put it
+pub record IsAheadLow (pair : Pair) : Type 0 where
+  pub op : Pending
+  pub is : pair.pending ≡ Some op
+  pub ahead : pair.first ≡ one_put_ahead pair.second op
+  pub low : far pair ≤ op.op + op.op
+
+pub copied_low : (pair : Pair) → PairOk pair → (pair.first ≡ pair.second) ⊎ IsAheadLow pair
+copied_low pair ok = by pair.pending refl ok.copies
+  where
+    working : (op : Pending) → pair.pending ≡ Some op → (put : Bool) → Working pair.first pair.second (far pair) op put
+        → (pair.first ≡ pair.second) ⊎ IsAheadLow pair
+    working op is false even = inl even.even
+    working op is true ahead = elim (cases_lt (far pair) (op.op + op.op + 1)) [
+      | inl before ↦ (let begun = ahead.begun in inr (record { op = op; is = is; ahead = ahead.ahead (omega arith); low = omega arith }))
+      | inr past ↦ inl (ahead.even past)
+    ]
+
+    by : (o : Option Pending) → pair.pending ≡ o → AreCopies pair.first pair.second (far pair) o → (pair.first ≡ pair.second) ⊎ IsAheadLow pair
+    by None is same = inl same
+    by (Some op) is copies = working op is op.stage.put copies

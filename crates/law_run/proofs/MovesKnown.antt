@@ -1,0 +1,158 @@
+-- What is known of moves after each legal history.
+use Rattle.std.proofs.Common.{◌+◌, ◌≡◌, ◌≤◌, ◌++◌, ◌⊎◌, ℕ, List, [], ◌∷◌, Bool, true, false, Option, Some, None, refl, sym, ap, ◌∙◌, subst, inl, inr, arith, length, is_some}
+use Rattle.std.specs.Prelude.{option_map, if◌then◌else◌}
+use Rattle.std.specs.Ordering.{nat_cmp}
+use Rattle.std.proofs.lemmas.Bool.{cases_lt}
+use Rattle.petal_base.specs.Cells.{cell_of}
+use Rattle.petal_base.specs.declared.cell.Cell.{Cell}
+use Rattle.petal_command.specs.declared.command.Command.{Command}
+use Rattle.petal_command.specs.declared.command.Command.TheVariants.{Drained}
+use Rattle.global_tables.specs.declared.link.LinkRow.{LinkRow}
+use Rattle.global_tables.specs.declared.link.LinkState.TheVariants.{Both}
+use Rattle.petal_msg.specs.declared.letter.Actor.{Actor}
+use Rattle.petal_msg.specs.declared.letter.Actor.TheVariants as actor
+use Rattle.petal_msg.specs.declared.operation.Pending.{Pending}
+use Rattle.petal_state.specs.Command.{state_after}
+use Rattle.petal_table.specs.Table.{at}
+use Rattle.law_steps.specs.Ready.{IsRising}
+use Rattle.script_lines.specs.declared.script.Script.{Script}
+use Rattle.petal_rules.specs.Reads.{is_all_held}
+use Rattle.petal_rules.specs.Server.{Pairs}
+use Rattle.petal_rules.specs.State.{State, held, is_in, authority}
+use Rattle.petal_rules.specs.Store.{Chain, Stored, cell_cmp, chain_in}
+use Rattle.petal_rules.specs.Writes.{is_clients}
+use Rattle.petal_rules.specs.World.{Setting, World, begins_to_leave, chain_that_counts, chosen_log, chosen_state, kept, server_state, setting_of, start, step}
+use Rattle.petal_rules.specs.declared.step.Step.{Step}
+use Rattle.petal_rules.proofs.Tests.{by_test, none_some, same_some, true_false}
+use Rattle.petal_history.specs.Claims.{IsPrefix, Moves}
+use Rattle.petal_history.specs.Legal.{IsLegal, stepped, world_after}
+use Rattle.petal_history.specs.Sound.{IsSound}
+use Rattle.petal_history.specs.declared.record.Record.{Record}
+use Rattle.law_log.proofs.Histories.{history_is_firm}
+use Rattle.law_state.specs.Firm.{Firm}
+use Rattle.law_state.specs.Homes.{epoch_at, stage_at}
+use Rattle.law_state.proofs.Reports.{HasReportedSo, log_unread}
+use Rattle.law_steps.specs.Operations.{progress}
+use Rattle.law_steps.proofs.Firms.{always_firm}
+use Rattle.law_steps.proofs.Fronts.{front_long, one_front, front_itself}
+use Rattle.law_steps.proofs.Histories.{front_legal, rests_after, runs_now, start_rests, world_more}
+use Rattle.law_stores.proofs.Ways.{At, along}
+use Rattle.law_copies.specs.Visits.{IsLinked, WasThere, place_by}
+use Rattle.law_copies.proofs.Histories.{good_after}
+use Rattle.law_requests.proofs.Histories.{asking_along, reports_known}
+use Rattle.law_moves.proofs.Afterwards.{comes_after, dead_frozen, filling_after, over_after}
+use Rattle.law_moves.proofs.Histories.{known_after}
+use Rattle.law_moves.proofs.Seconds.{second_after}
+use Rattle.law_steps.proofs.Tables.{at_row}
+use Rattle.std.specs.Cmp.{nat_cmp_total}
+use Rattle.law_run.specs.Follow.{IsFrozenSo, KnowMoves}
+
+-- ### Steps
+
+-- what is frozen after a step was so before, or counts after it
+frozen_or_counts : (setting : Setting) (w : World) (who : Actor) (what : Step) (stamp : ℕ) (cell : Cell) (before : Chain)
+    → (step who what setting w stamp).world.frozen cell ≡ Some before
+    → (w.frozen cell ≡ Some before) ⊎ (chain_that_counts setting (step who what setting w stamp).world cell ≡ Some before)
+unfolding step
+frozen_or_counts setting w (actor.Client c) what stamp cell before e = inl e
+frozen_or_counts setting w (actor.Server n) what stamp cell before e = by
+    (begins_to_leave setting w (step (actor.Server n) what setting w stamp).world cell) e
+  where
+    by : (begins : Bool) → (if begins then chain_that_counts setting (step (actor.Server n) what setting w stamp).world cell else w.frozen cell) ≡ Some before
+        → (w.frozen cell ≡ Some before) ⊎ (chain_that_counts setting (step (actor.Server n) what setting w stamp).world cell ≡ Some before)
+    by true e = inr e
+    by false e = inl e
+
+-- the chain that counts is one of a server's
+counted_one : (chains : ℕ → Chain) (o : Option ℕ) (before : Chain) → option_map chains o ≡ Some before → (n : ℕ) × (chains n ≡ before)
+counted_one chains None before e = none_some refl e
+counted_one chains (Some n) before e = (n, same_some e)
+
+-- ### Every history
+
+abbrev AreRising : World → Type 0
+AreRising w = (cell : Cell) (before : Chain) → w.frozen cell ≡ Some before → IsRising nat_cmp before
+
+rising_after : (script : Script) (records : List Record) → IsSound script → IsLegal script records → AreRising (At script records)
+rising_after script records sound legal =
+    along script AreRising (λ front own part old cell before is.
+    let setting = setting_of script in
+    let w = At script front in
+    let now : (stepped setting w own).world.frozen cell ≡ Some before = subst (λ v. v.frozen cell ≡ Some before) (world_more setting (start setting) front own) is in
+    elim (frozen_or_counts setting w own.actor own.step own.stamp cell before now) [
+      | inl was ↦ old cell before was
+      | inr counts ↦
+          let v = (stepped setting w own).world in
+          let k = counted_one (λ n. chain_in (kept setting v n).chains cell) (authority (chosen_state setting v) cell) before counts in
+          subst (IsRising nat_cmp) k.1
+          (subst (λ u. IsRising nat_cmp (chain_in (kept setting u k.0).chains cell)) (world_more setting (start setting) front own)
+          ((good_after script (front ++ own ∷ []) sound part).rising k.0 cell))
+    ]) [] records legal (λ cell before is. none_some refl is)
+
+module _ (script : Script) (records : List Record) (sound : IsSound script) (legal : IsLegal script records) where
+  abbrev setting : Setting
+  setting = setting_of script
+
+  abbrev w : World
+  w = At script records
+
+  abbrev chosen : State
+  chosen = chosen_state setting w
+
+  firm : Firm setting w
+  firm = history_is_firm script records sound legal
+
+  frozen_so : (cell : Cell) (before : Chain) → w.frozen cell ≡ Some before → IsFrozenSo setting w cell before
+  frozen_so cell before is = record {
+    rising = rises;
+    left = elim (cases_lt (stage_at chosen cell) 3) [
+      | inl lt ↦ none_some ((known_after script sound records legal).still.early cell (omega arith)) is
+      | inr le ↦ le
+    ];
+    early = λ row there. (known_after script sound records legal).early cell before row.0 is (ap is_some (at_row nat_cmp_total before row rises there));
+  }
+    where
+      rises : IsRising nat_cmp before
+      rises = rising_after script records sound legal cell before is
+
+  -- a region begins to leave behind the reports of all that read it
+  unread : (n : ℕ) (cell : Cell) → (w.servers n).life.running ≡ true → is_in (server_state setting w n) n (w.servers n).life.inc ≡ true
+      → is_all_held (held (server_state setting w n) cell) ≡ false → 1 ≤ stage_at (server_state setting w n) cell
+      → stage_at (server_state setting w n) cell ≤ 2 → stage_at chosen cell ≤ 2
+  unread n cell runs seat free low high =
+      let own = (w.servers n).log.applied in
+      elim (log_unread setting.servers own (chosen_log setting w) n (w.servers n).life.inc cell firm.plain (firm.servers n) seat
+      (runs_now setting w firm n runs seat) free low high) [
+        | inl still ↦ still
+        | inr report ↦
+            let k = asking_along script sound records legal in
+            let ran : k.asks.lives.ran n ≡ (w.servers n).life.inc = k.asks.known.lived.ran n runs in
+            let reached = (reports_known script sound records legal k).reached n report.fence report.until
+            (subst (λ (i : ℕ). IsPrefix (report.until ++ Drained n i report.fence ∷ []) (chosen_log setting w)) (sym ran) report.stands) in
+            let same : report.until ≡ own =
+            one_front report.until own own reached (front_itself own)
+            (let a = front_long report.until own reached in let b = front_long own report.until report.behind in omega arith) in
+            true_false (subst (λ log. is_all_held (held (state_after setting.servers log) cell) ≡ true) same report.holds) free
+      ]
+
+  keyed : (n place : ℕ) (cell : Cell) (pairs : Pairs) (op : Pending) → WasThere setting records n place cell pairs
+      → at cell_cmp pairs.pending cell ≡ Some op → cell_of op.key ≡ cell
+  keyed n place cell pairs op was is =
+      let past = (front_legal setting (start setting) was.before was.later (subst (IsLegal script) was.is legal)).0 in
+      let rests = rests_after setting (start setting) was.before (always_firm script was.before sound past) (start_rests script) past in
+      ((rests.pending n).staged cell op (ap (λ (p : Pairs). at cell_cmp p.pending cell) was.had ∙ is)).keyed
+
+  pub moves_known : KnowMoves setting records w
+  moves_known = record {
+    frozen = frozen_so;
+    died = dead_frozen script records sound legal;
+    unread = unread;
+    still = (known_after script sound records legal).still;
+    fills = (known_after script sound records legal).filled;
+    over = over_after script records sound legal;
+    coming = λ n place cell pairs op row was is fills linked spot rev most.
+        comes_after script records sound legal n place cell pairs op was is fills row linked spot;
+    keyed = keyed;
+    filling = filling_after script records sound legal;
+    second = second_after script records sound legal;
+  }

@@ -1,0 +1,279 @@
+-- A server that says that the new map has nothing: what the old map answers then is what the machine has.
+use Rattle.petal_history.specs.Contents.{old_cell, entry_before, entry_of}
+use Rattle.petal_history.specs.Claims.{IsPrefix}
+use Rattle.law_state.specs.Tables.{IsPlainState}
+use Rattle.law_state.specs.Disks.{AreDisks}
+use Rattle.law_steps.specs.Ready.{IsRising}
+use Rattle.std.specs.Ordering.{nat_cmp}
+use Rattle.std.proofs.Common.{◌≡◌, ◌≤◌, ◌++◌, ℕ, List, [], ◌∷◌, Bool, true, false, Option, Some, None, is_some, length, refl, sym, ap, ◌∙◌, subst, inl, inr, arith, option_and_then}
+use Rattle.std.specs.List.{flat_map}
+use Rattle.std.proofs.lemmas.Bool.{cases_lt}
+use Rattle.petal_base.specs.declared.cell.Cell.{Cell}
+use Rattle.petal_command.specs.declared.command.Command.{Command}
+use Rattle.petal_machine.specs.Machine.{Plain}
+use Rattle.petal_msg.specs.declared.body.Body.{Body}
+use Rattle.petal_msg.specs.declared.body.Body.TheVariants as body
+use Rattle.petal_msg.specs.declared.letter.Actor.TheVariants as actor
+use Rattle.petal_msg.specs.declared.letter.Letter.{Letter}
+use Rattle.petal_state.specs.CellState.{cell_asked, has_map, named_cell, source}
+use Rattle.petal_state.specs.Command.{state_after}
+use Rattle.petal_state.specs.declared.answer.DiskView.{DiskView}
+use Rattle.petal_table.specs.Table.{at}
+use Rattle.script_lines.specs.declared.request.Line.{Line}
+use Rattle.script_lines.specs.declared.request.Request.TheVariants as request
+use Rattle.petal_rules.specs.Clients.{epoch_for}
+use Rattle.petal_rules.specs.Lists.{In}
+use Rattle.petal_rules.specs.Server.{Own}
+use Rattle.petal_rules.specs.State.{State, authority, coming, is_in, is_lead, leaving, find}
+use Rattle.petal_rules.specs.Store.{Chain, Store, Stored, bytes_of, cell_cmp, chain_in, entry_at}
+use Rattle.petal_rules.specs.World.{chosen_log, chosen_state, counted, kept, server_state, World}
+use Rattle.petal_rules.proofs.Tests.{by_bool, none_some, same_some, some_or_none, true_false}
+use Rattle.petal_history.specs.Events.{NotThere, look_for, look_for_data, look_of, old_data}
+use Rattle.petal_history.specs.Legal.{IsLegalFrom}
+use Rattle.law_state.specs.Below.{IsServing}
+use Rattle.law_state.specs.Homes.{HasStage, epoch_at, stage_at}
+use Rattle.law_state.proofs.Disks.{log_disks}
+use Rattle.law_state.proofs.Entries.{log_plain}
+use Rattle.law_state.proofs.Steady.{log_rev}
+use Rattle.law_steps.specs.DidRead.{IsReadable}
+use Rattle.law_steps.specs.Happens.{Handled, own_place}
+use Rattle.law_steps.proofs.Coming.{stage_facts}
+use Rattle.law_steps.proofs.Fronts.{front_itself, front_on, one_front}
+use Rattle.law_steps.proofs.Histories.{own_below, own_plain}
+use Rattle.law_copies.specs.Pair.{owns_of}
+use Rattle.law_moves.specs.Fills.{Has}
+use Rattle.law_requests.specs.Asked.{IsRead}
+use Rattle.law_run.specs.Follow.{Follow}
+use Rattle.law_run.proofs.Along.{cell_comes, cell_lives, cell_old, content_is, disks_now, has_content_is, plain_now, rows_in}
+use Rattle.law_run.proofs.Contents.{was_has, was_kept}
+use Rattle.law_run.proofs.Entries.{AreUpTo}
+use Rattle.law_run.proofs.Looks.{Accepts, AreGrounded, Looked, letter_looks}
+use Rattle.law_run.proofs.Named.{entry_over, has_over, is_between}
+use Rattle.law_run.proofs.OldReads.{IsFoundAt, IsOld, found}
+use Rattle.law_run.proofs.Overlay.{entry_there, has_below}
+use Rattle.law_run.proofs.Reading.{IsAskedAt, IsKnownRead, IsOfDisk, known_read}
+use Rattle.law_run.proofs.Shows.{AreCalm, IsReading, all_looked, entry_is, look_may, named, nothing_looked, now_high, now_low, of, row_has, same_above, same_chain, serving_now, shown_none, some_is}
+use Rattle.law_run.proofs.Sources.{source_here, source_stays}
+use Rattle.law_run.proofs.Steps.{LooksTold, ServerStep, frozen_same, later_world, letters, look_here}
+
+-- two reads of one request by the same state differ in whether the client was told to ask the old map
+record IsTwin (state : State) {lines : List Line} {client seq : ℕ} {told told_old : Bool} {cell old : Cell} {epoch epoch_old : ℕ}
+    (one : IsRead state lines client seq told cell epoch) (other : IsRead state lines client seq told_old old epoch_old) : Type 0 where
+  same_epoch : epoch_old ≡ epoch
+  cell_is : old ≡ cell_asked state one.disk one.block told_old
+
+twins : (state : State) (lines : List Line) (client seq : ℕ) (told told_old : Bool) (cell old : Cell) (epoch epoch_old : ℕ)
+    (one : IsRead state lines client seq told cell epoch) (other : IsRead state lines client seq told_old old epoch_old) → IsTwin state one other
+twins state lines client seq told told_old cell old epoch epoch_old one other =
+    let line : other.line ≡ one.line = same_some (sym other.is ∙ one.is) in
+    let asked : request.Read other.name other.snap other.block ≡ request.Read one.name one.snap one.block =
+    sym other.asks ∙ ap (λ (l : Line). l.request) line ∙ one.asks in
+    let name : other.name ≡ one.name = cc in
+    let snap : other.snap ≡ one.snap = cc in
+    let block : other.block ≡ one.block = cc in
+    let disk : other.disk ≡ one.disk = same_some (sym other.found ∙ ap (find state) name ∙ one.found) in
+    record {
+      same_epoch = same_some (sym other.epoch_is ∙ (λ i. epoch_for state (disk i) (snap i)) ∙ one.epoch_is);
+      cell_is = other.cell_is ∙ (λ i. cell_asked state (disk i) (block i) told_old);
+    }
+
+module _ (this : ServerStep) where
+  abbrev own_state : State
+  own_state = server_state this.setting this.w this.n
+
+  abbrev chosen : State
+  chosen = chosen_state this.setting this.w
+
+  abbrev own : Own
+  own = owns_of this.w this.n
+
+  abbrev front : List Command
+  front = (this.w.servers this.n).log.applied
+
+  module _ (client seq : ℕ) (cell : Cell) (epoch : ℕ) (r : IsReading this cell) (k : IsKnownRead this.setting this.w this.n client seq cell epoch)
+      (comes : coming own_state cell ≡ true) (none : entry_at (chain_in own.store.chains cell) epoch ≡ None)
+      (same : chosen_log this.setting (later_world this) ≡ chosen_log this.setting this.w)
+      (letter : Letter) (to : letter.to ≡ actor.Client client) (rev : letter.rev ≡ own_state.rev) (given : ℕ × List ℕ)
+      (f : IsFoundAt this.setting this.state this.along.steady (later_world this) (record { letter = letter; seq = seq }) given) where
+    abbrev o : IsOfDisk this.setting this.w this.along.firm front (this.along.firm.servers this.n) this.setting.lines client seq k.told cell epoch k.read
+    o = of this cell r client seq epoch k
+
+    facts : HasStage own_state cell
+    facts = stage_facts this.setting.servers front (own_plain this.setting this.w this.along.firm this.n) cell
+
+    one_own : stage_at own_state cell ≡ 1
+    one_own = facts.comes comes
+
+    -- whoever answered had come as far
+    front_is : (f.u.servers f.old.y).log.applied ≡ front
+    front_is = one_front (f.u.servers f.old.y).log.applied front (chosen_log this.setting f.u) (f.firm.servers f.old.y)
+        (front_on front (chosen_log this.setting (later_world this)) (chosen_log this.setting f.u)
+        (subst (IsPrefix front) (sym same) (this.along.firm.servers this.n)) f.grows)
+        (f.old.at ∙ rev ∙ log_rev this.setting.servers front)
+
+    abbrev state_is : server_state this.setting f.u f.old.y ≡ own_state
+    state_is = ap (state_after this.setting.servers) front_is
+
+    same_client : f.client ≡ client
+    same_client = one_client (sym f.to ∙ to)
+      where
+        one_client : {c d : ℕ} → actor.Client c ≡ actor.Client d → c ≡ d
+        one_client e = cc
+
+    abbrev old : Cell
+    old = f.old.cell
+
+    old_read : IsRead own_state this.setting.lines client seq f.old.told old f.old.epoch
+    old_read = subst (λ (s : State). IsRead s this.setting.lines client seq f.old.told old f.old.epoch) state_is
+        (subst (λ c. IsRead (server_state this.setting f.u f.old.y) this.setting.lines c seq f.old.told old f.old.epoch) same_client f.old.read)
+
+    twin : IsTwin own_state k.read old_read
+    twin = twins own_state this.setting.lines client seq k.told f.old.told cell old epoch f.old.epoch k.read old_read
+
+    old_leaves : stage_at own_state old ≡ 3
+    old_leaves = ap (λ (s : State). stage_at s old) (sym state_is) ∙ f.old.leaves
+
+    old_has : has_map old.map o.was ≡ true
+    old_has = ap (λ (c : Cell). has_map c.map o.was) twin.cell_is ∙ o.asked f.old.told
+
+    abbrev before : Chain
+    before = chain_in (owns_of f.u f.old.y).store.chains old
+
+    -- what it has of the old cell was frozen before
+    frozen : this.w.frozen old ≡ Some before
+    frozen =
+        let up = (own_below this.setting this.w this.along.firm this.n).stages old in
+        let three = old_leaves in
+        let now : stage_at (chosen_state this.setting (later_world this)) old ≡ stage_at chosen old =
+        ap (λ log. stage_at (state_after this.setting.servers log) old) same in
+        sym (frozen_same this same old) ∙ sym (f.stays old (omega arith)) ∙ f.old.frozen
+
+    -- it is the cell from which the new one is filled
+    plain_own : IsPlainState this.setting.servers own_state
+    plain_own = log_plain this.setting.servers front (own_plain this.setting this.w this.along.firm this.n)
+
+    disks_own : AreDisks own_state
+    disks_own = log_disks this.setting.servers front (own_plain this.setting this.w this.along.firm this.n)
+
+    from_old : source own_state cell ≡ Some old
+    from_old =
+        source_here this.setting.servers own_state plain_own disks_own cell o.was o.was_there o.has one_own
+        ∙ ap Some (ap (old_cell o.was) (o.block_is ∙ sym (ap (λ (c : Cell). c.block) twin.cell_is))
+        ∙ sym (cell_old this.setting.servers own_state plain_own disks_own o.was o.was_there old old_has old_leaves))
+
+    -- ### The contents
+
+    none_at : (e : ℕ) → IsAskedAt epoch k.read.snap e → entry_at (chain_in own.store.chains cell) e ≡ None
+    none_at e asked = same_above this cell r client seq epoch k e asked ∙ none
+
+    given_at : (e : ℕ) → IsAskedAt epoch k.read.snap e → given.1 ≡ bytes_of (entry_at before e)
+    given_at e asked = f.old.is ∙ ap (λ x. bytes_of (entry_at before x)) twin.same_epoch
+        ∙ ap bytes_of (sym (same_chain this cell r client seq epoch k old old_has before
+        (subst (λ (s : State). AreUpTo before (epoch_at s old)) state_is f.old.early) e asked))
+
+    abbrev C : ℕ → Type 0
+    C e = (was_has this o.row e cell.block ≡ true) × (was_kept this o.row e cell.block ≡ given.1)
+
+    has : has_map cell.map o.row ≡ true
+    has = row_has this cell r client seq epoch k
+
+    -- while the region is on its way, the frozen entry is the content
+    on_way : stage_at chosen cell ≡ 1 → (e : ℕ) → IsAskedAt epoch k.read.snap e → C e
+    on_way one e asked =
+        let plain = plain_now this.setting this.w this.along.firm in
+        let disks = disks_now this.setting this.w this.along.firm in
+        let between = cell_comes this.setting.servers chosen plain disks o.row o.there cell has one in
+        let is_old : old ≡ old_cell o.row cell.block =
+        source_stays this.setting.servers front (chosen_log this.setting this.w) this.along.firm.plain (this.along.firm.servers this.n) cell old from_old
+        o.row o.there has one in
+        let at_old : this.w.frozen (old_cell o.row cell.block) ≡ Some before = ap this.w.frozen (sym is_old) ∙ frozen in
+        let top : entry_of chosen (counted this.setting this.w) (named_cell o.row cell.block) e ≡ None = entry_is this cell r o.row o.there has e ∙ none_at e asked in
+        let some = some_is this cell r o.row o.there has in (
+          has_content_is this.setting this.w this.along.firm o.row o.there e cell.block
+              ∙ (λ i. has_over (between i) (some i) (top i) (is_some (at_old i))),
+          content_is this.setting this.w this.along.firm o.row o.there e cell.block
+              ∙ (λ i. bytes_of (entry_over (between i) (top i) (before_of (at_old i) e))) ∙ sym (given_at e asked),
+        )
+      where
+        before_of : Option Chain → ℕ → Option Stored
+        before_of o e = option_and_then (λ chain. entry_at chain e) o
+
+    -- where it has moved, all that was frozen is there
+    nothing_before : 2 ≤ stage_at chosen cell → (e : ℕ) → IsAskedAt epoch k.read.snap e → (o : Option Stored) → entry_at before e ≡ o → o ≡ None
+    nothing_before two e asked None is = refl
+    nothing_before two e asked (Some x) is =
+        let low = has_below before e (this.ground.moves.frozen old before frozen).rising (ap is_some is) in
+        let high = now_high this cell r in
+        let kept_is : kept this.setting this.w this.n ≡ own.store = this.ground.own this.n r.runs r.seat own.store in
+        let there : Has (chain_in own.store.chains cell) low.0 =
+        subst (λ (x : Store). Has (chain_in x.chains cell) low.0) kept_is
+        ((this.ground.moves.over cell two (omega arith)).all this.n low.0 before old front (this.along.firm.servers this.n) from_old frozen
+        (serving_now this cell r) low.2) in
+        let rises : IsRising nat_cmp (chain_in own.store.chains cell) =
+        subst (λ (x : Store). IsRising nat_cmp (chain_in x.chains cell)) kept_is (this.ground.good.rising this.n cell) in
+        none_some (none_at e asked) (is_some_of (entry_at (chain_in own.store.chains cell) e)
+        (entry_there (chain_in own.store.chains cell) low.0 e rises there low.1)).1
+      where
+        is_some_of : (o : Option Stored) → is_some o ≡ true → (x : Stored) × (o ≡ Some x)
+        is_some_of None e = true_false e refl
+        is_some_of (Some x) e = (x, refl)
+
+    moved : stage_at chosen cell ≡ 2 → (e : ℕ) → IsAskedAt epoch k.read.snap e → C e
+    moved two e asked =
+        let apart = cell_lives this.setting.servers chosen (plain_now this.setting this.w this.along.firm) (disks_now this.setting this.w this.along.firm)
+        o.row o.there cell has two in
+        let x = shown_none this cell r o.row o.there has apart e in
+        let zero = nothing_before (omega (arith, two)) e asked (entry_at before e) refl in
+        (x.0, x.1 ∙ ap bytes_of (none_at e asked ∙ sym zero) ∙ sym (given_at e asked))
+
+    pub old_content : (e : ℕ) → IsAskedAt epoch k.read.snap e → (was_has this o.row e k.read.block ≡ true) × (was_kept this o.row e k.read.block ≡ given.1)
+    old_content e asked =
+        let low = now_low this cell r in
+        let high = now_high this cell r in
+        subst (λ b. (was_has this o.row e b ≡ true) × (was_kept this o.row e b ≡ given.1)) o.block_is
+        (elim (cases_lt (stage_at chosen cell) 2) [
+          | inl lt ↦ on_way (omega arith) e asked
+          | inr le ↦ moved (omega arith) e asked
+        ])
+
+  -- ### What is told
+
+  -- a server says that the new map has nothing, which is all that the step sends
+  pub not_here_told : (numbered : (one other : Line) → In one this.setting.lines → In other this.setting.lines → one.number ≡ other.number → one ≡ other)
+      → (this.w.servers this.n).life.running ≡ true → (client seq : ℕ) (cell : Cell) (epoch : ℕ)
+      → IsReadable (Handled this.w this.n) (own_place this.setting this.w this.n) own client seq cell epoch
+      → coming own_state cell ≡ true → entry_at (chain_in own.store.chains cell) epoch ≡ None
+      → (is_lead own_state this.n cell ≡ true → at cell_cmp own.pairs.pending cell ≡ None)
+      → (letter : Letter) → letters this ≡ letter ∷ [] → letter.to ≡ actor.Client client → letter.rev ≡ own_state.rev → letter.body ≡ body.NotHere seq
+      → chosen_log this.setting (later_world this) ≡ chosen_log this.setting this.w → AreCalm this
+      → AreGrounded this.setting this.state (later_world this) this.later → IsLegalFrom this.setting (later_world this) this.later
+      → LooksTold this
+  not_here_told numbered runs client seq cell epoch readable comes none idle letter all to rev says same calm grounds legal m following =
+      subst (λ ls. Looked m (flat_map (look_here this) ls)) (sym all)
+      (subst (λ (b : Body). Looked m (look_of this.setting this.w v (actor.Server this.n) this.later letter b ++ [])) (sym says)
+      (by (old_data this.setting v this.later told false) refl))
+    where
+      v : World
+      v = later_world this
+
+      told : NotThere
+      told = record { letter = letter; seq = seq }
+
+      by : (o : Option (ℕ × List ℕ)) → old_data this.setting v this.later told false ≡ o → Looked m (look_for_data this.setting.lines o ++ [])
+      by None e = nothing_looked this m following
+      by (Some given) e =
+          let facts = stage_facts this.setting.servers front (own_plain this.setting this.w this.along.firm this.n) cell in
+          let one = facts.comes comes in
+          let stays : leaving own_state cell ≡ false =
+          by_bool (leaving own_state cell) (λ t. let three = facts.leaves t in absurd (omega arith)) (λ x. x) in
+          let r : IsReading this cell =
+          record { runs = runs; seat = readable.seated; may = readable.readable; unheld = readable.unheld; idle = idle; stays = stays } in
+          let known = known_read this.setting this.state this.w this.along.firm this.ground this.n client seq cell epoch readable.asked in
+          let o = of this cell r client seq epoch known in
+          let f = found this.setting this.state this.along.steady v told given v this.later false grounds legal (front_itself _) (λ c left. refl) e in
+          let may = look_may this same calm m following o.row o.there epoch known.read.block given.1 known.read.snap o.asks
+          (old_content client seq cell epoch r known comes none same letter to rev given f) in
+          all_looked m o.row.name known.read.snap known.read.block given.1 may following.stores.mindful (look_for this.setting.lines (Some given.0) given.1)
+          (letter_looks this.setting.lines numbered letter seq client o.row.name known.read.snap known.read.block given.1 known.read.line to known.read.is
+          (known.read.asks ∙ λ i. request.Read (sym o.name_is i) known.read.snap known.read.block) (Some given.0)
+          (λ number is. subst (Accepts this.setting.lines letter seq) (same_some is) f.accepts))

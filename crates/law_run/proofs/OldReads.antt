@@ -1,0 +1,326 @@
+-- A read that was told that the new map has nothing, and is answered under the old one: whoever answers has what was frozen.
+use Rattle.std.proofs.Common.{◌+◌, ◌||◌, ◌≡◌, ◌≤◌, ◌==◌, ◌&&◌, ℕ, List, [], ◌∷◌, ◌++◌, Bool, true, false, Option, Some, None, length, refl, sym, ap, ◌∙◌, subst, ◌⊎◌, inl, inr, arith, not}
+use Rattle.std.specs.Prelude.{if◌then◌else◌, option_map}
+use Rattle.petal_base.specs.declared.cell.Cell.{Cell}
+use Rattle.petal_command.specs.declared.command.Command.{Command}
+use Rattle.petal_msg.specs.declared.body.Body.{Body}
+use Rattle.petal_msg.specs.declared.body.Body.TheVariants as body
+use Rattle.petal_msg.specs.declared.letter.Actor.{Actor}
+use Rattle.petal_msg.specs.declared.letter.Actor.TheVariants as actor
+use Rattle.petal_msg.specs.declared.letter.Letter.{Letter}
+use Rattle.petal_rules.specs.Boots.{awake, raised}
+use Rattle.petal_rules.specs.Jobs.{Acted, down_posts}
+use Rattle.petal_rules.specs.Log.{rev_of}
+use Rattle.petal_rules.specs.Lists.{In}
+use Rattle.petal_rules.specs.Server.{Done, Post, Sender, letters_of, sender}
+use Rattle.petal_rules.specs.State.{State, leaving, servers_of}
+use Rattle.petal_rules.specs.Store.{chain_in, entry_at, bytes_of}
+use Rattle.petal_rules.specs.World.{Setting, World, acts, before_blanks, chosen_log, chosen_state, server_state, server_step, stamped, step, MayActor, begins_to_leave, chain_that_counts}
+use Rattle.petal_rules.specs.declared.step.Step.{Step}
+use Rattle.petal_rules.specs.declared.step.Step.TheVariants.{Blank}
+use Rattle.petal_rules.proofs.ListLemmas.{in_former}
+use Rattle.petal_rules.proofs.Tests.{both_true, by_bool, by_test, none_some, same_numbers, same_some, true_false}
+use Rattle.petal_history.specs.Claims.{IsPrefix}
+use Rattle.petal_history.specs.Events.{NotThere, accepted, data_among, data_of, first_data, old_data, reads_old, same_actor, turns}
+use Rattle.petal_history.specs.Legal.{IsLegalFrom, stepped}
+use Rattle.petal_history.specs.declared.record.Record.{Record}
+use Rattle.law_state.specs.Firm.{Firm}
+use Rattle.law_state.specs.Homes.{epoch_at, stage_at}
+use Rattle.law_state.specs.Steady.{IsSteady}
+use Rattle.law_state.proofs.Steady.{log_below, log_rev}
+use Rattle.law_steps.specs.Did.{By_read, Did}
+use Rattle.law_steps.specs.DidRead.{IsReadable, Not_here, Shows}
+use Rattle.law_steps.specs.Happens.{By_ballot, By_entry, By_job, Ends, Fails, Goes, Handled, Serving, Stays, Wakes, Worked, own_place, stopped_so, served_so, without_rev}
+use Rattle.law_steps.proofs.Coming.{stage_facts}
+use Rattle.law_steps.proofs.Fronts.{front_itself, front_on}
+use Rattle.law_steps.proofs.Histories.{own_plain, own_steady}
+use Rattle.law_steps.proofs.Letters.{one_post, said}
+use Rattle.law_steps.proofs.Serving.{server_serves}
+use Rattle.law_copies.specs.Pair.{owns_of}
+use Rattle.law_requests.specs.Asked.{IsRead}
+use Rattle.law_run.specs.Follow.{Ground}
+use Rattle.law_run.proofs.Chains.{NeverDead}
+use Rattle.law_run.proofs.Entries.{AreUpTo}
+use Rattle.law_run.proofs.Grounds.{never_dead}
+use Rattle.law_run.proofs.Looks.{Accepts, AreGrounded, ground_now, is_looked, who_accepts}
+use Rattle.law_run.proofs.Names.{one_actor}
+use Rattle.law_run.proofs.Reading.{known_read, own_up_to, reader_serves, reads_old_is}
+use Rattle.law_run.proofs.Says.{IsUnended, downs_unended, glances_unended, logged_unended, quiet_data, unended_no_data}
+
+-- ### What a step sends with data
+
+-- a server that sent data could read the cell
+pub record IsShown (setting : Setting) (u : World) (y : ℕ) (letter : Letter) (seq : ℕ) (bytes : List ℕ) : Type 0 where
+  pub runs : (u.servers y).life.running ≡ true
+  pub client : ℕ
+  pub cell : Cell
+  pub epoch : ℕ
+  pub readable : IsReadable (Handled u y) (own_place setting u y) (owns_of u y) client seq cell epoch
+  pub to : letter.to ≡ actor.Client client
+  pub rev : letter.rev ≡ (server_state setting u y).rev
+  pub is : bytes ≡ bytes_of (entry_at (chain_in (owns_of u y).store.chains cell) epoch)
+
+same_seq : {a b : ℕ} {xs ys : List ℕ} → body.Data a xs ≡ body.Data b ys → a ≡ b
+same_seq e = cc
+
+same_data : {a b : ℕ} {xs ys : List ℕ} → body.Data a xs ≡ body.Data b ys → xs ≡ ys
+same_data e = cc
+
+module _ (setting : Setting) (state : State) (steady : IsSteady state) (u : World) (firm : Firm setting u) (ground : Ground setting state u)
+    (y stamp : ℕ) (letter : Letter) (seq : ℕ) (bytes : List ℕ) (says : letter.body ≡ body.Data seq bytes) where
+  abbrev S : Type 0
+  S = IsShown setting u y letter seq bytes
+
+  -- of letters that end no request none has data
+  not_unended : (who : Sender) (posts : List Post) → ((post : Post) → In post posts → IsUnended post)
+      → In letter (stamped stamp (letters_of who 0 posts)) → S
+  not_unended who posts all h = true_false (ap is_looked says) (unended_no_data who stamp posts all letter h)
+
+  job_shows : (done : Done) → Did (Handled u y) (own_place setting u y) (owns_of u y) done → (u.servers y).life.running ≡ true
+      → In letter (stamped stamp (letters_of (sender (own_place setting u y)) 0 done.posts)) → S
+  job_shows _ (By_read _ (Shows client seq' cell epoch readable there)) runs h =
+      let s = said (sender (own_place setting u y)) stamp 0 _ letter h in
+      let p = one_post _ _ s.post s.there in
+      let same : body.Data seq' (bytes_of (entry_at (chain_in (owns_of u y).store.chains cell) epoch)) ≡ body.Data seq bytes = sym p.1 ∙ sym s.body ∙ says in
+      record {
+        runs = runs;
+        client = client;
+        cell = cell;
+        epoch = epoch;
+        readable = subst (λ q. IsReadable (Handled u y) (own_place setting u y) (owns_of u y) client q cell epoch) (same_seq same) readable;
+        to = s.to ∙ p.0;
+        rev = s.rev;
+        is = sym (same_data same);
+      }
+  job_shows _ (By_read _ (Not_here client seq' cell epoch readable comes none)) runs h =
+      let s = said (sender (own_place setting u y)) stamp 0 _ letter h in
+      let p = one_post _ _ s.post s.there in
+      let same : body.NotHere seq' ≡ body.Data seq bytes = sym p.1 ∙ sym s.body ∙ says in
+      absurd cc
+  job_shows done d runs h =
+      let s = said (sender (own_place setting u y)) stamp 0 done.posts letter h in
+      let never : NeverDead (own_place setting u y) (owns_of u y) = never_dead setting state steady u firm ground y runs in
+      true_false (ap is_looked (sym s.body ∙ says)) (quiet_data (Handled u y) (own_place setting u y) (owns_of u y) never done d tt s.post s.there)
+
+  no_posts : (post : Post) → In post [] → IsUnended post
+  unfolding In
+  no_posts post i = absurd i
+
+  pub shows : (what : Step) (acted : Acted) → Serving setting u y what acted → In letter (stamped stamp acted.letters) → S
+  shows what _ (Goes log done queue runs (By_job log' done' applied did seat) queued works) h = job_shows done did runs h
+  shows what _ (Goes log done queue runs (By_ballot log' started posts applied starts told) queued works) h =
+      not_unended (sender (own_place setting u y)) posts (λ post i. logged_unended post.body (told post i)) h
+  shows what _ (Goes log done queue runs (By_entry log' entry more front) queued works) h = not_unended (sender (own_place setting u y)) [] no_posts h
+  shows what _ (Ends log done runs worked) h =
+      not_unended (without_rev (own_place setting u y)) _ (downs_unended y (u.servers y).life.inc (servers_of (server_state setting u y))) h
+  shows what _ (Stays who posts from shown) h = not_unended who posts (λ post i. glances_unended post (shown post i)) h
+  shows what _ (Wakes booted asleep) h =
+      not_unended (record { from = actor.Server y; inc = (awake (raised (u.servers y))).life.inc; rev = rev_of (awake (raised (u.servers y))).log })
+      (down_posts y (u.servers y).life.inc (servers_of (server_state setting u y)))
+      (downs_unended y (u.servers y).life.inc (servers_of (server_state setting u y))) h
+  shows what _ (Fails booted asleep) h = not_unended (without_rev (own_place setting u y)) [] no_posts h
+
+-- ### Data of an old map
+
+-- these are the bytes that were frozen, of the cell that the client's line reads by these entries
+pub record IsOld (setting : Setting) (u : World) (client seq rev : ℕ) (bytes : List ℕ) : Type 0 where
+  pub y : ℕ
+  pub at : length (u.servers y).log.applied ≡ rev
+  pub told : Bool
+  pub cell : Cell
+  pub epoch : ℕ
+  pub read : IsRead (server_state setting u y) setting.lines client seq told cell epoch
+  pub leaves : stage_at (server_state setting u y) cell ≡ 3
+  pub frozen : u.frozen cell ≡ Some (chain_in (owns_of u y).store.chains cell)
+  pub early : AreUpTo (chain_in (owns_of u y).store.chains cell) (epoch_at (server_state setting u y) cell)
+  pub is : bytes ≡ bytes_of (entry_at (chain_in (owns_of u y).store.chains cell) epoch)
+
+pub shown_old : (setting : Setting) (state : State) (u : World) (firm : Firm setting u) (ground : Ground setting state u) (y : ℕ)
+    (letter : Letter) (seq : ℕ) (bytes : List ℕ) (s : IsShown setting u y letter seq bytes) → reads_old setting u (actor.Server y) ≡ true
+    → IsOld setting u s.client seq letter.rev bytes
+shown_old setting state u firm ground y letter seq bytes s old =
+    let leaving_so = sym (reads_old_is setting state u firm ground y s.client seq s.cell s.epoch s.readable.asked) ∙ old in
+    let three = (stage_facts setting.servers (u.servers y).log.applied (own_plain setting u firm y) s.cell).leaves leaving_so in
+    let known = known_read setting state u firm ground y s.client seq s.cell s.epoch s.readable.asked in
+    record {
+      y = y;
+      at = sym (log_rev setting.servers (u.servers y).log.applied) ∙ sym s.rev;
+      told = known.told;
+      cell = s.cell;
+      epoch = s.epoch;
+      read = known.read;
+      leaves = three;
+      frozen = ground.moves.still.own y (u.servers y).log.applied s.cell s.runs (front_itself _) (firm.servers y) s.readable.seated three
+          (reader_serves setting state u firm ground y s.cell s.readable.readable);
+      early = own_up_to setting state u firm ground y s.cell s.runs s.readable.seated;
+      is = s.is;
+    }
+
+-- ### Steps on the way
+
+-- what was frozen stays so
+abbrev pub StayFrozen : Setting → World → World → Type 0
+StayFrozen setting v u = (cell : Cell) → 3 ≤ stage_at (chosen_state setting v) cell → u.frozen cell ≡ v.frozen cell
+
+module _ (setting : Setting) (state : State) (steady : IsSteady state) where
+  -- by a step
+  frozen_on : (u : World) (who : Actor) (what : Step) (stamp : ℕ) → Firm setting u → Firm setting (step who what setting u stamp).world
+      → IsPrefix (chosen_log setting u) (chosen_log setting (step who what setting u stamp).world)
+      → StayFrozen setting u (step who what setting u stamp).world
+  unfolding step
+  frozen_on u (actor.Client c) what stamp firm next grows cell left = refl
+  frozen_on u (actor.Server n) what stamp firm next grows cell left =
+      let v = (acts setting u n what stamp (server_step what (server_state setting u n) n (u.servers n))).world in
+      by_test (λ o. o ≡ u.frozen cell) (begins_to_leave setting u v cell) (chain_that_counts setting v cell) (u.frozen cell)
+      (λ t.
+      let both = both_true (leaving (chosen_state setting v) cell) (not (leaving (chosen_state setting u) cell)) t in
+      let now = (stage_facts setting.servers (chosen_log setting v) next.plain cell).leaves both.0 in
+      let up = (log_below setting.servers (chosen_log setting u) (chosen_log setting v) next.plain grows).stages cell in
+      let was = (stage_facts setting.servers (chosen_log setting u) firm.plain cell).left (omega arith) in
+      true_false both.1 (ap not was))
+      (λ f. refl)
+
+  -- ### The data that is found
+
+  some_data : (one two : Option (ℕ × List ℕ)) (given : ℕ × List ℕ) → first_data one two ≡ Some given → (one ≡ Some given) ⊎ (two ≡ Some given)
+  some_data None two given e = inr e
+  some_data (Some x) two given e = inl e
+
+  -- a letter among those that a step sent
+  record IsAmong (told : NotThere) (later : List Record) (letters : List Letter) (given : ℕ × List ℕ) : Type 0 where
+    letter : Letter
+    there : In letter letters
+    seq : ℕ
+    bytes : List ℕ
+    says : letter.body ≡ body.Data seq bytes
+    to : told.letter.to ≡ letter.to
+    rev : told.letter.rev ≡ letter.rev
+    seq_is : told.seq ≡ seq
+    accepts : accepted later letter ≡ Some given.0
+    bytes_are : bytes ≡ given.1
+
+  one_data : (told : NotThere) (later : List Record) (letter : Letter) (said : Body) (given : ℕ × List ℕ) → letter.body ≡ said
+      → data_of told later letter said ≡ Some given → (letters : List Letter) → In letter letters → IsAmong told later letters given
+  one_data told later letter (body.Data seq bytes) given says e letters there =
+      by_bool (same_actor told.letter.to letter.to && (told.letter.rev == letter.rev) && (told.seq == seq))
+      (λ t.
+      let outer = both_true (same_actor told.letter.to letter.to && (told.letter.rev == letter.rev)) (told.seq == seq) t in
+      let inner = both_true (same_actor told.letter.to letter.to) (told.letter.rev == letter.rev) outer.0 in
+      let is : option_map (λ (line : ℕ). (line, bytes)) (accepted later letter) ≡ Some given =
+      sym (ap (λ b. if b then option_map (λ (line : ℕ). (line, bytes)) (accepted later letter) else None) t) ∙ e in
+      let m = mapped (accepted later letter) bytes given is in
+      record {
+        letter = letter;
+        there = there;
+        seq = seq;
+        bytes = bytes;
+        says = says;
+        to = one_actor told.letter.to letter.to inner.0;
+        rev = same_numbers told.letter.rev letter.rev inner.1;
+        seq_is = same_numbers told.seq seq outer.1;
+        accepts = m.0;
+        bytes_are = m.1;
+      })
+      (λ f. none_some (ap (λ b. if b then option_map (λ (line : ℕ). (line, bytes)) (accepted later letter) else None) f) e)
+    where
+      mapped : (o : Option ℕ) (bytes : List ℕ) (given : ℕ × List ℕ) → option_map (λ (line : ℕ). (line, bytes)) o ≡ Some given
+          → (o ≡ Some given.0) × (bytes ≡ given.1)
+      mapped None bytes given e = none_some refl e
+      mapped (Some line) bytes given e = let same : (line, bytes) ≡ given = same_some e in (ap (λ (g : ℕ × List ℕ). Some g.0) same, ap (λ (g : ℕ × List ℕ). g.1) same)
+  one_data told later letter _ given says e letters there = none_some refl e
+
+  in_data : (told : NotThere) (later : List Record) (letters : List Letter) (given : ℕ × List ℕ) → data_among told later letters ≡ Some given
+      → IsAmong told later letters given
+  unfolding In
+  in_data told later [] given e = none_some refl e
+  in_data told later (letter ∷ letters) given e = elim (some_data (data_of told later letter letter.body) (data_among told later letters) given e) [
+    | inl now ↦ one_data told later letter letter.body given refl now (letter ∷ letters) (inl refl)
+    | inr on ↦
+        let k = in_data told later letters given on in
+        record {
+          letter = k.letter;
+          there = inr k.there;
+          seq = k.seq;
+          bytes = k.bytes;
+          says = k.says;
+          to = k.to;
+          rev = k.rev;
+          seq_is = k.seq_is;
+          accepts = k.accepts;
+          bytes_are = k.bytes_are;
+        }
+  ]
+
+  -- what was found, at a world on the way
+  pub record IsFoundAt (v : World) (told : NotThere) (given : ℕ × List ℕ) : Type 0 where
+    pub u : World
+    pub firm : Firm setting u
+    pub grows : IsPrefix (chosen_log setting v) (chosen_log setting u)
+    pub stays : StayFrozen setting v u
+    pub client : ℕ
+    pub to : told.letter.to ≡ actor.Client client
+    pub old : IsOld setting u client told.seq told.letter.rev given.1
+    pub accepts : Accepts setting.lines told.letter told.seq given.0
+
+  module _ (v : World) (told : NotThere) (given : ℕ × List ℕ) where
+    abbrev F : Type 0
+    F = IsFoundAt v told given
+
+    -- in this step
+    step_found : (u : World) (who : Actor) (what : Step) (stamp : ℕ) (later : List Record) → Ground setting state u
+        → AreGrounded setting state (step who what setting u stamp).world later → IsLegalFrom setting (step who what setting u stamp).world later
+        → MayActor who what setting u → IsPrefix (chosen_log setting v) (chosen_log setting u) → StayFrozen setting v u
+        → reads_old setting u who ≡ true
+        → IsAmong told later (step who what setting u stamp).letters given → F
+    unfolding step In
+    step_found u (actor.Client c) what stamp later ground grounded legal may grows stays old a = true_false old refl
+    step_found u (actor.Server y) Blank stamp later ground grounded legal may grows stays old a = absurd a.there
+    step_found u (actor.Server y) what stamp later ground grounded legal may grows stays old a =
+        let acted = server_step what (server_state setting u y) y (u.servers y) in
+        let next = (acts setting u y what stamp acted).world in
+        let firm = ground.ready.firm in
+        let serving = server_serves setting u ground.ready.rests firm y (own_steady setting u firm y) stamp what refl may.1
+        (ground_now setting state next later grounded).ready.firm in
+        let s = shows setting state steady u firm ground y stamp a.letter a.seq a.bytes a.says what acted serving a.there in
+        let o = shown_old setting state u firm ground y a.letter a.seq a.bytes s old in
+        let ok = who_accepts setting state next later grounded legal a.letter a.seq a.bytes given.0
+        (in_former a.letter (stamped stamp acted.letters) u.sent a.there) a.says a.accepts in
+        record {
+          u = u;
+          firm = firm;
+          grows = grows;
+          stays = stays;
+          client = s.client;
+          to = a.to ∙ s.to;
+          old = subst (λ q. IsOld setting u s.client q told.letter.rev given.1) (sym a.seq_is)
+              (subst (λ r. IsOld setting u s.client a.seq r given.1) (sym a.rev)
+              (subst (λ bs. IsOld setting u s.client a.seq a.letter.rev bs) a.bytes_are o));
+          accepts = subst (λ q. Accepts setting.lines told.letter q given.0) (sym a.seq_is)
+              (record { client = ok.client; to = a.to ∙ ok.to; line = ok.line; is = ok.is; number_is = ok.number_is });
+        }
+
+    -- in one of these
+    pub found : (u : World) (records : List Record) (turned : Bool) → AreGrounded setting state u records → IsLegalFrom setting u records
+        → IsPrefix (chosen_log setting v) (chosen_log setting u) → StayFrozen setting v u
+        → old_data setting u records told turned ≡ Some given → F
+    found u [] turned grounded legal grows stays e = none_some refl e
+    found u (own ∷ later) turned grounded legal grows stays e =
+        let next = (stepped setting u own).world in
+        let follows = legal.0 in
+        elim (some_data (if turned && reads_old setting u own.actor then data_among told later own.sent else None)
+        (old_data setting next later told (turned || turns told.letter u own next)) given e) [
+          | inl now ↦ by_bool (turned && reads_old setting u own.actor)
+              (λ t.
+              let both = both_true turned (reads_old setting u own.actor) t in
+              let is : data_among told later own.sent ≡ Some given =
+              sym (ap (λ b. if b then data_among told later own.sent else None) t) ∙ now in
+              step_found u own.actor own.step own.stamp later grounded.0 grounded.2 legal.1 follows.may.may grows stays both.1
+              (in_data told later _ given (sym (ap (data_among told later) follows.sent) ∙ is)))
+              (λ f. none_some (ap (λ b. if b then data_among told later own.sent else None) f) now)
+          | inr on ↦ found next later _ grounded.2 legal.1 (front_on _ _ _ grows grounded.1)
+              (λ cell left.
+              let up = (log_below setting.servers (chosen_log setting v) (chosen_log setting u) grounded.0.ready.firm.plain grows).stages cell in
+              frozen_on u own.actor own.step own.stamp grounded.0.ready.firm (ground_now setting state next later grounded.2).ready.firm grounded.1 cell
+              (omega arith) ∙ stays cell left)
+              on
+        ]

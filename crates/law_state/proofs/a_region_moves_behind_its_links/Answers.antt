@@ -1,0 +1,12 @@
+-- Entry by entry: a link that is noted is new in one state alone, behind its Moved.
+use Rattle.law_state.proofs.Noting.{log_dead, log_noted, log_twins}
+use Rattle.law_state.proofs.a_region_moves_behind_its_links.Goals as goal
+
+pub returns-clause-noted : goal.returns-clause-noted
+returns-clause-noted c = log_noted
+
+pub returns-clause-dead : goal.returns-clause-dead
+returns-clause-dead c = log_dead
+
+pub returns-clause-twins : goal.returns-clause-twins
+returns-clause-twins c = log_twins

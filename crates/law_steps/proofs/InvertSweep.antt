@@ -1,0 +1,50 @@
+-- What a server drops of cells that are no longer live is what the relation names.
+use Rattle.std.proofs.Common.{◌≡◌, ℕ, true, false, List, [], ◌∷◌, Option, Some, None, refl, subst}
+use Rattle.busy_marks.specs.declared.marks.Mark.{Mark}
+use Rattle.petal_base.specs.declared.cell.Cell.{Cell}
+use Rattle.petal_msg.specs.declared.body.Body.{Body}
+use Rattle.petal_msg.specs.declared.dead.Dead.{Dead}
+use Rattle.petal_msg.specs.declared.dead.Dead.TheVariants as dead
+use Rattle.petal_rules.specs.Server.{Own, Here, Done}
+use Rattle.petal_rules.specs.State.{State, is_in, live}
+use Rattle.petal_rules.specs.Store.{Chain, Store}
+use Rattle.petal_rules.specs.Sweeping.{dead_in, dead_key, dead_mark, next_dead, sweeps, sweeps_with}
+use Rattle.petal_rules.proofs.Tests.{by_test, none_some, same_some}
+use Rattle.law_steps.specs.Did.{Did, Ignores, By_sweep}
+use Rattle.law_steps.specs.DidSweep.{Sweeps, cell_swept}
+
+-- what is to be dropped is of a cell that is not live
+abbrev IsOut : State → Option Dead → Dead → Type 0
+IsOut state o what = o ≡ Some what → live state (cell_swept what) ≡ false
+
+mark_out : (state : State) (marks : List Mark) (what : Dead) → IsOut state (dead_mark state marks) what
+mark_out state [] what e = none_some refl e
+mark_out state (m ∷ marks) what e =
+    by_test (λ o. IsOut state o what) (live state m.cell) (dead_mark state marks) (Some (dead.Mark m.kind m.cell))
+    (λ on f. mark_out state marks what f)
+    (λ off f. subst (λ (d : Dead). live state (cell_swept d) ≡ false) (same_some f) off) e
+
+chain_out : (state : State) (cell : Cell) (chain : Chain) (other : Option Dead) (what : Dead) → live state cell ≡ false → IsOut state other what
+    → IsOut state (dead_key cell chain other) what
+chain_out state cell [] other what off h e = h e
+chain_out state cell (row ∷ rows) other what off h e = subst (λ (d : Dead). live state (cell_swept d) ≡ false) (same_some e) off
+
+chains_out : (state : State) (chains : List (Cell × Chain)) (other : Option Dead) (what : Dead) → IsOut state other what
+    → IsOut state (dead_in state chains other) what
+chains_out state [] other what h e = h e
+chains_out state (held ∷ chains) other what h e =
+    let rest : IsOut state (dead_in state chains other) what = chains_out state chains other what h in
+    by_test (λ o. IsOut state o what) (live state held.0) (dead_in state chains other) (dead_key held.0 held.1 (dead_in state chains other))
+    (λ on f. rest f) (λ off. chain_out state held.0 held.1 (dead_in state chains other) what off rest) e
+
+pub next_out : (state : State) (store : Store) (what : Dead) → next_dead state store ≡ Some what → live state (cell_swept what) ≡ false
+unfolding next_dead
+next_out state store what = chains_out state store.chains (dead_mark state store.marks) what (mark_out state store.marks what)
+
+pub did_sweeps : (heard : Body → Type 0) (here : Here) (own : Own) → is_in here.state here.me here.inc ≡ true → Did heard here own (sweeps here own)
+unfolding sweeps
+did_sweeps heard here own seated = by (next_dead here.state own.store) refl
+  where
+    by : (o : Option Dead) → next_dead here.state own.store ≡ o → Did heard here own (sweeps_with own o)
+    by None e = Ignores
+    by (Some what) e = By_sweep _ (Sweeps what seated e (next_out here.state own.store what e))

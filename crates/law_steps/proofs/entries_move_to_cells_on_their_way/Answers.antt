@@ -1,0 +1,11 @@
+-- By induction on the history.
+use Rattle.petal_rules.specs.World.{setting_of, start}
+use Rattle.law_steps.proofs.Arriving.{comes_after, start_comes}
+use Rattle.law_steps.proofs.Firms.{always_firm}
+use Rattle.law_steps.proofs.Histories.{start_rests}
+use Rattle.law_steps.proofs.entries_move_to_cells_on_their_way.Goals as goal
+
+pub returns : goal.returns
+returns c script records sound legal =
+    let setting = setting_of script in
+    comes_after setting (start setting) records (always_firm script records sound legal) (start_rests script) (start_comes script) legal

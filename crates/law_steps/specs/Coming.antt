@@ -1,0 +1,31 @@
+-- Entries that move are of cells whose region was on its way when they were sent, and when an operation was opened for them.
+use Rattle.std.specs.Prelude.{◌≡◌, ℕ, true, List, Some, length}
+use Rattle.petal_base.specs.Cells.{cell_of}
+use Rattle.petal_base.specs.declared.cell.Cell.{Cell}
+use Rattle.petal_base.specs.declared.cell.Key.{Key}
+use Rattle.petal_command.specs.declared.command.Command.{Command}
+use Rattle.petal_table.specs.Table.{at}
+use Rattle.petal_msg.specs.declared.body.Body.TheVariants as body
+use Rattle.petal_msg.specs.declared.letter.Letter.{Letter}
+use Rattle.petal_msg.specs.declared.operation.OpKind.TheVariants as kind
+use Rattle.petal_msg.specs.declared.operation.Pending.{Pending}
+use Rattle.petal_state.specs.Command.{state_after}
+use Rattle.petal_history.specs.Claims.{IsPrefix}
+use Rattle.petal_rules.specs.Lists.{In}
+use Rattle.petal_rules.specs.State.{coming}
+use Rattle.petal_rules.specs.Store.{cell_cmp}
+use Rattle.petal_rules.specs.World.{Setting, World, chosen_log}
+
+-- the cell was under the new map of a move, in the region that was on its way, by the entries of this revision
+pub record WasComing (setting : Setting) (w : World) (rev : ℕ) (cell : Cell) : Type 0 where
+  pub front : List Command
+  pub lies : IsPrefix front (chosen_log setting w)
+  pub long : length front ≡ rev
+  pub coming : coming (state_after setting.servers front) cell ≡ true
+
+-- of each letter ever sent, and of what is pending at each server, also at one that has stopped
+pub record AreComing (setting : Setting) (w : World) : Type 0 where
+  pub sent : (letter : Letter) (key : Key) (bytes : List ℕ) → In letter w.sent → letter.body ≡ body.Fill key bytes
+      → WasComing setting w letter.rev (cell_of key)
+  pub opened : (n : ℕ) (cell : Cell) (op : Pending) → at cell_cmp (w.servers n).own.pairs.pending cell ≡ Some op → op.kind ≡ kind.Fill
+      → WasComing setting w op.rev cell

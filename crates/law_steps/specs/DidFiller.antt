@@ -1,0 +1,36 @@
+-- What the lead of a link of an old map may have done when it heard how its entries came to the new one, with what was so when it was done, by
+-- its own state.
+use Rattle.std.specs.Prelude.{◌≡◌, ℕ, true, false, List, [], Some}
+use Rattle.global_tables.specs.declared.link.LinkRow.{LinkRow}
+use Rattle.petal_base.specs.declared.cell.Key.{Key}
+use Rattle.petal_msg.specs.declared.body.Body.{Body}
+use Rattle.petal_msg.specs.declared.body.Body.TheVariants as body
+use Rattle.petal_rules.specs.Fills.{link_before, next_fill, region_to_move, with_filled}
+use Rattle.petal_rules.specs.Lists.{In}
+use Rattle.petal_rules.specs.Progress.{with_full}
+use Rattle.petal_rules.specs.Server.{Own, Here, Post, Done, silent}
+use Rattle.petal_rules.specs.State.{is_in}
+use Rattle.law_steps.specs.DidLead.{IsNextFill}
+
+-- the key, of the new map, is the next one of a link of the old map that this server is to move
+pub record IsNextKey (here : Here) (own : Own) (key : Key) (row : LinkRow) : Type 0 where
+  pub seated : is_in here.state here.me here.inc ≡ true
+  pub is : link_before here.state key ≡ Some row
+  pub region : ℕ
+  pub moves : region_to_move here.state here.me row ≡ Some region
+  pub next : Key
+  pub next_is : next_fill here.state row region own ≡ Some next
+  pub block : next.block ≡ key.block
+  pub epoch : next.epoch ≡ key.epoch
+
+-- that the new map has the key is remembered, and the link's move is not out of slots
+abbrev pub filled_to : Own → LinkRow → Key → Own
+filled_to own row key = with_full (with_filled own row (record { map = row.map; block = key.block; epoch = key.epoch })) false
+
+-- what the old lead may have done that handled only such letters as `heard` knows
+pub data DidFiller (heard : Body → Type 0) (here : Here) (own : Own) : Done → Type 0 where
+  Is_filled : (key : Key) (row : LinkRow) (posts : List Post) → heard (body.Filled key) → IsNextKey here own key row
+      → ((post : Post) → In post posts → IsNextFill here (filled_to own row key) post)
+      → DidFiller heard here own (record { own = filled_to own row key; posts = posts; jobs = [] })
+  Is_out_of_slots : (key : Key) (row : LinkRow) → heard (body.FillFull key) → IsNextKey here own key row
+      → DidFiller heard here own (silent (with_full own true))

@@ -1,0 +1,79 @@
+//! An entry that moves, at the lead of the new map's cell.
+
+ghost use Rattle.std.specs.Prelude.{◌≡◌, Err, IfOk};
+ghost use Rattle.petal_rules.specs.Fills as fills;
+ghost use Rattle.kept_chains.specs.Kept.{store_of};
+ghost use Rattle.pair_side.specs.declared.error.WorkError.TheVariants as error;
+ghost use Rattle.pair_side.specs.Side.{own_of, HasTicketsAt};
+ghost use Rattle.pair_side.specs.Done.{HasVersions, IsDone};
+ghost use Rattle.lead_write.specs.Wanted.{moving};
+
+use crate::open::opens;
+use crate::stage::first_stage;
+use kept_chains::has_entry;
+use pair_lock::{OpKind, Pending};
+use pair_side::{Done, Here, Side, WorkError, says_to, silent};
+use petal_base::{Key, NoMemory, Op, SharedBlock};
+use petal_disk::Disk;
+use petal_msg::Body;
+use server_store::Store;
+
+/// An entry that moves, as its letter has it.
+#[derive(Drop)]
+pub struct Moving<'a> {
+    pub key: Key,
+    pub bytes: &'a SharedBlock,
+}
+
+/// The operation that a fill opens.
+fn fill_operation(here: &Here, op: Op, entry: &Moving) -> Result<Pending, NoMemory>
+    ensures { IfOk result (λ pending. pending ≡ fills.fill_operation here.now op (moving entry.now)) }
+{
+    Ok(Pending {
+        op,
+        kind: OpKind::Fill,
+        cell: entry.key.cell(),
+        key: entry.key,
+        version: 0,
+        stage: first_stage(),
+        client: 0,
+        seq: 0,
+        rev: here.rev(),
+        bytes: entry.bytes.share()?,
+    })
+}
+
+/// An entry that moves is taken by the lead of its cell. One whose epoch is there is answered again.
+///
+/// # Errors
+/// As of [`goes_on`](crate::goes_on).
+#[tactic(auto, unfolding(petal_rules::specs::Fills::on_fill))]
+pub fn on_fill<D: Disk>(
+    here: &Here,
+    side: &mut Side,
+    store: &mut Store<D>,
+    entry: &Moving,
+) -> Result<Done, WorkError>
+    requires tickets { HasTicketsAt side.old store.old }
+    requires versions { HasVersions store.old }
+    ensures job { IsDone D.Disk here.now side.old side.new store.old store.new result
+        (fills.on_fill here.now (own_of side.old store.old) (moving entry.now)) }
+    ensures same { result ≡ Err error.NoMemory → store.new ≡ store.old }
+{
+    let cell = entry.key.cell();
+    if !here.is_lead(cell) {
+        return silent(here, side, store);
+    }
+    if side.is_under_way(cell) {
+        return silent(here, side, store);
+    }
+    if has_entry(store, entry.key) {
+        let told = Body::Filled { key: entry.key };
+        return says_to(here, side, store, here.state().old_lead(cell), told);
+    }
+    if side.copies.has_proposed(here, cell) {
+        return silent(here, side, store);
+    }
+    let op = fill_operation(here, side.next, entry)?;
+    opens(here, side, store, &op)
+}

@@ -1,0 +1,80 @@
+-- What is left of a link, and what is sent of it.
+use Rattle.std.proofs.Common.{◌≡◌, ℕ, Bool, true, false, cond, List, [], Option, Some, None, option_map, refl, sym, ap, ◌∙◌}
+use Rattle.std.specs.Prelude.{option_and_then}
+use Rattle.std.specs.Ordering.{nat_cmp, is_eq}
+use Rattle.std.specs.Cmp.{tied_itself}
+use Rattle.global_tables.specs.declared.link.LinkRow.{LinkRow}
+use Rattle.petal_base.specs.declared.cell.Cell.{Cell}
+use Rattle.petal_base.specs.declared.cell.Key.{Key}
+use Rattle.petal_base.specs.Cells.{cell_of, key_at}
+use Rattle.petal_table.specs.Table.{Table, at, put}
+use Rattle.petal_table.proofs.Rows.{at-put}
+use Rattle.petal_rules.specs.Fills.{fill_left, fill_of, fills_row, goes_behind, next_fill, region_to_move, sends_key, sends_moving}
+use Rattle.petal_msg.specs.declared.body.Body.TheVariants as body
+use Rattle.petal_rules.specs.Server.{Here, Own, post_to}
+use Rattle.petal_rules.specs.State.{State, id_of, lead, link_cmp}
+use Rattle.petal_rules.specs.Store.{Chain, Stored, chain_in}
+use Rattle.petal_state.specs.CellState.{target}
+use Rattle.pair_side.specs.Letters.{posts_of}
+use Rattle.pair_side.proofs.ByLink.{link_cmp_total}
+use Rattle.redistribute.specs.Behind.{behind, filled_with, posts_behind}
+use Rattle.redistribute.specs.Next.{left_after}
+use Rattle.redistribute.specs.Sending.{destination, letter_with, with_lead}
+
+left_is : (state : State) (row : LinkRow) (region : Option ℕ) (me : ℕ) (own : Own)
+    → left_after state row region (at link_cmp own.filled (id_of row)) own.store.chains ≡ fill_left state me row own region
+unfolding next_fill
+left_is state row None me own = refl
+left_is state row (Some region) me own = refl
+
+-- what is left behind the last key that is remembered
+pub fill_is : (state : State) (me : ℕ) (row : LinkRow) (own : Own)
+    → left_after state row (region_to_move state me row) (at link_cmp own.filled (id_of row)) own.store.chains ≡ fill_of state me row own
+fill_is state me row own = left_is state row (region_to_move state me row) me own
+
+last_there : (own : Own) (row : LinkRow) (key : Key) → at link_cmp (put link_cmp own.filled (id_of row) key) (id_of row) ≡ Some key
+last_there own row key =
+    at-put link_cmp_total own.filled (id_of row) key (id_of row)
+    ∙ ap (λ o. cond (is_eq o) (Some key) (at link_cmp own.filled (id_of row))) (tied_itself link_cmp_total (id_of row))
+
+-- what goes out behind a key
+pub behind_is : (here : Here) (own : Own) (row : LinkRow) (key : Key)
+    → filled_with own row key (posts_behind here own row key) ≡ goes_behind here (behind own row key) row
+behind_is here own row key =
+    let left = left_after here.state row (region_to_move here.state here.me row) in
+    ap (λ (o : Option Key). filled_with own row key (sends_key here.state own (left o own.store.chains))) (sym (last_there own row key))
+    ∙ ap (λ (o : Option Key). filled_with own row key (sends_key here.state own o)) (fill_is here.state here.me row (behind own row key))
+
+abbrev bytes_in : Option Stored → Option (List ℕ)
+bytes_in o = option_map (λ (x : Stored). x.bytes) o
+
+with_lead_is : (state : State) (key : Key) (entry : Stored) (cell : Cell)
+    → sends_moving state key (Some entry) (Some cell) ≡ posts_of (letter_with key (with_lead state cell) (Some entry.bytes))
+with_lead_is state key entry cell =
+    elim (lead state cell) as (λ o. post_to o (body.Fill (key_at cell key.epoch) entry.bytes)
+    ≡ posts_of (letter_with key (option_map (λ n. (n, cell)) o) (Some entry.bytes))) [
+      | None ↦ refl
+      | Some n ↦ refl
+    ]
+
+none_with : (key : Key) (to : Option (ℕ × Cell)) → [] ≡ posts_of (letter_with key to None)
+none_with key None = refl
+none_with key (Some to) = refl
+
+moving_is : (state : State) (key : Key) (o : Option Stored) (t : Option Cell)
+    → sends_moving state key o t ≡ posts_of (letter_with key (option_and_then (with_lead state) t) (bytes_in o))
+moving_is state key None t = none_with key (option_and_then (with_lead state) t)
+moving_is state key (Some entry) None = refl
+moving_is state key (Some entry) (Some cell) = with_lead_is state key entry cell
+
+-- the letter of a key
+pub letter_is : (state : State) (own : Own) (key : Key) (to : Option (ℕ × Cell)) (bytes : Option (List ℕ)) → to ≡ destination state key
+    → bytes ≡ bytes_in (at nat_cmp (chain_in own.store.chains (cell_of key)) key.epoch)
+    → posts_of (letter_with key to bytes) ≡ sends_key state own (Some key)
+letter_is state own key to bytes to_is bytes_is =
+    (λ i. posts_of (letter_with key (to_is i) (bytes_is i)))
+    ∙ sym (moving_is state key (at nat_cmp (chain_in own.store.chains (cell_of key)) key.epoch) (target state (cell_of key)))
+
+-- nobody is there to whom it could go
+pub no_letter : (state : State) (own : Own) (key : Key) → None ≡ destination state key → [] ≡ sends_key state own (Some key)
+no_letter state own key none = letter_is state own key None (bytes_in (at nat_cmp (chain_in own.store.chains (cell_of key)) key.epoch)) none refl

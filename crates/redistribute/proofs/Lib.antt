@@ -1,0 +1,4 @@
+pub mod Flat
+pub mod Firsts
+pub mod Fillings
+pub mod Dead

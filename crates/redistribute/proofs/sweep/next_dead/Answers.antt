@@ -1,0 +1,23 @@
+use Rattle.std.proofs.Common.{sym, ap, ◌∙◌, List}
+use Rattle.busy_marks.specs.declared.marks.Mark.{Mark}
+use Rattle.physical_map.specs.declared.entry.Entry.{Entry}
+use Rattle.petal_rules.specs.Sweeping.{dead_mark}
+use Rattle.redistribute.specs.Swept.{first_dead, first_mark}
+use Rattle.redistribute.proofs.Dead.{dead_found, mark_is}
+use Rattle.redistribute.proofs.Flat.{dead_by}
+use Rattle.redistribute.proofs.sweep.next_dead.Goals as goal
+
+pub returns-in-Some : goal.returns-in-Some
+returns-in-Some g c =
+    let state = c.args.state.now in
+    let s = c.args.store.now in
+    let found = ap (λ (es : List Entry). first_dead state es) (sym c.entries.ensures) ∙ sym c.dead_entry.ensures ∙ c.in-Some.is in
+    sym (dead_found state s c.free.ensures.order ∙ ap (dead_by state (dead_mark state s.marks)) found)
+
+pub returns-in-None : goal.returns-in-None
+returns-in-None g c =
+    let state = c.args.state.now in
+    let s = c.args.store.now in
+    let found = ap (λ (es : List Entry). first_dead state es) (sym c.entries.ensures) ∙ sym c.dead_entry.ensures ∙ c.in-None.is in
+    sym (dead_found state s c.free.ensures.order ∙ ap (dead_by state (dead_mark state s.marks)) found
+    ∙ sym (mark_is state s.marks) ∙ ap (λ (ms : List Mark). first_mark state ms) (sym c.marks.ensures) ∙ sym c.dead_mark.ensures)

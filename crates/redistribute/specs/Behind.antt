@@ -1,0 +1,20 @@
+-- What a server leaves and sends once the new map is known to have a key.
+use Rattle.std.specs.Prelude.{List, [], false, Some}
+use Rattle.global_tables.specs.declared.link.LinkRow.{LinkRow}
+use Rattle.petal_base.specs.declared.cell.Key.{Key}
+use Rattle.petal_rules.specs.Fills.{region_to_move, sends_key, with_filled}
+use Rattle.petal_rules.specs.Progress.{with_full}
+use Rattle.petal_rules.specs.Server.{Done, Here, Own, Post}
+use Rattle.redistribute.specs.Next.{left_after}
+
+-- it remembers the key, and that its last entry found a slot
+abbrev pub behind : Own → LinkRow → Key → Own
+behind own row key = with_full (with_filled own row key) false
+
+-- the entry behind the key goes out
+abbrev pub posts_behind : Here → Own → LinkRow → Key → List Post
+posts_behind here own row key =
+    sends_key here.state own (left_after here.state row (region_to_move here.state here.me row) (Some key) own.store.chains)
+
+abbrev pub filled_with : Own → LinkRow → Key → List Post → Done
+filled_with own row key posts = record { own = behind own row key; posts = posts; jobs = [] }

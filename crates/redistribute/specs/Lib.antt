@@ -1,0 +1,5 @@
+pub mod Next
+pub mod Sending
+pub mod Behind
+pub mod Swept
+pub mod Wants

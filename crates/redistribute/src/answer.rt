@@ -1,0 +1,138 @@
+//! What the new map's server answered.
+
+ghost use Rattle.std.specs.Prelude.{◌≡◌, true, Ok};
+ghost use Rattle.petal_rules.specs.Progress.{with_full};
+ghost use Rattle.petal_rules.specs.Server as servers;
+ghost use Rattle.petal_rules.specs.Fills as rules;
+ghost use Rattle.pair_side.specs.Done.{IsDone, IsSaid};
+ghost use Rattle.pair_side.specs.Letters.{posts_of};
+ghost use Rattle.pair_side.specs.Side.{own_of, HasTicketsAt};
+ghost use Rattle.redistribute.specs.Behind.{behind, filled_with};
+
+use crate::letters::fill_letter;
+use crate::next::{fill_of, left_after};
+use crate::region::link_before;
+use global_state::LinkRow;
+use kept_chains::ReadError;
+use pair_side::{Done, Here, Side, WorkError, link_id, only, silent, with_letter};
+use petal_base::{Key, Sequence, ServerId};
+use petal_disk::Disk;
+use petal_msg::Body;
+use server_store::Store;
+
+/// Whether the answer tells of the key that is next.
+fn is_next(next: &Option<Key>, key: &Key) -> bool
+    ensures { result ≡ rules.is_next next.now key.now }
+{
+    match next {
+        Some(next) => next.block == key.block && next.epoch == key.epoch,
+        None => false,
+    }
+}
+
+/// The key of the link's own map.
+fn own_key(row: &LinkRow, key: Key) -> Key
+    ensures { result ≡ record { map = row.now.map; block = key.block; epoch = key.epoch } }
+{
+    Key {
+        map: row.map,
+        block: key.block,
+        epoch: key.epoch,
+    }
+}
+
+/// The new map has the key from now on, and this letter goes out, if any.
+fn fills<D: Disk>(
+    here: &Here,
+    side: &mut Side,
+    store: &Store<D>,
+    row: &LinkRow,
+    key: Key,
+    found: Option<(ServerId, Body)>,
+) -> Result<Done, WorkError>
+    requires { HasTicketsAt side.old store.now }
+    ensures { IsSaid here.now side.old side.new store.now store.now result
+        (filled_with (own_of side.old store.now) row.now key (posts_of found)) }
+{
+    let _ = store;
+    let (letters, _) = with_letter(here, Sequence::new(here.alloc()), 0, found)?;
+    side.filled.put(link_id(row), key)?;
+    side.copies.set_full(false);
+    Ok(only(letters))
+}
+
+/// The new map has the key from now on, and the next entry goes out.
+fn goes_behind<D: Disk>(
+    here: &Here,
+    side: &mut Side,
+    store: &mut Store<D>,
+    row: &LinkRow,
+    key: Key,
+) -> Result<Done, WorkError>
+    requires { HasTicketsAt side.old store.old }
+    ensures { IsDone D.Disk here.now side.old side.new store.old store.new result
+        (rules.goes_behind here.now (behind (own_of side.old store.old) row.now key) row.now) }
+{
+    let next = left_after(here, store, row, &Some(key));
+    match fill_letter(here, store, next) {
+        Ok(found) => fills(here, side, store, row, key, found),
+        Err(ReadError::Failed) => Err(WorkError::Failed),
+        Err(ReadError::NoMemory) => Err(WorkError::NoMemory),
+    }
+}
+
+/// The new map has the key: where it is the next one of its link, the one behind it goes out.
+///
+/// # Errors
+/// `Failed` where the device failed; `NoMemory`, which changed nothing.
+#[tactic(auto, unfolding(petal_rules::specs::Fills::on_filled))]
+pub fn on_filled<D: Disk>(
+    here: &Here,
+    side: &mut Side,
+    store: &mut Store<D>,
+    key: Key,
+) -> Result<Done, WorkError>
+    requires { HasTicketsAt side.old store.old }
+    ensures { IsDone D.Disk here.now side.old side.new store.old store.new result (rules.on_filled here.now (own_of side.old store.old) key) }
+{
+    let Some(row) = link_before(here, key) else {
+        return silent(here, side, store);
+    };
+    if !is_next(&fill_of(here, side, store, row), &key) {
+        return silent(here, side, store);
+    }
+    goes_behind(here, side, store, row, own_key(row, key))
+}
+
+/// It is remembered that there was no slot.
+fn notes_full<D: Disk>(here: &Here, side: &mut Side, store: &Store<D>) -> Done
+    requires { HasTicketsAt side.old store.now }
+    ensures { IsSaid here.now side.old side.new store.now store.now (Ok result) (servers.silent (with_full (own_of side.old store.now) true)) }
+{
+    let _ = store;
+    side.copies.set_full(true);
+    only(Sequence::new(here.alloc()))
+}
+
+/// There is no slot under the new map: the entry is sent again at a tick.
+///
+/// # Errors
+/// Out of memory, which changed nothing.
+#[tactic(auto, unfolding(petal_rules::specs::Fills::on_fill_full))]
+pub fn on_fill_full<D: Disk>(
+    here: &Here,
+    side: &mut Side,
+    store: &Store<D>,
+    key: Key,
+) -> Result<Done, WorkError>
+    requires { HasTicketsAt side.old store.now }
+    ensures { IsSaid here.now side.old side.new store.now store.now result (rules.on_fill_full here.now (own_of side.old store.now) key) }
+{
+    let Some(row) = link_before(here, key) else {
+        return silent(here, side, store);
+    };
+    if !is_next(&fill_of(here, side, store, row), &key) {
+        return silent(here, side, store);
+    }
+    Ok(notes_full(here, side, store))
+}

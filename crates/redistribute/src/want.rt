@@ -1,0 +1,63 @@
+//! The links of which nothing is left to move.
+
+ghost use Rattle.std.specs.Prelude.{◌≡◌, ◌++◌, IfOk, OnOk};
+ghost use Rattle.std.specs.List.{flat_map};
+ghost use Rattle.petal_rules.specs.Fills as fills;
+ghost use Rattle.pair_side.specs.Side.{own_of};
+ghost use Rattle.redistribute.specs.Wants.{listed};
+
+use crate::next::fill_of;
+use crate::region::region_to_move;
+use global_state::LinkRow;
+use pair_side::{Here, Side};
+use petal_base::NoMemory;
+use petal_command::{Command, LinkNumber, RegionNumber};
+use petal_disk::Disk;
+use server_store::Store;
+
+/// The link's Moved, where this server is to move a region of it and nothing of that is left.
+fn moved_of<D: Disk>(
+    here: &Here,
+    side: &Side,
+    store: &Store<D>,
+    row: &LinkRow,
+) -> Result<Option<Command>, NoMemory>
+    ensures { IfOk result (λ found. listed found ≡ fills.moved_of here.now (own_of side.now store.now) row.now) }
+{
+    let Some(region) = region_to_move(here, row) else {
+        return Ok(None);
+    };
+    if fill_of(here, side, store, row).is_some() {
+        return Ok(None);
+    }
+    Ok(Some(Command::Moved {
+        map: row.map,
+        region: RegionNumber::checked(region).ok_or(NoMemory)?,
+        link: LinkNumber::checked(row.link).ok_or(NoMemory)?,
+    }))
+}
+
+/// The wants so far, with one more, if any.
+fn with_found(wants: &mut Vec<Command>, found: Option<Command>) -> Result<(), NoMemory>
+    ensures { OnOk result (wants.new.items ≡ wants.old.items ++ listed found) }
+{
+    match found {
+        Some(found) => Ok(wants.push(found)?),
+        None => Ok(()),
+    }
+}
+
+/// The Moved of each link of which nothing is left, at a server that is In as itself.
+///
+/// # Errors
+/// Out of memory, or where a link has no number that a command can name.
+pub fn moving<D: Disk>(here: &Here, side: &Side, store: &Store<D>) -> Result<Vec<Command>, NoMemory>
+    ensures { IfOk result (λ wants. wants.items ≡ flat_map (fills.moved_of here.now (own_of side.now store.now)) here.now.state.links) }
+{
+    let mut wants = Vec::new(here.alloc());
+    for row in here.state().links() {
+        let found = moved_of(here, side, store, row)?;
+        with_found(&mut wants, found)?;
+    }
+    Ok(wants)
+}
