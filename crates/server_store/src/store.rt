@@ -1,7 +1,8 @@
 //! The store of one server, over its device.
 
 ghost use Rattle.std.specs.Prelude.{◌==◌, ◌≡◌, ℕ, ◌⊎◌, ◌≤◌, ◌<◌, ◌+◌, ◌^◌, ◌++◌, ◌∷◌, ◌↔◌, [], Bool, List, length, slice_get, take, Contains, Err, IfOk, OnOk, IfErr, OnErr, IsErrOf, IfNone, true, false, not, is_some, if◌then◌else◌, Some, None};
-ghost use Rattle.busy_marks.specs.Marks.{has_mark, with_mark, without_mark, next_marked};
+ghost use Rattle.std.specs.List.Sorted.{IsStrictlySortedBy};
+ghost use Rattle.busy_marks.specs.Marks.{mark_cmp, has_mark, with_mark, without_mark, next_marked, next_marked_map};
 ghost use Rattle.block_journal.specs.Records.{Counts};
 ghost use Rattle.petal_base.specs.Block.{zero_block};
 ghost use Rattle.petal_disk.specs.Disk.{LeavesOnly};
@@ -25,7 +26,7 @@ ghost use Rattle.store_record.specs.declared.record.StoreRecord.TheVariants as r
 
 use crate::Opened;
 use crate::commit::{commit, commit_put};
-use busy_marks::{Mark, MarkKind, Marks};
+use busy_marks::{MarkKind, Marks};
 use data_device::{Header, RecordLog, StoreError, read_device, write_format};
 use petal_base::{Block, BlockNo, Cell, Epoch, Key, MapId, NoMemory, Sequence, Version};
 use petal_disk::{Disk, Failed, Plan, Planned};
@@ -484,13 +485,6 @@ impl<D: Disk> Store<D> {
         self.ledger.map().of_map(map, after)
     }
 
-    /// The marks in the order in which they were set.
-    pub fn marks(&self) -> &[Mark]
-        ensures { result.now ≡ self.now.marks }
-    {
-        self.marks.as_slice()
-    }
-
     /// The entry of a cell at this place of its chain, counted from 0.
     pub fn nth(&self, cell: Cell, place: usize) -> Option<Entry>
         ensures { result ≡ slice_get (chain_of cell (listed self.now.entries)) place }
@@ -528,9 +522,17 @@ impl<D: Disk> Store<D> {
 
     /// The least block of the map above `after` with a mark of either kind.
     pub fn next_mark(&self, map: MapId, after: Option<BlockNo>) -> Option<BlockNo>
-        ensures { result ≡ next_marked map after self.now.marks }
+        ensures least { result ≡ next_marked map after self.now.marks }
+        ensures sorted { IsStrictlySortedBy mark_cmp self.now.marks }
     {
         self.marks.next(map, after)
+    }
+
+    /// The least map above `after` with a mark.
+    pub fn next_marked_map(&self, after: Option<MapId>) -> Option<MapId>
+        ensures { result ≡ next_marked_map after self.now.marks }
+    {
+        self.marks.next_map(after)
     }
 
     /// The least map above `after` with an entry or a mark.

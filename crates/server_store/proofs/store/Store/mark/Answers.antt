@@ -1,7 +1,8 @@
 use Rattle.std.proofs.Common.{◌≡◌, ◌∙◌, List, false, not, refl, sym, ap}
 use Rattle.busy_marks.specs.declared.marks.Mark.{Mark}
 use Rattle.busy_marks.specs.Marks.{has_mark, without_mark}
-use Rattle.server_store.proofs.Changes.{listed_still, taken_back}
+use Rattle.busy_marks.proofs.Sets.{taken_back}
+use Rattle.server_store.proofs.Changes.{listed_still}
 use Rattle.server_store.proofs.store.Store.mark.Goals as goal
 
 pub invariant_of-self-in-Err : goal.invariant_of-self-in-Err

@@ -1,7 +1,8 @@
 use Rattle.std.proofs.Common.{◌≡◌, ◌∙◌, false, sym}
 use Rattle.busy_marks.specs.declared.marks.Mark.{Mark}
 use Rattle.busy_marks.specs.Marks.{has_mark}
-use Rattle.server_store.proofs.Changes.{listed_still, not_marked}
+use Rattle.busy_marks.proofs.Sets.{not_marked}
+use Rattle.server_store.proofs.Changes.{listed_still}
 use Rattle.server_store.proofs.store.Store.unmark.Goals as goal
 
 pub returns-then-not-has-clause-ok : goal.returns-then-not-has-clause-ok
