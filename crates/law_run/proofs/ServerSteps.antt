@@ -39,7 +39,8 @@ use Rattle.petal_history.specs.Events.{accepted}
 use Rattle.petal_history.specs.declared.record.Record.{Record}
 use Rattle.law_state.specs.Tables.{IsGrown}
 use Rattle.law_steps.specs.Did.{Did, By_read}
-use Rattle.law_steps.specs.Happens.{Handled, Worked, By_job, By_ballot, By_entry, IsSeated, Serving, Goes, Ends, Stays, Wakes, Fails, own_place, without_rev, served_so, stopped_so}
+use Rattle.law_steps.specs.Happens.{Handled, Worked, By_job, By_ballot, By_entry, IsSeated, Serving, Goes, Ends, Stays, Wakes, Fails}
+use Rattle.law_steps.specs.Happens.{own_place, without_rev, served_so, stopped_so}
 use Rattle.law_steps.proofs.Letters.{said}
 use Rattle.law_steps.proofs.Serving.{chosen_same}
 use Rattle.law_copies.specs.Pair.{owns_of}
