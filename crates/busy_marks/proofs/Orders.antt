@@ -1,5 +1,6 @@
 -- The order of marks, in numbers.
-use Rattle.std.proofs.Common.{◌≡◌, ◌≤◌, ℕ, Bool, true, false, ◌&&◌, ◌||◌, ◌==◌, nat_lt, nat_le, not, cond, List, [], ◌∷◌, Option, None, Some, refl, sym, ap, ◌∙◌, arith, inl, inr}
+use Rattle.std.proofs.Common.{◌≡◌, ◌≤◌, ℕ, Bool, true, false, ◌&&◌, ◌||◌, ◌==◌, nat_lt, nat_le, not, cond, List, [], ◌∷◌, Option}
+use Rattle.std.proofs.Common.{None, Some, refl, sym, ap, ◌∙◌, arith, inl, inr}
 use Rattle.std.proofs.lemmas.Bool.{cases_Bool}
 use Rattle.std.proofs.lemmas.Bool.Decides.{nat_tests}
 use Rattle.std.specs.declared.cmp.Ordering.{Ordering}
@@ -41,7 +42,8 @@ is_mark a b e =
     λ i. record { kind = kind i; cell = record { map = map i; block = block i } }
 
 -- marks that tie are the same
-tie_is : (a b : Mark) (j k : MarkKind) → is_eq (ordering_then (ordering_then (nat_cmp a.cell.map b.cell.map) (nat_cmp a.cell.block b.cell.block)) (nat_cmp (kind_rank j) (kind_rank k)))
+tie_is : (a b : Mark) (j k : MarkKind)
+    → is_eq (ordering_then (ordering_then (nat_cmp a.cell.map b.cell.map) (nat_cmp a.cell.block b.cell.block)) (nat_cmp (kind_rank j) (kind_rank k)))
     ≡ (same_kind k j && b.cell.map == a.cell.map && b.cell.block == a.cell.block)
 tie_is a b Busy Busy = grind (arith, nat_tests)
 tie_is a b Busy Stale = grind (arith, nat_tests)
@@ -52,16 +54,19 @@ pub ties : (a b : Mark) → is_eq (mark_cmp a b) ≡ same_mark b a
 ties a b = tie_is a b a.kind b.kind
 
 -- the marks of a map's blocks above a number, and of later maps
-reach_first : (map : ℕ) (m : Mark) (k : MarkKind) → is_le (ordering_then (ordering_then (nat_cmp map m.cell.map) (nat_cmp 0 m.cell.block)) (nat_cmp 0 (kind_rank k))) ≡ nat_le map m.cell.map
+reach_first : (map : ℕ) (m : Mark) (k : MarkKind)
+    → is_le (ordering_then (ordering_then (nat_cmp map m.cell.map) (nat_cmp 0 m.cell.block)) (nat_cmp 0 (kind_rank k))) ≡ nat_le map m.cell.map
 reach_first map m Busy = grind (arith, nat_tests)
 reach_first map m Stale = grind (arith, nat_tests)
 
-reach_later : (map block : ℕ) (m : Mark) (k : MarkKind) → is_lt (ordering_then (ordering_then (nat_cmp map m.cell.map) (nat_cmp block m.cell.block)) (nat_cmp 1 (kind_rank k)))
+reach_later : (map block : ℕ) (m : Mark) (k : MarkKind)
+    → is_lt (ordering_then (ordering_then (nat_cmp map m.cell.map) (nat_cmp block m.cell.block)) (nat_cmp 1 (kind_rank k)))
     ≡ (nat_lt map m.cell.map || (m.cell.map == map && nat_lt block m.cell.block))
 reach_later map block m Busy = grind (arith, nat_tests)
 reach_later map block m Stale = grind (arith, nat_tests)
 
-pub reach : (map : ℕ) (after : Option ℕ) (m : Mark) → is_from_start mark_cmp (after_block map after) m ≡ (nat_lt map m.cell.map || (m.cell.map == map && above after m.cell.block))
+pub reach : (map : ℕ) (after : Option ℕ) (m : Mark)
+    → is_from_start mark_cmp (after_block map after) m ≡ (nat_lt map m.cell.map || (m.cell.map == map && above after m.cell.block))
 reach map None m = reach_first map m m.kind ∙ grind (arith, nat_tests)
 reach map (Some after) m = reach_later map after m m.kind
 
@@ -70,29 +75,40 @@ pub reach_map : (map : ℕ) (m : Mark) → is_from_start mark_cmp (from_map map)
 reach_map map m = reach_first map m m.kind
 
 -- a mark before another is on its map or an earlier one, and there on its block or an earlier one
-before_is : (a b : Mark) (j k : MarkKind) → ordering_then (ordering_then (nat_cmp a.cell.map b.cell.map) (nat_cmp a.cell.block b.cell.block)) (nat_cmp (kind_rank j) (kind_rank k)) ≡ Less
+before_is : (a b : Mark) (j k : MarkKind)
+    → ordering_then (ordering_then (nat_cmp a.cell.map b.cell.map) (nat_cmp a.cell.block b.cell.block)) (nat_cmp (kind_rank j) (kind_rank k)) ≡ Less
     → (nat_le a.cell.map b.cell.map ≡ true) × (b.cell.map == a.cell.map ≡ true → nat_le a.cell.block b.cell.block ≡ true)
 before_is a b j k less = (grind (arith, nat_tests, less), λ same. grind (arith, nat_tests, less, same))
 
-pub before : (a b : Mark) → mark_cmp a b ≡ Less → (nat_le a.cell.map b.cell.map ≡ true) × (b.cell.map == a.cell.map ≡ true → nat_le a.cell.block b.cell.block ≡ true)
+pub before : (a b : Mark) → mark_cmp a b ≡ Less
+    → (nat_le a.cell.map b.cell.map ≡ true) × (b.cell.map == a.cell.map ≡ true → nat_le a.cell.block b.cell.block ≡ true)
 before a b = before_is a b a.kind b.kind
 
 -- an order that agrees with this one at each pair of kinds is this one
 at_kinds : (cmp : Mark → Mark → Ordering)
-    → ((c d : Cell) → cmp (record { cell = c; kind = Busy }) (record { cell = d; kind = Busy }) ≡ mark_cmp (record { cell = c; kind = Busy }) (record { cell = d; kind = Busy }))
-    → ((c d : Cell) → cmp (record { cell = c; kind = Busy }) (record { cell = d; kind = Stale }) ≡ mark_cmp (record { cell = c; kind = Busy }) (record { cell = d; kind = Stale }))
-    → ((c d : Cell) → cmp (record { cell = c; kind = Stale }) (record { cell = d; kind = Busy }) ≡ mark_cmp (record { cell = c; kind = Stale }) (record { cell = d; kind = Busy }))
-    → ((c d : Cell) → cmp (record { cell = c; kind = Stale }) (record { cell = d; kind = Stale }) ≡ mark_cmp (record { cell = c; kind = Stale }) (record { cell = d; kind = Stale }))
-    → (c d : Cell) (j k : MarkKind) → cmp (record { cell = c; kind = j }) (record { cell = d; kind = k }) ≡ mark_cmp (record { cell = c; kind = j }) (record { cell = d; kind = k })
+    → ((c d : Cell) → cmp (record { cell = c; kind = Busy }) (record { cell = d; kind = Busy }) ≡ mark_cmp (record { cell = c; kind = Busy })
+        (record { cell = d; kind = Busy }))
+    → ((c d : Cell) → cmp (record { cell = c; kind = Busy }) (record { cell = d; kind = Stale }) ≡ mark_cmp (record { cell = c; kind = Busy })
+        (record { cell = d; kind = Stale }))
+    → ((c d : Cell) → cmp (record { cell = c; kind = Stale }) (record { cell = d; kind = Busy }) ≡ mark_cmp (record { cell = c; kind = Stale })
+        (record { cell = d; kind = Busy }))
+    → ((c d : Cell) → cmp (record { cell = c; kind = Stale }) (record { cell = d; kind = Stale }) ≡ mark_cmp (record { cell = c; kind = Stale })
+        (record { cell = d; kind = Stale }))
+    → (c d : Cell) (j k : MarkKind)
+    → cmp (record { cell = c; kind = j }) (record { cell = d; kind = k }) ≡ mark_cmp (record { cell = c; kind = j }) (record { cell = d; kind = k })
 at_kinds cmp bb bs sb ss c d Busy Busy = bb c d
 at_kinds cmp bb bs sb ss c d Busy Stale = bs c d
 at_kinds cmp bb bs sb ss c d Stale Busy = sb c d
 at_kinds cmp bb bs sb ss c d Stale Stale = ss c d
 
 pub order_is : (cmp : Mark → Mark → Ordering)
-    → ((c d : Cell) → cmp (record { cell = c; kind = Busy }) (record { cell = d; kind = Busy }) ≡ mark_cmp (record { cell = c; kind = Busy }) (record { cell = d; kind = Busy }))
-    → ((c d : Cell) → cmp (record { cell = c; kind = Busy }) (record { cell = d; kind = Stale }) ≡ mark_cmp (record { cell = c; kind = Busy }) (record { cell = d; kind = Stale }))
-    → ((c d : Cell) → cmp (record { cell = c; kind = Stale }) (record { cell = d; kind = Busy }) ≡ mark_cmp (record { cell = c; kind = Stale }) (record { cell = d; kind = Busy }))
-    → ((c d : Cell) → cmp (record { cell = c; kind = Stale }) (record { cell = d; kind = Stale }) ≡ mark_cmp (record { cell = c; kind = Stale }) (record { cell = d; kind = Stale }))
+    → ((c d : Cell) → cmp (record { cell = c; kind = Busy }) (record { cell = d; kind = Busy }) ≡ mark_cmp (record { cell = c; kind = Busy })
+        (record { cell = d; kind = Busy }))
+    → ((c d : Cell) → cmp (record { cell = c; kind = Busy }) (record { cell = d; kind = Stale }) ≡ mark_cmp (record { cell = c; kind = Busy })
+        (record { cell = d; kind = Stale }))
+    → ((c d : Cell) → cmp (record { cell = c; kind = Stale }) (record { cell = d; kind = Busy }) ≡ mark_cmp (record { cell = c; kind = Stale })
+        (record { cell = d; kind = Busy }))
+    → ((c d : Cell) → cmp (record { cell = c; kind = Stale }) (record { cell = d; kind = Stale }) ≡ mark_cmp (record { cell = c; kind = Stale })
+        (record { cell = d; kind = Stale }))
     → cmp ≡ mark_cmp
 order_is cmp bb bs sb ss = λ i a b. at_kinds cmp bb bs sb ss a.cell b.cell a.kind b.kind i

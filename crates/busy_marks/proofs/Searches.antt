@@ -1,5 +1,6 @@
 -- What a search in a sorted list of marks finds.
-use Rattle.std.proofs.Common.{◌≡◌, ◌≤◌, ℕ, Bool, true, false, ◌&&◌, ◌||◌, ◌==◌, nat_lt, nat_le, not, cond, List, [], ◌∷◌, Option, None, Some, option_map, refl, sym, ap, ◌∙◌, arith, inl, inr}
+use Rattle.std.proofs.Common.{◌≡◌, ◌≤◌, ℕ, Bool, true, false, ◌&&◌, ◌||◌, ◌==◌, nat_lt, nat_le, not, cond, List, [], ◌∷◌, Option, None}
+use Rattle.std.proofs.Common.{Some, option_map, refl, sym, ap, ◌∙◌, arith, inl, inr}
 use Rattle.std.proofs.lemmas.Bool.{cases_Bool}
 use Rattle.std.proofs.lemmas.Bool.Decides.{nat_tests}
 use Rattle.std.proofs.lemmas.List.Elements.{All-head, All-tail}
@@ -37,7 +38,8 @@ taken_out mark (m ∷ ms) sorted = elim (cases_Bool (same_mark m mark)) [
 ]
 
 -- no mark on this map after these
-pub none_over : (map : ℕ) (after : Option ℕ) (x : Mark) (ms : List Mark) → nat_lt map x.cell.map ≡ true → AllByRecursion (λ y. mark_cmp x y ≡ Less) ms → next_marked map after ms ≡ None
+pub none_over : (map : ℕ) (after : Option ℕ) (x : Mark) (ms : List Mark) → nat_lt map x.cell.map ≡ true → AllByRecursion (λ y. mark_cmp x y ≡ Less) ms
+    → next_marked map after ms ≡ None
 none_over map after x [] past over = refl
 none_over map after x (m ∷ ms) past over =
     let first = before x m over.0 in
@@ -118,7 +120,8 @@ no_map after last (m ∷ ms) none all =
 
 -- ### First of a range
 
-met : {A : Type 0} (shows : A → Mark) (m : Mark) (later : List Mark) (r : Option A) (t : List Mark) → TakesFirst shows (m ∷ later) r t → option_map shows r ≡ Some m
+met : {A : Type 0} (shows : A → Mark) (m : Mark) (later : List Mark) (r : Option A) (t : List Mark) → TakesFirst shows (m ∷ later) r t
+    → option_map shows r ≡ Some m
 met shows m later None t taken = absurd (let h = taken.0 in cc)
 met shows m later (Some x) t taken = let h : m ≡ shows x = cc in ap Some (sym h)
 
@@ -147,7 +150,8 @@ and_true false = refl
 
 -- ### With an order that is this one
 
-pub first_between : {A : Type 0} (shows : A → Mark) (order : Mark → Mark → Ordering) (start : Bound Mark) (ms between : List Mark) (r : Option A) (t : List Mark)
+pub first_between : {A : Type 0} (shows : A → Mark) (order : Mark → Mark → Ordering) (start : Bound Mark) (ms between : List Mark)
+    (r : Option A) (t : List Mark)
     → order ≡ mark_cmp → between ≡ filter (range_contains order start Unbounded) ms → TakesFirst shows between r t
     → option_map shows r ≡ find (is_from_start mark_cmp start) ms
 first_between shows order start ms between r t same is taken =

@@ -23,7 +23,8 @@ pub has_set : (mark other : Mark) (ms : List Mark) → has_mark other (with_mark
 has_set mark other [] = refl
 has_set mark other (m ∷ ms) =
     elim (mark_cmp mark m) as (λ o. mark_cmp mark m ≡ o
-    → has_mark other (match_ordering o (mark ∷ m ∷ ms) (m ∷ ms) (m ∷ insert_key mark_cmp ms mark)) ≡ same_mark mark other || (same_mark m other || has_mark other ms)) [
+    → has_mark other (match_ordering o (mark ∷ m ∷ ms) (m ∷ ms) (m ∷ insert_key mark_cmp ms mark))
+        ≡ same_mark mark other || (same_mark m other || has_mark other ms)) [
       | Less ↦ λ _. refl
       | Equal ↦ λ tie.
           let one = is_mark m mark (sym (ties mark m) ∙ ap is_eq tie) in

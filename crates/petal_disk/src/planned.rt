@@ -199,7 +199,8 @@ impl<D: Disk> Disk for Planned<D> {
 
     ghost stays = { λ p. (D.stays p.disk, CameTo-same (plan_state p)) };
 
-    ghost goes_on = { λ first mid last a b. (D.goes_on first.disk mid.disk last.disk a.0 b.0, CameTo-later (plan_state first) (plan_state mid) (plan_state last) a.1 b.1) };
+    ghost goes_on = { λ first mid last a b.
+        (D.goes_on first.disk mid.disk last.disk a.0 b.0, CameTo-later (plan_state first) (plan_state mid) (plan_state last) a.1 b.1) };
 
     fn len(&self) -> u64 {
         self.disk.len()
@@ -211,7 +212,8 @@ impl<D: Disk> Disk for Planned<D> {
         ensures size { D.size self.new.disk ≡ D.size self.old.disk }
         ensures seen { D.seen self.new.disk ≡ D.seen self.old.disk }
         ensures crash { Within (D.may_leave self.old.disk) (D.may_leave self.new.disk) }
-        ensures time { Elapses (D.moment self.old.disk) (D.moment self.new.disk) (D.left_since self.old.disk) (D.left_since self.new.disk) (D.may_leave self.new.disk) }
+        ensures time { Elapses (D.moment self.old.disk) (D.moment self.new.disk) (D.left_since self.old.disk) (D.left_since self.new.disk)
+            (D.may_leave self.new.disk) }
         ensures cause { HasCause (D.faults self.old.disk + self.old.watch.strikes.times) (D.faults self.new.disk + self.new.watch.strikes.times) result }
         ensures run { D.came_to self.old.disk self.new.disk × CameTo (plan_state self.old) (plan_state self.new) }
         ensures struck { fails (plan_state self.old).plan call.Read ≡ true → IsErr result × (self.new.disk ≡ self.old.disk) }
@@ -230,7 +232,8 @@ impl<D: Disk> Disk for Planned<D> {
         ensures torn { D.told → Torn at (length bytes.now) (D.seen self.old.disk) (D.seen self.new.disk) }
         ensures size { D.size self.new.disk ≡ D.size self.old.disk }
         ensures crash { Follows (Torn at (length bytes.now)) (D.may_leave self.old.disk) (D.may_leave self.new.disk) }
-        ensures time { Elapses (D.moment self.old.disk) (D.moment self.new.disk) (D.left_since self.old.disk) (D.left_since self.new.disk) (D.may_leave self.new.disk) }
+        ensures time { Elapses (D.moment self.old.disk) (D.moment self.new.disk) (D.left_since self.old.disk) (D.left_since self.new.disk)
+            (D.may_leave self.new.disk) }
         ensures cause { HasCause (D.faults self.old.disk + self.old.watch.strikes.times) (D.faults self.new.disk + self.new.watch.strikes.times) result }
         ensures run { D.came_to self.old.disk self.new.disk × CameTo (plan_state self.old) (plan_state self.new) }
         ensures struck { fails (plan_state self.old).plan call.Write ≡ true → IsErr result }
@@ -264,10 +267,12 @@ impl<D: Disk> Disk for Planned<D> {
         ensures size { D.size self.new.disk ≡ D.size self.old.disk }
         ensures seen { D.seen self.new.disk ≡ D.seen self.old.disk }
         ensures crash { Within (D.may_leave self.old.disk) (D.may_leave self.new.disk) }
-        ensures time { Elapses (D.moment self.old.disk) (D.moment self.new.disk) (D.left_since self.old.disk) (D.left_since self.new.disk) (D.may_leave self.new.disk) }
+        ensures time { Elapses (D.moment self.old.disk) (D.moment self.new.disk) (D.left_since self.old.disk) (D.left_since self.new.disk)
+            (D.may_leave self.new.disk) }
         ensures cause { HasCause (D.faults self.old.disk + self.old.watch.strikes.times) (D.faults self.new.disk + self.new.watch.strikes.times) result }
         ensures run { D.came_to self.old.disk self.new.disk × CameTo (plan_state self.old) (plan_state self.new) }
-        ensures struck { fails (plan_state self.old).plan call.Sync ≡ true → IsErr result × (is_late (plan_state self.old).plan ≡ false → self.new.disk ≡ self.old.disk) }
+        ensures struck { fails (plan_state self.old).plan call.Sync ≡ true
+            → IsErr result × (is_late (plan_state self.old).plan ≡ false → self.new.disk ≡ self.old.disk) }
         ensures late { fails (plan_state self.old).plan call.Sync ≡ true → is_late (plan_state self.old).plan ≡ true
             → (D.told → Only (D.seen self.old.disk) (D.may_leave self.new.disk))
             ⊎ (D.faults self.old.disk < D.faults self.new.disk) }

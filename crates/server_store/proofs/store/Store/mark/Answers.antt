@@ -17,7 +17,8 @@ pub returns-in-Ok-clause-listed : goal.returns-in-Ok-clause-listed
 returns-in-Ok-clause-listed g c = rw (← c.self.view_is) (listed_still _ _ c.self.inside.ledger.entries)
 
 pub returns-in-Ok-clause-holds : goal.returns-in-Ok-clause-holds
-returns-in-Ok-clause-holds g c told = rw (← c.self.view_is, c.in_ok-set.ensures.ok, c.commit.ensures.contents told c.self.inside.ledger.entries) (λ h. c.in-Ok.ensures.keeps told c.self.inside.ledger.slots _ h)
+returns-in-Ok-clause-holds g c told = rw (← c.self.view_is, c.in_ok-set.ensures.ok, c.commit.ensures.contents told c.self.inside.ledger.entries)
+    (λ h. c.in-Ok.ensures.keeps told c.self.inside.ledger.slots _ h)
 
 pub returns-in-Ok-clause-either : goal.returns-in-Ok-clause-either
 returns-in-Ok-clause-either g c told = rw (← c.self.view_is) (λ h. c.commit.ensures.either told c.self.inside.ledger.slots _ h)
