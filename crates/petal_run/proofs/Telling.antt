@@ -5,7 +5,7 @@ use Rattle.std.proofs.lemmas.Bool.Decides.{nat_tests}
 use Rattle.std.specs.Prelude.{nat_lt}
 use Rattle.std.proofs.Math.Seq.{take-append_seam, take-append-add, take-length}
 use Rattle.std.specs.Ordering.{nat_cmp}
-use Rattle.petal_history.specs.Order.{AreRising, AnsweredComeFirst, all_answered}
+use Rattle.petal_history.specs.Order.{AreRising, AnsweredComeFirst, AnswersPhases, all_answered}
 use Rattle.world_desks.specs.Playable.{AreOrdered}
 use Rattle.script_lines.specs.declared.request.Line.{Line}
 use Rattle.petal_disk.specs.Streams.{Adds}
@@ -18,7 +18,7 @@ use Rattle.petal_history.specs.Claims.{Keeps}
 use Rattle.petal_history.specs.Legal.{IsLegal}
 use Rattle.petal_history.specs.Text.{answers_of, text_of}
 use Rattle.petal_history.specs.declared.record.Record.{Record}
-use Rattle.plain_schedule.specs.Phases.{Progress, AnswersPhases, GoesByPhases, Ends, records_of}
+use Rattle.plain_schedule.specs.Phases.{Progress, GoesByPhases, Ends, records_of}
 use Rattle.petal_run.specs.Asked.{Play, by_built, by_text}
 use Rattle.petal_run.specs.Built.{first_not_built}
 use Rattle.petal_run.specs.Said.{Done, DoneInPart, EndsWithPhase, WrittenByPhases, WrotePhases, WroteInPhase}

@@ -20,8 +20,8 @@ use Rattle.petal_history.specs.Text.{answers_of}
 use Rattle.petal_history.specs.declared.record.Record.{Record}
 use Rattle.petal_rules.proofs.Tests.{by_bool, same_numbers}
 use Rattle.world_desks.specs.Playable.{AreOrdered}
-use Rattle.petal_history.specs.Order.{AreRising, AnsweredComeFirst, IsFront, all_answered, is_answered}
-use Rattle.plain_schedule.specs.Phases.{Progress, GoesByPhases, AnswersPhases, Ends, records_of}
+use Rattle.petal_history.specs.Order.{AreRising, AnsweredComeFirst, AnswersPhases, IsFront, JoinsAnswers, all_answered, is_answered}
+use Rattle.plain_schedule.specs.Phases.{Progress, GoesByPhases, Ends, records_of}
 use Rattle.plain_schedule.specs.Places.{numbers, phase_run, progress_of, KeepsPlaces, GoesOn}
 use Rattle.plain_schedule.proofs.Fronts.{still, goes_front}
 
@@ -240,12 +240,13 @@ goes_by_phases script records told place phases k = record {
 }
 
 pub start_places : (script after : Script) (records : List Record) → after ≡ script → records ≡ [] → AreRising script.lines → AreOrdered script.lines
-    → KeepsPlaces after records 0 0 0
+    → JoinsAnswers script → KeepsPlaces after records 0 0 0
 unfolding In
-start_places script after records same none rising ordered = rw (same, none) (record {
+start_places script after records same none rising ordered joins = rw (same, none) (record {
   legal = tt;
   rising = rising;
   ordered = ordered;
+  joins = joins;
   told_is = omega arith;
   place_is = omega arith;
   answered = refl;
@@ -263,6 +264,7 @@ places_still script old new told place phases k on legal =
       legal = legal;
       rising = k.rising;
       ordered = k.ordered;
+      joins = k.joins;
       told_is = s.within;
       place_is = k.place_is;
       answered = ap (λ r. keys_of (answers_of r)) s.same ∙ k.answered;
@@ -277,27 +279,24 @@ grown script after old new told more n m on =
     let f = goes_front old new on in
     record { behind = f.behind; is = take-append-drop more new ∙ f.is ∙ ap (λ r. r ++ f.behind) (sym (take-append-drop told old)) }
 
-abbrev pub JoinsAnswers : Script → Type 0
-JoinsAnswers script = (front back : List Record) → AreRising script.lines → IsLegal script (front ++ back) → AnsweredComeFirst script.lines front
-    → answers_of (front ++ back) ≡ answers_of front ++ answers_of back
-
 -- the phase that ends answers the next lines
-places_more : (script : Script) (old new : List Record) (told place phases count : ℕ) → JoinsAnswers script → KeepsPlaces script old told place phases
+places_more : (script : Script) (old new : List Record) (told place phases count : ℕ) → KeepsPlaces script old told place phases
     → GoesOn old new → IsLegal script new
     → phases < 4294967296 → count ≡ phase_run phases (drop place script.lines)
     → keys_of (answers_of (drop told new)) ≡ numbers (take count (drop place script.lines)) → KeepsPlaces script new (length new) (place + count) (phases + 1)
-places_more script old new told place phases count joins k on legal room run exactly =
+places_more script old new told place phases count k on legal room run exactly =
     let now = places_still script old new told place phases k on legal in
     let g = goes_by_phases script new told place phases now in
     let next : PlaysNext script.lines place phases count =
     subst (PlaysNext script.lines place phases) (sym run) (plays_next script.lines place phases k.rising k.ordered k.played k.to_play) in
     let split : new ≡ take told new ++ drop told new = sym (take-append-drop told new) in
     let joined : answers_of new ≡ answers_of (take told new) ++ answers_of (drop told new) = ap answers_of split
-    ∙ joins (take told new) (drop told new) now.rising g.legal g.first in
+    ∙ now.joins (take told new) (drop told new) now.rising g.legal g.first in
     record {
       legal = legal;
       rising = now.rising;
       ordered = now.ordered;
+      joins = now.joins;
       told_is = omega arith;
       place_is = omega (arith, k.place_is, run, run_within phases (drop place script.lines), length-drop place script.lines);
       answered = ap (λ r. keys_of (answers_of r)) (take-length new) ∙ ap keys_of joined
@@ -345,12 +344,12 @@ module _ (script after : Script) (old new : List Record) (told place phases : �
   pub kept : KeepsPlaces after new told place phases
   kept = subst (λ (s : Script). KeepsPlaces s new told place phases) (sym w.same) (places_still script old new told place phases k w.on still_legal)
 
-  pub kept_next : (n count : ℕ) → n ≡ length new → JoinsAnswers script → phases < 4294967296 → count ≡ phase_run phases (drop place script.lines)
+  pub kept_next : (n count : ℕ) → n ≡ length new → phases < 4294967296 → count ≡ phase_run phases (drop place script.lines)
       → keys_of (answers_of (drop told new)) ≡ numbers (take count (drop place script.lines)) → KeepsPlaces after new n (place + count) (phases + 1)
-  kept_next n count all joins room run exactly =
+  kept_next n count all room run exactly =
       subst (λ (s : Script). KeepsPlaces s new n (place + count) (phases + 1)) (sym w.same)
       (subst (λ (m : ℕ). KeepsPlaces script new m (place + count) (phases + 1)) (sym all)
-      (places_more script old new told place phases count joins k w.on still_legal room run exactly))
+      (places_more script old new told place phases count k w.on still_legal room run exactly))
 
   module _ (before : Progress) (view : progress_of script old told phases ≡ before) where
     pub grows : (n m : ℕ) → IsFront (records_of before) (records_of (progress_of after new n m))

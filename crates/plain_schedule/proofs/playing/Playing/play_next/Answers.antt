@@ -39,7 +39,7 @@ invariant_of-self-in-Ok g c =
     ∙ ap (λ (s : Script). numbers (take count (drop i.place s.lines))) c.begin.ensures.script in
     let kept_now : KeepsPlaces new.script new.records (length c.records-told.result.now) (i.place + count) (i.phase + 1) =
     kept_next i.schedule.world.script new.script i.schedule.world.records new.records i.told i.place i.phase c.self.invariant went
-    (length c.records-told.result.now) count all (c.phases_come_one_after_the_other.ensures.answers i.schedule.world.script) room run exactly in
+    (length c.records-told.result.now) count all room run exactly in
     kept_now
 
 pub invariant_of-self-in-Err : goal.invariant_of-self-in-Err
@@ -73,7 +73,7 @@ returns-in-Ok-clause-by_phases g c =
     ∙ ap (λ (s : Script). numbers (take count (drop i.place s.lines))) c.begin.ensures.script in
     let kept_now : KeepsPlaces new.script new.records (length c.records-told.result.now) (i.place + count) (i.phase + 1) =
     kept_next i.schedule.world.script new.script i.schedule.world.records new.records i.told i.place i.phase c.self.invariant went
-    (length c.records-told.result.now) count all (c.phases_come_one_after_the_other.ensures.answers i.schedule.world.script) room run exactly in
+    (length c.records-told.result.now) count all room run exactly in
     goes_by_phases new.script new.records (length c.records-told.result.now) (i.place + count) (i.phase + 1) kept_now
 
 pub returns-in-Ok-clause-ends : goal.returns-in-Ok-clause-ends
