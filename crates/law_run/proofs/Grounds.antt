@@ -45,7 +45,7 @@ use Rattle.law_epochs.specs.Early.{AreEarly}
 use Rattle.law_epochs.specs.Timely.{IsTimely}
 use Rattle.law_moves.specs.Fills.{IsFrozen}
 use Rattle.law_run.specs.Follow.{Ground, IsRemembered, Is_pending, Was_pending}
-use Rattle.law_run.proofs.Chains.{Drops, NeverDead, PutsAsked}
+use Rattle.law_moves.proofs.Chains.{Drops, NeverDead, PutsAsked}
 use Rattle.law_run.proofs.Counted.{of_kept}
 use Rattle.law_run.proofs.Entries.{AreUpTo}
 use Rattle.law_run.proofs.Seats.{IsSharing, alive_here, heard_shared, op_lives, op_seat, second_shares, sharing_last, store_there, visit_here, own_there}

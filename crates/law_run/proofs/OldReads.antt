@@ -42,7 +42,7 @@ use Rattle.law_steps.proofs.Serving.{server_serves}
 use Rattle.law_copies.specs.Pair.{owns_of}
 use Rattle.law_requests.specs.Asked.{IsRead}
 use Rattle.law_run.specs.Follow.{Ground}
-use Rattle.law_run.proofs.Chains.{NeverDead}
+use Rattle.law_moves.proofs.Chains.{NeverDead}
 use Rattle.law_run.proofs.Entries.{AreUpTo}
 use Rattle.law_run.proofs.Grounds.{never_dead}
 use Rattle.law_run.proofs.Looks.{Accepts, AreGrounded, ground_now, is_looked, who_accepts}

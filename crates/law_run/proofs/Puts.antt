@@ -54,7 +54,7 @@ use Rattle.law_requests.proofs.Running.{open_running, pending_here}
 use Rattle.law_run.specs.Onward.{is_held, Onward}
 use Rattle.law_run.proofs.Along.{HasDisk, cell_comes, cell_named, content_is, disk_here, disks_now, has_content_is, named_epoch}
 use Rattle.law_run.proofs.Along.{named_high, named_map_is, one_row_of, plain_now, rows_in}
-use Rattle.law_run.proofs.Chains.{StoresSo, Nothing_new, An_own, An_asked, A_copy, PutsAsked, PutsCopy, copied_apart, Drops, Of_the_dead}
+use Rattle.law_moves.proofs.Chains.{StoresSo, Nothing_new, An_own, An_asked, A_copy, PutsAsked, PutsCopy, copied_apart, Drops, Of_the_dead}
 use Rattle.law_run.proofs.Copies.{copied_uncounted}
 use Rattle.law_run.proofs.Contents.{IsGiven, AreGiven, Taken, all_given, given_held, takes_of, was_kept, now_has, now_kept, StaysAt, was_has}
 use Rattle.law_run.proofs.Entries.{entry_below, entry_put}
@@ -470,7 +470,7 @@ module _ (this : ServerStep) (same : chosen_log this.setting (later_world this) 
     own_told : (op : Pending) (is : at cell_cmp own.pairs.pending op.cell ≡ Some op) (unput : op.stage.put ≡ false) (entry : Stored)
         (bytes : entry.bytes ≡ op.bytes)
         (chains : (new this).store.chains ≡ chains_with own.store.chains op.key entry)
-        → Jobs (An_own (record { op = op; is = is; unput = unput; entry = entry; bytes = bytes; chains = chains })) → TakesTold this
+        → Jobs (An_own (record { op = op; is = is; fresh = unput; entry = entry; bytes = bytes; chains = chains })) → TakesTold this
     own_told op is unput entry bytes chains job = elim (some_or_none (authority chosen op.cell)) [
       | inr none ↦ other (λ e. none_some none e)
       | inl some ↦ elim (same_or_apart some.0 this.n) [
@@ -491,7 +491,7 @@ module _ (this : ServerStep) (same : chosen_log this.setting (later_world this) 
             (λ mine. ap (λ c. chain_in c (named_cell row b)) chains
             ∙ chain_apart own.store.chains (cell_of op.key) _ (named_cell row b)
             (λ e. never (ap (authority chosen) (sym keyed ∙ sym e) ∙ mine))))) in
-            told_of taken (An_own (record { op = op; is = is; unput = unput; entry = entry; bytes = bytes; chains = chains })) job
+            told_of taken (An_own (record { op = op; is = is; fresh = unput; entry = entry; bytes = bytes; chains = chains })) job
             (λ clients e. absurd (never e))
 
         mine : is_clients op.kind ≡ true → authority chosen op.cell ≡ Some this.n → TakesTold this
@@ -508,7 +508,7 @@ module _ (this : ServerStep) (same : chosen_log this.setting (later_world this) 
             (pending_write this.setting this.state this.along.steady this.w firm this.ground this.n this.n op.cell op runs is clients) still) in
             let here_mine : authority chosen (cell_of op.key) ≡ Some this.n = ap (authority chosen) keyed ∙ counted in
             let taken = all_given this (given_put op.key entry epoch chains own_counts here_mine op bytes place) in
-            told_of taken (An_own (record { op = op; is = is; unput = unput; entry = entry; bytes = bytes; chains = chains })) job
+            told_of taken (An_own (record { op = op; is = is; fresh = unput; entry = entry; bytes = bytes; chains = chains })) job
             (λ clients e. put_held op.key entry epoch chains own_counts here_mine op bytes place taken)
 
         -- a fill
@@ -521,7 +521,7 @@ module _ (this : ServerStep) (same : chosen_log this.setting (later_world this) 
             ∙ this.ground.moves.fills.lacks this.n op.cell op runs is fill unput in
             let taken = all_given this (fill_given op.key entry op.bytes bytes chains own_counts here_mine one op.rev
             (this.ground.moves.fills.asked this.n op.cell op is fill) lacks) in
-            told_of taken (An_own (record { op = op; is = is; unput = unput; entry = entry; bytes = bytes; chains = chains })) job
+            told_of taken (An_own (record { op = op; is = is; fresh = unput; entry = entry; bytes = bytes; chains = chains })) job
             (λ clients e. true_false clients fill)
 
     asked_told : (a : PutsAsked hears here own (new this)) → Jobs (An_asked a) → TakesTold this
@@ -602,7 +602,7 @@ module _ (this : ServerStep) (same : chosen_log this.setting (later_world this) 
     -- a job that changes at most one chain
     pub stored_told : (s : StoresSo hears here own (new this)) → Jobs s → TakesTold this
     stored_told (Nothing_new chains) job = calm_told chains (λ k onward. job k onward tt) says
-    stored_told (An_own p) job = own_told p.op p.is p.unput p.entry p.bytes p.chains job
+    stored_told (An_own p) job = own_told p.op p.is p.fresh p.entry p.bytes p.chains job
     stored_told (An_asked a) job = asked_told a job
     stored_told (A_copy c) job = copy_told c job
     stored_told (Of_the_dead d) job = dead_drops d job

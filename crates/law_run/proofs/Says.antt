@@ -37,7 +37,7 @@ use Rattle.law_steps.proofs.Subjects.{of_filler, of_read, of_second, of_sweep}
 use Rattle.law_copies.specs.Pair.{owns_of}
 use Rattle.law_requests.specs.Asked.{IsOpen}
 use Rattle.law_run.specs.Onward.{is_held, Onward}
-use Rattle.law_run.proofs.Chains.{NeverDead}
+use Rattle.law_moves.proofs.Chains.{NeverDead}
 use Rattle.law_run.proofs.Looks.{is_looked}
 use Rattle.law_run.proofs.Machine.{held_onward}
 use Rattle.law_run.proofs.ServerJobs.{closed_held, closed_alone}

@@ -55,8 +55,8 @@ use Rattle.law_requests.proofs.Leads.{one_lead}
 use Rattle.law_requests.specs.Asked.{IsOpen}
 use Rattle.law_run.specs.Onward.{is_held, Onward}
 use Rattle.law_run.specs.Follow.{HasCounted, Is_told, Is_followed, Is_counted}
-use Rattle.law_run.proofs.Chains.{Drops, NeverDead, StoresSo, Nothing_new, An_own, An_asked, A_copy, Of_the_dead, OtherStores, PutsAsked, PutsCopy, PutsOwn}
-use Rattle.law_run.proofs.Chains.{copied_apart, did_stores, holder_chains, lead_stores, other_changes, second_stores, swept}
+use Rattle.law_moves.proofs.Chains.{Drops, NeverDead, StoresSo, Nothing_new, An_own, An_asked, A_copy, Of_the_dead, OtherStores, PutsAsked, PutsCopy, PutsOwn}
+use Rattle.law_moves.proofs.Chains.{copied_apart, did_stores, holder_chains, lead_stores, other_changes, second_stores, swept}
 use Rattle.law_run.proofs.Copies.{copied_unfollowed}
 use Rattle.law_run.proofs.Frames.{OwnFollow, kept_finished, own_counted}
 use Rattle.law_run.proofs.Entries.{not_ahead}

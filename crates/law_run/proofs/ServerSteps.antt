@@ -47,7 +47,7 @@ use Rattle.law_copies.specs.Pair.{owns_of}
 use Rattle.law_run.specs.Follow.{Ground, Follow}
 use Rattle.law_run.specs.Onward.{Onward}
 use Rattle.law_run.proofs.Along.{Along, rows_in}
-use Rattle.law_run.proofs.Chains.{did_stores, NeverDead}
+use Rattle.law_moves.proofs.Chains.{did_stores, NeverDead}
 use Rattle.law_run.proofs.Frames.{AreKept, As_before, Anew, OwnFollow, Runs, SaysOk, kept_own}
 use Rattle.law_run.proofs.LogSteps.{IsOfKind, Of_the_log, Of_a_boot, Of_the_rest}
 use Rattle.law_run.proofs.Looks.{is_looked, AreGrounded, who_accepts}
