@@ -1,7 +1,6 @@
 -- The order of marks, in numbers.
-use Rattle.std.proofs.Common.{◌≡◌, ◌≤◌, ℕ, Bool, true, false, ◌&&◌, ◌||◌, ◌==◌, nat_lt, nat_le, not, cond, List, [], ◌∷◌, Option}
-use Rattle.std.proofs.Common.{None, Some, refl, sym, ap, ◌∙◌, arith, inl, inr}
-use Rattle.std.proofs.lemmas.Bool.{cases_Bool}
+use Rattle.std.proofs.Common.{◌≡◌, ℕ, Bool, true, false, ◌&&◌, ◌||◌, ◌==◌, nat_lt, nat_le, Option}
+use Rattle.std.proofs.Common.{None, Some, refl, ◌∙◌, arith}
 use Rattle.std.proofs.lemmas.Bool.Decides.{nat_tests}
 use Rattle.std.specs.declared.cmp.Ordering.{Ordering}
 use Rattle.std.specs.declared.cmp.Ordering.TheVariants.{Less}
@@ -84,31 +83,20 @@ pub before : (a b : Mark) → mark_cmp a b ≡ Less
     → (nat_le a.cell.map b.cell.map ≡ true) × (b.cell.map == a.cell.map ≡ true → nat_le a.cell.block b.cell.block ≡ true)
 before a b = before_is a b a.kind b.kind
 
--- an order that agrees with this one at each pair of kinds is this one
-at_kinds : (cmp : Mark → Mark → Ordering)
-    → ((c d : Cell) → cmp (record { cell = c; kind = Busy }) (record { cell = d; kind = Busy }) ≡ mark_cmp (record { cell = c; kind = Busy })
-        (record { cell = d; kind = Busy }))
-    → ((c d : Cell) → cmp (record { cell = c; kind = Busy }) (record { cell = d; kind = Stale }) ≡ mark_cmp (record { cell = c; kind = Busy })
-        (record { cell = d; kind = Stale }))
-    → ((c d : Cell) → cmp (record { cell = c; kind = Stale }) (record { cell = d; kind = Busy }) ≡ mark_cmp (record { cell = c; kind = Stale })
-        (record { cell = d; kind = Busy }))
-    → ((c d : Cell) → cmp (record { cell = c; kind = Stale }) (record { cell = d; kind = Stale }) ≡ mark_cmp (record { cell = c; kind = Stale })
-        (record { cell = d; kind = Stale }))
-    → (c d : Cell) (j k : MarkKind)
-    → cmp (record { cell = c; kind = j }) (record { cell = d; kind = k }) ≡ mark_cmp (record { cell = c; kind = j }) (record { cell = d; kind = k })
-at_kinds cmp bb bs sb ss c d Busy Busy = bb c d
-at_kinds cmp bb bs sb ss c d Busy Stale = bs c d
-at_kinds cmp bb bs sb ss c d Stale Busy = sb c d
-at_kinds cmp bb bs sb ss c d Stale Stale = ss c d
+-- the order agrees with this one on marks of these kinds
+abbrev AgreesAt : (Mark → Mark → Ordering) → (j k : MarkKind) → Type 0
+AgreesAt cmp j k =
+    (c d : Cell) → cmp (record { cell = c; kind = j }) (record { cell = d; kind = k })
+    ≡ mark_cmp (record { cell = c; kind = j }) (record { cell = d; kind = k })
 
-pub order_is : (cmp : Mark → Mark → Ordering)
-    → ((c d : Cell) → cmp (record { cell = c; kind = Busy }) (record { cell = d; kind = Busy }) ≡ mark_cmp (record { cell = c; kind = Busy })
-        (record { cell = d; kind = Busy }))
-    → ((c d : Cell) → cmp (record { cell = c; kind = Busy }) (record { cell = d; kind = Stale }) ≡ mark_cmp (record { cell = c; kind = Busy })
-        (record { cell = d; kind = Stale }))
-    → ((c d : Cell) → cmp (record { cell = c; kind = Stale }) (record { cell = d; kind = Busy }) ≡ mark_cmp (record { cell = c; kind = Stale })
-        (record { cell = d; kind = Busy }))
-    → ((c d : Cell) → cmp (record { cell = c; kind = Stale }) (record { cell = d; kind = Stale }) ≡ mark_cmp (record { cell = c; kind = Stale })
-        (record { cell = d; kind = Stale }))
+at_kinds : (cmp : Mark → Mark → Ordering) → AgreesAt cmp Busy Busy → AgreesAt cmp Busy Stale → AgreesAt cmp Stale Busy → AgreesAt cmp Stale Stale
+    → (j k : MarkKind) → AgreesAt cmp j k
+at_kinds cmp bb bs sb ss Busy Busy = bb
+at_kinds cmp bb bs sb ss Busy Stale = bs
+at_kinds cmp bb bs sb ss Stale Busy = sb
+at_kinds cmp bb bs sb ss Stale Stale = ss
+
+-- an order that agrees with this one at each pair of kinds is this one
+pub order_is : (cmp : Mark → Mark → Ordering) → AgreesAt cmp Busy Busy → AgreesAt cmp Busy Stale → AgreesAt cmp Stale Busy → AgreesAt cmp Stale Stale
     → cmp ≡ mark_cmp
-order_is cmp bb bs sb ss = λ i a b. at_kinds cmp bb bs sb ss a.cell b.cell a.kind b.kind i
+order_is cmp bb bs sb ss = λ i a b. at_kinds cmp bb bs sb ss a.kind b.kind a.cell b.cell i

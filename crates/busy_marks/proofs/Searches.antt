@@ -1,11 +1,11 @@
 -- What a search in a sorted list of marks finds.
-use Rattle.std.proofs.Common.{◌≡◌, ◌≤◌, ℕ, Bool, true, false, ◌&&◌, ◌||◌, ◌==◌, nat_lt, nat_le, not, cond, List, [], ◌∷◌, Option, None}
+use Rattle.std.proofs.Common.{◌≡◌, ◌≤◌, ℕ, Bool, true, false, ◌&&◌, ◌==◌, nat_lt, nat_le, List, [], ◌∷◌, Option, None}
 use Rattle.std.proofs.Common.{Some, option_map, refl, sym, ap, ◌∙◌, arith, inl, inr}
 use Rattle.std.proofs.lemmas.Bool.{cases_Bool}
 use Rattle.std.proofs.lemmas.Bool.Decides.{nat_tests}
 use Rattle.std.proofs.lemmas.List.Elements.{All-head, All-tail}
 use Rattle.std.specs.Prelude.{filter}
-use Rattle.std.specs.List.{All, AllByRecursion, find, slice_get}
+use Rattle.std.specs.List.{All, AllByRecursion, find}
 use Rattle.std.specs.List.Sorted.{IsStrictlySortedBy}
 use Rattle.std.specs.Ordering.{is_eq}
 use Rattle.std.specs.Map.Iter.{TakesFirst}
@@ -157,7 +157,7 @@ pub first_between : {A : Type 0} (shows : A → Mark) (order : Mark → Mark →
 first_between shows order start ms between r t same is taken =
     first_found shows (range_contains order start Unbounded) ms r t (rw (← is) taken)
     ∙ find_same (range_contains order start Unbounded) (is_from_start mark_cmp start) ms
-      (λ m. and_true (is_from_start order start m) ∙ ap (λ (R : Mark → Mark → Ordering). is_from_start R start m) same)
+    (λ m. and_true (is_from_start order start m) ∙ ap (λ (R : Mark → Mark → Ordering). is_from_start R start m) same)
 
 -- that what is left is in the order tells which order it is
 pub taken_by : (order : Mark → Mark → Ordering) (mark : Mark) (ms left : List Mark) → IsStrictlySortedBy order left → order ≡ mark_cmp

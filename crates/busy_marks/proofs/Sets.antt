@@ -1,5 +1,5 @@
 -- What is set after a mark is set or taken away.
-use Rattle.std.proofs.Common.{◌≡◌, Bool, true, false, ◌||◌, not, cond, List, [], ◌∷◌, refl, ap, sym, ◌∙◌, inl, inr}
+use Rattle.std.proofs.Common.{◌≡◌, Bool, true, false, ◌||◌, List, [], ◌∷◌, refl, ap, sym, ◌∙◌, inl, inr}
 use Rattle.std.proofs.lemmas.Bool.{cases_Bool}
 use Rattle.std.specs.BTreeSet.{insert_key}
 use Rattle.std.specs.Ordering.{is_eq, match_ordering}
@@ -24,7 +24,7 @@ has_set mark other [] = refl
 has_set mark other (m ∷ ms) =
     elim (mark_cmp mark m) as (λ o. mark_cmp mark m ≡ o
     → has_mark other (match_ordering o (mark ∷ m ∷ ms) (m ∷ ms) (m ∷ insert_key mark_cmp ms mark))
-        ≡ same_mark mark other || (same_mark m other || has_mark other ms)) [
+    ≡ same_mark mark other || (same_mark m other || has_mark other ms)) [
       | Less ↦ λ _. refl
       | Equal ↦ λ tie.
           let one = is_mark m mark (sym (ties mark m) ∙ ap is_eq tie) in

@@ -44,7 +44,7 @@ module _ (keep : Cell → Bool) where
   flat_front (r ∷ rs) c row =
       elim (cell_cmp c r.0) as (λ o. cell_cmp c r.0 ≡ o
       → flat (match_ordering o ((c, row ∷ []) ∷ r ∷ rs) ((r.0, row ∷ r.1) ∷ rs) ((c, row ∷ []) ∷ r ∷ rs))
-          ≡ (if keep c then key_at c row.0 ∷ flat (r ∷ rs) else flat (r ∷ rs))) [
+      ≡ (if keep c then key_at c row.0 ∷ flat (r ∷ rs) else flat (r ∷ rs))) [
         | Less ↦ λ _. refl
         | Equal ↦ λ tie.
             more_if (keep r.0) (key_at r.0 row.0) (keys_of r) (flat rs)

@@ -85,8 +85,15 @@ impl<D: Disk> Store<D> {
         fresh: bool,
     ) -> Result<Store<D>, (D, StoreError)>
         requires { slot_start slots ≤ D.size disk }
-        ensures ok { IfOk result (λ store. store ≡ record { entries = []; tickets = []; marks = []; slots = slots; fresh = fresh;
-            log = record { fresh = fresh; records = []; region = store.log.region }; disk = store.disk }) }
+        ensures ok { IfOk result (λ store. store ≡ record {
+          entries = [];
+          tickets = [];
+          marks = [];
+          slots = slots;
+          fresh = fresh;
+          log = record { fresh = fresh; records = []; region = store.log.region };
+          disk = store.disk;
+        }) }
         ensures holds { IfOk result (λ store. D.told → Holds store (D.seen store.disk) (D.may_leave store.disk)) }
         ensures size { IfOk result (λ store. D.size store.disk ≡ D.size disk) }
         ensures errors { IfErr result (λ e. IsFormatError e.1) }

@@ -8,4 +8,4 @@ pub returns : goal.returns
 returns c =
     let mark : Mark = record { cell = c.args.cell; kind = c.args.kind } in
     rw (← c.self.view_is) (taken_by _ mark c.self.inside.marks.keys c.remove.new.self.keys c.remove.ensures.ordered
-      (order_is _ (λ x y. refl) (λ x y. refl) (λ x y. refl) (λ x y. refl)) c.self.invariant c.remove.ensures.keys)
+    (order_is _ (λ x y. refl) (λ x y. refl) (λ x y. refl) (λ x y. refl)) c.self.invariant c.remove.ensures.keys)
