@@ -30,7 +30,7 @@ pub enum StateRecord {
 
 /// What is kept for one place: the highest ballot promised or accepted in, what was accepted last, and what is known to be
 /// chosen.
-#[derive(Drop)]
+#[derive(Drop, PartialEq, Eq)]
 pub struct Row {
     pub promised: Option<Ballot>,
     pub accepted: Option<(Ballot, Command)>,
