@@ -1,5 +1,6 @@
 -- What a crash may leave after each call of an append.
-use Rattle.std.proofs.Common.{◌≡◌, ◌≢◌, inl, inr, ℕ, ◌+◌, ◌-◌, ◌*◌, ◌<◌, ◌≤◌, List, [], ◌∷◌, ◌++◌, length, take, drop, get_or, sym, ◌∙◌, ap, subst, arith, length-append}
+use Rattle.std.proofs.Common.{◌≡◌, ◌≢◌, inl, inr, ℕ, ◌+◌, ◌-◌, ◌*◌, ◌<◌, ◌≤◌, List, [], ◌∷◌, ◌++◌, length, take, drop}
+use Rattle.std.proofs.Common.{get_or, sym, ◌∙◌, ap, subst, arith, length-append}
 use Rattle.std.proofs.Math.Seq.{get_or-append_seam}
 use Rattle.std.proofs.lemmas.List.{get_or_append_left, get_or-drop, get_or-take}
 use Rattle.std.proofs.lemmas.Bool.{cases_eq}
@@ -20,10 +21,12 @@ pub record Room (r : ℕ) (region : Region) (bodies : List (List ℕ)) (body : L
 
 -- both writes stay in the region
 pub body_within : (r base limit count n : ℕ) (x y : List ℕ) → 0 < r → count < limit → n ≡ r - 1 → Torn (base + r * count + 1) n x y → Torn base (r * limit) x y
-body_within r base limit count n x y wide room len torn = torn_wider (base + r * count + 1) n base (r * limit) x y (omega arith) (omega (arith, apart r count limit room)) torn
+body_within r base limit count n x y wide room len torn =
+    torn_wider (base + r * count + 1) n base (r * limit) x y (omega arith) (omega (arith, apart r count limit room)) torn
 
 pub gate_within : (r base limit count : ℕ) (x y : List ℕ) → 0 < r → count < limit → Torn (base + r * count) 1 x y → Torn base (r * limit) x y
-gate_within r base limit count x y wide room torn = torn_wider (base + r * count) 1 base (r * limit) x y (omega arith) (omega (arith, apart r count limit room)) torn
+gate_within r base limit count x y wide room torn =
+    torn_wider (base + r * count) 1 base (r * limit) x y (omega arith) (omega (arith, apart r count limit room)) torn
 
 module _ (r : ℕ) (region : Region) (bodies : List (List ℕ)) (body : List ℕ) (room : Room r region bodies body) where
   abbrev pub place : ℕ
@@ -62,13 +65,15 @@ module _ (r : ℕ) (region : Region) (bodies : List (List ℕ)) (body : List ℕ
       has
 
   -- the bodies stay where only the gate of that record changes
-  same_record : (x y : List ℕ) → Torn place 1 x y → Has bodies x → (i : ℕ) → i < length bodies → IsOpen r region.base y i × (body_at r region.base y i ≡ get_or bodies i [])
+  same_record : (x y : List ℕ) → Torn place 1 x y → Has bodies x → (i : ℕ) → i < length bodies
+      → IsOpen r region.base y i × (body_at r region.base y i ≡ get_or bodies i [])
   same_record x y torn has i lt = (
     same_byte place 1 (region.base + r * i) x y torn (inl (omega (arith, earlier i lt, room.wide))) ∙ (has.counted i lt).0,
     same_part place 1 (region.base + r * i + 1) (r - 1) x y torn (inl (omega (arith, earlier i lt, room.wide))) ∙ (has.counted i lt).1,
   )
 
-  still_closed : (x y : List ℕ) → Torn place 1 x y → Has bodies x → (i : ℕ) → i ≢ region.count → length bodies ≤ i → i < region.limit → ¬ IsOpen r region.base y i
+  still_closed : (x y : List ℕ) → Torn place 1 x y → Has bodies x → (i : ℕ) → i ≢ region.count → length bodies ≤ i → i < region.limit
+      → ¬ IsOpen r region.base y i
   still_closed x y torn has i other le lt opened = has.closed i le lt (sym (same_byte place 1 (region.base + r * i) x y torn (other_gate i other)) ∙ opened)
 
   pub gate_opened : (x y : List ℕ) → Torn place 1 x y → part x (place + 1) (r - 1) ≡ body → get_or y place 0 ≡ 165 → Has bodies x → Has (bodies ++ body ∷ []) y
@@ -90,7 +95,8 @@ module _ (r : ℕ) (region : Region) (bodies : List (List ℕ)) (body : List ℕ
               let same = same_record x y torn has i within in
               (same.0, same.1 ∙ sym (get_or_append_left bodies (body ∷ []) [] i within))
         ];
-        closed = λ i le lt. still_closed x y torn has i (let ne : i ≢ region.count = λ e. omega (arith, e, le, longer, room.count) in ne) (omega (arith, le, longer)) lt;
+        closed = λ i le lt. still_closed x y torn has i (let ne : i ≢ region.count = λ e. omega (arith, e, le, longer, room.count) in ne)
+            (omega (arith, le, longer)) lt;
       }
 
   gate_shut : (x y : List ℕ) → Torn place 1 x y → get_or y place 0 ≢ 165 → Has bodies x → Has bodies y
@@ -111,24 +117,28 @@ module _ (r : ℕ) (region : Region) (bodies : List (List ℕ)) (body : List ℕ
   ]
 
   -- the body stands there after the first write
-  pub body_there : (file file1 : List ℕ) → region.base + r * region.limit ≤ length file → file1 ≡ written file (place + 1) body → part file1 (place + 1) (r - 1) ≡ body
+  pub body_there : (file file1 : List ℕ) → region.base + r * region.limit ≤ length file → file1 ≡ written file (place + 1) body
+      → part file1 (place + 1) (r - 1) ≡ body
   body_there file file1 fits is =
       ap (λ (f : List ℕ). part f (place + 1) (r - 1)) is
       ∙ ap (λ (n : ℕ). part (written file (place + 1) body) (place + 1) n) (sym room.len)
       ∙ part_written file (place + 1) body (omega (arith, record_fits, room.len, room.wide, fits))
 
   -- and the gate is open after the second
-  pub counts_then : (file1 file2 : List ℕ) → region.base + r * region.limit ≤ length file1 → part file1 (place + 1) (r - 1) ≡ body → file2 ≡ written file1 place (165 ∷ []) → Has bodies file1 → Has (bodies ++ body ∷ []) file2
+  pub counts_then : (file1 file2 : List ℕ) → region.base + r * region.limit ≤ length file1 → part file1 (place + 1) (r - 1) ≡ body
+      → file2 ≡ written file1 place (165 ∷ []) → Has bodies file1 → Has (bodies ++ body ∷ []) file2
   counts_then file1 file2 fits there is has =
       let file3 = written file1 place (165 ∷ []) in
       let inside : place + 1 ≤ length file1 = omega (arith, record_fits, room.wide, fits) in
       let torn : Torn place 1 file1 file3 = torn_written file1 place (165 ∷ []) inside in
       let gate : take 1 (drop place file3) ≡ 165 ∷ [] = part_written file1 place (165 ∷ []) inside in
-      let here : get_or file3 place 0 ≡ get_or (drop place file3) 0 0 = sym (get_or-drop place file3 0 0 ∙ ap (λ (j : ℕ). get_or file3 j 0) (let e : place + 0 ≡ place = omega arith in e)) in
+      let here : get_or file3 place 0 ≡ get_or (drop place file3) 0 0 =
+      sym (get_or-drop place file3 0 0 ∙ ap (λ (j : ℕ). get_or file3 j 0) (let e : place + 0 ≡ place = omega arith in e)) in
       let opened : get_or file3 place 0 ≡ 165 = here ∙ sym (get_or-take 1 (drop place file3) 0 0 (omega arith)) ∙ ap (λ (l : List ℕ). get_or l 0 0) gate in
       subst (λ (f : List ℕ). Has (bodies ++ body ∷ []) f) (sym is) (gate_opened file1 file3 torn there opened has)
 
-  first_left : (leave0 : List ℕ → Type 0) → ((c : List ℕ) → leave0 c → Has bodies c) → (c : List ℕ) → LeftByWrite (place + 1) (length body) leave0 c → LeftByAppend r region leave0 bodies body c
+  first_left : (leave0 : List ℕ → Type 0) → ((c : List ℕ) → leave0 c → Has bodies c) → (c : List ℕ) → LeftByWrite (place + 1) (length body) leave0 c
+      → LeftByAppend r region leave0 bodies body c
   first_left leave0 has c left = record {
     stands = inl (body_changes left.0 c left.2 (has left.0 left.1));
     from = left.0;
@@ -136,7 +146,8 @@ module _ (r : ℕ) (region : Region) (bodies : List (List ℕ)) (body : List ℕ
     outside = body_within r region.base region.limit region.count (length body) left.0 c room.wide room.room room.len left.2;
   }
 
-  second_left : (leave0 leave1 : List ℕ → Type 0) (file1 : List ℕ) → ((c : List ℕ) → leave0 c → Has bodies c) → Follows (Torn (place + 1) (length body)) leave0 leave1 → Only file1 leave1 → part file1 (place + 1) (r - 1) ≡ body
+  second_left : (leave0 leave1 : List ℕ → Type 0) (file1 : List ℕ) → ((c : List ℕ) → leave0 c → Has bodies c)
+      → Follows (Torn (place + 1) (length body)) leave0 leave1 → Only file1 leave1 → part file1 (place + 1) (r - 1) ≡ body
       → (c : List ℕ) → LeftByWrite place 1 leave1 c → LeftByAppend r region leave0 bodies body c
   second_left leave0 leave1 file1 has follows only there c left =
       let was = follows left.0 left.1 in
@@ -145,17 +156,23 @@ module _ (r : ℕ) (region : Region) (bodies : List (List ℕ)) (body : List ℕ
         stands = gate_changes left.0 c left.2 there' (body_changes was.0 left.0 was.2 (has was.0 was.1));
         from = was.0;
         from_left = was.1;
-        outside = torn_twice region.base (r * region.limit) was.0 left.0 c (body_within r region.base region.limit region.count (length body) was.0 left.0 room.wide room.room room.len was.2) (gate_within r region.base region.limit region.count left.0 c room.wide room.room left.2);
+        outside = torn_twice region.base (r * region.limit) was.0 left.0 c (body_within r region.base region.limit region.count (length body) was.0 left.0
+            room.wide room.room room.len was.2) (gate_within r region.base region.limit region.count left.0 c room.wide room.room left.2);
       }
 
   module _ {D : Type 0} (moment : D → ℕ) (left_since : D → ℕ → List ℕ → Type 0) where
     -- at each moment up to the first sync
-    pub moments_of_body : (d0 d1 : D) (leave0 : List ℕ → Type 0) → ((c : List ℕ) → leave0 c → Has bodies c) → LeavesOnly moment left_since d0 d1 (LeftByWrite (place + 1) (length body) leave0)
+    pub moments_of_body : (d0 d1 : D) (leave0 : List ℕ → Type 0) → ((c : List ℕ) → leave0 c → Has bodies c)
+        → LeavesOnly moment left_since d0 d1 (LeftByWrite (place + 1) (length body) leave0)
         → LeavesOnly moment left_since d0 d1 (LeftByAppend r region leave0 bodies body)
-    moments_of_body d0 d1 leave0 has run = weaker moment left_since d0 d1 (LeftByWrite (place + 1) (length body) leave0) (LeftByAppend r region leave0 bodies body) run (first_left leave0 has)
+    moments_of_body d0 d1 leave0 has run =
+        weaker moment left_since d0 d1 (LeftByWrite (place + 1) (length body) leave0) (LeftByAppend r region leave0 bodies body) run (first_left leave0 has)
 
     -- and up to the second
-    pub moments_of_gate : (d0 d1 d2 : D) (leave0 leave1 : List ℕ → Type 0) (file1 : List ℕ) → ((c : List ℕ) → leave0 c → Has bodies c) → Follows (Torn (place + 1) (length body)) leave0 leave1 → Only file1 leave1 → part file1 (place + 1) (r - 1) ≡ body
-        → LeavesOnly moment left_since d0 d1 (LeftByWrite (place + 1) (length body) leave0) → LeavesOnly moment left_since d1 d2 (LeftByWrite place 1 leave1) → LeavesOnly moment left_since d0 d2 (LeftByAppend r region leave0 bodies body)
+    pub moments_of_gate : (d0 d1 d2 : D) (leave0 leave1 : List ℕ → Type 0) (file1 : List ℕ) → ((c : List ℕ) → leave0 c → Has bodies c)
+        → Follows (Torn (place + 1) (length body)) leave0 leave1 → Only file1 leave1 → part file1 (place + 1) (r - 1) ≡ body
+        → LeavesOnly moment left_since d0 d1 (LeftByWrite (place + 1) (length body) leave0)
+        → LeavesOnly moment left_since d1 d2 (LeftByWrite place 1 leave1) → LeavesOnly moment left_since d0 d2 (LeftByAppend r region leave0 bodies body)
     moments_of_gate d0 d1 d2 leave0 leave1 file1 has follows only there first second =
-        joined moment left_since d0 d1 d2 (LeftByAppend r region leave0 bodies body) (LeftByWrite place 1 leave1) (moments_of_body d0 d1 leave0 has first) second (second_left leave0 leave1 file1 has follows only there)
+        joined moment left_since d0 d1 d2 (LeftByAppend r region leave0 bodies body) (LeftByWrite place 1 leave1)
+        (moments_of_body d0 d1 leave0 has first) second (second_left leave0 leave1 file1 has follows only there)

@@ -1,5 +1,6 @@
 -- Which bodies count, as they are read piece by piece.
-use Rattle.std.proofs.Common.{◌≡◌, inl, inr, true, false, Bool, ℕ, ◌+◌, ◌-◌, ◌*◌, ◌<◌, ◌≤◌, List, [], ◌∷◌, ◌++◌, length, take, drop, get_or, sym, ◌∙◌, ap, subst, arith, length-append}
+use Rattle.std.proofs.Common.{◌≡◌, inl, inr, true, false, Bool, ℕ, ◌+◌, ◌-◌, ◌*◌, ◌<◌, ◌≤◌, List, [], ◌∷◌, ◌++◌, length, take, drop}
+use Rattle.std.proofs.Common.{get_or, sym, ◌∙◌, ap, subst, arith, length-append}
 use Rattle.std.proofs.Math.Nat.{mul-add}
 use Rattle.std.proofs.lemmas.List.{get_or_append_left, get_or-append_right, get_or-drop, get_or-take, drop-take, drop-drop, take-take, same_lists}
 use Rattle.std.proofs.lemmas.Bool.{cases_eq}
@@ -15,12 +16,14 @@ counts_none r base file = record { few = omega arith; counted = λ i lt. absurd 
 pub counts_one : (r base : ℕ) (file body : List ℕ) → IsOpen r base file 0 → body_at r base file 0 ≡ body → Counts r base 1 file (body ∷ [])
 counts_one r base file body opened is = record {
   few = omega arith;
-  counted = λ i lt. let first : i ≡ 0 = omega (arith, lt) in subst (λ (k : ℕ). IsOpen r base file k × (body_at r base file k ≡ get_or (body ∷ []) k [])) (sym first) (opened, is);
+  counted = λ i lt. let first : i ≡ 0 = omega (arith, lt) in
+      subst (λ (k : ℕ). IsOpen r base file k × (body_at r base file k ≡ get_or (body ∷ []) k [])) (sym first) (opened, is);
   ends = λ lt. absurd (omega (arith, lt));
 }
 
 -- those of one piece behind those of another, all of whose records count
-pub counts_joined : (r base n m : ℕ) (file : List ℕ) (xs ys : List (List ℕ)) → length xs ≡ n → Counts r base n file xs → Counts r (base + r * n) m file ys → Counts r base (n + m) file (xs ++ ys)
+pub counts_joined : (r base n m : ℕ) (file : List ℕ) (xs ys : List (List ℕ)) → length xs ≡ n → Counts r base n file xs → Counts r (base + r * n) m file ys
+    → Counts r base (n + m) file (xs ++ ys)
 counts_joined r base n m file xs ys all front rest =
     let longer : length (xs ++ ys) ≡ n + length ys = omega (arith, length-append xs ys, all) in
     let place : (j : ℕ) → base + r * n + r * j ≡ base + r * (n + j) = λ j. omega (arith, mul-add r n j) in
@@ -39,18 +42,23 @@ counts_joined r base n m file xs ys all front rest =
             let within : i < length xs = omega (arith, all) in
             ((front.counted i within).0, (front.counted i within).1 ∙ sym (get_or_append_left xs ys [] i within))
       ];
-      ends = λ lt opened. rest.ends (omega (arith, longer, lt)) (ap (λ (k : ℕ). get_or file k 0) (place (length ys) ∙ ap (λ (k : ℕ). base + r * k) (sym longer)) ∙ opened);
+      ends = λ lt opened.
+          rest.ends (omega (arith, longer, lt)) (ap (λ (k : ℕ). get_or file k 0) (place (length ys) ∙ ap (λ (k : ℕ). base + r * k) (sym longer)) ∙ opened);
     }
 
 -- where one does not count, no later record does
-pub counts_stopped : (r base n limit : ℕ) (file : List ℕ) (xs : List (List ℕ)) → length xs < n → n ≤ limit → Counts r base n file xs → Counts r base limit file xs
+pub counts_stopped : (r base n limit : ℕ) (file : List ℕ) (xs : List (List ℕ)) → length xs < n → n ≤ limit → Counts r base n file xs
+    → Counts r base limit file xs
 counts_stopped r base n limit file xs lt le counts = record { few = omega arith; counted = counts.counted; ends = λ _. counts.ends lt }
 
-pub counts_shut : (r base n limit : ℕ) (file : List ℕ) (xs : List (List ℕ)) → length xs ≡ n → n < limit → ¬ IsOpen r base file n → Counts r base n file xs → Counts r base limit file xs
-counts_shut r base n limit file xs all lt shut counts = record { few = omega (arith, all, lt); counted = counts.counted; ends = λ _ opened. shut (ap (λ (k : ℕ). get_or file (base + r * k) 0) (sym all) ∙ opened) }
+pub counts_shut : (r base n limit : ℕ) (file : List ℕ) (xs : List (List ℕ)) → length xs ≡ n → n < limit → ¬ IsOpen r base file n → Counts r base n file xs
+    → Counts r base limit file xs
+counts_shut r base n limit file xs all lt shut counts =
+    record { few = omega (arith, all, lt); counted = counts.counted; ends = λ _ opened. shut (ap (λ (k : ℕ). get_or file (base + r * k) 0) (sym all) ∙ opened) }
 
 -- a piece of the file
-pub counts_in_piece : (r at n : ℕ) (file piece : List ℕ) (xs : List (List ℕ)) → 0 < r → piece ≡ part file at (r * n) → Counts r 0 n piece xs → Counts r at n file xs
+pub counts_in_piece : (r at n : ℕ) (file piece : List ℕ) (xs : List (List ℕ)) → 0 < r → piece ≡ part file at (r * n)
+    → Counts r 0 n piece xs → Counts r at n file xs
 counts_in_piece r at n file piece xs wide is counts =
     let byte : (i : ℕ) → i < n → get_or piece (0 + r * i) 0 ≡ get_or file (at + r * i) 0 = λ i lt.
     ap (λ (k : ℕ). get_or piece k 0) (let e : 0 + r * i ≡ r * i = omega arith in e)
@@ -68,12 +76,14 @@ counts_in_piece r at n file piece xs wide is counts =
     ∙ ap (λ (k : ℕ). take (r - 1) (drop k file)) (let e : at + (r * i + 1) ≡ at + r * i + 1 = omega arith in e) in
     record {
       few = counts.few;
-      counted = λ i lt. let within : i < n = omega (arith, counts.few) in (sym (byte i within) ∙ (counts.counted i lt).0, sym (body i within) ∙ (counts.counted i lt).1);
+      counted = λ i lt. let within : i < n = omega (arith, counts.few) in
+          (sym (byte i within) ∙ (counts.counted i lt).0, sym (body i within) ∙ (counts.counted i lt).1);
       ends = λ lt opened. counts.ends lt (byte (length xs) lt ∙ opened);
     }
 
 -- one piece more is read
-pub piece_more : (r base n m : ℕ) (file seen : List ℕ) (xs ys : List (List ℕ)) (more : Bool) → 0 < r → seen ≡ file → length xs ≡ n → Counts r base n file xs → Took r m (part seen (base + r * n) (r * m)) xs ys more
+pub piece_more : (r base n m : ℕ) (file seen : List ℕ) (xs ys : List (List ℕ)) (more : Bool) → 0 < r → seen ≡ file → length xs ≡ n
+    → Counts r base n file xs → Took r m (part seen (base + r * n) (r * m)) xs ys more
     → Counts r base (n + m) file ys × (more ≡ true → length ys ≡ n + m) × (more ≡ false → length ys < n + m)
 piece_more r base n m file seen xs ys more wide same all counts took =
     let piece = part seen (base + r * n) (r * m) in
@@ -100,7 +110,8 @@ only_those r base limit file xs ys counts stands =
     cc (left, left', right, right', here))
 
 -- what a read finds is stored where a crash leaves nothing else
-pub stored_now : (r base limit : ℕ) (seen : List ℕ) (may_leave : List ℕ → Type 0) (bodies : List (List ℕ)) (count : ℕ) → count ≡ length bodies → Only seen may_leave → Stands r base limit seen bodies → Stored r (record { base = base; limit = limit; count = count }) seen may_leave bodies
+pub stored_now : (r base limit : ℕ) (seen : List ℕ) (may_leave : List ℕ → Type 0) (bodies : List (List ℕ)) (count : ℕ) → count ≡ length bodies
+    → Only seen may_leave → Stands r base limit seen bodies → Stored r (record { base = base; limit = limit; count = count }) seen may_leave bodies
 stored_now r base limit seen may_leave bodies count counts only stands = record {
   count = counts;
   now = stands;

@@ -17,15 +17,19 @@ stands_along r base limit x y bodies gates same stands = record {
 }
 
 -- a range outside the region may have any bytes
-pub stands_outside : (r base limit at n : ℕ) (x y : List ℕ) (bodies : List (List ℕ)) → 0 < r → Outside at n base (r * limit) → Torn at n x y → Stands r base limit x bodies → Stands r base limit y bodies
+pub stands_outside : (r base limit at n : ℕ) (x y : List ℕ) (bodies : List (List ℕ)) → 0 < r → Outside at n base (r * limit) → Torn at n x y
+    → Stands r base limit x bodies → Stands r base limit y bodies
 stands_outside r base limit at n x y bodies wide away torn stands =
     stands_along r base limit x y bodies
-    (λ i lt. same_byte at n (base + r * i) x y torn (elim away [ inl before ↦ inl (omega (arith, apart r i limit lt)) | inr behind ↦ inr (omega (arith, apart r i limit lt)) ]))
-    (λ i lt. same_part at n (base + r * i + 1) (r - 1) x y torn (let le : r * i + r ≤ r * limit = apart r i limit (omega (arith, stands.few)) in elim away [ inl before ↦ inl (omega arith) | inr behind ↦ inr (omega arith) ]))
+    (λ i lt. same_byte at n (base + r * i) x y torn
+    (elim away [ inl before ↦ inl (omega (arith, apart r i limit lt)) | inr behind ↦ inr (omega (arith, apart r i limit lt)) ]))
+    (λ i lt. same_part at n (base + r * i + 1) (r - 1) x y torn (let le : r * i + r ≤ r * limit = apart r i limit (omega (arith, stands.few)) in
+    elim away [ inl before ↦ inl (omega arith) | inr behind ↦ inr (omega arith) ]))
     stands
 
 -- so the journal stays stored through a write there
-pub stored_outside : (r : ℕ) (region : Region) (at n : ℕ) (seen seen' : List ℕ) (leave leave' : List ℕ → Type 0) (bodies : List (List ℕ)) → 0 < r → Outside at n region.base (r * region.limit) → Torn at n seen seen' → Follows (Torn at n) leave leave'
+pub stored_outside : (r : ℕ) (region : Region) (at n : ℕ) (seen seen' : List ℕ) (leave leave' : List ℕ → Type 0) (bodies : List (List ℕ)) → 0 < r
+    → Outside at n region.base (r * region.limit) → Torn at n seen seen' → Follows (Torn at n) leave leave'
     → Stored r region seen leave bodies → Stored r region seen' leave' bodies
 stored_outside r region at n seen seen' leave leave' bodies wide away torn follows stored = record {
   count = stored.count;
@@ -35,7 +39,8 @@ stored_outside r region at n seen seen' leave leave' bodies wide away torn follo
 
 -- the bodies that a region stands for count in it
 pub stands_counts : (r base limit : ℕ) (file : List ℕ) (bodies : List (List ℕ)) → Stands r base limit file bodies → Counts r base limit file bodies
-stands_counts r base limit file bodies stands = record { few = stands.few; counted = stands.counted; ends = λ lt. stands.closed (length bodies) (omega arith) lt }
+stands_counts r base limit file bodies stands =
+    record { few = stands.few; counted = stands.counted; ends = λ lt. stands.closed (length bodies) (omega arith) lt }
 
 -- so it stands for no others
 pub stands_once : (r base limit : ℕ) (file : List ℕ) (xs ys : List (List ℕ)) → Stands r base limit file xs → Stands r base limit file ys → xs ≡ ys

@@ -1,6 +1,9 @@
--- Sets of marks as lists, and the next block or map in them.
-use Rattle.std.specs.Prelude.{ℕ, Bool, true, false, ◌&&◌, ◌==◌, nat_lt, not, List, [], ◌∷◌, ◌++◌, Option, None, Some, if◌then◌else◌, filter}
+-- Sets of marks as lists in order, and the next block or map in them.
+use Rattle.std.specs.Prelude.{ℕ, Bool, true, false, ◌&&◌, ◌==◌, nat_lt, not, List, [], ◌∷◌, Option, None, Some, if◌then◌else◌, filter}
+use Rattle.std.specs.BTreeSet.{insert_key}
 use Rattle.std.specs.List.{list_any}
+use Rattle.std.specs.Ordering.{nat_cmp, ordering_then}
+use Rattle.std.specs.declared.cmp.Ordering.{Ordering}
 use Rattle.busy_marks.specs.declared.marks.Mark.{Mark}
 use Rattle.busy_marks.specs.declared.marks.MarkKind.{MarkKind}
 use Rattle.busy_marks.specs.declared.marks.MarkKind.TheVariants.{Busy, Stale}
@@ -15,13 +18,22 @@ same_kind Stale Busy = false
 abbrev pub same_mark : Mark → Mark → Bool
 same_mark a b = same_kind a.kind b.kind && a.cell.map == b.cell.map && a.cell.block == b.cell.block
 
+-- the place of a kind of mark among those on one cell
+abbrev pub kind_rank : MarkKind → ℕ
+kind_rank Busy = 0
+kind_rank Stale = 1
+
+-- by map, then by block, then by kind
+abbrev pub mark_cmp : Mark → Mark → Ordering
+mark_cmp a b = ordering_then (ordering_then (nat_cmp a.cell.map b.cell.map) (nat_cmp a.cell.block b.cell.block)) (nat_cmp (kind_rank a.kind) (kind_rank b.kind))
+
 -- whether a mark is in the list
 abbrev pub has_mark : Mark → List Mark → Bool
 has_mark mark marks = list_any (λ m. same_mark m mark) marks
 
--- the list with the mark, at its end where it is new
+-- the list with the mark, at its place in the order where it is new
 abbrev pub with_mark : List Mark → Mark → List Mark
-with_mark marks mark = if has_mark mark marks then marks else marks ++ mark ∷ []
+with_mark marks mark = insert_key mark_cmp marks mark
 
 -- the list without the mark
 abbrev pub without_mark : List Mark → Mark → List Mark

@@ -1,14 +1,20 @@
 //! A set of marks.
 
-ghost use Rattle.std.specs.Prelude.{◌≡◌, OnOk, OnErr, Some, []};
-ghost use Rattle.busy_marks.specs.Marks.{same_kind, same_mark, has_mark, with_mark, without_mark, above, lesser, next_marked, next_marked_map};
+ghost use Rattle.std.specs.Prelude.{◌≡◌, ◌≤◌, ℕ, OnOk, OnErr, IfSome, IfNone, [], false, nat_le};
+ghost use Rattle.std.specs.List.{All, find};
+ghost use Rattle.std.specs.List.Sorted.{IsStrictlySortedBy};
+ghost use Rattle.std.specs.BTreeMap.Range.{is_from_start};
+ghost use Rattle.busy_marks.specs.Marks.{mark_cmp, has_mark, with_mark, without_mark, next_marked, next_marked_map, above};
+ghost use Rattle.busy_marks.specs.Searches.{after_block, from_map, block_on, map_on};
 
 use petal_base::{BlockNo, Cell, MapId, NoMemory};
 use std::alloc::Global;
+use std::collections::BTreeSet;
 use std::marker::Model;
+use std::ops::Bound;
 
 /// What a mark says of a cell.
-#[derive(Clone, Copy, Debug, PartialEq, Eq)]
+#[derive(Clone, Copy, Debug, PartialEq, Eq, PartialOrd, Ord)]
 pub enum MarkKind {
     /// An operation on both copies is under way.
     Busy,
@@ -17,25 +23,29 @@ pub enum MarkKind {
 }
 
 /// One mark.
-#[derive(Clone, Copy, Debug, PartialEq, Eq)]
+#[derive(Clone, Copy, Debug, PartialEq, Eq, PartialOrd, Ord)]
 pub struct Mark {
-    pub kind: MarkKind,
     pub cell: Cell,
+    pub kind: MarkKind,
 }
 
-/// A set of marks. Contracts see them as a list in the order in which they were set.
+/// A set of marks, each found by search. Contracts see them as a list in the order of their cells and kinds.
 #[derive(Drop)]
 pub struct Marks {
-    marks: Vec<Mark>,
+    marks: BTreeSet<Mark>,
 }
 
 impl Model for Marks {
     ghost use Rattle.std.specs.Prelude.{List};
+    ghost use Rattle.std.specs.List.Sorted.{IsStrictlySortedBy};
     ghost use Rattle.busy_marks.specs.declared.marks.Mark.{Mark};
+    ghost use Rattle.busy_marks.specs.Marks.{mark_cmp};
 
     ghost Value = { List Mark };
 
-    ghost view = { λ m. m.marks.items };
+    ghost view = { λ m. m.marks.keys };
+
+    ghost invariant = { λ m. IsStrictlySortedBy mark_cmp m.marks.keys };
 }
 
 impl Marks {
@@ -44,7 +54,7 @@ impl Marks {
         ensures { result ≡ [] }
     {
         Marks {
-            marks: Vec::new(alloc),
+            marks: BTreeSet::new(alloc),
         }
     }
 
@@ -56,132 +66,109 @@ impl Marks {
         ensures ok { OnOk result (self.new ≡ with_mark self.old (record { kind = kind; cell = cell })) }
         ensures err { OnErr result (self.new ≡ self.old) }
     {
-        if self.has(kind, cell) {
-            return Ok(());
+        match self.marks.insert(Mark { cell, kind }) {
+            Ok(_) => Ok(()),
+            Err(_) => Err(NoMemory),
         }
-        self.marks.push(Mark { kind, cell })?;
-        Ok(())
     }
 
     /// Takes a mark away. Where it is not set nothing changes.
     pub fn clear(&mut self, kind: MarkKind, cell: Cell)
         ensures { self.new ≡ without_mark self.old (record { kind = kind; cell = cell }) }
     {
-        keep_others(&mut self.marks, &Mark { kind, cell });
-    }
-
-    /// The marks in the order in which they were set.
-    pub fn as_slice(&self) -> &[Mark]
-        ensures { result.now ≡ self.now }
-    {
-        &self.marks
+        self.marks.remove(&Mark { cell, kind });
     }
 
     /// Whether a mark is set.
     pub fn has(&self, kind: MarkKind, cell: Cell) -> bool
         ensures { result ≡ has_mark (record { kind = kind; cell = cell }) self.now }
     {
-        is_among(&self.marks, &Mark { kind, cell })
+        self.marks.contains(&Mark { cell, kind })
     }
 
     /// The least block of the map above `after` with a mark of either kind.
     pub fn next(&self, map: MapId, after: Option<BlockNo>) -> Option<BlockNo>
-        ensures { result ≡ next_marked map after self.now }
+        ensures least { result ≡ next_marked map after self.now }
+        ensures sorted { IsStrictlySortedBy mark_cmp self.now }
     {
-        next_block(&self.marks, map, after)
+        block_on(map, self.first_in(after_block(map, after)))
     }
 
     /// The least map above `after` with a mark.
     pub fn next_map(&self, after: Option<MapId>) -> Option<MapId>
         ensures { result ≡ next_marked_map after self.now }
     {
-        next_map(&self.marks, after)
+        let first = next_number(after, self.last_map()?)?;
+        map_on(self.first_in(from_map(first)))
+    }
+
+    // The first mark within a bound.
+    fn first_in(&self, start: Bound<Mark>) -> Option<Mark>
+        ensures first { result ≡ find (is_from_start mark_cmp start) self.now }
+        ensures sorted { IsStrictlySortedBy mark_cmp self.now }
+    {
+        self.marks.range((start, Bound::Unbounded)).next().copied()
+    }
+
+    // The greatest map with a mark.
+    fn last_map(&self) -> Option<MapId>
+        ensures none { IfNone result (self.now ≡ []) }
+        ensures last { IfSome result (λ n. All (λ m. m.cell.map ≤ n) self.now) }
+    {
+        Some(self.marks.last()?.cell.map)
     }
 }
 
-fn is_same_kind(a: MarkKind, b: MarkKind) -> bool
-    ensures { result ≡ same_kind a b }
-{
-    match a {
-        MarkKind::Busy => matches!(b, MarkKind::Busy),
-        MarkKind::Stale => matches!(b, MarkKind::Stale),
-    }
-}
-
-fn is_same(a: &Mark, b: &Mark) -> bool
-    ensures { result ≡ same_mark a.now b.now }
-{
-    is_same_kind(a.kind, b.kind) && a.cell.map == b.cell.map && a.cell.block == b.cell.block
-}
-
-fn is_among(marks: &[Mark], mark: &Mark) -> bool
-    ensures { result ≡ has_mark mark.now marks.now }
-{
-    marks.iter().any(|m| is_same(m, mark))
-}
-
-fn keep_others(marks: &mut Vec<Mark>, mark: &Mark)
-    ensures { marks.new.items ≡ without_mark marks.old.items mark.now }
-{
-    marks.retain(|m| !is_same(m, mark));
-}
-
-fn is_block_above(after: Option<u64>, block: u64) -> bool
-    ensures { result ≡ above after block }
+// The number after `after`, where `last` is not below it.
+fn next_number(after: Option<u32>, last: u32) -> Option<u32>
+    ensures none { IfNone result ((n : ℕ) → n ≤ last → above after n ≡ false) }
+    ensures next { IfSome result (λ first. (n : ℕ) → above after n ≡ nat_le first n) }
 {
     match after {
-        None => true,
-        Some(after) => after < block,
+        None => Some(0),
+        Some(after) if after < last => Some(after + 1),
+        Some(_) => None,
     }
 }
 
-fn is_map_above(after: Option<u32>, map: u32) -> bool
-    ensures { result ≡ above after map }
+fn after_block(map: MapId, after: Option<BlockNo>) -> Bound<Mark>
+    ensures { result ≡ after_block map after }
 {
     match after {
-        None => true,
-        Some(after) => after < map,
+        None => Bound::Included(Mark {
+            cell: Cell { map, block: 0 },
+            kind: MarkKind::Busy,
+        }),
+        Some(block) => Bound::Excluded(Mark {
+            cell: Cell { map, block },
+            kind: MarkKind::Stale,
+        }),
     }
 }
 
-fn lesser_block(least: Option<u64>, block: u64) -> u64
-    ensures { Some result ≡ lesser least (Some block) }
+fn from_map(map: MapId) -> Bound<Mark>
+    ensures { result ≡ from_map map }
 {
-    match least {
-        Some(least) if least <= block => least,
-        _ => block,
+    Bound::Included(Mark {
+        cell: Cell { map, block: 0 },
+        kind: MarkKind::Busy,
+    })
+}
+
+fn block_on(map: MapId, mark: Option<Mark>) -> Option<BlockNo>
+    ensures { result ≡ block_on map mark }
+{
+    match mark {
+        Some(mark) if mark.cell.map == map => Some(mark.cell.block),
+        _ => None,
     }
 }
 
-fn lesser_map(least: Option<u32>, map: u32) -> u32
-    ensures { Some result ≡ lesser least (Some map) }
+fn map_on(mark: Option<Mark>) -> Option<MapId>
+    ensures { result ≡ map_on mark }
 {
-    match least {
-        Some(least) if least <= map => least,
-        _ => map,
+    match mark {
+        Some(mark) => Some(mark.cell.map),
+        None => None,
     }
-}
-
-fn next_block(marks: &[Mark], map: u32, after: Option<u64>) -> Option<u64>
-    ensures { result ≡ next_marked map after marks.now }
-{
-    let mut least = None;
-    for mark in marks {
-        if mark.cell.map == map && is_block_above(after, mark.cell.block) {
-            least = Some(lesser_block(least, mark.cell.block));
-        }
-    }
-    least
-}
-
-fn next_map(marks: &[Mark], after: Option<u32>) -> Option<u32>
-    ensures { result ≡ next_marked_map after marks.now }
-{
-    let mut least = None;
-    for mark in marks {
-        if is_map_above(after, mark.cell.map) {
-            least = Some(lesser_map(least, mark.cell.map));
-        }
-    }
-    least
 }

@@ -1,11 +1,13 @@
 -- A run of learnt places is given by what is learnt.
-use Rattle.std.proofs.Common.{◌≡◌, ◌≢◌, ℕ, zero, suc, ◌+◌, ◌-◌, ◌≤◌, ◌<◌, ◌==◌, Bool, true, false, if◌then◌else◌, List, [], ◌∷◌, ◌++◌, length, take, drop, slice_get, Option, Some, None, refl, sym, ap, ◌∙◌, arith, length-append}
+use Rattle.std.proofs.Common.{◌≡◌, ◌≢◌, ℕ, zero, suc, ◌+◌, ◌-◌, ◌≤◌, ◌<◌, ◌==◌, Bool, true, false, if◌then◌else◌, List, [], ◌∷◌, ◌++◌, length, take, drop}
+use Rattle.std.proofs.Common.{slice_get, Option, Some, None, refl, sym, ap, ◌∙◌, arith, length-append}
 use Rattle.std.proofs.lemmas.List.{take_at, take-append-le, take_rest}
 use Rattle.std.specs.Prelude.{nat_le}
 use Rattle.std.proofs.lemmas.Bool.Decides.{nat_tests}
 
 -- two lists that give the same answer at each place up to their ends are equal
-pub same_run : {X : Type 0} (f : ℕ → Option X) (xs ys : List X) → ((k : ℕ) → k ≤ length xs → slice_get xs k ≡ f k) → ((k : ℕ) → k ≤ length ys → slice_get ys k ≡ f k) → xs ≡ ys
+pub same_run : {X : Type 0} (f : ℕ → Option X) (xs ys : List X) → ((k : ℕ) → k ≤ length xs → slice_get xs k ≡ f k)
+    → ((k : ℕ) → k ≤ length ys → slice_get ys k ≡ f k) → xs ≡ ys
 same_run f [] [] h g = refl
 same_run f [] (y ∷ ys) h g = let a = h 0 (omega arith) in let b = g 0 (omega arith) in absurd (cc)
 same_run f (x ∷ xs) [] h g = let a = h 0 (omega arith) in let b = g 0 (omega arith) in absurd (cc)
@@ -26,14 +28,16 @@ inside (x ∷ xs) zero e = absurd (cc)
 inside (x ∷ xs) (suc k) e = let l = inside xs k e in omega arith
 
 -- one item more, which stands at its place
-pub pushed_run : {X : Type 0} (g : ℕ → Option X) (xs : List X) (x : X) → ((k : ℕ) → k < length xs → slice_get xs k ≡ g k) → g (length xs) ≡ Some x → (k : ℕ) → k < length (xs ++ x ∷ []) → slice_get (xs ++ x ∷ []) k ≡ g k
+pub pushed_run : {X : Type 0} (g : ℕ → Option X) (xs : List X) (x : X) → ((k : ℕ) → k < length xs → slice_get xs k ≡ g k) → g (length xs) ≡ Some x
+    → (k : ℕ) → k < length (xs ++ x ∷ []) → slice_get (xs ++ x ∷ []) k ≡ g k
 pushed_run g [] x h e zero lt = sym e
 pushed_run g [] x h e (suc k) lt = absurd (omega arith)
 pushed_run g (y ∷ ys) x h e zero lt = h 0 (omega arith)
 pushed_run g (y ∷ ys) x h e (suc k) lt = pushed_run (λ k. g (suc k)) ys x (λ k lt. h (suc k) (omega arith)) e k (omega arith)
 
 -- nothing stands behind the items
-pub whole_run : {X : Type 0} (g : ℕ → Option X) (xs : List X) → ((k : ℕ) → k < length xs → slice_get xs k ≡ g k) → g (length xs) ≡ None → (k : ℕ) → k ≤ length xs → slice_get xs k ≡ g k
+pub whole_run : {X : Type 0} (g : ℕ → Option X) (xs : List X) → ((k : ℕ) → k < length xs → slice_get xs k ≡ g k) → g (length xs) ≡ None → (k : ℕ)
+    → k ≤ length xs → slice_get xs k ≡ g k
 whole_run g [] h e zero le = sym e
 whole_run g [] h e (suc k) le = absurd (omega arith)
 whole_run g (y ∷ ys) h e zero le = h 0 (omega arith)
@@ -58,19 +62,24 @@ same_place f place x k is = by (k + 1 == place) refl
     by false e = absurd (grind (arith, nat_tests))
 
 -- a place that is not the next one leaves the run as it is
-pub unchanged_run : {X : Type 0} (f : ℕ → Option X) (place : ℕ) (x : X) (xs : List X) → ((k : ℕ) → k ≤ length xs → slice_get xs k ≡ f (k + 1)) → f place ≡ None → length xs + 1 ≢ place → (k : ℕ) → k ≤ length xs → slice_get xs k ≡ with_place f place x k
+pub unchanged_run : {X : Type 0} (f : ℕ → Option X) (place : ℕ) (x : X) (xs : List X) → ((k : ℕ) → k ≤ length xs → slice_get xs k ≡ f (k + 1))
+    → f place ≡ None → length xs + 1 ≢ place → (k : ℕ) → k ≤ length xs → slice_get xs k ≡ with_place f place x k
 unchanged_run f place x xs h none ne k le = h k le ∙ sym (other_place f place x k (λ is. let past = inside xs k (h k le ∙ ap f is ∙ none) in ne (omega arith)))
 
 -- the next place begins to lengthen it
-pub begun_run : {X : Type 0} (f : ℕ → Option X) (place : ℕ) (x : X) (xs : List X) → ((k : ℕ) → k ≤ length xs → slice_get xs k ≡ f (k + 1)) → length xs + 1 ≡ place → (k : ℕ) → k < length (xs ++ x ∷ []) → slice_get (xs ++ x ∷ []) k ≡ with_place f place x k
-begun_run f place x xs h next = pushed_run (with_place f place x) xs x (λ k lt. h k (omega arith) ∙ sym (other_place f place x k (λ is. absurd (omega arith)))) (same_place f place x (length xs) next)
+pub begun_run : {X : Type 0} (f : ℕ → Option X) (place : ℕ) (x : X) (xs : List X) → ((k : ℕ) → k ≤ length xs → slice_get xs k ≡ f (k + 1))
+    → length xs + 1 ≡ place → (k : ℕ) → k < length (xs ++ x ∷ []) → slice_get (xs ++ x ∷ []) k ≡ with_place f place x k
+begun_run f place x xs h next = pushed_run (with_place f place x) xs x
+    (λ k lt. h k (omega arith) ∙ sym (other_place f place x k (λ is. absurd (omega arith)))) (same_place f place x (length xs) next)
 
 -- a learnt place that follows lengthens it
-pub longer_run : {X : Type 0} (f : ℕ → Option X) (place : ℕ) (x y : X) (xs : List X) → ((k : ℕ) → k < length xs → slice_get xs k ≡ with_place f place x k) → place ≤ length xs → f (length xs + 1) ≡ Some y → (k : ℕ) → k < length (xs ++ y ∷ []) → slice_get (xs ++ y ∷ []) k ≡ with_place f place x k
+pub longer_run : {X : Type 0} (f : ℕ → Option X) (place : ℕ) (x y : X) (xs : List X) → ((k : ℕ) → k < length xs → slice_get xs k ≡ with_place f place x k)
+    → place ≤ length xs → f (length xs + 1) ≡ Some y → (k : ℕ) → k < length (xs ++ y ∷ []) → slice_get (xs ++ y ∷ []) k ≡ with_place f place x k
 longer_run f place x y xs h le is = pushed_run (with_place f place x) xs y h (other_place f place x (length xs) (λ is. absurd (omega arith)) ∙ is)
 
 -- and a place that is not learnt ends it
-pub ended_run : {X : Type 0} (f : ℕ → Option X) (place : ℕ) (x : X) (xs : List X) → ((k : ℕ) → k < length xs → slice_get xs k ≡ with_place f place x k) → place ≤ length xs → f (length xs + 1) ≡ None → (k : ℕ) → k ≤ length xs → slice_get xs k ≡ with_place f place x k
+pub ended_run : {X : Type 0} (f : ℕ → Option X) (place : ℕ) (x : X) (xs : List X) → ((k : ℕ) → k < length xs → slice_get xs k ≡ with_place f place x k)
+    → place ≤ length xs → f (length xs + 1) ≡ None → (k : ℕ) → k ≤ length xs → slice_get xs k ≡ with_place f place x k
 ended_run f place x xs h le none = whole_run (with_place f place x) xs h (other_place f place x (length xs) (λ is. absurd (omega arith)) ∙ none)
 
 -- what was there stays in front

@@ -1,6 +1,7 @@
 //! Learnt places.
 
-ghost use Rattle.std.specs.Prelude.{◌≡◌, ℕ, ◌+◌, ◌≤◌, ◌<◌, ◌==◌, [], List, length, take, drop, slice_get, unwrap_or, if◌then◌else◌, Some, None, OnOk, OnErr, is_some};
+ghost use Rattle.std.specs.Prelude.{◌≡◌, ℕ, ◌+◌, ◌≤◌, ◌<◌, ◌==◌, [], List, length, take, drop, slice_get, unwrap_or};
+ghost use Rattle.std.specs.Prelude.{if◌then◌else◌, Some, None, OnOk, OnErr, is_some};
 ghost use Rattle.std.specs.Ordering.{nat_cmp};
 ghost use Rattle.std.specs.BTreeMap.{BTreeMap, get};
 ghost use Rattle.petal_command.specs.declared.command.Command.{Command};
@@ -87,7 +88,8 @@ fn extend(
     requires run { IsLongestRun places.now.entries run.old.items }
     requires new { learnt places.now.entries place ≡ None }
     ensures front { take (length run.old.items) run.new.items ≡ run.old.items }
-    ensures ok { OnOk result ((k : ℕ) → k ≤ length run.new.items → slice_get run.new.items k ≡ (if k + 1 == place then Some command.now else learnt places.now.entries (k + 1))) }
+    ensures ok { OnOk result ((k : ℕ) → k ≤ length run.new.items
+        → slice_get run.new.items k ≡ (if k + 1 == place then Some command.now else learnt places.now.entries (k + 1))) }
 {
     if run.len() as u64 + 1 != place {
         return Ok(());

@@ -1,5 +1,6 @@
 -- What a client knows after the entries of a letter.
-use Rattle.std.proofs.Common.{◌≡◌, ℕ, ◌++◌, Bool, true, false, cond, if◌then◌else◌, List, [], ◌∷◌, fold, Option, Some, None, refl, sym, ◌∙◌, ap, append_assoc, append-nil}
+use Rattle.std.proofs.Common.{◌≡◌, ℕ, ◌++◌, Bool, true, false, cond, if◌then◌else◌, List, [], ◌∷◌, fold, Option, Some, None}
+use Rattle.std.proofs.Common.{refl, sym, ◌∙◌, ap, append_assoc, append-nil}
 use Rattle.petal_command.specs.declared.command.Command.{Command}
 use Rattle.petal_state.specs.State.{latest}
 use Rattle.petal_state.specs.Command.{after, state_after}
@@ -10,7 +11,8 @@ use Rattle.client_core.specs.Learning.{learnt, fated}
 use Rattle.client_core.specs.declared.learning.Learning.{Learning as Here}
 use Rattle.client_core.specs.declared.judging.Fate.{Fate}
 use Rattle.client_core.specs.declared.judging.Fate.TheVariants.{Waits, Answered}
-use Rattle.petal_rules.specs.Clients.{Client, Asked, Learning, answered_where, witnessed, judged_by, judged, takes_entry, takes_all, command_of, is_witness, refusal, verdict_for}
+use Rattle.petal_rules.specs.Clients.{Client, Asked, Learning, answered_where, witnessed, judged_by, judged, takes_entry, takes_all}
+use Rattle.petal_rules.specs.Clients.{command_of, is_witness, refusal, verdict_for}
 
 -- judging the open request changes neither the state nor what was applied
 record IsJudged (later now : Learning) : Type 0 where
@@ -30,7 +32,8 @@ pick b s t now hs ht = elim b as (λ v. IsJudged (cond v s t) now) [ true ↦ hs
 
 by_judged : (me : ℕ) (entry : Command) (now : Learning) (asked : Asked) (command : Option Command) → IsJudged (judged_by me entry now asked command) now
 by_judged me entry now asked None =
-    pick (is_witness me asked.seq entry) _ now now (witnessed_judged now asked (refusal now.state asked.told asked.request)) (record { state = refl; applied = refl })
+    pick (is_witness me asked.seq entry) _ now now (witnessed_judged now asked (refusal now.state asked.told asked.request))
+    (record { state = refl; applied = refl })
 by_judged me entry now asked (Some command) = answered_judged now asked (verdict_for asked.seq (latest now.state me))
 
 any_judged : (me : ℕ) (entry : Command) (now : Learning) (asked : Option Asked) → IsJudged (judged me entry now asked) now

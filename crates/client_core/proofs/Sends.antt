@@ -6,7 +6,8 @@ use Rattle.petal_msg.specs.declared.letter.Letter.{Letter}
 use Rattle.script_lines.specs.declared.request.Request.{Request}
 use Rattle.petal_rules.specs.State.{State, servers_of}
 use Rattle.petal_rules.specs.Server.{letters_of}
-use Rattle.petal_rules.specs.Clients.{Client, Asked, asks_to_propose, called, first_round, goes_out, goes_out_where, sends, sends_or_proposes, then_goes_out, to_propose}
+use Rattle.petal_rules.specs.Clients.{Client, Asked, asks_to_propose, called, first_round, goes_out, goes_out_where, sends}
+use Rattle.petal_rules.specs.Clients.{sends_or_proposes, then_goes_out, to_propose}
 use Rattle.client_core.specs.Core.{Core, at_core, state_of}
 use Rattle.client_core.specs.Open.{goes_old_where, on_way, sent_last, turned, way_of, with_send, with_witnesses}
 use Rattle.client_core.specs.Sending.{posts_of, sent_by, sent_where}
@@ -45,7 +46,8 @@ open_sent_in core state log witnesses asked way sent is_open way_is is =
     rw is_open (subst goes (λ i. on_way asked witnesses (way_is i)) (is client))
 
 -- it goes the old way
-pub old_way_sent : (core : Core) (state : State) (asked : Asked) (witnesses : ℕ) (way : Way) (sent : Sent) → state ≡ state_of core → core.client.asked ≡ Some asked
+pub old_way_sent : (core : Core) (state : State) (asked : Asked) (witnesses : ℕ) (way : Way) (sent : Sent) → state ≡ state_of core
+    → core.client.asked ≡ Some asked
     → witnesses ≡ asked.witnesses → way ≡ turned
     → ((client : Client) → goes_out state core.me (record client { asks = core.client.asks }) (on_way asked witnesses way)
     ≡ sent_by client (on_way asked witnesses way) sent)

@@ -31,7 +31,8 @@ same_cell cell row is = λ i. record { map = sym map_is i; block = cell.block }
 
 off_map : (state : State) (row : LinkRow) (cell : Cell) → (cell.map == row.map) ≡ false → is_on state row cell ≡ false
 off_map state row cell other = elim (cases_Bool (is_on state row cell)) [
-  | inl has ↦ absurd (let same = on_map state row cell has in (let e : (cell.map == row.map) ≡ true = grind (arith, nat_tests, same) in let no : true ≡ false = sym e ∙ other in cc))
+  | inl has ↦ absurd (let same = on_map state row cell has in
+      (let e : (cell.map == row.map) ≡ true = grind (arith, nat_tests, same) in let no : true ≡ false = sym e ∙ other in cc))
   | inr has ↦ has
 ]
 
@@ -67,7 +68,8 @@ stored_is state row (r ∷ rs) =
     ]
 
 -- the least mark on which nothing is under way
-pub idle_is : (state : State) (row : LinkRow) (own : Own) → least (filter (above None) (filter (idle_on state row own) (marked_in row.map own.store.marks))) ≡ idle_mark state row own
+pub idle_is : (state : State) (row : LinkRow) (own : Own)
+    → least (filter (above None) (filter (idle_on state row own) (marked_in row.map own.store.marks))) ≡ idle_mark state row own
 idle_is state row own =
     ap least (
     from_start (filter (idle_on state row own) (marked_in row.map own.store.marks))
@@ -82,7 +84,8 @@ module _ (state : State) (row : LinkRow) (marks : List Mark) (chains : Table Cel
       ∙ ap (λ (b : Bool). least (marked_on state row marks ++ (if b then filter (above copied) (stored_on state row chains) else []))) (sym is)
 
   pub left_whole : is_whole row.state ≡ true
-      → lesser (least (filter (above None) (marked_on state row marks))) (least (filter (above copied) (stored_on state row chains))) ≡ least (left_on state row marks chains copied)
+      → lesser (least (filter (above None) (marked_on state row marks))) (least (filter (above copied) (stored_on state row chains)))
+      ≡ least (left_on state row marks chains copied)
   left_whole is =
       ap (λ (l : List ℕ). lesser (least l) (least (filter (above copied) (stored_on state row chains)))) (from_start (marked_on state row marks))
       ∙ sym (least_both (marked_on state row marks) (filter (above copied) (stored_on state row chains)))

@@ -13,7 +13,8 @@ use Rattle.petal_msg.specs.declared.copying.CopyAction.TheVariants as copy_actio
 use Rattle.petal_msg.specs.declared.copying.Copying.{Copying}
 use Rattle.petal_msg.specs.declared.letter.Letter.{Letter}
 use Rattle.petal_state.specs.CellState.{cell_link}
-use Rattle.petal_rules.specs.Copies.{begins_copy, copies_on, copies_with, copy_acts, copy_stage, hears_synced, hears_trimmed, is_syncing, mend_after, on_synced, on_trimmed, with_copied}
+use Rattle.petal_rules.specs.Copies.{begins_copy, copies_on, copies_with, copy_acts, copy_stage, hears_synced, hears_trimmed}
+use Rattle.petal_rules.specs.Copies.{is_syncing, mend_after, on_synced, on_trimmed, with_copied}
 use Rattle.petal_rules.specs.Progress.{progress_on, with_copying, with_full, without_copying}
 use Rattle.petal_rules.specs.Server.{Copies, Own, Here, silent, sender, letters_of, post_to}
 use Rattle.petal_rules.specs.Server.{Done as Rule}
@@ -64,7 +65,8 @@ closed_own own (Some row) cell copy =
     elim (cases_Bool (above (progress_on own row).copied cell.block)) [
       | inl is ↦ rw is
           (ap (λ (t : Table Cell Copying). record own {
-            copies = record (side.with_progress own.copies (id_of row) (record (progress_on own row) { copied = Some cell.block })) { pending = t; full = false };
+            copies =
+                record (side.with_progress own.copies (id_of row) (record (progress_on own row) { copied = Some cell.block })) { pending = t; full = false };
           }) gone)
       | inr is ↦ rw is (ap (λ (t : Table Cell Copying). record own { copies = record own.copies { pending = t; full = false } }) gone)
     ]
@@ -77,10 +79,15 @@ module _ {D : Type 0} (here : Here) (was : Side) (store : Holdings D) (h : HasTi
   pub closed_is : (cell : Cell) (copy : Copying) (left mid new : Copies) (done : Done) → left ≡ copied_in (cell_link here.state cell) was.copies cell.block
       → mid ≡ side.without_copying left cell → new ≡ side.with_full mid false
       → done ≡ record { letters = []; follow = option_map (λ row. follow.Mend (id_of row)) (cell_link here.state cell) }
-      → IsSaid here was (record was { copies = new }) store store (Ok done) (copy_acts here (with_copying (own_of was store) cell copy) cell copy copy_action.Close)
+      → IsSaid here was (record was { copies = new }) store store (Ok done)
+      (copy_acts here (with_copying (own_of was store) cell copy) cell copy copy_action.Close)
   closed_is cell copy left mid new done noted gone full said =
       rw (said, full, gone, noted) (record {
-        done = record { own = closed_own (own_of was store) (cell_link here.state cell) cell copy; letters = refl; jobs = closed_jobs (cell_link here.state cell) };
+        done = record {
+          own = closed_own (own_of was store) (cell_link here.state cell) cell copy;
+          letters = refl;
+          jobs = closed_jobs (cell_link here.state cell);
+        };
         keeps = h;
         err = tt;
         store = refl;
@@ -96,7 +103,8 @@ module _ {D : Type 0} (here : Here) (was : Side) (store : Holdings D) (h : HasTi
   begun_is cell letters new later done next noted said is =
       let begun : Copying = record { op = was.next; trimmed = false; index = 0 } in
       let numbered : Own = record (own_of was store) { pairs = record (own_of was store).pairs { next = was.next + 1 } } in
-      subst (λ (rule : Rule). IsSaid here was (record was { next = later; copies = new }) store store (Ok done) rule) (sym (acts_there here numbered cell begun))
+      subst (λ (rule : Rule). IsSaid here was (record was { next = later; copies = new }) store store (Ok done) rule)
+      (sym (acts_there here numbered cell begun))
       (rw (is, said, noted, next) (record {
         done = record { own = refl; letters = refl; jobs = refl };
         keeps = h;
@@ -108,7 +116,8 @@ module _ {D : Type 0} (here : Here) (was : Side) (store : Holdings D) (h : HasTi
 
 pub trimmed_is : (here : Here) (own : Own) (number : ℕ) (cell : Cell) (copy : Copying) → at cell_cmp own.copies.pending cell ≡ Some copy
     → ((copy.op == number) && not copy.trimmed) ≡ true
-    → copy_acts here (with_copying own cell (record copy { trimmed = true })) cell (record copy { trimmed = true }) (copy_stage own.store cell (record copy { trimmed = true }))
+    → copy_acts here (with_copying own cell (record copy { trimmed = true })) cell (record copy { trimmed = true })
+    (copy_stage own.store cell (record copy { trimmed = true }))
     ≡ on_trimmed here own number cell
 unfolding on_trimmed
 trimmed_is here own number cell copy is counts =
@@ -123,7 +132,8 @@ pub synced_is : (here : Here) (own : Own) (number : ℕ) (cell : Cell) (index : 
 unfolding on_synced
 synced_is here own number cell index copy next is waits same moved =
     sym (ap (hears_synced here own number cell index) is
-    ∙ ap (λ (b : Bool). if b && (copy.index == index) then copies_on here (with_copying own cell (record copy { index = copy.index + 1 })) cell else silent own) waits
+    ∙ ap (λ (b : Bool). if b && (copy.index == index) then copies_on here (with_copying own cell (record copy { index = copy.index + 1 })) cell
+    else silent own) waits
     ∙ ap (λ (b : Bool). if b then copies_on here (with_copying own cell (record copy { index = copy.index + 1 })) cell else silent own) same
     ∙ ap (λ (k : Copying). copies_on here (with_copying own cell k) cell) (sym moved)
     ∙ acts_there here own cell next)

@@ -115,7 +115,8 @@ module _ (here : Here) (own : Own) (cell : Cell) (copy : LastCopy) (holder : ℕ
   pub trim_equal : (last : LastCopy) → at cell_cmp own.copies.last cell ≡ Some last → nat_lt copy.op last.op ≡ false → (copy.op == last.op) ≡ true
       → trims_again own cell copy.op holder (epochs_beyond own cell last.epochs) ≡ on_trim here own copy.op cell copy.epochs
   trim_equal last there older same =
-      let rest : hears_trim here own copy.op cell copy.epochs holder (Some last) ≡ trims_again own cell copy.op holder (epochs_beyond own cell last.epochs) = rw (older, same) refl in
+      let rest : hears_trim here own copy.op cell copy.epochs holder (Some last) ≡ trims_again own cell copy.op holder (epochs_beyond own cell last.epochs) =
+      rw (older, same) refl in
       sym (trim_is (Some last) there ∙ rest)
 
   pub trim_older : (last : LastCopy) → at cell_cmp own.copies.last cell ≡ Some last → nat_lt copy.op last.op ≡ true

@@ -33,13 +33,17 @@ at_map f (x ∷ xs) zero v d lt e = ap f (sym e)
 at_map f (x ∷ xs) (suc i) v d lt e = at_map f xs i v d (omega arith) e
 
 -- one body more is read
-pub next_read : (slots : ℕ) (fresh : Bool) (bodies : List (List ℕ)) (i : ℕ) (old new : Replay) (body : List ℕ) → i < length bodies → get_or bodies i [] ≡ body → IsRead slots fresh (take i bodies) old → Reads old new body → IsRead slots fresh (take (i + 1) bodies) new
+pub next_read : (slots : ℕ) (fresh : Bool) (bodies : List (List ℕ)) (i : ℕ) (old new : Replay) (body : List ℕ) → i < length bodies
+    → get_or bodies i [] ≡ body → IsRead slots fresh (take i bodies) old → Reads old new body → IsRead slots fresh (take (i + 1) bodies) new
 next_read slots fresh bodies i old new body lt here so_far read =
     let past = old.history.items in
-    let kept : kept_by new ≡ kept_of fresh (past ++ read.entry ∷ []) = read.kept ∙ ap (λ k. kept_after k read.entry) so_far.kept ∙ sym (kept_more fresh past read.entry) in
-    let fits : Fits slots (kept_of fresh past) read.entry = subst (λ k. Fits slots k read.entry) so_far.kept (subst (λ n. Fits n (kept_by old) read.entry) so_far.slots_are read.fits) in
+    let kept : kept_by new ≡ kept_of fresh (past ++ read.entry ∷ []) = read.kept ∙ ap (λ k. kept_after k read.entry) so_far.kept
+    ∙ sym (kept_more fresh past read.entry) in
+    let fits : Fits slots (kept_of fresh past) read.entry =
+    subst (λ k. Fits slots k read.entry) so_far.kept (subst (λ n. Fits n (kept_by old) read.entry) so_far.slots_are read.fits) in
     record {
-      found = ap bodies_of read.records ∙ bodies_one_more past read.entry ∙ ap (λ l. l ++ spelling read.entry ∷ []) so_far.found ∙ ap (λ (b : List ℕ). take i bodies ++ b ∷ []) (sym (here ∙ read.body_is)) ∙ sym (take_next bodies i [] lt);
+      found = ap bodies_of read.records ∙ bodies_one_more past read.entry ∙ ap (λ l. l ++ spelling read.entry ∷ []) so_far.found
+          ∙ ap (λ (b : List ℕ). take i bodies ++ b ∷ []) (sym (here ∙ read.body_is)) ∙ sym (take_next bodies i [] lt);
       spelled = rw read.records (spelled_more past read.entry so_far.spelled read.has_spelling);
       fit = rw read.records (fit_more slots (formatted fresh) past read.entry so_far.fit fits);
       kept = rw read.records kept;
@@ -60,24 +64,31 @@ found (r ∷ rs) zero lt sp = record { entry = r; fits = sp.0; body = refl; more
 found (r ∷ rs) (suc i) lt sp = let f = found rs i (omega arith) sp.1 in record { entry = f.entry; fits = f.fits; body = f.body; more = ap (λ l. r ∷ l) f.more }
 
 -- what is read of the bodies of records is these
-pub next_same : (records : List StoreRecord) (bodies : List (List ℕ)) (i : ℕ) (old new : Replay) (body : List ℕ) → AreSpelled records → bodies ≡ bodies_of records → i < length bodies → get_or bodies i [] ≡ body → old.history.items ≡ take i records → Reads old new body → new.history.items ≡ take (i + 1) records
+pub next_same : (records : List StoreRecord) (bodies : List (List ℕ)) (i : ℕ) (old new : Replay) (body : List ℕ) → AreSpelled records
+    → bodies ≡ bodies_of records → i < length bodies → get_or bodies i [] ≡ body → old.history.items ≡ take i records → Reads old new body
+    → new.history.items ≡ take (i + 1) records
 next_same records bodies i old new body sp is lt here so_far read =
     let f = found records i (subst (λ (l : List (List ℕ)). i < length l) is lt) sp in
     let same : f.entry ≡ read.entry = read.only f.entry f.fits (sym here ∙ ap (λ (l : List (List ℕ)). get_or l i []) is ∙ f.body) in
-    read.records ∙ ap (λ l. l ++ read.entry ∷ []) so_far ∙ ap (λ (r : StoreRecord). take i records ++ r ∷ []) (sym same) ∙ sym f.more ∙ ap (λ n. take n records) (let n : suc i ≡ i + 1 = omega arith in n)
+    read.records ∙ ap (λ l. l ++ read.entry ∷ []) so_far ∙ ap (λ (r : StoreRecord). take i records ++ r ∷ []) (sym same) ∙ sym f.more
+    ∙ ap (λ n. take n records) (let n : suc i ≡ i + 1 = omega arith in n)
 
 -- a body that is not read
-pub not_read : (slots : ℕ) (fresh : Bool) (bodies : List (List ℕ)) (i : ℕ) (old : Replay) (body : List ℕ) → i < length bodies → get_or bodies i [] ≡ body → IsRead slots fresh (take i bodies) old → ((r : StoreRecord) → HasSpelling r → body ≡ spelling r → ¬ Fits old.ledger.slots (kept_by old) r) → IsBad slots fresh bodies i
+pub not_read : (slots : ℕ) (fresh : Bool) (bodies : List (List ℕ)) (i : ℕ) (old : Replay) (body : List ℕ) → i < length bodies → get_or bodies i [] ≡ body
+    → IsRead slots fresh (take i bodies) old → ((r : StoreRecord) → HasSpelling r → body ≡ spelling r → ¬ Fits old.ledger.slots (kept_by old) r)
+    → IsBad slots fresh bodies i
 not_read slots fresh bodies i old body lt here so_far refused = record {
   within = lt;
   records = old.history.items;
   spelled = so_far.spelled;
   before = so_far.found;
-  bad = λ r spelled is fits. refused r spelled (sym here ∙ is) (subst (λ k. Fits old.ledger.slots k r) (sym so_far.kept) (subst (λ n. Fits n (kept_of fresh old.history.items) r) (sym so_far.slots_are) fits));
+  bad = λ r spelled is fits. refused r spelled (sym here ∙ is)
+      (subst (λ k. Fits old.ledger.slots k r) (sym so_far.kept) (subst (λ n. Fits n (kept_of fresh old.history.items) r) (sym so_far.slots_are) fits));
 }
 
 -- a record among those that all fit fits behind those before it
-fits_at : (slots : ℕ) (kept : Kept) (records : List StoreRecord) (i : ℕ) (r : StoreRecord) → AllFit slots kept records → i < length records → take (suc i) records ≡ take i records ++ r ∷ [] → Fits slots (fold kept_after kept (take i records)) r
+fits_at : (slots : ℕ) (kept : Kept) (records : List StoreRecord) (i : ℕ) (r : StoreRecord) → AllFit slots kept records → i < length records
+    → take (suc i) records ≡ take i records ++ r ∷ [] → Fits slots (fold kept_after kept (take i records)) r
 fits_at slots kept [] i r fit lt is = absurd (omega arith)
 fits_at slots kept (x ∷ xs) zero r fit lt is = let same : x ≡ r = cc in subst (λ y. Fits slots kept y) same fit.0
 fits_at slots kept (x ∷ xs) (suc i) r fit lt is =
@@ -85,11 +96,14 @@ fits_at slots kept (x ∷ xs) (suc i) r fit lt is =
     fits_at slots (kept_after kept x) xs i r fit.1 (omega arith) rest
 
 -- so it is read
-pub is_read : (slots : ℕ) (fresh : Bool) (records : List StoreRecord) (bodies : List (List ℕ)) (i : ℕ) (old : Replay) (body : List ℕ) → AreSpelled records → AllFit slots (formatted fresh) records → bodies ≡ bodies_of records → i < length bodies → get_or bodies i [] ≡ body
-    → old.history.items ≡ take i records → IsRead slots fresh (take i bodies) old → ((r : StoreRecord) → HasSpelling r → body ≡ spelling r → ¬ Fits old.ledger.slots (kept_by old) r) → ⊥
+pub is_read : (slots : ℕ) (fresh : Bool) (records : List StoreRecord) (bodies : List (List ℕ)) (i : ℕ) (old : Replay) (body : List ℕ) → AreSpelled records
+    → AllFit slots (formatted fresh) records → bodies ≡ bodies_of records → i < length bodies → get_or bodies i [] ≡ body
+    → old.history.items ≡ take i records → IsRead slots fresh (take i bodies) old
+    → ((r : StoreRecord) → HasSpelling r → body ≡ spelling r → ¬ Fits old.ledger.slots (kept_by old) r) → ⊥
 is_read slots fresh records bodies i old body sp fit is lt here so_far read refused =
     let f = found records i (subst (λ (l : List (List ℕ)). i < length l) is lt) sp in
     let within : i < length records = omega (arith, lt, ap length is, length-map records spelling) in
     let fits : Fits slots (kept_of fresh (take i records)) f.entry = fits_at slots (formatted fresh) records i f.entry fit within f.more in
     let kept : kept_by old ≡ kept_of fresh (take i records) = read.kept ∙ ap (λ rs. kept_of fresh rs) so_far in
-    refused f.entry f.fits (sym here ∙ ap (λ (l : List (List ℕ)). get_or l i []) is ∙ f.body) (subst (λ k. Fits old.ledger.slots k f.entry) (sym kept) (subst (λ n. Fits n (kept_of fresh (take i records)) f.entry) (sym read.slots_are) fits))
+    refused f.entry f.fits (sym here ∙ ap (λ (l : List (List ℕ)). get_or l i []) is ∙ f.body)
+    (subst (λ k. Fits old.ledger.slots k f.entry) (sym kept) (subst (λ n. Fits n (kept_of fresh (take i records)) f.entry) (sym read.slots_are) fits))

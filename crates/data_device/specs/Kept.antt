@@ -8,7 +8,7 @@ use Rattle.physical_map.specs.Keys.{placed}
 use Rattle.store_record.specs.declared.record.StoreRecord.{StoreRecord}
 use Rattle.store_record.specs.declared.record.StoreRecord.TheVariants as kind
 
--- the entries by rising key, the marks in the order in which they were set, and whether the store is still to be filled again
+-- the entries by rising key, the marks in the order of their cells and kinds, and whether the store is still to be filled again
 pub record Kept : Type 0 where
   pub entries : List Entry
   pub marks : List Mark

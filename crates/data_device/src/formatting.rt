@@ -24,7 +24,8 @@ pub fn write_format<D: Disk>(
     ensures log { IfOk result (λ out. (out.1.fresh ≡ said.fresh) × (out.1.records ≡ [])) }
     ensures logs { IfOk result (λ out. D.told → Logs said.slots out.1 (D.seen disk.new) (D.may_leave disk.new)) }
     ensures errors { IfErr result IsFormatError }
-    ensures any_moment { D.told → LeavesOnly D.moment D.left_since disk.old disk.new (LeftByFormat (D.may_leave disk.old) (D.size disk.old) said.slots said.fresh) }
+    ensures any_moment { D.told
+        → LeavesOnly D.moment D.left_since disk.old disk.new (LeftByFormat (D.may_leave disk.old) (D.size disk.old) said.slots said.fresh) }
     ensures either { D.told → LeftByFormat (λ file. file ≡ D.seen disk.old) (D.size disk.old) said.slots said.fresh (D.seen disk.new) }
     ensures memory { IsErrOf result StoreError.NoMemory → disk.new ≡ disk.old }
     ensures cause { HasFault (D.faults disk.old) (D.faults disk.new) result }

@@ -38,8 +38,10 @@ fn read_journal<D: Disk>(alloc: Global, disk: &mut D, said: Header) -> Result<Fo
     requires { 4198400 ≤ D.size disk.old }
     ensures found { IfOk result (λ f. IsFound said.slots said.fresh f) }
     ensures counts { IfOk result (λ f. D.told → Counts 64 4096 65536 (D.seen disk.old) (bodies_of f.log.records)) }
-    ensures same { (records : List StoreRecord) → AreSpelled records → IfOk result (λ f. D.told → Stands 64 4096 65536 (D.seen disk.old) (bodies_of records) → f.log.records ≡ records) }
-    ensures logs { (records : List StoreRecord) → IfOk result (λ f. D.told → Only (D.seen disk.old) (D.may_leave disk.old) → StandsFor (D.seen disk.old) said.slots said.fresh records
+    ensures same { (records : List StoreRecord) → AreSpelled records
+        → IfOk result (λ f. D.told → Stands 64 4096 65536 (D.seen disk.old) (bodies_of records) → f.log.records ≡ records) }
+    ensures logs { (records : List StoreRecord)
+        → IfOk result (λ f. D.told → Only (D.seen disk.old) (D.may_leave disk.old) → StandsFor (D.seen disk.old) said.slots said.fresh records
         → Logs said.slots f.log (D.seen disk.new) (D.may_leave disk.new)) }
     ensures bad { (index : ℕ) → IfErr result (λ e. e ≡ error.BadRecord index → D.told → IsBadOn (D.seen disk.old) said.slots said.fresh index) }
     ensures good { (records : List StoreRecord) → IfErr result (λ e. D.told → StandsFor (D.seen disk.old) said.slots said.fresh records → IsGoodError e) }
@@ -87,7 +89,8 @@ fn end_of(slots: u32) -> u64
 /// What the header of a device says, whose journal and slots fit it; None where there is no such header.
 fn read_header<D: Disk>(disk: &mut D) -> Result<Option<Header>, Failed>
     ensures found { IfOk result (λ o. IfSome o (λ said. D.told → take 64 (D.seen disk.old) ≡ header said.slots said.fresh)) }
-    ensures only { (slots : ℕ) (fresh : Bool) → IfOk result (λ o. IfSome o (λ said. D.told → slots < 2 ^ 32 → take 64 (D.seen disk.old) ≡ header slots fresh → (said.slots ≡ slots) × (said.fresh ≡ fresh))) }
+    ensures only { (slots : ℕ) (fresh : Bool) → IfOk result
+        (λ o. IfSome o (λ said. D.told → slots < 2 ^ 32 → take 64 (D.seen disk.old) ≡ header slots fresh → (said.slots ≡ slots) × (said.fresh ≡ fresh))) }
     ensures room { IfOk result (λ o. IfSome o (λ said. slot_start said.slots ≤ D.size disk.old)) }
     ensures small { IfOk result (λ o. IfSome o (λ said. said.slots < 2 ^ 32)) }
     ensures blank { IfOk result (λ o. IfNone o (D.told → IsBlank (D.seen disk.old) (D.size disk.old))) }
@@ -118,12 +121,15 @@ pub fn read_device<D: Disk>(alloc: Global, disk: &mut D) -> Result<Option<Found>
     ensures counts { IfOk result (λ o. IfSome o (λ f. D.told → Counts 64 4096 65536 (D.seen disk.old) (bodies_of f.log.records))) }
     ensures room { IfOk result (λ o. IfSome o (λ f. slot_start f.ledger.slots ≤ D.size disk.new)) }
     ensures blank { IfOk result (λ o. IfNone o (D.told → IsBlank (D.seen disk.old) (D.size disk.old))) }
-    ensures same { (slots : ℕ) (fresh : Bool) (records : List StoreRecord) → IfOk result (λ o. IfSome o (λ f. D.told → slots < 2 ^ 32 → StandsFor (D.seen disk.old) slots fresh records
+    ensures same { (slots : ℕ) (fresh : Bool) (records : List StoreRecord)
+        → IfOk result (λ o. IfSome o (λ f. D.told → slots < 2 ^ 32 → StandsFor (D.seen disk.old) slots fresh records
         → (f.ledger.slots ≡ slots) × (f.log.fresh ≡ fresh) × (f.log.records ≡ records) × Logs slots f.log (D.seen disk.new) (D.may_leave disk.new))) }
     ensures durable { IfOk result (λ o. IfSome o (λ _. D.told → Only (D.seen disk.new) (D.may_leave disk.new))) }
-    ensures bad { (index slots : ℕ) (fresh : Bool) → IfErr result (λ e. e ≡ error.BadRecord index → D.told → slots < 2 ^ 32 → take 64 (D.seen disk.old) ≡ header slots fresh → IsBadOn (D.seen disk.old) slots fresh index) }
+    ensures bad { (index slots : ℕ) (fresh : Bool) → IfErr result (λ e. e ≡ error.BadRecord index → D.told → slots < 2 ^ 32
+        → take 64 (D.seen disk.old) ≡ header slots fresh → IsBadOn (D.seen disk.old) slots fresh index) }
     ensures bad_headed { (index : ℕ) → IfErr result (λ e. e ≡ error.BadRecord index → D.told → ¬ IsBlank (D.seen disk.old) (D.size disk.old)) }
-    ensures good { (slots : ℕ) (fresh : Bool) (records : List StoreRecord) → IfErr result (λ e. D.told → slots < 2 ^ 32 → StandsFor (D.seen disk.old) slots fresh records → IsGoodError e) }
+    ensures good { (slots : ℕ) (fresh : Bool) (records : List StoreRecord)
+        → IfErr result (λ e. D.told → slots < 2 ^ 32 → StandsFor (D.seen disk.old) slots fresh records → IsGoodError e) }
     ensures errors { IfErr result IsOpenError }
     ensures device { KeepsDevice D.size D.seen D.may_leave D.moment D.left_since disk.old disk.new }
     ensures cause { HasFault (D.faults disk.old) (D.faults disk.new) result }

@@ -53,7 +53,8 @@ impl RecordLog {
         ensures ok { IfOk result (λ log. (log.fresh ≡ said.fresh) × (log.records ≡ [])) }
         ensures logs { IfOk result (λ log. D.told → Logs said.slots log (D.seen disk.new) (D.may_leave disk.new)) }
         ensures errors { IfErr result IsFormatError }
-        ensures any_moment { D.told → LeavesOnly D.moment D.left_since disk.old disk.new (LeftByFormat (D.may_leave disk.old) (D.size disk.old) said.slots said.fresh) }
+        ensures any_moment { D.told
+            → LeavesOnly D.moment D.left_since disk.old disk.new (LeftByFormat (D.may_leave disk.old) (D.size disk.old) said.slots said.fresh) }
         ensures either { D.told → LeftByFormat (λ file. file ≡ D.seen disk.old) (D.size disk.old) said.slots said.fresh (D.seen disk.new) }
         ensures memory { IsErrOf result StoreError.NoMemory → disk.new ≡ disk.old }
         ensures cause { HasFault (D.faults disk.old) (D.faults disk.new) result }
@@ -105,13 +106,18 @@ impl RecordLog {
         ensures unchanged { IsErrOf result StoreError.JournalFull → (self.new ≡ self.old) × (disk.new ≡ disk.old) }
         ensures errors { IfErr result IsCommitError }
         ensures outside { D.told → Torn 4096 4194304 (D.seen disk.old) (D.seen disk.new) }
-        ensures logs { D.told → (slots : ℕ) → Logs slots self.old (D.seen disk.old) (D.may_leave disk.old) → Fits slots (kept_of self.old.fresh self.old.records) entry.now
+        ensures logs { D.told → (slots : ℕ) → Logs slots self.old (D.seen disk.old) (D.may_leave disk.old)
+            → Fits slots (kept_of self.old.fresh self.old.records) entry.now
             → OnOk result (Logs slots self.new (D.seen disk.new) (D.may_leave disk.new)) }
-        ensures crash { D.told → (slots : ℕ) → Logs slots self.old (D.seen disk.old) (D.may_leave disk.old) → Fits slots (kept_of self.old.fresh self.old.records) entry.now
+        ensures crash { D.told → (slots : ℕ) → Logs slots self.old (D.seen disk.old) (D.may_leave disk.old)
+            → Fits slots (kept_of self.old.fresh self.old.records) entry.now
             → Follows (Torn 4096 4194304) (D.may_leave disk.old) (D.may_leave disk.new) }
-        ensures any_moment { D.told → (slots : ℕ) → Logs slots self.old (D.seen disk.old) (D.may_leave disk.old) → Fits slots (kept_of self.old.fresh self.old.records) entry.now
-            → LeavesOnly D.moment D.left_since disk.old disk.new (λ c. (d : List ℕ) × D.may_leave disk.old d × Torn 4096 4194304 d c × WithOrWithout c slots self.old entry.now) }
-        ensures either { D.told → (slots : ℕ) → Logs slots self.old (D.seen disk.old) (D.may_leave disk.old) → Fits slots (kept_of self.old.fresh self.old.records) entry.now
+        ensures any_moment { D.told → (slots : ℕ) → Logs slots self.old (D.seen disk.old) (D.may_leave disk.old)
+            → Fits slots (kept_of self.old.fresh self.old.records) entry.now
+            → LeavesOnly D.moment D.left_since disk.old disk.new
+            (λ c. (d : List ℕ) × D.may_leave disk.old d × Torn 4096 4194304 d c × WithOrWithout c slots self.old entry.now) }
+        ensures either { D.told → (slots : ℕ) → Logs slots self.old (D.seen disk.old) (D.may_leave disk.old)
+            → Fits slots (kept_of self.old.fresh self.old.records) entry.now
             → WithOrWithout (D.seen disk.new) slots self.old entry.now }
         ensures cause { HasFault (D.faults disk.old) (D.faults disk.new) result }
         ensures size { D.size disk.new ≡ D.size disk.old }

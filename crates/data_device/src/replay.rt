@@ -81,7 +81,8 @@ fn apply(replay: &mut Replay, entry: &StoreRecord) -> Result<bool, NoMemory>
 fn step(replay: &mut Replay, body: &[u8]) -> Result<bool, NoMemory>
     requires { replay.old.ledger.tickets ≡ [] }
     ensures next { IfOk result (λ done. OnTrue done (Reads replay.old replay.new body.now)) }
-    ensures refused { IfOk result (λ done. OnFalse done ((r : StoreRecord) → HasSpelling r → body.now ≡ spelling r → ¬ Fits replay.old.ledger.slots (kept_by replay.old) r)) }
+    ensures refused { IfOk result
+        (λ done. OnFalse done ((r : StoreRecord) → HasSpelling r → body.now ≡ spelling r → ¬ Fits replay.old.ledger.slots (kept_by replay.old) r)) }
 {
     let Some(entry) = decode(body) else {
         return Ok(false);
@@ -102,7 +103,8 @@ pub fn read_records(alloc: Global, bodies: &[Vec<u8>], said: Header) -> Result<R
     ensures read { IfOk result (λ r. IsRead said.slots said.fresh (contents bodies.now) r) }
     ensures same { (records : List StoreRecord) → AreSpelled records → contents bodies.now ≡ bodies_of records → IfOk result (λ r. r.history.items ≡ records) }
     ensures bad { (index : ℕ) → IfErr result (λ e. e ≡ error.BadRecord index → IsBad said.slots said.fresh (contents bodies.now) index) }
-    ensures good { (records : List StoreRecord) → AreSpelled records → AllFit said.slots (formatted said.fresh) records → contents bodies.now ≡ bodies_of records → IfErr result (λ e. e ≡ error.NoMemory) }
+    ensures good { (records : List StoreRecord) → AreSpelled records → AllFit said.slots (formatted said.fresh) records
+        → contents bodies.now ≡ bodies_of records → IfErr result (λ e. e ≡ error.NoMemory) }
     ensures errors { IfErr result IsReadError }
 {
     let mut replay = begin(alloc, said)?;

@@ -30,13 +30,16 @@ none_yet may_leave [] t c le left = left
 none_yet may_leave (d ∷ ds) t c le (inl here) = omega (arith, le, here.0)
 none_yet may_leave (d ∷ ds) t c le (inr there) = none_yet may_leave ds t c (omega (arith, le)) there
 
-pub only_here : {D : Type 0} (may_leave : D → List ℕ → Type 0) (past : List D) (now : D) (c : List ℕ) → LeftSince may_leave past now (length past) c → may_leave now c
+pub only_here : {D : Type 0} (may_leave : D → List ℕ → Type 0) (past : List D) (now : D) (c : List ℕ)
+    → LeftSince may_leave past now (length past) c → may_leave now c
 only_here may_leave past now c (inl here) = here
 only_here may_leave past now c (inr there) = absurd (none_yet may_leave past (length past) c (omega arith) there)
 
 -- what is remembered is remembered later
 pub remembers_on : {D : Type 0} (a b e : List D) (x y z : D) → Remembers a x b y → Remembers b y e z → Remembers a x e z
 remembers_on a b e x y z (inl same) (inl still) = inl (still.0 ∙ same.0, still.1 ∙ same.1)
-remembers_on a b e x y z (inl same) (inr grown) = inr (grown.0, grown.1 ∙ ap (λ (d : _). grown.0 ++ d ∷ b) same.1 ∙ ap (λ (ds : List _). grown.0 ++ x ∷ ds) same.0)
+remembers_on a b e x y z (inl same) (inr grown) =
+    inr (grown.0, grown.1 ∙ ap (λ (d : _). grown.0 ++ d ∷ b) same.1 ∙ ap (λ (ds : List _). grown.0 ++ x ∷ ds) same.0)
 remembers_on a b e x y z (inr grown) (inl still) = inr (grown.0, still.0 ∙ grown.1)
-remembers_on a b e x y z (inr grown) (inr more) = inr (more.0 ++ y ∷ grown.0, more.1 ∙ ap (λ (ds : List _). more.0 ++ y ∷ ds) grown.1 ∙ sym (append_assoc more.0 (y ∷ grown.0) (x ∷ a)))
+remembers_on a b e x y z (inr grown) (inr more) =
+    inr (more.0 ++ y ∷ grown.0, more.1 ∙ ap (λ (ds : List _). more.0 ++ y ∷ ds) grown.1 ∙ sym (append_assoc more.0 (y ∷ grown.0) (x ∷ a)))

@@ -24,7 +24,8 @@ pub fn append_body(
     requires region { journal.old.base + 8 * journal.old.limit ≤ ⟦<Remembering as Disk>⟧.size disk.old }
     ensures past { (bodies : List (List ℕ))
         → Stored 8 journal.old (⟦<Remembering as Disk>⟧.seen disk.old) (⟦<Remembering as Disk>⟧.may_leave disk.old) bodies
-        → OnOk result (WasLeft 8 journal.old bodies (⟦<Remembering as Disk>⟧.left_since disk.new (⟦<Remembering as Disk>⟧.moment disk.old)) (⟦<Remembering as Disk>⟧.may_leave disk.new)) }
+        → OnOk result (WasLeft 8 journal.old bodies (⟦<Remembering as Disk>⟧.left_since disk.new (⟦<Remembering as Disk>⟧.moment disk.old))
+        (⟦<Remembering as Disk>⟧.may_leave disk.new)) }
     ensures any_moment { (bodies : List (List ℕ))
         → Stored 8 journal.old (⟦<Remembering as Disk>⟧.seen disk.old) (⟦<Remembering as Disk>⟧.may_leave disk.old) bodies
         → LeavesOnly ⟦<Remembering as Disk>⟧.moment ⟦<Remembering as Disk>⟧.left_since disk.old disk.new
@@ -37,7 +38,8 @@ pub fn append_body(
 fn begin(alloc: Global, disk: &mut Remembering) -> Result<Journal<8>, JournalError>
     requires { 8 ≤ ⟦<Remembering as Disk>⟧.size disk.old }
     ensures region { IfOk result (λ journal. journal ≡ record { base = 0; limit = 1; count = 0 }) }
-    ensures stored { IfOk result (λ journal. Stored 8 (record { base = 0; limit = 1; count = 0 }) (⟦<Remembering as Disk>⟧.seen disk.new) (⟦<Remembering as Disk>⟧.may_leave disk.new) []) }
+    ensures stored { IfOk result (λ journal. Stored 8 (record { base = 0; limit = 1; count = 0 }) (⟦<Remembering as Disk>⟧.seen disk.new)
+        (⟦<Remembering as Disk>⟧.may_leave disk.new) []) }
     ensures size { ⟦<Remembering as Disk>⟧.size disk.new ≡ ⟦<Remembering as Disk>⟧.size disk.old }
 {
     Journal::<8>::format(alloc, disk, 0, 1)
@@ -48,7 +50,8 @@ fn begin(alloc: Global, disk: &mut Remembering) -> Result<Journal<8>, JournalErr
 /// # Errors
 /// As `Journal::format` and `Journal::append`.
 pub fn with_a_past(alloc: Global) -> Result<Remembering, JournalError>
-    ensures { IfOk result (λ disk. (t : ℕ) × WasLeft 8 (record { base = 0; limit = 1; count = 0 }) [] (⟦<Remembering as Disk>⟧.left_since disk t) (⟦<Remembering as Disk>⟧.may_leave disk)) }
+    ensures { IfOk result (λ disk. (t : ℕ)
+        × WasLeft 8 (record { base = 0; limit = 1; count = 0 }) [] (⟦<Remembering as Disk>⟧.left_since disk t) (⟦<Remembering as Disk>⟧.may_leave disk)) }
 {
     let Ok(mut disk) = Remembering::new(alloc, 8) else {
         return Err(JournalError::NoMemory);

@@ -42,6 +42,7 @@ fn meet_plan<D: Disk>(disk: &mut Planned<D>) -> bool
         kind: CallKind::Write,
         at: 2,
         stop: true,
+        late: false,
     });
     let first = write_kept(disk, 0, b"abcd");
     let second = disk.write_at(4, b"efgh");
@@ -56,6 +57,52 @@ fn a_plan_is_met_once(rt: HostRuntime) -> Result<(), Fail> {
     let mut seen = [0; 8];
     assert_eq!(rt; disk.into_disk().read(0, &mut seen), Ok(()));
     assert_eq!(rt; &seen, b"abcdef\0\0");
+    Ok(())
+}
+
+// What a read gives after a write and a sync of which one fails late, and what it gives after a crash.
+fn fail_late<D: Disk>(
+    disk: &mut Planned<D>,
+    kind: CallKind,
+    stop: bool,
+) -> Result<[[u8; 4]; 2], Failed>
+    requires { 4 ≤ ⟦<Planned<D> as Disk>⟧.size disk.old }
+{
+    disk.arm(Plan {
+        kind,
+        at: 1,
+        stop,
+        late: true,
+    });
+    if disk.write_at(0, b"abcd").is_ok() && disk.sync().is_ok() {
+        return Err(Failed);
+    }
+    let (mut seen, mut left) = ([0; 4], [0; 4]);
+    disk.read(0, &mut seen)?;
+    disk.crash();
+    disk.read(0, &mut left)?;
+    Ok([seen, left])
+}
+
+#[test]
+fn a_late_sync_outlasts_a_crash(rt: HostRuntime) -> Result<(), Fail> {
+    for stop in [false, true] {
+        let mut disk = Planned::new(MemDisk::new(rt.alloc(), 4)?);
+        let kept = fail_late(&mut disk, CallKind::Sync, stop);
+        assert_eq!(rt; kept, Ok([*b"abcd", *b"abcd"]));
+        assert_eq!(rt; disk.stopped(), stop);
+    }
+    Ok(())
+}
+
+#[test]
+fn a_late_write_is_whole_and_lost_in_a_crash(rt: HostRuntime) -> Result<(), Fail> {
+    for stop in [false, true] {
+        let mut disk = Planned::new(MemDisk::new(rt.alloc(), 4)?);
+        let kept = fail_late(&mut disk, CallKind::Write, stop);
+        assert_eq!(rt; kept, Ok([*b"abcd", [0; 4]]));
+        assert_eq!(rt; disk.stopped(), stop);
+    }
     Ok(())
 }
 

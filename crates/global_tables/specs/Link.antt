@@ -1,5 +1,6 @@
 -- The links of live maps, and what joins, leaves and moves do to them.
-use Rattle.std.specs.Prelude.{ℕ, ◌+◌, ◌%◌, Bool, true, false, not, ◌==◌, ◌&&◌, ◌||◌, if◌then◌else◌, List, map, filter, find, length, slice_get, slice_index, Option, unwrap_or}
+use Rattle.std.specs.Prelude.{ℕ, ◌+◌, ◌%◌, Bool, true, false, not, ◌==◌, ◌&&◌, ◌||◌, if◌then◌else◌, List, map, filter, find}
+use Rattle.std.specs.Prelude.{length, slice_get, slice_index, Option, unwrap_or}
 use Rattle.std.specs.List.{range_with_len}
 use Rattle.global_tables.specs.declared.link.LinkRow.{LinkRow}
 use Rattle.global_tables.specs.declared.link.LinkState.{LinkState}

@@ -1,5 +1,6 @@
 -- The view of running servers and the queue of fences.
-use Rattle.std.specs.Prelude.{ℕ, ◌+◌, Bool, true, false, not, ◌==◌, if◌then◌else◌, List, [], ◌∷◌, ◌++◌, filter, length, slice_get, slice_set, Option, Some, None, is_some, replicate}
+use Rattle.std.specs.Prelude.{ℕ, ◌+◌, Bool, true, false, not, ◌==◌, if◌then◌else◌, List, [], ◌∷◌, ◌++◌, filter, length, slice_get}
+use Rattle.std.specs.Prelude.{slice_set, Option, Some, None, is_some, replicate}
 use Rattle.std.specs.Option.{option_map_or}
 use Rattle.std.specs.List.{range_with_len}
 use Rattle.global_tables.specs.declared.fence.Member.{Member}

@@ -78,7 +78,8 @@ returned_log = crowd_disk ∷ leave_of_1 ∷ join_of_1 ∷ []
 -- server 0 wrote block 0 while it was alone
 abbrev pub returned : World
 returned = world_with mending returned_log
-    (three (server_with returned_log 1 (store_of 2 8 (stale_0 ∷ []))) (server_with returned_log 2 (store_of 1 7 [])) (server_with returned_log 1 (empty_store 4)))
+    (three (server_with returned_log 1 (store_of 2 8 (stale_0 ∷ []))) (server_with returned_log 2 (store_of 1 7 []))
+    (server_with returned_log 1 (empty_store 4)))
 
 -- ### The primary has returned
 

@@ -11,7 +11,8 @@ ghost use Rattle.petal_rules.specs.declared.step.Step.TheVariants.{Blank, Boot, 
 ghost use Rattle.petal_rules.specs.declared.step.WorkEnd.TheVariants.{Done};
 ghost use Rattle.petal_history.specs.Contents.{content_at};
 ghost use Rattle.petal_history.specs.Examples.{cell_at, chain_at, one_entry};
-ghost use Rattle.history_rows.specs.Blanks.{asked_acts, awake_acts, blank_join_of_1, blanked_acts, blanking, filled_acts, joined_acts, kept_chain, left_acts, lost_after, other_moves, refused_moves, stopped_acts, twofold_after, wants_at};
+ghost use Rattle.history_rows.specs.Blanks.{asked_acts, awake_acts, blank_join_of_1, blanked_acts, blanking, filled_acts, joined_acts, kept_chain, left_acts};
+ghost use Rattle.history_rows.specs.Blanks.{lost_after, other_moves, refused_moves, stopped_acts, twofold_after, wants_at};
 ghost use Rattle.history_rows.specs.Returned.{caught_by, link_0, progress_at};
 ghost use Rattle.history_rows.specs.Stops.{leave_of_1};
 

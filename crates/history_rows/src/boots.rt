@@ -10,7 +10,8 @@ ghost use Rattle.petal_rules.specs.declared.step.CommitEnd.TheVariants.{Before, 
 ghost use Rattle.petal_rules.specs.declared.step.Step.TheVariants.{Boot, Glance};
 ghost use Rattle.petal_rules.specs.declared.step.WorkEnd.TheVariants.{Done, Fault};
 ghost use Rattle.petal_history.specs.Examples.{cell_at, crowd_disk, crowd_log};
-ghost use Rattle.history_rows.specs.Boots.{asked_again_acts, awake_acts, boot_acts, comeback, comeback_after, join_of_1, joined_acts, left_acts, seen_acts, seen_again_acts, start_acts, wants_of_1};
+ghost use Rattle.history_rows.specs.Boots.{asked_again_acts, awake_acts, boot_acts, comeback, comeback_after, join_of_1, joined_acts, left_acts};
+ghost use Rattle.history_rows.specs.Boots.{seen_acts, seen_again_acts, start_acts, wants_of_1};
 ghost use Rattle.history_rows.specs.Stops.{leave_of_1};
 
 /// The operator's line boots a server that is stopped: it runs as its next incarnation, which stands on its state device, with

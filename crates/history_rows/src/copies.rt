@@ -7,7 +7,8 @@ ghost use Rattle.petal_rules.specs.State.{in_both, is_alone_on};
 ghost use Rattle.petal_rules.specs.World.{chosen_state};
 ghost use Rattle.petal_history.specs.Contents.{content_at};
 ghost use Rattle.petal_history.specs.Examples.{cell_at, chain_at, marks_at, one_entry};
-ghost use Rattle.history_rows.specs.Copies.{again_moves, caught_moves, copied_moves, held_moves, late_moves, page_moves, returned_after, rewritten_moves, second_moves, sync_moves, trim_moves};
+ghost use Rattle.history_rows.specs.Copies.{again_moves, caught_moves, copied_moves, held_moves, late_moves, page_moves, returned_after};
+ghost use Rattle.history_rows.specs.Copies.{rewritten_moves, second_moves, sync_moves, trim_moves};
 ghost use Rattle.history_rows.specs.Returned.{caught_by, copying_0, last_said, link_0, mending, progress_at, stale_0, wants_of};
 
 /// The block that the primary wrote alone is copied, stage by stage: the secondary has no mark, drops nothing, and puts the

@@ -6,7 +6,8 @@ ghost use Rattle.petal_rules.specs.State.{in_both, is_alone_on};
 ghost use Rattle.petal_rules.specs.World.{chosen_state};
 ghost use Rattle.petal_history.specs.Contents.{content_at};
 ghost use Rattle.petal_history.specs.Examples.{cell_at, chain_at, marks_at, one_entry};
-ghost use Rattle.history_rows.specs.Copies.{asked_moves, back_after, both_moves, dropped_moves, early_after, gone_moves, in_moves, level_moves, marked_moves, tidied_moves, written_moves};
+ghost use Rattle.history_rows.specs.Copies.{asked_moves, back_after, both_moves, dropped_moves, early_after, gone_moves, in_moves};
+ghost use Rattle.history_rows.specs.Copies.{level_moves, marked_moves, tidied_moves, written_moves};
 ghost use Rattle.history_rows.specs.Returned.{busy_0, caught_by, join_of_0, leave_of_0, link_0, mending, progress_at, stale_0, wants_of};
 
 /// The secondary, which holds the link alone, hears of the primary's mark and makes it its own. Its copy of the block is without

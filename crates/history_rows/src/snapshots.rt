@@ -7,7 +7,8 @@ ghost use Rattle.petal_msg.specs.declared.body.Body.TheVariants.{Held};
 ghost use Rattle.petal_history.specs.Contents.{content_at};
 ghost use Rattle.petal_history.specs.Examples.{vol};
 ghost use Rattle.history_rows.specs.Returned.{last_said, mending, wants_of};
-ghost use Rattle.history_rows.specs.Snapshots.{awaited_by, epochs_by, fenced, fenced_after, fenced_log, frozen, frozen_log, held_moves, left_log, mon, passed_after, report_of, reported, reported_after, reported_log, snaps_by, told_of_vote, writing};
+ghost use Rattle.history_rows.specs.Snapshots.{awaited_by, epochs_by, fenced, fenced_after, fenced_log, frozen, frozen_log, held_moves, left_log, mon};
+ghost use Rattle.history_rows.specs.Snapshots.{passed_after, report_of, reported, reported_after, reported_log, snaps_by, told_of_vote, writing};
 
 /// The fence awaits all servers, until each has reported. A server that leaves makes it await all that are In once more.
 pub fn a_fence_awaits_reports()

@@ -92,6 +92,7 @@ fn bodies_after_stop(alloc: Global, at: u32, crashes: bool) -> Result<u32, Journ
         kind: CallKind::Any,
         at,
         stop: true,
+        late: false,
     });
     stopped(&mut journal, &mut disk, crashes);
     disk.disarm();

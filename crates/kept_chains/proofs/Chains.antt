@@ -87,7 +87,8 @@ swap_apart t c d e f x y well ne =
 other_epoch : (a b : Key) → same_key a b ≡ false → a.map ≡ b.map → a.block ≡ b.block → a.epoch ≢ b.epoch
 other_epoch a b differ m n e = grind (arith, nat_tests)
 
-swap : (t : Table Cell Chain) (a b : Key) (x y : Stored) → IsWell t → same_key a b ≡ false → chains_with (chains_with t a x) b y ≡ chains_with (chains_with t b y) a x
+swap : (t : Table Cell Chain) (a b : Key) (x y : Stored) → IsWell t → same_key a b ≡ false
+    → chains_with (chains_with t a x) b y ≡ chains_with (chains_with t b y) a x
 swap t a b x y well differ = elim (cell_cases (cell_of a) (cell_of b)) [
   | inl same ↦
       let ne = other_epoch a b differ (ap (λ (c : Cell). c.map) same) (ap (λ (c : Cell). c.block) same) in
@@ -130,7 +131,8 @@ module _ {A : Type 0} (key : A → Key) (stored : A → Stored) where
             ∙ sym (swap t (key y) (key x) (stored y) (stored x) (well_by ys) (below_differs (key y) (key x) before)))
         | inr before ↦ elim (cases_Bool (same_key (key y) (key x))) [
           | inl same ↦ rw (before, same)
-              (sym (ap (λ (k : Key). chains_with (chains_with t k (stored y)) (key x) (stored x)) (one_key (key y) (key x) same) ∙ over t (cell_of (key x)) (key x).epoch (stored y) (stored x)))
+              (sym (ap (λ (k : Key). chains_with (chains_with t k (stored y)) (key x) (stored x)) (one_key (key y) (key x) same)
+              ∙ over t (cell_of (key x)) (key x).epoch (stored y) (stored x)))
           | inr same ↦ rw (before, same) refl
         ]
       ]

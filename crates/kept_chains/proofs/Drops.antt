@@ -85,7 +85,8 @@ none_above : (es : List Held) (k : Key) (q : Cell) → in_cell q k ≡ true → 
 unfolding at
 none_above [] k q own above = refl
 none_above (e ∷ es) k q own above = elim (cases_Bool (in_cell q e.entry.key)) [
-  | inl is ↦ rw is (ap (λ (b : Bool). cond b (Some (stored_of e)) (lookup (is_at (nat_cmp k.epoch)) (chain_held q es))) (later_epoch q k e.entry.key above.0 own is)
+  | inl is ↦
+      rw is (ap (λ (b : Bool). cond b (Some (stored_of e)) (lookup (is_at (nat_cmp k.epoch)) (chain_held q es))) (later_epoch q k e.entry.key above.0 own is)
       ∙ none_above es k q own above.1)
   | inr is ↦ rw is (none_above es k q own above.1)
 ]

@@ -60,7 +60,8 @@ front_put (r ∷ rs) c row sorted none =
       | Greater ↦ λ more. absurd (none.0 more)
     ] refl
 
-front_of : (t : Table Cell Chain) (c : Cell) (row : ℕ × Stored) → IsSorted cell_cmp t → NoneBefore c t → put cell_cmp t c (row ∷ chain_in t c) ≡ in_front t c row
+front_of : (t : Table Cell Chain) (c : Cell) (row : ℕ × Stored) → IsSorted cell_cmp t → NoneBefore c t
+    → put cell_cmp t c (row ∷ chain_in t c) ≡ in_front t c row
 unfolding put at
 front_of t c row sorted none = front_put t c row sorted none
 

@@ -1,5 +1,6 @@
 -- Chains of entries in the order of their keys: what a read finds, versions and counts.
-use Rattle.std.proofs.Common.{◌&&◌, ◌≡◌, ◌≢◌, inl, inr, ℕ, ◌+◌, ◌≤◌, ◌<◌, Bool, true, false, cond, T, max, nat_lt, nat_le, List, [], ◌∷◌, length, Option, Some, None, refl, sym, subst, ap, ◌∙◌, arith}
+use Rattle.std.proofs.Common.{◌&&◌, ◌≡◌, ◌≢◌, inl, inr, ℕ, ◌+◌, ◌≤◌, ◌<◌, Bool, true, false, cond, T, max, nat_lt, nat_le, List, [], ◌∷◌}
+use Rattle.std.proofs.Common.{length, Option, Some, None, refl, sym, subst, ap, ◌∙◌, arith}
 use Rattle.std.specs.Prelude.{unwrap_or, option_map}
 use Rattle.std.proofs.lemmas.Bool.{cases_Bool}
 use Rattle.std.proofs.lemmas.Bool.Decides.{nat_tests}
@@ -72,12 +73,15 @@ pub version_le_top : (t : Table Cell Chain) (c : Cell) → version_of (chain_in 
 unfolding at
 version_le_top t c = looked_le t c
 
-top_inserted : (t : Table Cell Chain) (c : Cell) (row : ℕ × Stored) (chain : Chain) → looked c t ≡ chain → top_of (insert_entry cell_cmp t c (row ∷ chain)) ≡ max row.1.version (top_of t)
+top_inserted : (t : Table Cell Chain) (c : Cell) (row : ℕ × Stored) (chain : Chain) → looked c t ≡ chain
+    → top_of (insert_entry cell_cmp t c (row ∷ chain)) ≡ max row.1.version (top_of t)
 top_inserted [] c row chain is = let none : 0 ≡ version_of chain = ap version_of is in omega (arith, none)
 top_inserted (r ∷ rs) c row chain is =
     let rest = top_inserted rs c row chain in
     let least = looked_le rs c in
-    elim (cell_cmp c r.0) as (λ o. unwrap_or (cond (is_eq o) (Some r.1) (lookup (is_at (cell_cmp c)) rs)) [] ≡ chain → top_of (match_ordering o ((c, row ∷ chain) ∷ r ∷ rs) ((r.0, row ∷ chain) ∷ rs) (r ∷ insert_entry cell_cmp rs c (row ∷ chain))) ≡ max row.1.version (max (version_of r.1) (top_of rs))) [
+    elim (cell_cmp c r.0) as (λ o. unwrap_or (cond (is_eq o) (Some r.1) (lookup (is_at (cell_cmp c)) rs)) [] ≡ chain
+    → top_of (match_ordering o ((c, row ∷ chain) ∷ r ∷ rs) ((r.0, row ∷ chain) ∷ rs) (r ∷ insert_entry cell_cmp rs c (row ∷ chain)))
+    ≡ max row.1.version (max (version_of r.1) (top_of rs))) [
       | Less ↦ λ e. let same : version_of (looked c rs) ≡ version_of chain = ap version_of e in omega (arith, same, least)
       | Equal ↦ λ e. let same : version_of r.1 ≡ version_of chain = ap version_of e in omega (arith, same)
       | Greater ↦ λ e. let more = rest e in omega (arith, more)
@@ -115,12 +119,15 @@ counted_is : (t : Table Cell Chain) → entries_of t ≡ counted t
 counted_is [] = refl
 counted_is (r ∷ rs) = sum_by-cons (λ (row : Cell × Chain). length row.1) r rs ∙ ap (λ (n : ℕ). length r.1 + n) (counted_is rs)
 
-count_inserted : (t : Table Cell Chain) (c : Cell) (row : ℕ × Stored) (chain : Chain) → IsSorted cell_cmp t → looked c t ≡ chain → counted (insert_entry cell_cmp t c (row ∷ chain)) ≡ 1 + counted t
+count_inserted : (t : Table Cell Chain) (c : Cell) (row : ℕ × Stored) (chain : Chain) → IsSorted cell_cmp t → looked c t ≡ chain
+    → counted (insert_entry cell_cmp t c (row ∷ chain)) ≡ 1 + counted t
 count_inserted [] c row chain sorted is = let none : 0 ≡ length chain = ap length is in omega (arith, none)
 count_inserted (r ∷ rs) c row chain sorted is =
     let rest = count_inserted rs c row chain (both_second _ _ sorted) in
     let none = none_below c r.0 rs in
-    elim (cell_cmp c r.0) as (λ o. cell_cmp c r.0 ≡ o → unwrap_or (cond (is_eq o) (Some r.1) (lookup (is_at (cell_cmp c)) rs)) [] ≡ chain → counted (match_ordering o ((c, row ∷ chain) ∷ r ∷ rs) ((r.0, row ∷ chain) ∷ rs) (r ∷ insert_entry cell_cmp rs c (row ∷ chain))) ≡ 1 + (length r.1 + counted rs)) [
+    elim (cell_cmp c r.0) as (λ o. cell_cmp c r.0 ≡ o → unwrap_or (cond (is_eq o) (Some r.1) (lookup (is_at (cell_cmp c)) rs)) [] ≡ chain
+    → counted (match_ordering o ((c, row ∷ chain) ∷ r ∷ rs) ((r.0, row ∷ chain) ∷ rs) (r ∷ insert_entry cell_cmp rs c (row ∷ chain)))
+    ≡ 1 + (length r.1 + counted rs)) [
       | Less ↦ λ less e. let same : 0 ≡ length chain = ap length (sym (none less (both_first _ _ sorted)) ∙ e) in omega (arith, same)
       | Equal ↦ λ less e. let same : length r.1 ≡ length chain = ap length e in omega (arith, same)
       | Greater ↦ λ less e. let more = rest e in omega (arith, more)
@@ -156,12 +163,14 @@ module _ {A : Type 0} (key : A → Key) (stored : A → Stored) where
   in_own k = grind (arith, nat_tests)
 
   -- the first entry's row stands before those of its cell
-  pub new_first : (x : A) (xs : List A) → IsInOrder key (x ∷ xs) → put nat_cmp (chain_in (chains_by key stored xs) (cell_of (key x))) (key x).epoch (stored x) ≡ ((key x).epoch, stored x) ∷ chain_in (chains_by key stored xs) (cell_of (key x))
+  pub new_first : (x : A) (xs : List A) → IsInOrder key (x ∷ xs) → put nat_cmp (chain_in (chains_by key stored xs) (cell_of (key x))) (key x).epoch
+      (stored x) ≡ ((key x).epoch, stored x) ∷ chain_in (chains_by key stored xs) (cell_of (key x))
   new_first x xs order =
       let own = chain_is xs (cell_of (key x)) order.1 in
       rw own (put_front (key x).epoch (stored x) _ (starts_above (key x) (cell_of (key x)) xs (in_own (key x)) order.0))
 
-  pub top_is : (x : A) (xs : List A) → IsInOrder key (x ∷ xs) → top_of (chains_by key stored (x ∷ xs)) ≡ max (stored x).version (top_of (chains_by key stored xs))
+  pub top_is : (x : A) (xs : List A) → IsInOrder key (x ∷ xs)
+      → top_of (chains_by key stored (x ∷ xs)) ≡ max (stored x).version (top_of (chains_by key stored xs))
   top_is x xs order = rw (new_first x xs order) (top_put (chains_by key stored xs) (cell_of (key x)) ((key x).epoch, stored x))
 
   counted_by : (xs : List A) → IsInOrder key xs → counted (chains_by key stored xs) ≡ length xs
@@ -175,11 +184,13 @@ module _ {A : Type 0} (key : A → Key) (stored : A → Stored) where
   pub count_is : (xs : List A) → IsInOrder key xs → entries_of (chains_by key stored xs) ≡ length xs
   count_is xs order = counted_is (chains_by key stored xs) ∙ counted_by xs order
 
-  later_of : (x : A) (o : Option A) → ((y : A) → o ≡ Some y → (key x).epoch < (key y).epoch) → Some (or_else (option_map stored o) (stored x)) ≡ option_map stored (later key (Some x) o)
+  later_of : (x : A) (o : Option A) → ((y : A) → o ≡ Some y → (key x).epoch < (key y).epoch)
+      → Some (or_else (option_map stored o) (stored x)) ≡ option_map stored (later key (Some x) o)
   later_of x None up = refl
   later_of x (Some y) up = let less = up y refl in grind (arith, nat_tests, less)
 
-  joined_above : (k : Key) (x y : A) (o : Option A) → key_below k (key x) ≡ true → (o ≡ Some y → key_below k (key y) ≡ true) → later key (Some x) o ≡ Some y → key_below k (key y) ≡ true
+  joined_above : (k : Key) (x y : A) (o : Option A) → key_below k (key x) ≡ true → (o ≡ Some y → key_below k (key y) ≡ true)
+      → later key (Some x) o ≡ Some y → key_below k (key y) ≡ true
   joined_above k x y None up rest is = grind (arith, nat_tests)
   joined_above k x y (Some z) up rest is = elim (cases_Bool (nat_lt (key x).epoch (key z).epoch)) [
     | inl less ↦ rest (rw less at is)
@@ -193,7 +204,8 @@ module _ {A : Type 0} (key : A → Key) (stored : A → Stored) where
     | inr seen ↦ newest_above k j xs y above.1 (rw seen at is)
   ]
 
-  joined_seen : (j : Key) (x y : A) (o : Option A) → sees j (key x) ≡ true → (o ≡ Some y → sees j (key y) ≡ true) → later key (Some x) o ≡ Some y → sees j (key y) ≡ true
+  joined_seen : (j : Key) (x y : A) (o : Option A) → sees j (key x) ≡ true → (o ≡ Some y → sees j (key y) ≡ true)
+      → later key (Some x) o ≡ Some y → sees j (key y) ≡ true
   joined_seen j x y None own rest is = let same : x ≡ y = cc in subst (λ (a : A). sees j (key a) ≡ true) same own
   joined_seen j x y (Some z) own rest is = elim (cases_Bool (nat_lt (key x).epoch (key z).epoch)) [
     | inl less ↦ rest (rw less at is)
@@ -229,12 +241,14 @@ module _ {A : Type 0} (key : A → Key) (stored : A → Stored) where
         | inl is ↦ elim (cases_Bool (nat_le (key x).epoch k.epoch)) [
           | inl le ↦
               let seen : sees k (key x) ≡ true = rw (sees_is k (key x), is, le) refl in
-              rw (is, le, rest) (later_of x (newest key k xs) (λ y found. later_epoch k (key x) (key y) seen (newest_seen k xs y found) (newest_above (key x) k xs y order.0 found)))
+              rw (is, le, rest) (later_of x (newest key k xs)
+              (λ y found. later_epoch k (key x) (key y) seen (newest_seen k xs y found) (newest_above (key x) k xs y order.0 found)))
           | inr le ↦
               rw (is, le) (ap (option_map stored) (sym (none_past k (key x) xs is le order.0)))
         ]
         | inr is ↦ rw is rest
       ]
 
-  pub entry_is : (xs : List A) (k : Key) → IsInOrder key xs → entry_at (chain_in (chains_by key stored xs) (cell_of k)) k.epoch ≡ option_map stored (newest key k xs)
+  pub entry_is : (xs : List A) (k : Key) → IsInOrder key xs
+      → entry_at (chain_in (chains_by key stored xs) (cell_of k)) k.epoch ≡ option_map stored (newest key k xs)
   entry_is xs k order = ap (λ (chain : Chain). entry_at chain k.epoch) (chain_is xs (cell_of k) order) ∙ entry_by xs k order

@@ -42,7 +42,8 @@ bytes_are None = refl
 bytes_are (Some held) = refl
 
 -- what a read gives
-pub content_is : (es : List Held) (k : Key) → IsInOrder key_held es → content_of (newest key_held k es) ≡ rules.bytes_of (rules.entry_at (rules.chain_in (chains_of es) (cell_of k)) k.epoch)
+pub content_is : (es : List Held) (k : Key) → IsInOrder key_held es
+    → content_of (newest key_held k es) ≡ rules.bytes_of (rules.entry_at (rules.chain_in (chains_of es) (cell_of k)) k.epoch)
 content_is es k order = sym (ap rules.bytes_of (entry_is key_held stored_of es k order) ∙ bytes_are (newest key_held k es))
 
 -- a put of an entry

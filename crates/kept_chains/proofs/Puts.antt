@@ -20,10 +20,12 @@ module _ {K X : Type 0} (R : K → K → Ordering) where
   put_over o [] k x y = ap (λ r. match_ordering r ((k, y) ∷ (k, x) ∷ []) ((k, y) ∷ []) ((k, x) ∷ (k, y) ∷ [])) (tied_itself o k)
   put_over o (e ∷ es) k x y =
       let rest = put_over o es k x y in
-      elim (R k e.0) as (λ r. R k e.0 ≡ r → insert_entry R (match_ordering r ((k, x) ∷ e ∷ es) ((e.0, x) ∷ es) (e ∷ insert_entry R es k x)) k y ≡ match_ordering r ((k, y) ∷ e ∷ es) ((e.0, y) ∷ es) (e ∷ insert_entry R es k y)) [
+      elim (R k e.0) as (λ r. R k e.0 ≡ r → insert_entry R (match_ordering r ((k, x) ∷ e ∷ es) ((e.0, x) ∷ es) (e ∷ insert_entry R es k x)) k y
+      ≡ match_ordering r ((k, y) ∷ e ∷ es) ((e.0, y) ∷ es) (e ∷ insert_entry R es k y)) [
         | Less ↦ λ is. ap (λ r. match_ordering r ((k, y) ∷ (k, x) ∷ e ∷ es) ((k, y) ∷ e ∷ es) ((k, x) ∷ insert_entry R (e ∷ es) k y)) (tied_itself o k)
         | Equal ↦ λ is. ap (λ r. match_ordering r ((k, y) ∷ (e.0, x) ∷ es) ((e.0, y) ∷ es) ((e.0, x) ∷ insert_entry R es k y)) is
-        | Greater ↦ λ is. ap (λ r. match_ordering r ((k, y) ∷ e ∷ insert_entry R es k x) ((e.0, y) ∷ insert_entry R es k x) (e ∷ insert_entry R (insert_entry R es k x) k y)) is ∙ ap (λ more. e ∷ more) rest
+        | Greater ↦ λ is. ap (λ r. match_ordering r ((k, y) ∷ e ∷ insert_entry R es k x) ((e.0, y) ∷ insert_entry R es k x)
+            (e ∷ insert_entry R (insert_entry R es k x) k y)) is ∙ ap (λ more. e ∷ more) rest
       ] refl
 
   -- what is put and taken out again was never there
@@ -33,10 +35,12 @@ module _ {K X : Type 0} (R : K → K → Ordering) where
   without_put o (e ∷ es) k x =
       let left : Table K X → Table K X = filter (λ (row : K × X). not (is_at (R k) row.0)) in
       let rest = without_put o es k x in
-      elim (R k e.0) as (λ r. R k e.0 ≡ r → filter (λ row. not (is_at (R k) row.0)) (match_ordering r ((k, x) ∷ e ∷ es) ((e.0, x) ∷ es) (e ∷ insert_entry R es k x)) ≡ filter (λ row. not (is_at (R k) row.0)) (e ∷ es)) [
+      elim (R k e.0) as (λ r. R k e.0 ≡ r → filter (λ row. not (is_at (R k) row.0))
+      (match_ordering r ((k, x) ∷ e ∷ es) ((e.0, x) ∷ es) (e ∷ insert_entry R es k x)) ≡ filter (λ row. not (is_at (R k) row.0)) (e ∷ es)) [
         | Less ↦ λ is. ap (λ r. cond (not (is_eq r)) ((k, x) ∷ left (e ∷ es)) (left (e ∷ es))) (tied_itself o k)
         | Equal ↦ λ is. ap (λ r. cond (not (is_eq r)) ((e.0, x) ∷ left es) (left es)) is ∙ sym (ap (λ r. cond (not (is_eq r)) (e ∷ left es) (left es)) is)
-        | Greater ↦ λ is. ap (λ r. cond (not (is_eq r)) (e ∷ left (insert_entry R es k x)) (left (insert_entry R es k x))) is ∙ ap (λ more. e ∷ more) rest ∙ sym (ap (λ r. cond (not (is_eq r)) (e ∷ left es) (left es)) is)
+        | Greater ↦ λ is. ap (λ r. cond (not (is_eq r)) (e ∷ left (insert_entry R es k x)) (left (insert_entry R es k x))) is ∙ ap (λ more. e ∷ more) rest
+            ∙ sym (ap (λ r. cond (not (is_eq r)) (e ∷ left es) (left es)) is)
       ] refl
 
   -- where nothing stands at a key, nothing is taken out
@@ -45,7 +49,8 @@ module _ {K X : Type 0} (R : K → K → Ordering) where
   without_none [] k none = refl
   without_none (e ∷ es) k none =
       let rest = without_none es k in
-      elim (is_eq (R k e.0)) as (λ b. cond b (Some e.1) (lookup (is_at (R k)) es) ≡ None → cond (not b) (e ∷ filter (λ row. not (is_at (R k) row.0)) es) (filter (λ row. not (is_at (R k) row.0)) es) ≡ e ∷ es) [
+      elim (is_eq (R k e.0)) as (λ b. cond b (Some e.1) (lookup (is_at (R k)) es) ≡ None
+      → cond (not b) (e ∷ filter (λ row. not (is_at (R k) row.0)) es) (filter (λ row. not (is_at (R k) row.0)) es) ≡ e ∷ es) [
         | true ↦ λ found. absurd (cc)
         | false ↦ λ found. ap (λ more. e ∷ more) (rest found)
       ] none
@@ -68,7 +73,8 @@ module _ {K X : Type 0} (R : K → K → Ordering) where
   put_same o [] k x sorted is = absurd (cc)
   put_same o (e ∷ es) k x sorted is =
       let rest = put_same o es k x sorted.1 in
-      elim (R k e.0) as (λ r. R k e.0 ≡ r → cond (is_eq r) (Some e.1) (lookup (is_at (R k)) es) ≡ Some x → match_ordering r ((k, x) ∷ e ∷ es) ((e.0, x) ∷ es) (e ∷ insert_entry R es k x) ≡ e ∷ es) [
+      elim (R k e.0) as (λ r. R k e.0 ≡ r → cond (is_eq r) (Some e.1) (lookup (is_at (R k)) es) ≡ Some x
+      → match_ordering r ((k, x) ∷ e ∷ es) ((e.0, x) ∷ es) (e ∷ insert_entry R es k x) ≡ e ∷ es) [
         | Less ↦ λ less found. absurd (let none = none_before o k e.0 less es sorted.0 in let h = sym none ∙ found in cc)
         | Equal ↦ λ same found. ap (λ v. (e.0, v) ∷ es) (sym (same_value e.1 x found))
         | Greater ↦ λ more found. ap (λ rows. e ∷ rows) (rest found)
@@ -88,7 +94,8 @@ module _ {K X : Type 0} (R : K → K → Ordering) where
   insert_is_put [] k x = refl
   insert_is_put (e ∷ es) k x =
       let later = insert_is_put es k x in
-      elim (R k e.0) as (λ o. match_ordering o ((k, x) ∷ e ∷ es) ((e.0, x) ∷ es) (e ∷ insert_entry R es k x) ≡ rows.by_order o ((k, x) ∷ e ∷ es) ((e.0, x) ∷ es) (e ∷ rows.put R k x es)) [
+      elim (R k e.0) as (λ o. match_ordering o ((k, x) ∷ e ∷ es) ((e.0, x) ∷ es) (e ∷ insert_entry R es k x)
+      ≡ rows.by_order o ((k, x) ∷ e ∷ es) ((e.0, x) ∷ es) (e ∷ rows.put R k x es)) [
         | Less ↦ refl
         | Equal ↦ refl
         | Greater ↦ ap (λ more. e ∷ more) later
@@ -109,9 +116,11 @@ module _ {K X : Type 0} (R : K → K → Ordering) where
   swapped false b x y z apart = refl
 
   -- puts at two keys may come in either order
-  pub put_swap : IsTotalOrder R → ((a b : K) → R a b ≡ Equal → a ≡ b) → (t : Table K X) (k j : K) (x y : X) → k ≢ j → IsSorted R t → put R (put R t k x) j y ≡ put R (put R t j y) k x
+  pub put_swap : IsTotalOrder R → ((a b : K) → R a b ≡ Equal → a ≡ b) → (t : Table K X) (k j : K) (x y : X) → k ≢ j → IsSorted R t
+      → put R (put R t k x) j y ≡ put R (put R t j y) k x
   put_swap o same t k j x y apart h =
-      rows.same_entries R o same (put R (put R t k x) j y) (put R (put R t j y) k x) (sorted_put o _ j y (sorted_put o t k x h)) (sorted_put o _ k x (sorted_put o t j y h))
+      rows.same_entries R o same (put R (put R t k x) j y) (put R (put R t j y) k x) (sorted_put o _ j y (sorted_put o t k x h))
+      (sorted_put o _ k x (sorted_put o t j y h))
       (λ q. at_is_find q _ ∙ at-put o _ j y q ∙ ap (cond (eq_by_cmp R q j) (Some y)) (at-put o t k x q)
       ∙ swapped (eq_by_cmp R q j) (eq_by_cmp R q k) (Some y) (Some x) (at R t q) (λ a b. apart (sym (same q k (tied _ b)) ∙ same q j (tied _ a)))
       ∙ sym (ap (cond (eq_by_cmp R q k) (Some x)) (at-put o t j y q)) ∙ sym (at-put o _ k x q) ∙ sym (at_is_find q _))

@@ -1,5 +1,6 @@
 -- What a walk over the entries or the marks finds.
-use Rattle.std.proofs.Common.{◌≡◌, inl, inr, ℕ, zero, suc, ◌<◌, ◌==◌, ◌&&◌, ◌||◌, Bool, true, false, cond, T, nat_le, nat_lt, List, [], ◌∷◌, map, Option, Some, None, is_some, option_map, refl, sym, subst, ap, ◌∙◌, arith}
+use Rattle.std.proofs.Common.{◌≡◌, inl, inr, ℕ, zero, suc, ◌<◌, ◌==◌, ◌&&◌, ◌||◌, Bool, true, false, cond, T, nat_le, nat_lt, List, [], ◌∷◌, map}
+use Rattle.std.proofs.Common.{Option, Some, None, is_some, option_map, refl, sym, subst, ap, ◌∙◌, arith}
 use Rattle.std.proofs.lemmas.Bool.{cases_Bool}
 use Rattle.std.proofs.lemmas.Bool.Decides.{nat_tests}
 use Rattle.std.proofs.lemmas.Option.{slice_get-map}
@@ -93,7 +94,8 @@ module _ (of : ℕ) (after : Option ℕ) where
   walked_inserted (row ∷ later) c chain =
       let rest = walked_inserted later c chain in
       elim (cell_cmp c row.0) as (λ o. cell_cmp c row.0 ≡ o
-      → walked (match_ordering o ((c, chain) ∷ row ∷ later) ((row.0, chain) ∷ later) (row ∷ insert_entry cell_cmp later c chain)) ≡ step c (step row.0 (walked later))) [
+      → walked (match_ordering o ((c, chain) ∷ row ∷ later) ((row.0, chain) ∷ later) (row ∷ insert_entry cell_cmp later c chain))
+      ≡ step c (step row.0 (walked later))) [
         | Less ↦ λ _. refl
         | Equal ↦ λ tie. sym (ap (λ (d : Cell). step d (step row.0 (walked later))) (cell_cmp_same c row.0 tie) ∙ step_twice row.0 (walked later))
         | Greater ↦ λ _. ap (step row.0) rest ∙ step_swap row.0 c (walked later)
@@ -151,7 +153,8 @@ epochs_are (e ∷ es) cell = elim (cases_Bool (in_cell cell e.entry.key)) [
 ]
 
 pub nth_is : (es : List Held) (cell : Cell) (place : ℕ) → IsInOrder key_held es
-    → option_map (λ (e : Entry). (e.key.epoch, e.version)) (slice_get (chain_of cell (listed es)) place) ≡ option_map place_of (slice_get (chain_in (chains_of es) cell) place)
+    → option_map (λ (e : Entry). (e.key.epoch, e.version)) (slice_get (chain_of cell (listed es)) place)
+    ≡ option_map place_of (slice_get (chain_in (chains_of es) cell) place)
 nth_is es cell place order =
     sym (slice_get-map (λ (e : Entry). (e.key.epoch, e.version)) (chain_of cell (listed es)) place)
     ∙ ap (λ (l : List (ℕ × ℕ)). slice_get l place) (places_are es cell)
@@ -200,13 +203,15 @@ at_epochs (row ∷ rows) epoch =
     ap (λ b. b || list_any (nat_eq epoch) (epochs_of rows)) (sym tie)
     ∙ some_if (is_eq (nat_cmp epoch row.0)) (list_any (nat_eq epoch) (epochs_of rows)) row.1 (at nat_cmp rows epoch) (at_epochs rows epoch)
 
-any_epoch : (es : List Entry) (epoch : ℕ) → list_any (λ (e : Entry). nat_eq epoch e.key.epoch) es ≡ list_any (nat_eq epoch) (map (λ (e : Entry). e.key.epoch) es)
+any_epoch : (es : List Entry) (epoch : ℕ)
+    → list_any (λ (e : Entry). nat_eq epoch e.key.epoch) es ≡ list_any (nat_eq epoch) (map (λ (e : Entry). e.key.epoch) es)
 any_epoch [] epoch = refl
 any_epoch (e ∷ es) epoch = ap (λ b. nat_eq epoch e.key.epoch || b) (any_epoch es epoch)
 
 -- an entry has a key where the chain of its cell has its epoch
 pub has_is : (es : List Held) (k : Key) → IsInOrder key_held es
-    → list_any (λ (e : Entry). nat_eq k.epoch e.key.epoch) (chain_of (cell_of k) (listed es)) ≡ is_some (at nat_cmp (chain_in (chains_of es) (cell_of k)) k.epoch)
+    → list_any (λ (e : Entry). nat_eq k.epoch e.key.epoch) (chain_of (cell_of k) (listed es))
+    ≡ is_some (at nat_cmp (chain_in (chains_of es) (cell_of k)) k.epoch)
 has_is es k order =
     any_epoch (chain_of (cell_of k) (listed es)) k.epoch
     ∙ ap (list_any (nat_eq k.epoch)) (epochs_is es (cell_of k) order)
@@ -302,7 +307,8 @@ entry_there (r ∷ rs) e x sorted is =
           let same : e ≡ r.0 = grind (arith, nat_tests, tie) in
           let own : r.1 ≡ x = (let o : Some r.1 ≡ Some x = rw (unsigned_tied e r.0 ∙ tie) at is in cc) in
           let not_over : nat_le r.0 e ≡ true = grind (arith, nat_tests, same) in
-          rw not_over (ap (λ (o : Option Stored). Some (or_else o r.1)) (ap (entry_at rs) same ∙ none_at rs r.0 (first_of _ _ sorted)) ∙ ap (λ (y : Stored). Some y) own)
+          rw not_over (ap (λ (o : Option Stored). Some (or_else o r.1)) (ap (entry_at rs) same ∙ none_at rs r.0 (first_of _ _ sorted))
+          ∙ ap (λ (y : Stored). Some y) own)
       | inr apart ↦
           let there : at nat_cmp rs e ≡ Some x = rw (unsigned_tied e r.0 ∙ apart) at is in
           let less = later there in

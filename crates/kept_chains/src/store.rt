@@ -1,11 +1,13 @@
 //! Calls of a store, said as the rules say them.
 
-ghost use Rattle.std.specs.Prelude.{◌≡◌, ◌+◌, ◌-◌, ◌^◌, ◌<◌, ◌++◌, ◌∷◌, [], length, nat_lt, Contains, IfOk, IfErr, IfSome, IfNone, OnOk, OnErr, IsErrOf, is_some, nat_eq, true};
+ghost use Rattle.std.specs.Prelude.{◌≡◌, ◌+◌, ◌-◌, ◌^◌, ◌<◌, ◌++◌, ◌∷◌, [], length, nat_lt, Contains, IfOk, IfErr, IfSome, IfNone};
+ghost use Rattle.std.specs.Prelude.{OnOk, OnErr, IsErrOf, is_some, nat_eq, true};
 ghost use Rattle.std.specs.List.{list_any};
 ghost use Rattle.petal_base.specs.Cells.{cell_of};
 ghost use Rattle.petal_disk.specs.Faults.{HasCause};
 ghost use Rattle.petal_disk.specs.Keeping.{KeepsDevice};
-ghost use Rattle.petal_rules.specs.Store.{bytes_of, chain_in, entry_at, epochs_of, free_of, settled, version_of, top_of, with_mark_on, without_entry, without_mark_on};
+ghost use Rattle.petal_rules.specs.Store.{bytes_of, chain_in, entry_at, epochs_of, free_of, settled, version_of, top_of};
+ghost use Rattle.petal_rules.specs.Store.{with_mark_on, without_entry, without_mark_on};
 ghost use Rattle.physical_map.specs.Entries as map;
 ghost use Rattle.server_store.specs.Errors.{IsCommitError};
 ghost use Rattle.server_store.specs.Holdings.{listed};

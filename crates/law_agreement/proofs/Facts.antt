@@ -40,7 +40,8 @@ Asked w p b v = In (sent b.server (Accept p b v)) w.letters
 -- a majority has promised past c, and whoever of it voted in c voted for v: nothing but v can ever be chosen in c
 abbrev pub IsShut : ℕ → World → ℕ → ℕ → Command → Type 0
 IsShut n w p c v =
-    (who : ℕ → Bool) × IsMajority n who × ((s : ℕ) → who s ≡ true → (c + 2 ≤ promised w s p) × ((d : Ballot) (u : Command) → In (vote s p d u) w.votes → number d ≡ c → u ≡ v))
+    (who : ℕ → Bool) × IsMajority n who
+    × ((s : ℕ) → who s ≡ true → (c + 2 ≤ promised w s p) × ((d : Ballot) (u : Command) → In (vote s p d u) w.votes → number d ≡ c → u ≡ v))
 
 abbrev pub IsSafe : ℕ → World → ℕ → Ballot → Command → Type 0
 IsSafe n w p b v = (c : ℕ) → c < number b → IsShut n w p c v
@@ -59,7 +60,8 @@ abbrev pub Knows : World → ℕ → Option Phase → Type 0
 Knows w s None = ⊤
 Knows w s (Some Idle) = ⊤
 Knows w s (Some (Collecting p b want heard best)) =
-    (b.server ≡ s) × (s < 256) × HasPromised w s p b × ((k : ℕ) → is_in heard k ≡ true → HasPromised w k p b × IsGreatestBelow w k p (rank_of best) b) × SomeoneCast w p best
+    (b.server ≡ s) × (s < 256) × HasPromised w s p b × ((k : ℕ) → is_in heard k ≡ true → HasPromised w k p b × IsGreatestBelow w k p (rank_of best) b)
+    × SomeoneCast w p best
 Knows w s (Some (Voting p b v heard)) = Asked w p b v × ((k : ℕ) → is_in heard k ≡ true → In (vote k p b v) w.votes)
 
 -- while a proposer collects, its ballot has asked for no vote

@@ -40,6 +40,11 @@ later_backed n w v l from (Chosen p x) h = later_chosen n w v l p x h
 pub later_knows : (w v : World) → IsLater w v → (s : ℕ) (q : Option Phase) → Knows w s q → Knows v s q
 later_knows w v l s None h = h
 later_knows w v l s (Some Idle) h = h
-later_knows w v l s (Some (Collecting p b want heard best)) h =
-    (h.0, h.1, later_promised w v l s p b h.2, λ k i. (later_promised w v l k p b (h.3 k i).0, later_greatest w v l k p _ b (h.3 k i).0 (h.3 k i).1), later_someone w v l p best h.4)
+later_knows w v l s (Some (Collecting p b want heard best)) h = (
+  h.0,
+  h.1,
+  later_promised w v l s p b h.2,
+  λ k i. (later_promised w v l k p b (h.3 k i).0, later_greatest w v l k p _ b (h.3 k i).0 (h.3 k i).1),
+  later_someone w v l p best h.4,
+)
 later_knows w v l s (Some (Voting p b x heard)) h = (l.letters _ _ h.0, λ k i. l.votes _ (h.1 k i))

@@ -23,15 +23,18 @@ pub put_cases : {A : Type 0} (f : ℕ → A) (k : ℕ) (x : A) (j : ℕ) → ((j
 unfolding put
 put_cases f k x j = by f k x j (j == k) refl
   where
-    by : {A : Type 0} (f : ℕ → A) (k : ℕ) (x : A) (j : ℕ) (b : Bool) → (j == k) ≡ b → ((j ≡ k) × ((if b then x else f j) ≡ x)) ⊎ ((j ≢ k) × ((if b then x else f j) ≡ f j))
+    by : {A : Type 0} (f : ℕ → A) (k : ℕ) (x : A) (j : ℕ) (b : Bool) → (j == k) ≡ b
+        → ((j ≡ k) × ((if b then x else f j) ≡ x)) ⊎ ((j ≢ k) × ((if b then x else f j) ≡ f j))
     by f k x j true e = inl (grind (arith, nat_tests), refl)
     by f k x j false e = inr (grind (arith, nat_tests), refl)
 
-pub put_at_cases : {A : Type 0} (f : ℕ → ℕ → A) (s p : ℕ) (x : A) (i j : ℕ) → ((i ≡ s) × (j ≡ p) × (put_at f s p x i j ≡ x)) ⊎ (((i ≢ s) ⊎ (j ≢ p)) × (put_at f s p x i j ≡ f i j))
+pub put_at_cases : {A : Type 0} (f : ℕ → ℕ → A) (s p : ℕ) (x : A) (i j : ℕ)
+    → ((i ≡ s) × (j ≡ p) × (put_at f s p x i j ≡ x)) ⊎ (((i ≢ s) ⊎ (j ≢ p)) × (put_at f s p x i j ≡ f i j))
 unfolding put_at
 put_at_cases f s p x i j = by f s p x i j (i == s) (j == p) refl refl
   where
-    by : {A : Type 0} (f : ℕ → ℕ → A) (s p : ℕ) (x : A) (i j : ℕ) (b c : Bool) → (i == s) ≡ b → (j == p) ≡ c → ((i ≡ s) × (j ≡ p) × ((if b && c then x else f i j) ≡ x)) ⊎ (((i ≢ s) ⊎ (j ≢ p)) × ((if b && c then x else f i j) ≡ f i j))
+    by : {A : Type 0} (f : ℕ → ℕ → A) (s p : ℕ) (x : A) (i j : ℕ) (b c : Bool) → (i == s) ≡ b → (j == p) ≡ c
+        → ((i ≡ s) × (j ≡ p) × ((if b && c then x else f i j) ≡ x)) ⊎ (((i ≢ s) ⊎ (j ≢ p)) × ((if b && c then x else f i j) ≡ f i j))
     by f s p x i j true true d e = inl (grind (arith, nat_tests), grind (arith, nat_tests), refl)
     by f s p x i j true false d e = inr (inr (grind (arith, nat_tests)), refl)
     by f s p x i j false c d e = inr (inl (grind (arith, nat_tests)), refl)

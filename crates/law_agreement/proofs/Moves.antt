@@ -1,5 +1,6 @@
 -- The moves that an event is made of: each keeps what holds.
-use Rattle.std.proofs.Common.{ℕ, zero, suc, ◌+◌, ◌≤◌, ◌<◌, Bool, true, false, ◌≡◌, ◌≢◌, ◌⊎◌, inl, inr, List, ◌∷◌, get_or, replicate, Option, Some, None, arith, refl, sym, ap, subst, ◌∙◌}
+use Rattle.std.proofs.Common.{ℕ, zero, suc, ◌+◌, ◌≤◌, ◌<◌, Bool, true, false, ◌≡◌, ◌≢◌, ◌⊎◌, inl, inr, List, ◌∷◌, get_or, replicate}
+use Rattle.std.proofs.Common.{Option, Some, None, arith, refl, sym, ap, subst, ◌∙◌}
 use Rattle.std.specs.Prelude.{⊤}
 use Rattle.petal_command.specs.declared.ballot.Ballot.{Ballot}
 use Rattle.petal_command.specs.declared.command.Command.{Command}
@@ -25,7 +26,8 @@ at_put P f k x new old j = elim (put_cases f k x j) [ inl c ↦ rw (c.1, c.0) ne
 pub keep_later : (w : World) (s p : ℕ) (a : Acceptor) → promised w s p ≤ rank a.promised → IsLater w (keep w s p a)
 keep_later w s p a h = record { rises = grind (arith, put_at_cases); letters = λ f x i. i; votes = λ x i. i; fresh = λ s p d u i. inl i }
 
-pub keep_holds : (n : ℕ) (w : World) → Holds n w → (s p : ℕ) (a : Acceptor) → promised w s p ≤ rank a.promised → a.accepted ≡ (w.acceptors s p).accepted → Holds n (keep w s p a)
+pub keep_holds : (n : ℕ) (w : World) → Holds n w → (s p : ℕ) (a : Acceptor) → promised w s p ≤ rank a.promised → a.accepted ≡ (w.acceptors s p).accepted
+    → Holds n (keep w s p a)
 keep_holds n w h s p a up e =
     let l = keep_later w s p a up in
     record {
@@ -45,18 +47,27 @@ abbrev pub cast_in : World → ℕ → ℕ → Ballot → Command → World
 cast_in w s p b v = cast (keep w s p (accept b v)) (vote s p b v)
 
 pub cast_later : (w : World) (s p : ℕ) (b : Ballot) (v : Command) → promised w s p ≤ number b + 1 → IsLater w (cast_in w s p b v)
-cast_later w s p b v h = record { rises = grind (arith, put_at_cases); letters = λ f x i. i; votes = grind (arith, in_there {X = Vote}); fresh = grind (arith, in_cons {X = Vote}) }
+cast_later w s p b v h =
+    record { rises = grind (arith, put_at_cases); letters = λ f x i. i; votes = grind (arith, in_there {X = Vote}); fresh = grind (arith, in_cons {X = Vote}) }
 
-pub cast_holds : (n : ℕ) (w : World) → Holds n w → (s p : ℕ) (b : Ballot) (v : Command) → promised w s p ≤ number b + 1 → Asked w p b v → Holds n (cast_in w s p b v)
+pub cast_holds : (n : ℕ) (w : World) → Holds n w → (s p : ℕ) (b : Ballot) (v : Command) → promised w s p ≤ number b + 1 → Asked w p b v
+    → Holds n (cast_in w s p b v)
 cast_holds n w h s p b v up asked =
     let l = cast_later w s p b v up in
     record {
       backed = λ f x i. later_backed n w _ l f x (h.backed f x i);
       knows = λ i. later_knows w _ l i _ (h.knows i);
       not_asked = h.not_asked;
-      asked = λ i j d u x. elim (in_cons _ _ _ x) [ inl new ↦ let p_is : j ≡ p = cc in let b_is : d ≡ b = cc in let v_is : u ≡ v = cc in rw (p_is, b_is, v_is) asked | inr old ↦ h.asked i j d u old ];
+      asked = λ i j d u x. elim (in_cons _ _ _ x) [
+        | inl new ↦ let p_is : j ≡ p = cc in let b_is : d ≡ b = cc in let v_is : u ≡ v = cc in
+            rw (p_is, b_is, v_is) asked
+        | inr old ↦ h.asked i j d u old
+      ];
       voted = grind (arith, in_cons {X = Vote}, put_at_cases, h.voted);
-      accepted = λ i j. elim (put_at_cases w.acceptors s p (accept b v) i j) [ inl c ↦ rw (c.2, c.0, c.1) (in_here _ _) | inr c ↦ rw c.1 (later_cast w _ l i j _ (h.accepted i j)) ];
+      accepted = λ i j. elim (put_at_cases w.acceptors s p (accept b v) i j) [
+        | inl c ↦ rw (c.2, c.0, c.1) (in_here _ _)
+        | inr c ↦ rw c.1 (later_cast w _ l i j _ (h.accepted i j))
+      ];
       one = h.one;
       learnt = λ i j u e. later_chosen n w _ l j u (h.learnt i j u e);
     }
@@ -72,8 +83,10 @@ sent_later w s l = record { rises = λ s p. omega arith; letters = λ f x i. in_
 turned_later : (w : World) (s : ℕ) (l : Pax) (q : Option Phase) → IsLater w (turn (send w s l) s q)
 turned_later w s l q = record { rises = λ s p. omega arith; letters = λ f x i. in_there _ _ _ i; votes = λ x i. i; fresh = λ s p d u i. inl i }
 
-backed_one_more : (n : ℕ) (w : World) → Holds n w → (s : ℕ) (l : Pax) → IsBacked n w s l → (f : ℕ) (x : Pax) → In (sent f x) (sent s l ∷ w.letters) → IsBacked n w f x
-backed_one_more n w h s l fact f x i = elim (in_cons (sent f x) (sent s l) w.letters i) [ inl e ↦ let of : f ≡ s = cc in let is : x ≡ l = cc in rw (of, is) fact | inr old ↦ h.backed f x old ]
+backed_one_more : (n : ℕ) (w : World) → Holds n w → (s : ℕ) (l : Pax) → IsBacked n w s l → (f : ℕ) (x : Pax)
+    → In (sent f x) (sent s l ∷ w.letters) → IsBacked n w f x
+backed_one_more n w h s l fact f x i =
+    elim (in_cons (sent f x) (sent s l) w.letters i) [ inl e ↦ let of : f ≡ s = cc in let is : x ≡ l = cc in rw (of, is) fact | inr old ↦ h.backed f x old ]
 
 -- a quiet letter asks for nothing
 asked_before : (w : World) (s : ℕ) (l : Pax) → IsQuiet l → (p : ℕ) (d : Ballot) (v : Command) → Asked (send w s l) p d v → Asked w p d v
@@ -129,7 +142,16 @@ learn_holds n w h s p v fact = record {
 }
 
 pub raise_holds : (n : ℕ) (w : World) → Holds n w → (s : ℕ) → Holds n (raise w s)
-raise_holds n w h s = record { backed = h.backed; knows = h.knows; not_asked = h.not_asked; asked = h.asked; voted = h.voted; accepted = h.accepted; one = h.one; learnt = h.learnt }
+raise_holds n w h s = record {
+  backed = h.backed;
+  knows = h.knows;
+  not_asked = h.not_asked;
+  asked = h.asked;
+  voted = h.voted;
+  accepted = h.accepted;
+  one = h.one;
+  learnt = h.learnt;
+}
 
 -- the promise that completes a majority: the ballot asks for votes
 
@@ -148,17 +170,20 @@ unfolding nobody
 not_in_nobody k e = let f = none_in 256 k in cc
 
 -- whoever else collects does so for another ballot
-other_ballot : (w : World) (p : ℕ) (b : Ballot) (v : Command) (s j : ℕ) (r q : Option Phase) → b.server ≡ s → b.server < 256 → j ≢ s → Knows w j q → HasNotAsked w q → HasNotAsked (turn (send w s (Accept p b v)) s r) q
+other_ballot : (w : World) (p : ℕ) (b : Ballot) (v : Command) (s j : ℕ) (r q : Option Phase) → b.server ≡ s → b.server < 256 → j ≢ s → Knows w j q
+    → HasNotAsked w q → HasNotAsked (turn (send w s (Accept p b v)) s r) q
 other_ballot w p b v s j r None e lt away k h = h
 other_ballot w p b v s j r (Some Idle) e lt away k h = h
 other_ballot w p b v s j r (Some (Collecting place ballot want who best)) e lt away k h = λ d u i same. elim (in_cons _ _ _ i) [
-  | inl new ↦ let own = k.0 in let low = k.1 in let is : d ≡ b = cc in let o = one_server b ballot lt (omega arith) (ap number (sym is) ∙ same) in absurd (omega arith)
+  | inl new ↦ let own = k.0 in let low = k.1 in let is : d ≡ b = cc in let o = one_server b ballot lt (omega arith) (ap number (sym is) ∙ same) in
+      absurd (omega arith)
   | inr old ↦ h d u old same
 ]
 other_ballot w p b v s j r (Some (Voting place ballot x who)) e lt away k h = h
 
 -- the ballot that asks asked for nothing else
-asked_once : (w : World) (s p : ℕ) (b : Ballot) (v : Command) → HasNotAsked w (Some (Collecting p b v nobody None)) → ((q : ℕ) (b d : Ballot) (v u : Command) → Asked w q b v → Asked w q d u → number b ≡ number d → v ≡ u)
+asked_once : (w : World) (s p : ℕ) (b : Ballot) (v : Command) → HasNotAsked w (Some (Collecting p b v nobody None))
+    → ((q : ℕ) (b d : Ballot) (v u : Command) → Asked w q b v → Asked w q d u → number b ≡ number d → v ≡ u)
     → (q : ℕ) (c d : Ballot) (x u : Command) → Asked (send w s (Accept p b v)) q c x → Asked (send w s (Accept p b v)) q d u → number c ≡ number d → x ≡ u
 asked_once w s p b v quiet one q c d x u i j e = elim (in_cons _ _ _ i) [
   | inl new ↦ elim (in_cons _ _ _ j) [
@@ -185,7 +210,8 @@ asks_hold n w h s p b want who best v k quiet safe =
     record {
       backed = λ f x i. later_backed n w _ l f x (backed_one_more n w h s (Accept p b v) fact f x i);
       knows = at_put (λ i q. Knows after i q) w.proposers s voting (own, λ k i. absurd (not_in_nobody k i)) (λ i _. later_knows w _ l i _ (h.knows i));
-      not_asked = at_put (λ i q. HasNotAsked after q) w.proposers s voting tt (λ i away. other_ballot w p b v s i voting _ is_s low away (h.knows i) (h.not_asked i));
+      not_asked = at_put (λ i q. HasNotAsked after q) w.proposers s voting tt
+          (λ i away. other_ballot w p b v s i voting _ is_s low away (h.knows i) (h.not_asked i));
       asked = λ i j d u x. in_there _ _ _ (h.asked i j d u x);
       voted = h.voted;
       accepted = h.accepted;
@@ -196,7 +222,8 @@ asks_hold n w h s p b want who best v k quiet safe =
 -- where a collecting proposer's wanted command comes from: the event starts it, or the proposer wanted it before
 abbrev pub Origin : Event → World → ℕ → ℕ → Command → Type 0
 Origin e w s p want =
-    ((round : ℕ) × (end : End) × (e ≡ Starts s p round want end)) ⊎ ((b : Ballot) × (who : List Bool) × (best : Option (Ballot × Command)) × (w.proposers s ≡ Some (Collecting p b want who best)))
+    ((round : ℕ) × (end : End) × (e ≡ Starts s p round want end))
+    ⊎ ((b : Ballot) × (who : List Bool) × (best : Option (Ballot × Command)) × (w.proposers s ≡ Some (Collecting p b want who best)))
 
 abbrev pub HasOrigin : Event → World → ℕ → Option Phase → Type 0
 HasOrigin e w s None = ⊤
@@ -210,7 +237,8 @@ pub data IsMove (n : ℕ) (e : Event) (w : World) : World → Type 0 where
   Casts : (s p : ℕ) → (b : Ballot) → (v : Command) → promised w s p ≤ number b + 1 → Asked w p b v → IsMove n e w (cast_in w s p b v)
   Sends : (s : ℕ) → (l : Pax) → IsQuiet l → IsBacked n w s l → IsMove n e w (send w s l)
   Turns : (s : ℕ) → (q : Option Phase) → Knows w s q → HasNotAsked w q → HasOrigin e w s q → IsMove n e w (turn w s q)
-  Asks : (s p : ℕ) → (b : Ballot) → (want : Command) → (who : List Bool) → (best : Option (Ballot × Command)) → Knows w s (Some (Collecting p b want who best)) → HasNotAsked w (Some (Collecting p b want who best)) → IsSafe n w p b (to_propose want best) → Origin e w s p want
+  Asks : (s p : ℕ) → (b : Ballot) → (want : Command) → (who : List Bool) → (best : Option (Ballot × Command)) → Knows w s (Some (Collecting p b want who best))
+      → HasNotAsked w (Some (Collecting p b want who best)) → IsSafe n w p b (to_propose want best) → Origin e w s p want
       → IsMove n e w (turn (send w s (Accept p b (to_propose want best))) s (Some (Voting p b (to_propose want best) nobody)))
   Learns : (s p : ℕ) → (v : Command) → IsChosen n w p v → IsMove n e w (learn w s p v)
   Raises : (s : ℕ) → IsMove n e w (raise w s)

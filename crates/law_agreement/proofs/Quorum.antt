@@ -13,7 +13,8 @@ Shared n p q = (s : ℕ) × (s < n) × (p s ≡ true) × (q s ≡ true)
 wider : (n : ℕ) (p q : ℕ → Bool) → Shared n p q → Shared (suc n) p q
 wider n p q h = (h.0, omega arith, h.2, h.3)
 
-mutual_step : (n : ℕ) (p q : ℕ → Bool) (a b : Bool) → p n ≡ a → q n ≡ b → (n < count_below n p + count_below n q → Shared n p q) → suc n < (if a then 1 else 0) + count_below n p + ((if b then 1 else 0) + count_below n q) → Shared (suc n) p q
+mutual_step : (n : ℕ) (p q : ℕ → Bool) (a b : Bool) → p n ≡ a → q n ≡ b → (n < count_below n p + count_below n q → Shared n p q)
+    → suc n < (if a then 1 else 0) + count_below n p + ((if b then 1 else 0) + count_below n q) → Shared (suc n) p q
 mutual_step n p q true true ep eq ih h = (n, omega arith, ep, eq)
 mutual_step n p q true false ep eq ih h = wider n p q (ih (omega arith))
 mutual_step n p q false true ep eq ih h = wider n p q (ih (omega arith))

@@ -33,14 +33,17 @@ run-append : (n : ℕ) (w : World) (es fs : List Event) → run n (es ++ fs) w �
 run-append n w [] fs = refl
 run-append n w (e ∷ es) fs = run-append n (happens n w e) es fs
 
-pub lasting : (n : ℕ) (early late : List Event) (p : ℕ) (v : Command) → n ≤ 256 → IsChosen n (run n early begin) p v → IsChosen n (run n (early ++ late) begin) p v
-lasting n early late p v small k = rw (run-append n begin early late) (stays n (run n early begin) p v small (run_holds n begin small (begin_holds n) early) late k)
+pub lasting : (n : ℕ) (early late : List Event) (p : ℕ) (v : Command) → n ≤ 256 → IsChosen n (run n early begin) p v
+    → IsChosen n (run n (early ++ late) begin) p v
+lasting n early late p v small k =
+    rw (run-append n begin early late) (stays n (run n early begin) p v small (run_holds n begin small (begin_holds n) early) late k)
 
 -- what is chosen was wanted, for any fact Good of what each start wants
 
 pub record IsGood (Good : ℕ → Command → Type 0) (w : World) : Type 0 where
   pub asks : (p : ℕ) (b : Ballot) (v : Command) → Asked w p b v → Good p v
-  pub wants : (s p : ℕ) (b : Ballot) (want : Command) (who : List Bool) (best : Option (Ballot × Command)) → w.proposers s ≡ Some (Collecting p b want who best) → Good p want
+  pub wants : (s p : ℕ) (b : Ballot) (want : Command) (who : List Bool) (best : Option (Ballot × Command))
+      → w.proposers s ≡ Some (Collecting p b want who best) → Good p want
 
 abbrev StartsGood : (ℕ → Command → Type 0) → Event → Type 0
 StartsGood Good (Starts s p round want end) = Good p want
@@ -54,7 +57,8 @@ Wants Good (Some Idle) = ⊤
 Wants Good (Some (Collecting p b want who best)) = Good p want
 Wants Good (Some (Voting p b v who)) = ⊤
 
-wants_all : (Good : ℕ → Command → Type 0) (q : Option Phase) → Wants Good q → (p : ℕ) (b : Ballot) (want : Command) (who : List Bool) (best : Option (Ballot × Command)) → q ≡ Some (Collecting p b want who best) → Good p want
+wants_all : (Good : ℕ → Command → Type 0) (q : Option Phase) → Wants Good q
+    → (p : ℕ) (b : Ballot) (want : Command) (who : List Bool) (best : Option (Ballot × Command)) → q ≡ Some (Collecting p b want who best) → Good p want
 wants_all Good q h p b want who best e = subst (Wants Good) e h
 
 wants_at : (Good : ℕ → Command → Type 0) (w : World) → IsGood Good w → (s : ℕ) → (q : Option Phase) → w.proposers s ≡ q → Wants Good q
@@ -63,17 +67,20 @@ wants_at Good w g s (Some Idle) e = tt
 wants_at Good w g s (Some (Collecting p b want who best)) e = g.wants s p b want who best e
 wants_at Good w g s (Some (Voting p b v who)) e = tt
 
-of_origin : (Good : ℕ → Command → Type 0) (e : Event) (w : World) → StartsGood Good e → IsGood Good w → (s p : ℕ) (want : Command) → Origin e w s p want → Good p want
+of_origin : (Good : ℕ → Command → Type 0) (e : Event) (w : World) → StartsGood Good e → IsGood Good w → (s p : ℕ) (want : Command)
+    → Origin e w s p want → Good p want
 of_origin Good e w start g s p want (inl from) = subst (StartsGood Good) from.2 start
 of_origin Good e w start g s p want (inr from) = g.wants s p from.0 want from.1 from.2 from.3
 
-turns : (Good : ℕ → Command → Type 0) (e : Event) (w : World) → StartsGood Good e → IsGood Good w → (s : ℕ) (q : Option Phase) → HasOrigin e w s q → Wants Good q
+turns : (Good : ℕ → Command → Type 0) (e : Event) (w : World) → StartsGood Good e → IsGood Good w → (s : ℕ) (q : Option Phase)
+    → HasOrigin e w s q → Wants Good q
 turns Good e w start g s None from = tt
 turns Good e w start g s (Some Idle) from = tt
 turns Good e w start g s (Some (Collecting p b want who best)) from = of_origin Good e w start g s p want from
 turns Good e w start g s (Some (Voting p b v who)) from = tt
 
-proposes : (n : ℕ) (Good : ℕ → Command → Type 0) (w : World) → Holds n w → IsGood Good w → (p : ℕ) (want : Command) (best : Option (Ballot × Command)) → Good p want → SomeoneCast w p best → Good p (to_propose want best)
+proposes : (n : ℕ) (Good : ℕ → Command → Type 0) (w : World) → Holds n w → IsGood Good w → (p : ℕ) (want : Command) (best : Option (Ballot × Command))
+    → Good p want → SomeoneCast w p best → Good p (to_propose want best)
 proposes n Good w h g p want None good by = good
 proposes n Good w h g p want (Some x) good by = g.asks p x.0 x.1 (h.asked _ _ _ _ by.1)
 
@@ -83,11 +90,13 @@ turn_good Good w g s q h = at_put (λ j q. Wants Good q) w.proposers s q h (λ j
 good_move : (n : ℕ) (Good : ℕ → Command → Type 0) (e : Event) → StartsGood Good e → (w v : World) → Holds n w → IsGood Good w → IsMove n e w v → IsGood Good v
 good_move n Good e start w v h g (Promises s p a up same) = record { asks = g.asks; wants = g.wants }
 good_move n Good e start w v h g (Casts s p b y up a) = record { asks = g.asks; wants = g.wants }
-good_move n Good e start w v h g (Sends s l quiet fact) = record { asks = λ p b v i. elim (in_cons _ _ _ i) [ inl e ↦ absurd (quiet p b v (cc)) | inr old ↦ g.asks p b v old ]; wants = g.wants }
+good_move n Good e start w v h g (Sends s l quiet fact) =
+    record { asks = λ p b v i. elim (in_cons _ _ _ i) [ inl e ↦ absurd (quiet p b v (cc)) | inr old ↦ g.asks p b v old ]; wants = g.wants }
 good_move n Good e start w v h g (Turns s q k quiet from) =
     record { asks = g.asks; wants = λ j. wants_all Good _ (turn_good Good w g s q (turns Good e w start g s q from) j) }
 good_move n Good e start w v h g (Asks s p b want who best k quiet safe from) = record {
-  asks = λ j d u i. let good = proposes n Good w h g p want best (of_origin Good e w start g s p want from) k.4 in elim (in_cons _ _ _ i) [ inl new ↦ let a : j ≡ p = cc in let b : u ≡ to_propose want best = cc in rw (a, b) good | inr old ↦ g.asks j d u old ];
+  asks = λ j d u i. let good = proposes n Good w h g p want best (of_origin Good e w start g s p want from) k.4 in
+      elim (in_cons _ _ _ i) [ inl new ↦ let a : j ≡ p = cc in let b : u ≡ to_propose want best = cc in rw (a, b) good | inr old ↦ g.asks j d u old ];
   wants = λ j. wants_all Good _ (turn_good Good w g s (Some (Voting p b (to_propose want best) nobody)) tt j);
 }
 good_move n Good e start w v h g (Learns s p y fact) = record { asks = g.asks; wants = g.wants }
@@ -97,9 +106,11 @@ abbrev AllGood : (ℕ → Command → Type 0) → List Event → Type 0
 AllGood Good [] = ⊤
 AllGood Good (e ∷ es) = StartsGood Good e × AllGood Good es
 
-run_good : (n : ℕ) (Good : ℕ → Command → Type 0) (w : World) → n ≤ 256 → Holds n w → IsGood Good w → (es : List Event) → AllGood Good es → IsGood Good (run n es w)
+run_good : (n : ℕ) (Good : ℕ → Command → Type 0) (w : World) → n ≤ 256 → Holds n w → IsGood Good w → (es : List Event)
+    → AllGood Good es → IsGood Good (run n es w)
 run_good n Good w small h g [] all = g
-run_good n Good w small h g (e ∷ es) all = run_good n Good (happens n w e) small (happens_holds n w small h e) (keeps n e (IsGood Good) (good_move n Good e all.0) w _ (moves n w small h e) g) es all.1
+run_good n Good w small h g (e ∷ es) all = run_good n Good (happens n w e) small (happens_holds n w small h e)
+    (keeps n e (IsGood Good) (good_move n Good e all.0) w _ (moves n w small h e) g) es all.1
 
 more_good : (P Q : ℕ → Command → Type 0) → ((p : ℕ) (v : Command) → P p v → Q p v) → (es : List Event) → AllGood P es → AllGood Q es
 more_good P Q f [] h = tt
@@ -118,6 +129,7 @@ all_wanted (Boots s end ∷ es) = (tt, all_wanted es)
 pub wanted : (n : ℕ) (es : List Event) (p : ℕ) (v : Command) → n ≤ 256 → IsChosen n (run n es begin) p v → IsWanted es p v
 wanted n es p v small k =
     let h = run_holds n begin small (begin_holds n) es in
-    let g = run_good n (IsWanted es) begin small (begin_holds n) (record { asks = λ p b v i. absurd (in_nil _ i); wants = λ s p b want who best e. absurd (cc) }) es (all_wanted es) in
+    let g = run_good n (IsWanted es) begin small (begin_holds n)
+    (record { asks = λ p b v i. absurd (in_nil _ i); wants = λ s p b want who best e. absurd (cc) }) es (all_wanted es) in
     let voter = meets n k.1 k.1 k.2 k.2 in
     g.asks p k.0 v (h.asked _ _ _ _ (k.3 voter.0 voter.2))

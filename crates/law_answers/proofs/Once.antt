@@ -1,5 +1,6 @@
 -- No line is answered twice: what a client has open, and what it has still to call, has no answer.
-use Rattle.std.proofs.Common.{◌≡◌, ◌≢◌, ◌≤◌, ◌<◌, ◌+◌, ℕ, Bool, true, List, [], ◌∷◌, ◌++◌, Option, Some, None, is_some, refl, sym, ap, ◌∙◌, subst, ◌⊎◌, inl, inr, arith}
+use Rattle.std.proofs.Common.{◌≡◌, ◌≢◌, ◌≤◌, ◌<◌, ◌+◌, ℕ, Bool, true, List, [], ◌∷◌, ◌++◌, Option, Some, None, is_some}
+use Rattle.std.proofs.Common.{refl, sym, ap, ◌∙◌, subst, ◌⊎◌, inl, inr, arith}
 use Rattle.std.specs.Ordering.{nat_cmp}
 use Rattle.std.specs.List.{fold}
 use Rattle.std.specs.Prelude.{slice_get}
@@ -13,7 +14,8 @@ use Rattle.script_lines.specs.declared.request.Line.{Line}
 use Rattle.script_lines.specs.declared.script.Script.{Script}
 use Rattle.petal_rules.specs.Lists.{In}
 use Rattle.petal_rules.specs.Clients.{Client, Asked, Reaction}
-use Rattle.petal_rules.specs.World.{Setting, World, Stepped, IsAnswered, MayActor, lines_of, next_line, client_step, client_state, step, start, setting_of, with_answer}
+use Rattle.petal_rules.specs.World.{Setting, World, Stepped, IsAnswered, MayActor, lines_of, next_line, client_step}
+use Rattle.petal_rules.specs.World.{client_state, step, start, setting_of, with_answer}
 use Rattle.petal_rules.specs.declared.step.Step.{Step}
 use Rattle.petal_history.specs.Legal.{Follows, IsLegal, IsLegalFrom, stepped, world_after}
 use Rattle.petal_history.specs.Text.{with_given}

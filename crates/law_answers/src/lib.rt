@@ -15,11 +15,14 @@ ghost use Rattle.petal_history.specs.Order.{AnsweredComeFirst, AreRising, IsOpen
 
 /// Each answer is of a line of the script that no earlier record answered.
 pub fn no_line_is_answered_twice()
-    ensures { (script : Script) (front : List Record) (own : Record) → AreRising script.lines → IsLegal script (front ++ own ∷ []) → (number : ℕ) (given : Answer) → own.answer ≡ Some (number, given) → IsOpenLine script.lines front number }
+    ensures { (script : Script) (front : List Record) (own : Record) → AreRising script.lines → IsLegal script (front ++ own ∷ [])
+        → (number : ℕ) (given : Answer) → own.answer ≡ Some (number, given) → IsOpenLine script.lines front number }
 {}
 
 /// Where the front of a history answers the first lines, its answers are a front of all answers, and so is its text.
 pub fn phases_come_one_after_the_other()
-    ensures answers { (script : Script) (front back : List Record) → AreRising script.lines → IsLegal script (front ++ back) → AnsweredComeFirst script.lines front → answers_of (front ++ back) ≡ answers_of front ++ answers_of back }
-    ensures text { (script : Script) (front back : List Record) → AreRising script.lines → IsLegal script (front ++ back) → AnsweredComeFirst script.lines front → text_of (front ++ back) ≡ text_of front ++ text_of back }
+    ensures answers { (script : Script) (front back : List Record) → AreRising script.lines → IsLegal script (front ++ back)
+        → AnsweredComeFirst script.lines front → answers_of (front ++ back) ≡ answers_of front ++ answers_of back }
+    ensures text { (script : Script) (front back : List Record) → AreRising script.lines → IsLegal script (front ++ back)
+        → AnsweredComeFirst script.lines front → text_of (front ++ back) ≡ text_of front ++ text_of back }
 {}

@@ -1,5 +1,6 @@
 -- Each answer has its cause: by induction on the history, in view of the log at its end.
-use Rattle.std.proofs.Common.{◌≡◌, inl, inr, ◌<◌, ◌≤◌, ◌+◌, ◌++◌, ◌==◌, if◌then◌else◌, ℕ, zero, suc, Bool, true, false, List, [], ◌∷◌, length, take, Option, Some, None, refl, sym, ap, ◌∙◌, subst, arith, append_assoc, length-append}
+use Rattle.std.proofs.Common.{◌≡◌, inl, inr, ◌<◌, ◌≤◌, ◌+◌, ◌++◌, ◌==◌, if◌then◌else◌, ℕ, zero, suc, Bool, true, false, List, [], ◌∷◌, length, take, Option}
+use Rattle.std.proofs.Common.{Some, None, refl, sym, ap, ◌∙◌, subst, arith, append_assoc, length-append}
 use Rattle.std.proofs.Math.Seq.{take-append_seam}
 use Rattle.std.specs.Prelude.{slice_get}
 use Rattle.global_tables.specs.Disk.{named}
@@ -40,7 +41,8 @@ use Rattle.law_state.proofs.Ages.{between}
 use Rattle.law_state.proofs.Disks.{first_at_start}
 use Rattle.law_state.proofs.Entries.{log_plain}
 use Rattle.law_state.proofs.Steady.{log_below, log_steady}
-use Rattle.law_steps.specs.Turned.{Turned, IsSame, StaysOpen, IsReason, By_verdict, By_witness, IsJudged, Goes_on, Is_told, Begins, Reads, Ends, Shown, IsSeenAs, Stops_it, Starts_it, Blanks_it, Has_no_space, Is_settled, Judges, answer_of}
+use Rattle.law_steps.specs.Turned.{Turned, IsSame, StaysOpen, IsReason, By_verdict, By_witness, IsJudged, Goes_on, Is_told, Begins, Reads, Ends, Shown}
+use Rattle.law_steps.specs.Turned.{IsSeenAs, Stops_it, Starts_it, Blanks_it, Has_no_space, Is_settled, Judges, answer_of}
 use Rattle.law_steps.specs.Happens.{Happens, Heard, Blanks, Serves, Turns}
 use Rattle.petal_rules.proofs.ListLemmas.{in_later, put_same}
 use Rattle.law_steps.specs.Ready.{AreFirm, Rests}
@@ -265,7 +267,8 @@ module _ (setting : Setting) (last : World) (plain : IsPlainLog setting.servers 
   -- an answer that a glance gives needs no entry
   seen_cause : (state : State) (c : ℕ) (asked : Asked) (sight : Sight) (given : Answer) → IsSeenAs state asked sight given
       → CauseOf setting last c asked.seq asked.request (command_of c asked.seq asked.request) given
-  seen_cause state c asked sight given seen = subst (λ a. CauseOf setting last c asked.seq asked.request (command_of c asked.seq asked.request) a) (sym (told seen).1)
+  seen_cause state c asked sight given seen =
+      subst (λ a. CauseOf setting last c asked.seq asked.request (command_of c asked.seq asked.request) a) (sym (told seen).1)
       (subst (λ r. CauseOf setting last c asked.seq r (command_of c asked.seq r) (told seen).0) (sym (asks seen).1) (none seen))
     where
       asks : IsSeenAs state asked sight given → (r : Request) × (asked.request ≡ r)
@@ -360,7 +363,8 @@ module _ (setting : Setting) (last : World) (plain : IsPlainLog setting.servers 
   more_answers (Some given) so_far before now number told (inl is) = now number told (ap Some (sym is))
   more_answers (Some given) so_far before now number told (inr h) = before number told h
 
-  pub step_keeps : (state : State) (w v : World) → Kept w → ((letter : Letter) → In letter w.sent → In letter last.sent) → ((c : ℕ) → IsPrefix (v.clients c).applied (chosen_log setting last)) → Happens setting state w v
+  pub step_keeps : (state : State) (w v : World) → Kept w → ((letter : Letter) → In letter w.sent → In letter last.sent)
+      → ((c : ℕ) → IsPrefix (v.clients c).applied (chosen_log setting last)) → Happens setting state w v
       → Kept v
   step_keeps state w _ kept sents parts (Serves n stamp what acted lt within unblanked serving) =
       record { answers = kept.answers; open_for = kept.open_for; told = kept.told }

@@ -1,6 +1,7 @@
 -- What the lines that name a server are answered by: each by its own glance, which tells what it saw. And why a start or a blank
 -- fails: its glance comes right after the boot that its line gave, and finds the server stopped.
-use Rattle.std.proofs.Common.{◌≡◌, ◌≢◌, ◌⊎◌, inl, inr, ◌<◌, ◌+◌, ◌++◌, ◌==◌, ℕ, Bool, true, false, List, [], ◌∷◌, Option, Some, None, is_some, refl, sym, ap, ◌∙◌, subst, arith, append_assoc}
+use Rattle.std.proofs.Common.{◌≡◌, ◌≢◌, ◌⊎◌, inl, inr, ◌<◌, ◌+◌, ◌++◌, ◌==◌, ℕ, Bool, true, false, List, [], ◌∷◌, Option, Some, None}
+use Rattle.std.proofs.Common.{is_some, refl, sym, ap, ◌∙◌, subst, arith, append_assoc}
 use Rattle.std.specs.Prelude.{◌||◌, if◌then◌else◌, slice_get}
 use Rattle.std.proofs.lemmas.List.{append-nil}
 use Rattle.global_tables.specs.declared.disk.Latest.{Latest}
@@ -26,12 +27,15 @@ use Rattle.script_lines.specs.declared.request.Request.TheVariants as request
 use Rattle.script_lines.specs.declared.script.Script.{Script}
 use Rattle.petal_rules.specs.Boots.{awake, boots, raised, stays, wakes}
 use Rattle.petal_rules.specs.Clients.{Sight as Shown_by}
-use Rattle.petal_rules.specs.Clients.{Client, Asked, Reaction, epoch_for, is_read, is_unread, is_write, command_of, read_refusal, read_refusal_at, refusal, verdict_answer, verdict_for, write_refusal}
+use Rattle.petal_rules.specs.Clients.{Client, Asked, Reaction, epoch_for, is_read, is_unread, is_write, command_of, read_refusal}
+use Rattle.petal_rules.specs.Clients.{read_refusal_at, refusal, verdict_answer, verdict_for, write_refusal}
 use Rattle.petal_rules.specs.Jobs.{Acted, here_of, is_overfull, operator, shown}
 use Rattle.petal_rules.specs.Lists.{In}
 use Rattle.petal_rules.specs.Server.{Here, Server}
 use Rattle.petal_rules.specs.State.{State, find, lead}
-use Rattle.petal_rules.specs.World.{Blanked, Booted, Control, Deed, IsDone, IsDue, IsFree, MayActor, MayGlance, MayServer, Setting, Stopped, World, acts, client_state, client_step, controls, lines_of, next_line, reacts, server_state, server_step, setting_of, start, step, with_answer}
+use Rattle.petal_rules.specs.World.{Blanked, Booted, Control, Deed, IsDone, IsDue, IsFree, MayActor, MayGlance, MayServer, Setting, Stopped}
+use Rattle.petal_rules.specs.World.{World, acts, client_state, client_step, controls, lines_of, next_line, reacts, server_state, server_step}
+use Rattle.petal_rules.specs.World.{setting_of, start, step, with_answer}
 use Rattle.petal_rules.specs.declared.step.Step.{Step}
 use Rattle.petal_rules.specs.declared.step.Step.TheVariants.{Call, Deliver, Tick, Work, StopIn, Stop, Blank, Boot, Arm, Glance}
 use Rattle.petal_rules.specs.declared.step.WorkEnd.{WorkEnd}
@@ -44,7 +48,8 @@ use Rattle.petal_history.specs.Sound.{IsSound}
 use Rattle.petal_history.specs.declared.record.Record.{Record}
 use Rattle.law_answers.proofs.Places.{line_at, one_place}
 use Rattle.law_steps.specs.Happens.{Heard}
-use Rattle.law_steps.specs.Turned.{Turned, IsReason, By_verdict, By_witness, IsSame, StaysOpen, Goes_on, Is_told, Begins, Reads, Ends, Shown, IsSeenAs, Stops_it, Starts_it, Blanks_it, Has_no_space, Is_settled, Judges, answer_of}
+use Rattle.law_steps.specs.Turned.{Turned, IsReason, By_verdict, By_witness, IsSame, StaysOpen, Goes_on, Is_told, Begins, Reads, Ends, Shown, IsSeenAs}
+use Rattle.law_steps.specs.Turned.{Stops_it, Starts_it, Blanks_it, Has_no_space, Is_settled, Judges, answer_of}
 use Rattle.law_steps.proofs.Histories.{front_legal, world_more}
 use Rattle.law_steps.proofs.Turning.{client_turns}
 use Rattle.law_causes.specs.Fails.{IsReasonToFail, Device_failed, Journal_full, HasReasonToFail}

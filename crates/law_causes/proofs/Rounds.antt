@@ -1,5 +1,6 @@
 -- What a client's step does to the round of a settle: it keeps it, begins with none, or takes up what a glance showed.
-use Rattle.std.proofs.Common.{◌≡◌, ◌≢◌, ◌+◌, ◌++◌, ◌==◌, ◌&&◌, ℕ, Bool, true, false, List, [], ◌∷◌, Option, Some, None, if◌then◌else◌, refl, sym, ap, ◌∙◌, subst}
+use Rattle.std.proofs.Common.{◌≡◌, ◌≢◌, ◌+◌, ◌++◌, ◌==◌, ◌&&◌, ℕ, Bool, true, false, List, [], ◌∷◌, Option, Some, None}
+use Rattle.std.proofs.Common.{if◌then◌else◌, refl, sym, ap, ◌∙◌, subst}
 use Rattle.petal_command.specs.declared.command.Command.{Command}
 use Rattle.petal_msg.specs.Kinds.{about}
 use Rattle.petal_msg.specs.declared.body.Body.{Body}
@@ -16,7 +17,10 @@ use Rattle.petal_state.specs.State.{latest}
 use Rattle.petal_state.specs.Command.{after}
 use Rattle.petal_rules.specs.Lists.{In}
 use Rattle.petal_rules.specs.State.{State}
-use Rattle.petal_rules.specs.Clients.{Client, Asked, Reaction, Learning, Sight, rests, to_propose, sends_or_proposes, goes_out, goes_out_where, goes_the_old_way, asks_and_sends, replies, is_read, is_write, settles, sees_for, sees, sees_from, answers, hears, hears_of, heard, hears_any, command_of, refusal, verdict_for, answered_where, witnessed, is_witness, judged, judged_by, takes_entry, takes_all, then_goes_out, takes_entries, next_entries, ticked}
+use Rattle.petal_rules.specs.Clients.{Client, Asked, Reaction, Learning, Sight, rests, to_propose, sends_or_proposes, goes_out, goes_out_where}
+use Rattle.petal_rules.specs.Clients.{goes_the_old_way, asks_and_sends, replies, is_read, is_write, settles, sees_for, sees, sees_from, answers, hears}
+use Rattle.petal_rules.specs.Clients.{hears_of, heard, hears_any, command_of, refusal, verdict_for, answered_where, witnessed, is_witness, judged, judged_by}
+use Rattle.petal_rules.specs.Clients.{takes_entry, takes_all, then_goes_out, takes_entries, next_entries, ticked}
 use Rattle.petal_rules.specs.World.{Setting, World, MayClient, client_state, client_step, calls, next_line}
 use Rattle.petal_rules.specs.declared.step.Step.{Step}
 use Rattle.petal_rules.specs.declared.step.Step.TheVariants.{Call, Deliver, Tick, Work, StopIn, Stop, Blank, Boot, Arm, Glance}

@@ -1,6 +1,7 @@
 -- What letters say of two matters: a client is told of another revision in one place alone, where its letter has one; and of whether a
 -- server runs at a glance alone.
-use Rattle.std.proofs.Common.{◌≡◌, ◌≢◌, inl, inr, ◌++◌, ◌==◌, ◌&&◌, ℕ, Bool, true, false, not, List, [], ◌∷◌, Option, Some, None, refl, sym, ap, ◌∙◌, subst, arith}
+use Rattle.std.proofs.Common.{◌≡◌, ◌≢◌, inl, inr, ◌++◌, ◌==◌, ◌&&◌, ℕ, Bool, true, false, not, List, [], ◌∷◌, Option}
+use Rattle.std.proofs.Common.{Some, None, refl, sym, ap, ◌∙◌, subst, arith}
 use Rattle.std.proofs.lemmas.Bool.Decides.{nat_tests}
 use Rattle.std.specs.Prelude.{if◌then◌else◌, is_some, map, nat_lt}
 use Rattle.petal_rules.specs.Store.{Stored, chain_in, epochs_of, free_of}
@@ -25,7 +26,11 @@ use Rattle.petal_msg.specs.declared.copying.LastCopy.{LastCopy}
 use Rattle.petal_msg.specs.declared.copying.LinkId.{LinkId}
 use Rattle.petal_msg.specs.declared.copying.NextCopy.{NextCopy}
 use Rattle.petal_msg.specs.declared.copying.NextCopy.TheVariants.{Ask, Block, Wait, Nothing}
-use Rattle.petal_rules.specs.Copies.{Entry, answers_page, begins_copy, catches_up, cell_at, cell_holder, copies_on, copies_with, copy_acts, copy_awaited, copy_posts, copy_stage, goes_for, hears_entry, hears_hello, hears_page, hears_sync, hears_sync_full, hears_synced, hears_trim, hears_trim_of, hears_trimmed, is_syncing, mends, mends_found, mends_row, on_hello, on_hello_ask, on_sync, on_sync_full, on_synced, on_trim, on_trimmed, page_asked, page_for, page_posts, page_wanted, puts_entry, same_block, sends_entry, takes_mark, tidies, trims_again, trims_first, trims_for, trims_on}
+use Rattle.petal_rules.specs.Copies.{Entry, answers_page, begins_copy, catches_up, cell_at, cell_holder, copies_on, copies_with, copy_acts, copy_awaited}
+use Rattle.petal_rules.specs.Copies.{copy_posts, copy_stage, goes_for, hears_entry, hears_hello, hears_page, hears_sync, hears_sync_full, hears_synced}
+use Rattle.petal_rules.specs.Copies.{hears_trim, hears_trim_of, hears_trimmed, is_syncing, mends, mends_found, mends_row, on_hello, on_hello_ask, on_sync}
+use Rattle.petal_rules.specs.Copies.{on_sync_full, on_synced, on_trim, on_trimmed, page_asked, page_for, page_posts, page_wanted, puts_entry, same_block}
+use Rattle.petal_rules.specs.Copies.{sends_entry, takes_mark, tidies, trims_again, trims_first, trims_for, trims_on}
 use Rattle.petal_rules.specs.Progress.{copying_on, last_copy, progress_on, with_copying, with_last_copy}
 use Rattle.petal_msg.specs.declared.operation.Action.{Action}
 use Rattle.petal_msg.specs.declared.operation.Action.TheVariants as action
@@ -38,7 +43,8 @@ use Rattle.petal_msg.specs.declared.dead.Dead.{Dead}
 use Rattle.petal_msg.specs.declared.operation.OpKind.{OpKind}
 use Rattle.petal_msg.specs.declared.operation.OpKind.TheVariants as kind
 use Rattle.petal_msg.specs.declared.operation.Pending.{Pending}
-use Rattle.petal_rules.specs.Fills.{Moving, fill_of, fill_operation, fill_posts, fills_row, hears_fill, hears_fill_full, hears_filled, is_next, link_before, on_fill, on_fill_full, on_filled, opens_fill, sends_key, sends_moving}
+use Rattle.petal_rules.specs.Fills.{Moving, fill_of, fill_operation, fill_posts, fills_row, hears_fill, hears_fill_full, hears_filled, is_next, link_before}
+use Rattle.petal_rules.specs.Fills.{on_fill, on_fill_full, on_filled, opens_fill, sends_key, sends_moving}
 use Rattle.petal_rules.specs.Sweeping.{next_dead, sweeps, sweeps_with}
 use Rattle.petal_msg.specs.declared.operation.Reply.{Reply}
 use Rattle.petal_msg.specs.declared.operation.Reply.TheVariants as reply
@@ -46,13 +52,19 @@ use Rattle.petal_rules.specs.Lists.{In}
 use Rattle.petal_rules.specs.State.{State, first, holder_of, is_in, is_lead, is_second, lead, link_named, other_in, readable, second, servers_of}
 use Rattle.petal_rules.specs.Server.{Server, Own, Here, Done, Post, Sender, post_to, sender, silent, letters_of}
 use Rattle.petal_rules.specs.Reads.{on_read, said, reply_to}
-use Rattle.petal_rules.specs.Writes.{Wanted, Standing, Older, Again, Newer, pending_on, next_stage, acts, ends, gives_back, moved_as, old_lead, with_opened, without_pending, goes_on, goes_on_with, ended, opens, opened, takes, takes_newer, is_pending_for, on_write, hears_reserved, hears_pair_full, hears_replicated, is_reserving, is_replicating, with_pending, with_reserved, with_paired, on_reserved, on_pair_full, on_replicated, tells, reserves, has_slot, hears_reserve, on_reserve, follows_once, hears_replicate, on_replicate}
+use Rattle.petal_rules.specs.Writes.{Wanted, Standing, Older, Again, Newer, pending_on, next_stage, acts, ends, gives_back, moved_as, old_lead, with_opened}
+use Rattle.petal_rules.specs.Writes.{without_pending, goes_on, goes_on_with, ended, opens, opened, takes, takes_newer, is_pending_for, on_write, hears_reserved}
+use Rattle.petal_rules.specs.Writes.{hears_pair_full, hears_replicated, is_reserving, is_replicating, with_pending, with_reserved, with_paired, on_reserved}
+use Rattle.petal_rules.specs.Writes.{on_pair_full, on_replicated, tells, reserves, has_slot, hears_reserve, on_reserve, follows_once, hears_replicate}
+use Rattle.petal_rules.specs.Writes.{on_replicate}
 use Rattle.petal_command.specs.declared.command.Command.{Command}
 use Rattle.petal_rules.specs.Ballots.{post_of, starts}
 use Rattle.petal_rules.specs.Boots.{awake, boots, raised, stays, wakes}
 use Rattle.petal_rules.specs.Entries.{applies}
 use Rattle.petal_rules.specs.Log.{LogDone, known, next_place, rev_of}
-use Rattle.petal_rules.specs.Jobs.{Acted, handles, wrong_rev, at_other_rev, is_from_in, does, here_of, works, job_done, worked, entered, stops, is_overfull, down_posts, glances, glance_sender, shown, operator, voter_of, wanted_by, is_log_job, faults, sent_anew, awaited, copies_anew, stages, tick_posts}
+use Rattle.petal_rules.specs.Jobs.{Acted, handles, wrong_rev, at_other_rev, is_from_in, does, here_of, works, job_done, worked, entered, stops}
+use Rattle.petal_rules.specs.Jobs.{is_overfull, down_posts, glances, glance_sender, shown, operator, voter_of, wanted_by, is_log_job, faults}
+use Rattle.petal_rules.specs.Jobs.{sent_anew, awaited, copies_anew, stages, tick_posts}
 use Rattle.petal_rules.specs.Clients.{Client, Asked, Reaction, client_sender}
 use Rattle.petal_rules.specs.World.{Setting, World, stamped, server_state, server_step, client_state, client_step, next_line, MayClient, MayServer}
 use Rattle.petal_rules.specs.declared.job.Job.{Job}
@@ -272,7 +284,8 @@ module _ (here : Here) where
 
   page_mute : (own : Own) (after block : Option ℕ) (row : LinkRow) (o : Option ℕ) → M (hears_page own after block row o)
   page_mute own after block row None = none_mute
-  page_mute own after block row (Some other) = by_test M (not (progress_on own row).paged && same_block after (progress_on own row).after) _ _ (λ t. none_mute) (λ t. none_mute)
+  page_mute own after block row (Some other) =
+      by_test M (not (progress_on own row).paged && same_block after (progress_on own row).after) _ _ (λ t. none_mute) (λ t. none_mute)
 
   hello_mute : (own : Own) (after block : Option ℕ) (o : Option LinkRow) → M (hears_hello here own after block o)
   hello_mute own after block None = none_mute
@@ -368,7 +381,8 @@ module _ (here : Here) where
 
   filled_mute : (own : Own) (key : Key) (o : Option LinkRow) → M (hears_filled here own key o)
   filled_mute own key None = none_mute
-  filled_mute own key (Some row) = by_test M (is_next (fill_of here.state here.me row own) key) _ _ (λ t. fills_mute (filled_to own row key) row) (λ t. none_mute)
+  filled_mute own key (Some row) =
+      by_test M (is_next (fill_of here.state here.me row own) key) _ _ (λ t. fills_mute (filled_to own row key) row) (λ t. none_mute)
 
   fill_full_mute : (own : Own) (key : Key) (o : Option LinkRow) → M (hears_fill_full here own key o)
   fill_full_mute own key None = none_mute
@@ -385,7 +399,8 @@ module _ (here : Here) where
   -- ### Letters
 
   handles_mute : (own : Own) (what : Body) → M (handles here own what)
-  unfolding handles on_reserve on_reserved on_pair_full on_replicate on_replicated on_hello_ask on_hello on_trim on_trimmed on_sync on_synced on_sync_full on_filled on_fill_full
+  unfolding handles on_reserve on_reserved on_pair_full on_replicate on_replicated on_hello_ask on_hello on_trim on_trimmed on_sync on_synced
+      on_sync_full on_filled on_fill_full
   handles_mute own (body.Read client seq cell epoch) = read_mute own client seq cell epoch
   handles_mute own (body.Write client seq cell epoch bytes) = write_mute own (record { client = client; seq = seq; cell = cell; epoch = epoch; bytes = bytes })
   handles_mute own (body.Reserve number cell) = by_test M (is_second here.state here.me cell) _ _ (λ t. reserve_mute own cell number _) (λ t. none_mute)
@@ -439,7 +454,8 @@ module _ (here : Here) where
       (both_mute (copy_posts here own) (page_posts here own)
       (all_mute (λ (row : Cell × Copying). copy_awaited here own row.0 row.1 (copy_stage own.store row.0 row.1)) own.copies.pending
       (λ row. copy_awaited_mute own row.0 row.1 (copy_stage own.store row.0 row.1)))
-      (all_mute (λ row. page_for here.state own row (other_in here.state here.me row)) here.state.links (λ row. page_for_mute own row (other_in here.state here.me row))))
+      (all_mute (λ row. page_for here.state own row (other_in here.state here.me row)) here.state.links
+      (λ row. page_for_mute own row (other_in here.state here.me row))))
       (all_mute (λ row. fills_row here own row) here.state.links (λ row. fills_mute own row)))
       (λ t. none_mute)
 

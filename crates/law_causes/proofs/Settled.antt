@@ -1,5 +1,6 @@
 -- What a settle is answered by. What the operator has seen in a round, glances of that round showed.
-use Rattle.std.proofs.Common.{◌≡◌, ◌≤◌, ◌<◌, ◌⊎◌, inl, inr, ◌+◌, ◌++◌, ◌==◌, ◌&&◌, ℕ, zero, suc, Bool, true, false, not, List, [], ◌∷◌, Option, Some, None, length, refl, sym, ap, ◌∙◌, subst, arith, append_assoc}
+use Rattle.std.proofs.Common.{◌≡◌, ◌≤◌, ◌<◌, ◌⊎◌, inl, inr, ◌+◌, ◌++◌, ◌==◌, ◌&&◌, ℕ, zero, suc, Bool, true, false, not, List, [], ◌∷◌, Option}
+use Rattle.std.proofs.Common.{Some, None, length, refl, sym, ap, ◌∙◌, subst, arith, append_assoc}
 use Rattle.std.proofs.lemmas.Bool.Decides.{nat_tests}
 use Rattle.std.proofs.lemmas.List.{append-nil, length-append, length-map}
 use Rattle.std.specs.Cmp.{nat_cmp_total}
@@ -25,7 +26,8 @@ use Rattle.petal_rules.specs.Jobs.{operator, shown}
 use Rattle.petal_rules.specs.Lists.{In}
 use Rattle.petal_rules.specs.Server.{Server}
 use Rattle.petal_rules.specs.State.{State, servers_of}
-use Rattle.petal_rules.specs.World.{MayActor, MayServer, Setting, World, acts, client_state, client_step, next_line, server_state, server_step, setting_of, start, step, with_answer}
+use Rattle.petal_rules.specs.World.{MayActor, MayServer, Setting, World, acts, client_state, client_step, next_line, server_state}
+use Rattle.petal_rules.specs.World.{server_step, setting_of, start, step, with_answer}
 use Rattle.petal_rules.specs.declared.step.Step.{Step}
 use Rattle.petal_rules.specs.declared.step.Step.TheVariants.{Glance}
 use Rattle.petal_rules.proofs.ListLemmas.{in-append}

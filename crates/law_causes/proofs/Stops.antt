@@ -12,7 +12,8 @@ use Rattle.petal_rules.specs.Jobs.{Acted, job_done, works, is_log_job, is_overfu
 use Rattle.petal_rules.specs.Lists.{In, put_at}
 use Rattle.petal_rules.specs.Server.{Here, Server}
 use Rattle.petal_rules.specs.State.{is_in}
-use Rattle.petal_rules.specs.World.{Setting, World, MayStop, MayServer, MayActor, acts, chosen_log, chosen_state, server_state, server_step, step, setting_of, start}
+use Rattle.petal_rules.specs.World.{Setting, World, MayStop, MayServer, MayActor, acts, chosen_log, chosen_state}
+use Rattle.petal_rules.specs.World.{server_state, server_step, step, setting_of, start}
 use Rattle.petal_rules.specs.declared.job.Job.{Job}
 use Rattle.petal_rules.specs.declared.job.Job.TheVariants as job
 use Rattle.petal_rules.specs.declared.step.Step.{Step}
@@ -31,7 +32,8 @@ use Rattle.law_log.proofs.Unbooted.{unbooted}
 use Rattle.law_steps.specs.Happens.{own_place}
 use Rattle.law_steps.proofs.Histories.{front_legal}
 use Rattle.law_causes.specs.Lines.{AsksToStop}
-use Rattle.law_causes.specs.Stops.{IsReasonToStop, Was_told, Device_failed, Device_stopped, Journal_full, HasReasonToStop, NoneIsStopped, NoneStopsByItself, StaysDown, is_of_a_job, stops_a_server}
+use Rattle.law_causes.specs.Stops.{IsReasonToStop, Was_told, Device_failed, Device_stopped, Journal_full, HasReasonToStop, NoneIsStopped}
+use Rattle.law_causes.specs.Stops.{NoneStopsByItself, StaysDown, is_of_a_job, stops_a_server}
 use Rattle.law_causes.proofs.Lines.{asks_to_stop, line_of, open_for}
 
 -- ### One step

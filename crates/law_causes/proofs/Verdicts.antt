@@ -1,6 +1,7 @@
 -- Where a plain log gives a client its verdict: by the client's own command, of which the state before its place says what the verdict says;
 -- and a snapshot that waits there is taken once its fence passes.
-use Rattle.std.proofs.Common.{◌≡◌, ◌≢◌, ◌⊎◌, inl, inr, ◌<◌, ◌≤◌, ◌+◌, ℕ, zero, suc, true, false, List, length, take, Option, Some, None, is_some, refl, sym, ap, ◌∙◌, subst, arith}
+use Rattle.std.proofs.Common.{◌≡◌, ◌≢◌, ◌⊎◌, inl, inr, ◌<◌, ◌≤◌, ◌+◌, ℕ, zero, suc, true, false, List, length, take, Option, Some}
+use Rattle.std.proofs.Common.{None, is_some, refl, sym, ap, ◌∙◌, subst, arith}
 use Rattle.std.proofs.lemmas.Bool.{cases_lt}
 use Rattle.std.specs.Option.{option_map_or}
 use Rattle.std.proofs.lemmas.Option.{slice_get_within}
@@ -32,7 +33,8 @@ use Rattle.law_state.specs.Plain.{IsPlainLog}
 use Rattle.law_state.specs.Tables.{IsForRegion, IsForSnapshot, Of_disk, Of_region}
 use Rattle.law_state.proofs.Caughts.{act_caught}
 use Rattle.law_state.proofs.Entries.{acting}
-use Rattle.law_state.proofs.Fences.{Acted, IsRequeued, IsUnsettled, get_behind, head_get, ready_by, requeued_awaiting, requeued_itself, requeued_reported, unsettled}
+use Rattle.law_state.proofs.Fences.{Acted, IsRequeued, IsUnsettled, get_behind, head_get, ready_by, requeued_awaiting}
+use Rattle.law_state.proofs.Fences.{requeued_itself, requeued_reported, unsettled}
 use Rattle.law_state.proofs.Passing.{one_passed, passed_here, passing, settled_keeps}
 use Rattle.law_state.proofs.Places.{get_last, get_within, text_itself}
 use Rattle.law_state.proofs.Moves.{IsNoting, act_moved, act_note, act_start}
@@ -40,8 +42,10 @@ use Rattle.law_state.proofs.Rowed.{here_now}
 use Rattle.law_state.proofs.Snaps.{act_drained, act_snap}
 use Rattle.law_causes.specs.Asked.{asker}
 use Rattle.law_causes.proofs.Asked.{asker_of}
-use Rattle.law_causes.proofs.Folds.{told_answers, act_make, judged_last, judged_old, old_now, onward_new, passed_old, passed_or, passed_stays, settled_old, told_old, told_or, told_stays}
-use Rattle.law_causes.proofs.Wanted.{nobody_told, named_on, last_found, has_kept, made_on, asks_disk, asks_snap, asks_move, same_whole, no_whole, row_known_at, settled_moving, IsMoving}
+use Rattle.law_causes.proofs.Folds.{told_answers, act_make, judged_last, judged_old, old_now, onward_new, passed_old, passed_or}
+use Rattle.law_causes.proofs.Folds.{passed_stays, settled_old, told_old, told_or, told_stays}
+use Rattle.law_causes.proofs.Wanted.{nobody_told, named_on, last_found, has_kept, made_on, asks_disk, asks_snap, asks_move, same_whole}
+use Rattle.law_causes.proofs.Wanted.{no_whole, row_known_at, settled_moving, IsMoving}
 use Rattle.law_causes.proofs.Numbers.{at_next, entry_plain, many_at, old_on, own_old, plain_at}
 
 -- ### Along a log
@@ -742,11 +746,13 @@ module _ (servers : ℕ) (log : List Command) (plain : IsPlainLog servers log) w
           elim (made_of asked other p.command p.of_it) [
             | inl made ↦ elim (disk_answers p.place (omega arith) made.0 made.1 (p.is ∙ ap Some made.2) p.new) [
               | inl some ↦ none_some (until (suc p.place) (omega arith)) some.1
-              | inr later ↦ judged_last seq (latest (at (j + 1)) c) given so (old_on servers log plain c (suc seq) (suc p.place) (j + 1) (omega arith) low later)
+              | inr later ↦ judged_last seq (latest (at (j + 1)) c) given so
+                  (old_on servers log plain c (suc seq) (suc p.place) (j + 1) (omega arith) low later)
             ]
             | inr moved ↦ elim (move_answers p.place (omega arith) moved.0 moved.1 (p.is ∙ ap Some moved.2) p.new) [
               | inl some ↦ none_some (until (suc p.place) (omega arith)) some.so
-              | inr later ↦ judged_last seq (latest (at (j + 1)) c) given so (old_on servers log plain c (suc seq) (suc p.place) (j + 1) (omega arith) low later)
+              | inr later ↦ judged_last seq (latest (at (j + 1)) c) given so
+                  (old_on servers log plain c (suc seq) (suc p.place) (j + 1) (omega arith) low later)
             ]
           ]
     ]

@@ -1,5 +1,6 @@
 -- What requests with commands ask for, and what a state goes on to say of it: a disk, a snapshot, or that a disk is on the move.
-use Rattle.std.proofs.Common.{◌≡◌, inl, inr, ◌++◌, if◌then◌else◌, ℕ, zero, suc, Bool, true, false, List, [], ◌∷◌, take, Option, Some, None, is_some, refl, sym, ap, ◌∙◌}
+use Rattle.std.proofs.Common.{◌≡◌, inl, inr, ◌++◌, if◌then◌else◌, ℕ, zero, suc, Bool, true, false, List, [], ◌∷◌, take}
+use Rattle.std.proofs.Common.{Option, Some, None, is_some, refl, sym, ap, ◌∙◌}
 use Rattle.std.specs.Option.{option_map_or}
 use Rattle.std.specs.Prelude.{find, option_map, replicate, slice_get, unwrap_or}
 use Rattle.global_tables.specs.Disk.{disk_at, move_fenced, named, row_fenced, row_frozen, same_name, snapshot_named}
@@ -107,7 +108,8 @@ made_on servers s t p q g _ h = true_false h refl
 
 -- ### Requests that have commands
 
-pub asks_disk : (c seq d q : ℕ) (name tuple : List ℕ) (asked : Request) → command_of c seq asked ≡ Some (MakeDisk d q name tuple) → asked ≡ request.Disk name tuple
+pub asks_disk : (c seq d q : ℕ) (name tuple : List ℕ) (asked : Request) → command_of c seq asked ≡ Some (MakeDisk d q name tuple)
+    → asked ≡ request.Disk name tuple
 asks_disk c seq d q name tuple (request.Disk n t) e =
     let f : MakeDisk c seq n t ≡ MakeDisk d q name tuple = same_some e in
     let one : n ≡ name = cc in
@@ -131,7 +133,8 @@ asks_snap c seq d q name snap (request.Move n tuple) e =
     let f : StartMove c seq n tuple ≡ Snap d q name snap = same_some e in absurd cc
 asks_snap c seq d q name snap _ e = none_some refl e
 
-pub asks_move : (c seq d q : ℕ) (name tuple : List ℕ) (asked : Request) → command_of c seq asked ≡ Some (StartMove d q name tuple) → asked ≡ request.Move name tuple
+pub asks_move : (c seq d q : ℕ) (name tuple : List ℕ) (asked : Request) → command_of c seq asked ≡ Some (StartMove d q name tuple)
+    → asked ≡ request.Move name tuple
 asks_move c seq d q name tuple (request.Move n t) e =
     let f : StartMove c seq n t ≡ StartMove d q name tuple = same_some e in
     let one : n ≡ name = cc in

@@ -27,8 +27,10 @@ use Rattle.law_steps.proofs.Leading.{live_stage}
 use Rattle.law_steps.proofs.Subjects.{of_read}
 use Rattle.law_copies.specs.Steps.{IsBare, IsFit, IsNotOf, KeepsCell, KeepsRest}
 use Rattle.law_copies.proofs.Frames.{keeps_itself}
-use Rattle.law_copies.proofs.Standing.{IsHeldHere, alone_both, begun_held, copying_held, holder_lives, holder_works, not_both, only_alone, other_alone, other_lives, other_row, page_held, taken_held}
-use Rattle.law_copies.proofs.Working.{Away, IsHeldBy, IsLedHere, IsSo, filler_beside, holder_beside, holder_cell, lead_beside, lead_cell, lead_leads, led_alive, other_beside, other_cell, other_held, page_cell, second_beside, second_cell, second_follows, sweep_beside}
+use Rattle.law_copies.proofs.Standing.{IsHeldHere, alone_both, begun_held, copying_held, holder_lives, holder_works, not_both, only_alone}
+use Rattle.law_copies.proofs.Standing.{other_alone, other_lives, other_row, page_held, taken_held}
+use Rattle.law_copies.proofs.Working.{Away, IsHeldBy, IsLedHere, IsSo, filler_beside, holder_beside, holder_cell, lead_beside, lead_cell, lead_leads, led_alive}
+use Rattle.law_copies.proofs.Working.{other_beside, other_cell, other_held, page_cell, second_beside, second_cell, second_follows, sweep_beside}
 
 pub away : (P : Cell → Type 0) (q : Cell) → (P q → ⊥) → (o : Option Cell) → IsSo P o → Away q o
 away P q not_so None so = tt

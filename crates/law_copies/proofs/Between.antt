@@ -1,5 +1,6 @@
 -- Joins with an empty store between two fronts of the log, as they concern a link that one server holds alone.
-use Rattle.std.proofs.Common.{◌≡◌, ◌≢◌, ◌<◌, ◌++◌, ◌&&◌, ◌||◌, ℕ, Bool, List, [], ◌∷◌, true, if◌then◌else◌, Some, None, refl, sym, ap, ◌∙◌, subst, ◌⊎◌, inl, inr, arith, append_assoc}
+use Rattle.std.proofs.Common.{◌≡◌, ◌≢◌, ◌<◌, ◌++◌, ◌&&◌, ◌||◌, ℕ, Bool, List, [], ◌∷◌, true, if◌then◌else◌, Some, None, refl, sym}
+use Rattle.std.proofs.Common.{ap, ◌∙◌, subst, ◌⊎◌, inl, inr, arith, append_assoc}
 use Rattle.std.proofs.lemmas.List.{append-nil}
 use Rattle.global_tables.specs.Link.{blanked_state, has_server, other_of, row_blanked}
 use Rattle.global_tables.specs.declared.link.LinkRow.{LinkRow}
@@ -203,7 +204,8 @@ module _ (setting : Setting) (records : List Record) (w : World) (stores : ℕ �
               ])
         ]
       where
-        unfilled : (more : List Command) (now : LinkRow) (whole : Bool) → whole ≡ true → IsPrefix front more → IsPrefix more chosen → IsLinked setting more cell now
+        unfilled : (more : List Command) (now : LinkRow) (whole : Bool) → whole ≡ true → IsPrefix front more → IsPrefix more chosen
+            → IsLinked setting more cell now
             → AliveIn (state_after setting.servers chosen) cell → now.state ≡ Only k whole → blank_joins_in setting front
             (other_of k row) < blank_joins_in setting more (other_of k row) → IsUnfilled more now
         unfilled more now whole all_of one two end alive alone lt =
@@ -228,6 +230,8 @@ module _ (setting : Setting) (records : List Record) (w : World) (stores : ℕ �
           where
             fill_has : (g : List Command) (other : LinkRow) → IsPrefix g chosen → IsLinked setting g cell other → has_server (other_of k row) other ≡ true
             fill_has g other prefix linked = elim (fronts_meet front g chosen (firm.servers k) prefix) [
-              | inl p ↦ one_before row other (other_of k row) (rows_later setting chosen firm.plain front g cell row other p prefix is linked) ∙ other_is_one row k
-              | inr p ↦ sym (one_before other row (other_of k row) (rows_later setting chosen firm.plain g front cell other row p (firm.servers k) linked is)) ∙ other_is_one row k
+              | inl p ↦ one_before row other (other_of k row) (rows_later setting chosen firm.plain front g cell row other p prefix is linked)
+                  ∙ other_is_one row k
+              | inr p ↦ sym (one_before other row (other_of k row) (rows_later setting chosen firm.plain g front cell other row p (firm.servers k) linked is))
+                  ∙ other_is_one row k
             ]

@@ -1,5 +1,6 @@
 -- What a job of a server that is In as itself keeps at each front, and of what it sends.
-use Rattle.std.proofs.Common.{◌≡◌, ◌≢◌, ◌≤◌, ◌<◌, ◌++◌, ℕ, List, [], ◌∷◌, length, Bool, true, false, Option, Some, None, is_some, refl, sym, ap, ◌∙◌, subst, ◌⊎◌, inl, inr, arith}
+use Rattle.std.proofs.Common.{◌≡◌, ◌≢◌, ◌≤◌, ◌<◌, ◌++◌, ℕ, List, [], ◌∷◌, length, Bool, true, false, Option, Some, None, is_some}
+use Rattle.std.proofs.Common.{refl, sym, ap, ◌∙◌, subst, ◌⊎◌, inl, inr, arith}
 use Rattle.std.specs.Ordering.{nat_cmp}
 use Rattle.global_tables.specs.Link.{has_server, other_of}
 use Rattle.global_tables.specs.declared.link.LinkRow.{LinkRow}
@@ -40,7 +41,8 @@ use Rattle.law_copies.specs.Pair.{HaveMarks, Known, pair_of}
 use Rattle.law_copies.specs.Steps.{AreFilled}
 use Rattle.law_copies.specs.Visits.{AliveIn, HasBeen, HasFilled, IsLinked, half, place_by, store_by, with_stores}
 use Rattle.law_copies.proofs.Counts.{joins_at}
-use Rattle.law_copies.proofs.Framed.{LeavesAt, LeavesBoth, LeavesStore, alone_framed, both_framed, filled_framed, filled_on, marked_on, marks_back, other_is_one, said_framed, store_same, to_copy_on}
+use Rattle.law_copies.proofs.Framed.{LeavesAt, LeavesBoth, LeavesStore, alone_framed, both_framed, filled_framed, filled_on, marked_on}
+use Rattle.law_copies.proofs.Framed.{marks_back, other_is_one, said_framed, store_same, to_copy_on}
 use Rattle.law_copies.proofs.NewPlaces.{beside_same, twins_same}
 use Rattle.law_copies.proofs.Later.{AllStarted, IsCaughtUp, alone_not_lost, alone_or_flagged, alone_since, both_since, holder_is_one, holds_since, same_only}
 use Rattle.law_copies.proofs.Mute.{known_mute, told_mute}
@@ -103,7 +105,8 @@ module _ (setting : Setting) (records : List Record) (w : World) (stores : ℕ �
   visit_apart : (n place : ℕ) (cell : Cell) → n ≢ k → visits n place cell ≡ good.visits n place cell
   visit_apart = worked.visit_apart setting records w stores v k server good done job
 
-  leaves_apart : (f : List Command) (n place : ℕ) (cell : Cell) → n ≢ k → LeavesAt setting top good.stores next good.visits visits good.reached reached f n place cell
+  leaves_apart : (f : List Command) (n place : ℕ) (cell : Cell) → n ≢ k
+      → LeavesAt setting top good.stores next good.visits visits good.reached reached f n place cell
   leaves_apart f n place cell ne = record {
     visit = visit_apart n place cell ne;
     store = λ lives. store_same (olds f n) (news f n) cell (store_apart f n ne);
@@ -252,7 +255,8 @@ module _ (setting : Setting) (records : List Record) (w : World) (stores : ℕ �
         twins = λ lives last. twins_else f cell row both ok lives away
             (left_else f cell row prefix is has lives away (last_old cell (place_by setting f row) last)) last;
       }))
-      (λ off. both_framed setting top good.stores next good.visits visits good.reached reached up nones f cell row (stranger_leaves f (place_by setting f row) cell row off) ok)
+      (λ off. both_framed setting top good.stores next good.visits visits good.reached reached up nones f cell row
+      (stranger_leaves f (place_by setting f row) cell row off) ok)
 
   -- ### Alone
 
@@ -363,8 +367,10 @@ module _ (setting : Setting) (records : List Record) (w : World) (stores : ℕ �
                 | inl so ↦ held now p so.0 so.1
                 | inr (inl lost) ↦ (
                     let keeps = job.keeping.lost cell mine.0 mine.1 alive lost in
-                    let same = left_so f cell now (record { chain = keeps.rest.chain; marks = keeps.marks }) in
-                    (λ was marked. marked_on (olds f k) (news f k) cell same marked, λ was copied all. to_copy_on row (olds f k) (news f k) cell same.chain all))
+                    let same = left_so f cell now (record { chain = keeps.rest.chain; marks = keeps.marks }) in (
+                      λ was marked. marked_on (olds f k) (news f k) cell same marked,
+                      λ was copied all. to_copy_on row (olds f k) (news f k) cell same.chain all,
+                    ))
                 | inr (inr c) ↦ (
                     let visit_h : good.visits holder there cell ≡ Some c.0 = ap (λ n. good.visits n there cell) e ∙ c.1 in
                     let caught = ok.copying.caught c.0 visit_h c.2 in
@@ -404,7 +410,8 @@ module _ (setting : Setting) (records : List Record) (w : World) (stores : ℕ �
           | inl e ↦ (
               let mine = stays_mine lives e away o (ap (λ n. good.visits n there cell) (sym e) ∙ was) unseen in (
                 λ marked. subst (λ n. IsMarked (news f n) cell) (sym e) (mine.0 marked (subst (λ n. IsMarked (olds f n) cell) e (now.0 marked))),
-                λ all copied. subst (λ n. IsToBeCopied row (news f n) cell) (sym e) (mine.1 all copied (subst (λ n. IsToBeCopied row (olds f n) cell) e (now.1 all copied))),
+                λ all copied. subst (λ n. IsToBeCopied row (news f n) cell) (sym e)
+                    (mine.1 all copied (subst (λ n. IsToBeCopied row (olds f n) cell) e (now.1 all copied))),
               ))
           | inr ne ↦ (
             λ marked. subst (λ s. IsMarked s cell) (sym (store_apart f holder ne)) (now.0 marked),
@@ -420,7 +427,8 @@ module _ (setting : Setting) (records : List Record) (w : World) (stores : ℕ �
     marks_else e (Left_by h kept by_h ne none left marks) = marks_back (olds f k) (news f k) cell marks
 
     page_else : IsElsewhere there cell → (other_one ≡ k → IsLeftAt f there cell row) → (after block : Option ℕ)
-        → IsPage cell (olds f other_one) (good.visits other_one there cell) after block → IsPage cell (news f other_one) (visits other_one there cell) after block
+        → IsPage cell (olds f other_one) (good.visits other_one there cell) after block
+        → IsPage cell (news f other_one) (visits other_one there cell) after block
     page_else away left after block page = record {
       met = ap is_some (visits_else other_one there cell away) ∙ page.met;
       least = λ ahead upto marked. page.least ahead upto (elim (same_or_apart other_one k) [
@@ -448,7 +456,8 @@ module _ (setting : Setting) (records : List Record) (w : World) (stores : ℕ �
       filled_at : (more : List Command) (other : LinkRow) (own : Own) → IsPrefix more top → IsLinked setting more cell other
           → blank_joins_in setting more other_one ≡ blank_joins_in setting f other_one → good.visits holder (place_by setting more other) cell ≡ Some own
           → HasFilled setting top visits f cell holder other_one
-      filled_at more other own within linked joins visit = filled_on setting top good.stores next good.visits visits good.reached reached up nones f cell holder other_one
+      filled_at more other own within linked joins visit =
+          filled_on setting top good.stores next good.visits visits good.reached reached up nones f cell holder other_one
           (record { more = more; within = within; row = other; linked = linked; joins = joins; own = own; visited = visit })
 
       -- where the job changes the other server's copy, the holder has been at a place
@@ -476,7 +485,8 @@ module _ (setting : Setting) (records : List Record) (w : World) (stores : ℕ �
               let high = joins_grow setting.servers u.until top k u_top in
               filled_at u.until u.row u.own u_top u.linked (now_at u.until (omega (arith, now))) u.visited
 
-          by_since : (mine : LinkRow) → IsLinked setting front cell mine → IsPrefix f front → ((kept : Bool) → mine.state ≡ Only holder kept → ⊥) → (mine.state ≡ Lost → ⊥)
+          by_since : (mine : LinkRow) → IsLinked setting front cell mine → IsPrefix f front → ((kept : Bool) → mine.state ≡ Only holder kept → ⊥)
+              → (mine.state ≡ Lost → ⊥)
               → HasFilled setting top visits f cell holder other_one
           by_since mine linked p not_held not_lost =
               elim (alone_since setting records w stores job.firm good started f front cell row mine holder whole p
@@ -505,11 +515,12 @@ module _ (setting : Setting) (records : List Record) (w : World) (stores : ℕ �
                   let its : mine.state ≡ Only k kept = so ∙ ap (λ n. Only n kept) mine_h in
                   elim (fronts_meet f front top prefix (job.firm.servers k)) [
                     | inl p ↦ inr (by_since mine linked p (λ b g. two (e ∙ sym (same_only (sym g ∙ its)))) (λ g. alone_not_lost mine k its g))
-                    | inr p ↦ elim (holds_since setting records w stores job.firm good k job.works.runs job.works.seat cell mine linked started kept its f row p prefix is alive_f) [
-                      | inl held ↦ absurd (two (e ∙ sym (same_only (sym alone ∙ held.1))))
-                      | inr flagged ↦ inl (leaving.flagged_leaves setting records w stores v k server good done job started cell lives mine linked
-                          (has_mine mine linked) kept its flagged).chain
-                    ]
+                    | inr p ↦ elim (holds_since setting records w stores job.firm good k job.works.runs job.works.seat cell mine linked started kept
+                        its f row p prefix is alive_f) [
+                          | inl held ↦ absurd (two (e ∙ sym (same_only (sym alone ∙ held.1))))
+                          | inr flagged ↦ inl (leaving.flagged_leaves setting records w stores v k server good done job started cell lives mine linked
+                              (has_mine mine linked) kept its flagged).chain
+                        ]
                   ])
               | inr ne ↦ elim (leaving.keeps_other setting records w stores v k server good done job started cell lives mine linked
                   (has_mine mine linked) h kept so ne).changes [
@@ -574,7 +585,8 @@ module _ (setting : Setting) (records : List Record) (w : World) (stores : ℕ �
           record {
             copying = subst (λ many. AreCopying many row cell (visits holder there cell) (visits other_one there cell))
                 (links_same setting top job.firm.plain front f cell row row (job.firm.servers k) prefix mine is)
-                (subst (λ place. AreCopying (links_of (server_state setting w k) cell.map) row cell (visits holder place cell) (visits other_one place cell)) e now.copying);
+                (subst (λ place. AreCopying (links_of (server_state setting w k) cell.map) row cell (visits holder place cell) (visits other_one place cell))
+                e now.copying);
             beside = λ lives last. subst (λ place. AreBeside (news f) visits place row cell holder other_one) e
                 (beside_same (news front) (news f) visits (place_by setting front row) cell row holder other_one (sym one) (sym two_is)
                 (now.beside lives (subst (λ place. good.reached cell ≤ place) (sym e) (last_old cell there last))));
@@ -585,7 +597,8 @@ module _ (setting : Setting) (records : List Record) (w : World) (stores : ℕ �
 
       said_alone_at : IsLinked setting front cell row → AliveIn (server_state setting w k) cell → place_by setting front row ≡ there → (said : Body) →
           (about said).cell ≡ Some cell
-          → IsTold row (good.visits holder there cell) (good.visits other_one there cell) said → IsTold row (visits holder there cell) (visits other_one there cell) said
+          → IsTold row (good.visits holder there cell) (good.visits other_one there cell) said
+          → IsTold row (visits holder there cell) (visits other_one there cell) said
       said_alone_at mine alive e said of told =
           let now = worked.alone_now setting records w stores v k server good done job cell row mine alive holder whole alone has in
           subst (λ place. IsTold row (visits holder place cell) (visits other_one place cell) said) e
@@ -593,7 +606,8 @@ module _ (setting : Setting) (records : List Record) (w : World) (stores : ℕ �
 
       page_at : AliveIn (state_after setting.servers top) cell → IsLinked setting front cell row → AliveIn (server_state setting w k) cell
           → place_by setting front row ≡ there → (after block : Option ℕ)
-          → IsPage cell (olds f other_one) (good.visits other_one there cell) after block → IsPage cell (news f other_one) (visits other_one there cell) after block
+          → IsPage cell (olds f other_one) (good.visits other_one there cell) after block
+          → IsPage cell (news f other_one) (visits other_one there cell) after block
       page_at lives mine alive e after block page =
           let now = worked.alone_now setting records w stores v k server good done job cell row mine alive holder whole alone has in
           let its = other_is_one row holder in
@@ -619,18 +633,21 @@ module _ (setting : Setting) (records : List Record) (w : World) (stores : ℕ �
         both = λ lives both last of. by lives both last of (left_else f cell row prefix is has lives away (last_old cell place last));
         alone = λ holder whole alone of.
             subst (λ o. IsTold row o (visits (other_of holder row) place cell) letter_said) (sym (visits_else holder place cell away))
-            (subst (λ o. IsTold row (good.visits holder place cell) o letter_said) (sym (visits_else (other_of holder row) place cell away)) (ok.alone holder whole alone of));
+            (subst (λ o. IsTold row (good.visits holder place cell) o letter_said) (sym (visits_else (other_of holder row) place cell away))
+            (ok.alone holder whole alone of));
         page = λ lives holder whole after block alone said last.
             page_else f cell row holder whole prefix is alone away (λ e. left_else f cell row prefix is has lives away (last_old cell place last)) after block
             (ok.page lives holder whole after block alone said (last_old cell place last));
-        met = λ holder whole after block alone said. ap is_some (visits_else (other_of holder row) place cell away) ∙ ok.met holder whole after block alone said;
+        met = λ holder whole after block alone said. ap is_some (visits_else (other_of holder row) place cell away)
+            ∙ ok.met holder whole after block alone said;
       }
     where
       by : AliveIn (state_after setting.servers top) cell → row.state ≡ Both → reached cell ≤ place_by setting f row →
           (about letter_said).cell ≡ Some cell → IsLeftAt f (place_by setting f row) cell row
           → Known (pair_at (news f) visits (place_by setting f row) cell row.primary row.secondary) letter_said
       by lives both last of (Same_store same) =
-          (said_framed setting top good.stores next good.visits visits good.reached reached up nones f letter_said cell row (λ holder whole alone. holds f cell row holder whole prefix is alone)
+          (said_framed setting top good.stores next good.visits visits good.reached reached up nones f letter_said cell row
+          (λ holder whole alone. holds f cell row holder whole prefix is alone)
           (else_leaves f (place_by setting f row) cell row away (λ alive. same)) ok).both lives both last of
       by lives both last of (Gone lost) = lost_not_both row lost both
       by lives both last of (Covers whole alone none covered) = alone_not_both row k alone both
@@ -672,7 +689,8 @@ module _ (setting : Setting) (records : List Record) (w : World) (stores : ℕ �
       (λ has. at_or_else f cell row prefix is
       (λ mine alive e. said_at letter.body f cell row prefix is has mine alive e ok)
       (λ away. said_else letter.body f cell row prefix is has away ok))
-      (λ off. said_framed setting top good.stores next good.visits visits good.reached reached up nones f letter.body cell row (λ holder whole alone. holds f cell row holder whole prefix is alone)
+      (λ off. said_framed setting top good.stores next good.visits visits good.reached reached up nones f letter.body cell row
+      (λ holder whole alone. holds f cell row holder whole prefix is alone)
       (stranger_leaves f (place_by setting f row) cell row off) ok)
 
   -- ### What it sends
@@ -692,13 +710,15 @@ module _ (setting : Setting) (records : List Record) (w : World) (stores : ℕ �
       (λ off. record {
         both = λ lives both last of. known_mute (pair_at (news front) visits (place_by setting front row) cell row.primary row.secondary) post.body
             (job.keeping.silent cell (inr (row, is, off)) post i of);
-        alone = λ holder whole alone of. told_mute row (visits holder (place_by setting front row) cell) (visits (other_of holder row) (place_by setting front row) cell) post.body
+        alone = λ holder whole alone of.
+            told_mute row (visits holder (place_by setting front row) cell) (visits (other_of holder row) (place_by setting front row) cell) post.body
             (job.keeping.silent cell (inr (row, is, off)) post i of);
         page = λ lives holder whole after block alone said last. stranger_page cell row is post i after block said off;
         met = λ holder whole after block alone said. stranger_page cell row is post i after block said off;
       })
     where
-      stranger_page : {B : Type 0} (cell : Cell) (row : LinkRow) → IsLinked setting front cell row → (post : Post) → In post done.posts → (after block : Option ℕ)
+      stranger_page : {B : Type 0} (cell : Cell) (row : LinkRow) → IsLinked setting front cell row → (post : Post)
+          → In post done.posts → (after block : Option ℕ)
           → post.body ≡ body.Hello row.map row.link after block → has_server k row ≡ false → B
       stranger_page cell row is post i after block said off =
           let held = job.keeping.paged cell row is post i after block said in

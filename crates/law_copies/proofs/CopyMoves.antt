@@ -23,7 +23,8 @@ use Rattle.petal_rules.proofs.Tests.{none_some, same_some, some_or_none, true_fa
 use Rattle.law_state.specs.Started.{is_flagged}
 use Rattle.law_steps.specs.DidHolder.{first_copy}
 use Rattle.law_steps.specs.Ready.{IsRising}
-use Rattle.law_copies.specs.Copied.{AreCopying, AreInOrder, HasPut, HasSent, HasTrimmed, IsCopied, IsCopying, Is_equal, IsFollowed, IsLastCopy, IsLeft, IsPast, IsSent, IsTold, IsTrimming, number_above}
+use Rattle.law_copies.specs.Copied.{AreCopying, AreInOrder, HasPut, HasSent, HasTrimmed, IsCopied, IsCopying, Is_equal, IsFollowed, IsLastCopy}
+use Rattle.law_copies.specs.Copied.{IsLeft, IsPast, IsSent, IsTold, IsTrimming, number_above}
 use Rattle.law_copies.specs.Steps.{StaysTold}
 use Rattle.law_copies.proofs.AllPut.{all_put, copied_now, none_left_to_put}
 use Rattle.law_copies.proofs.Epochs.{epoch_at}

@@ -1,5 +1,6 @@
 -- What is kept after an entry that a server applies.
-use Rattle.std.proofs.Common.{◌≡◌, ◌≢◌, ◌≤◌, ◌<◌, ◌+◌, ◌++◌, ◌==◌, ℕ, Bool, List, [], ◌∷◌, length, true, false, Option, Some, None, is_some, refl, sym, ap, ◌∙◌, subst, ◌⊎◌, inl, inr, arith}
+use Rattle.std.proofs.Common.{◌≡◌, ◌≢◌, ◌≤◌, ◌<◌, ◌+◌, ◌++◌, ◌==◌, ℕ, Bool, List, [], ◌∷◌, length, true, false, Option, Some, None}
+use Rattle.std.proofs.Common.{is_some, refl, sym, ap, ◌∙◌, subst, ◌⊎◌, inl, inr, arith}
 use Rattle.std.specs.Prelude.{unwrap_or}
 use Rattle.std.specs.Option.{option_map_or}
 use Rattle.std.specs.Ordering.{nat_cmp}
@@ -47,14 +48,16 @@ use Rattle.law_copies.proofs.Entering.{IsCrossed, KeepsAll, keeps_onward}
 use Rattle.law_copies.proofs.Following.{kept_copying, kept_told}
 use Rattle.law_copies.proofs.HolderSteps as steps
 use Rattle.law_copies.proofs.Framed.{LeavesStore, alike_same, filled_framed, marked_back, marked_on, other_is_one, pair_same, recalled_on, to_copy_on}
-use Rattle.law_copies.proofs.Fresh.{IsFresh, fresh_alike, fresh_first, fresh_first_known, fresh_holder, fresh_holder_told, fresh_other, fresh_other_told, fresh_second}
+use Rattle.law_copies.proofs.Fresh.{IsFresh, fresh_alike, fresh_first, fresh_first_known, fresh_holder, fresh_holder_told}
+use Rattle.law_copies.proofs.Fresh.{fresh_other, fresh_other_told, fresh_second}
 use Rattle.law_copies.proofs.NewPlaces.{half_store}
 use Rattle.law_copies.proofs.Later.{holder_is_one}
 use Rattle.law_copies.proofs.Others.{other_apart}
 use Rattle.law_copies.proofs.Places.{one_row}
 use Rattle.law_copies.proofs.Quiet.{stores_leave}
 use Rattle.law_copies.proofs.Stepping.{GoesOn, IsSoundOwn, IsTrue, KeepsFronts, good_after}
-use Rattle.law_copies.proofs.Visited.{IsAt, IsStep, IsThen, KeepsFlags, counted, counted_up, later, none_before, some_after, stored, stored_by, visited_apart, visited_by}
+use Rattle.law_copies.proofs.Visited.{IsAt, IsStep, IsThen, KeepsFlags, counted, counted_up, later, none_before, some_after}
+use Rattle.law_copies.proofs.Visited.{stored, stored_by, visited_apart, visited_by}
 
 -- ### Where all of the cell is as before
 
@@ -193,7 +196,8 @@ module _ (setting : Setting) (records : List Record) (w : World) (stores : ℕ �
 
   same_row : (front : List Command) (cell : Cell) (row : LinkRow) → IsPrefix front top → IsLinked setting front cell row
       → (there : IsAt setting k server (place_by setting front row) cell) → there.row ≡ row
-  same_row front cell row prefix is there = one_row setting top step.plain front server.log.applied cell row there.row prefix step.within is there.linked there.at
+  same_row front cell row prefix is there =
+      one_row setting top step.plain front server.log.applied cell row there.row prefix step.within is there.linked there.at
 
   -- where it is there, its store is the one that counts by the front
   store_there : (front : List Command) (cell : Cell) (row : LinkRow) → IsPrefix front top → IsLinked setting front cell row → has_server k row ≡ true

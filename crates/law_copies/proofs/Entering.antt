@@ -1,5 +1,6 @@
 -- An entry that a server applies: of each cell the server comes to a new place with nothing in memory of it, or it stays where it was.
-use Rattle.std.proofs.Common.{◌≡◌, ◌+◌, ◌≤◌, ◌<◌, ◌++◌, ◌&&◌, ◌||◌, not, cond, ℕ, List, [], ◌∷◌, length, Bool, true, false, Option, Some, None, refl, sym, ap, ◌∙◌, subst, ◌⊎◌, inl, inr, arith}
+use Rattle.std.proofs.Common.{◌≡◌, ◌+◌, ◌≤◌, ◌<◌, ◌++◌, ◌&&◌, ◌||◌, not, cond, ℕ, List, [], ◌∷◌, length, Bool, true, false, Option}
+use Rattle.std.proofs.Common.{Some, None, refl, sym, ap, ◌∙◌, subst, ◌⊎◌, inl, inr, arith}
 use Rattle.std.specs.Prelude.{filter, is_none, option_and_then, unwrap_or}
 use Rattle.std.specs.Option.{option_map_or}
 use Rattle.std.specs.Ordering.{is_eq}
@@ -168,7 +169,8 @@ module _ (state : State) (entry : Command) (own : Own) where
       live_then state entry q (either_false (touches_cell state entry q) (dies state entry q) was.1).1 (copied q last was.0)
 
   -- a cell that the entry touches is new to it
-  pub touched_fresh : (cell : Cell) (row : LinkRow) → cell_link state cell ≡ Some row → touches state entry row ≡ true → IsFresh (crossed state entry own) row cell
+  pub touched_fresh : (cell : Cell) (row : LinkRow) → cell_link state cell ≡ Some row → touches state entry row ≡ true
+      → IsFresh (crossed state entry own) row cell
   touched_fresh cell row is on =
       let touched : touches_cell state entry cell ≡ true = ap (λ o. option_map_or (touches state entry) o false) is ∙ on in
       let link : touches_link state entry (id_of row) ≡ true = ap (λ o. option_map_or (touches state entry) o false) (row_named state cell row is) ∙ on in
@@ -321,7 +323,8 @@ module _ (setting : Setting) (records : List Record) (w : World) (stores : ℕ �
             let mine : acts.holder ≡ k = same_only (sym acts.alone ∙ ap (λ (r : LinkRow). r.state) (same_some (sym is ∙ held.is)) ∙ held.so) in
             let inc_is : acts.inc ≡ (w.servers k).life.inc =
             in_once earlier k acts.inc (w.servers k).life.inc (subst (λ n. is_in earlier n acts.inc ≡ true) mine acts.holds) seated in
-            let stands : IsPrefix (front ++ Caught row.map row.link acts.holder acts.inc (other_of acts.holder row) acts.other_inc ∷ []) (chosen_log setting w) =
+            let stands : IsPrefix (front ++ Caught row.map row.link acts.holder acts.inc (other_of acts.holder row) acts.other_inc ∷ [])
+            (chosen_log setting w) =
             subst (λ (x : Command). IsPrefix (front ++ x ∷ []) (chosen_log setting w)) acts.is (subst (λ f. IsPrefix f (chosen_log setting w)) more within) in
             let started = firm.started front row.map row.link acts.holder acts.inc (other_of acts.holder row) acts.other_inc stands in
             let mine_started = subst (λ n. HasStarted w.servers n acts.inc (length front) (id_of row)) mine started in
@@ -393,7 +396,8 @@ module _ (setting : Setting) (records : List Record) (w : World) (stores : ℕ �
             let at = b.at in
             let le = places_up setting front plain_front b.front front cell b.row row b.within (front_itself front) b.linked is in
             let later_place = place_of_later setting next plain_next front next next cell row now step_on (front_itself next) is end in
-            let one : place_by setting next row ≡ place_by setting front row + 1 = ap (λ f. place_by setting f row) more ∙ place_touched setting front entry row on in
+            let one : place_by setting next row ≡ place_by setting front row + 1 = ap (λ f. place_by setting f row) more
+            ∙ place_touched setting front entry row on in
             absurd (omega arith));
         fresh = left_fresh earlier entry old new left now cell (record {
           last = fresh.last;

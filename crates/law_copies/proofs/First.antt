@@ -21,7 +21,8 @@ use Rattle.petal_rules.proofs.Tests.{same_or_apart, true_false}
 use Rattle.law_log.proofs.Histories.{history_is_firm}
 use Rattle.law_state.specs.Firm.{Firm}
 use Rattle.law_steps.specs.Did.{Did}
-use Rattle.law_steps.specs.Happens.{Happens, Handled, IsSeated, Serves, Blanks, Turns, Serving, Goes, Ends, Stays, Wakes, Fails, By_job, By_ballot, By_entry, own_place}
+use Rattle.law_steps.specs.Happens.{Happens, Handled, IsSeated, Serves, Blanks, Turns, Serving, Goes, Ends, Stays, Wakes}
+use Rattle.law_steps.specs.Happens.{Fails, By_job, By_ballot, By_entry, own_place}
 use Rattle.law_steps.specs.Ready.{Rests}
 use Rattle.law_steps.proofs.Firms.{always_firm}
 use Rattle.law_steps.proofs.Fronts.{below_itself}
@@ -104,7 +105,8 @@ marks_first script records sound legal front back own e n cell =
     let legal_front = before_last script front own legal_all in
     let firm = history_is_firm script front sound legal_front in
     let rests = rests_after setting (start setting) front (always_firm script front sound legal_front) (start_rests script) legal_front in
-    let happens = last_happens script front own (always_firm script all sound legal_all) legal_all (chosen_state setting v) (below_itself (chosen_state setting v)) in
+    let happens = last_happens script front own (always_firm script all sound legal_all) legal_all (chosen_state setting v)
+    (below_itself (chosen_state setting v)) in
     record {
       marked = λ runs on leads changed. happens_first setting front w firm rests (good_after script front sound legal_front)
           (at_work script front sound legal_front) v happens n cell runs on leads

@@ -42,7 +42,8 @@ pub marked_on : (old new : Store) (cell : Cell) → LeavesStore old new cell →
 marked_on old new cell same (inl busy) = inl (same.marks Busy ∙ busy)
 marked_on old new cell same (inr stale) = inr (same.marks Stale ∙ stale)
 
-pub marks_back : (old new : Store) (cell : Cell) → ((kind : MarkKind) → is_marked new kind cell ≡ is_marked old kind cell) → IsMarked new cell → IsMarked old cell
+pub marks_back : (old new : Store) (cell : Cell) → ((kind : MarkKind) → is_marked new kind cell ≡ is_marked old kind cell)
+    → IsMarked new cell → IsMarked old cell
 marks_back old new cell same (inl busy) = inl (sym (same Busy) ∙ busy)
 marks_back old new cell same (inr stale) = inr (sym (same Stale) ∙ stale)
 
@@ -188,7 +189,8 @@ module _ (setting : Setting) (top : List Command) (old new : ℕ → ℕ → Sto
         let now = somes holder (place_by setting f.more f.row) cell f.own f.visited in
         record { more = f.more; within = f.within; row = f.row; linked = f.linked; joins = f.joins; own = now.0; visited = now.1 }
 
-    pub filled_framed : (front : List Command) (cell : Cell) (holder other : ℕ) → chain_in (news front other).chains cell ≡ chain_in (olds front other).chains cell
+    pub filled_framed : (front : List Command) (cell : Cell) (holder other : ℕ)
+        → chain_in (news front other).chains cell ≡ chain_in (olds front other).chains cell
         → (chain_in (olds front other).chains cell ≡ []) ⊎ HasFilled setting top visits front cell holder other
         → (chain_in (news front other).chains cell ≡ []) ⊎ HasFilled setting top later front cell holder other
     filled_framed front cell holder other same (inl empty) = inl (same ∙ empty)
@@ -254,7 +256,8 @@ module _ (setting : Setting) (top : List Command) (old new : ℕ → ℕ → Sto
               (leaves row.secondary (secondary_is_one row row.secondary refl)))
               (ok.both alive both (last_before cell place last) of);
           alone = λ holder whole alone of.
-              told_framed place cell row holder said (leaves holder (has holder whole alone)).visit (leaves (other_of holder row) (other_is_one row holder)).visit
+              told_framed place cell row holder said (leaves holder (has holder whole alone)).visit
+              (leaves (other_of holder row) (other_is_one row holder)).visit
               (ok.alone holder whole alone of);
           page = λ alive holder whole after block alone is last.
               page_framed front place cell (other_of holder row) after block alive (leaves (other_of holder row) (other_is_one row holder))

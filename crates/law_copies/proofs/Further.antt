@@ -1,5 +1,6 @@
 -- What is kept of a front of the chosen log that no server was beyond is kept of the whole, entry by entry, by the stores that count then.
-use Rattle.std.proofs.Common.{◌≡◌, ◌≢◌, ◌≤◌, ◌<◌, ◌++◌, ◌==◌, ◌⊎◌, ℕ, Bool, List, [], ◌∷◌, true, false, if◌then◌else◌, None, refl, sym, ap, ◌∙◌, subst, inl, inr, arith, append_assoc}
+use Rattle.std.proofs.Common.{◌≡◌, ◌≢◌, ◌≤◌, ◌<◌, ◌++◌, ◌==◌, ◌⊎◌, ℕ, Bool, List, [], ◌∷◌, true, false, if◌then◌else◌, None, refl}
+use Rattle.std.proofs.Common.{sym, ap, ◌∙◌, subst, inl, inr, arith, append_assoc}
 use Rattle.std.proofs.lemmas.List.{append-nil}
 use Rattle.petal_base.specs.declared.cell.Cell.{Cell}
 use Rattle.petal_command.specs.declared.command.Command.{Command}

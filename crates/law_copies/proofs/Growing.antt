@@ -1,7 +1,8 @@
 -- The chosen log grows by an entry that no server has applied: what was kept at the fronts so far is kept at the new one. Where the
 -- entry touches a link, no server has been at the link's new place. Where it is a Join of a server with an empty store, that store is the
 -- server's from the new front on.
-use Rattle.std.proofs.Common.{◌≡◌, ◌≢◌, ◌≤◌, ◌++◌, ◌==◌, ◌⊎◌, ℕ, Bool, List, [], ◌∷◌, length, length-append, true, false, if◌then◌else◌, Some, None, refl, sym, ap, ◌∙◌, subst, inl, inr, arith}
+use Rattle.std.proofs.Common.{◌≡◌, ◌≢◌, ◌≤◌, ◌++◌, ◌==◌, ◌⊎◌, ℕ, Bool, List, [], ◌∷◌, length, length-append, true, false, if◌then◌else◌}
+use Rattle.std.proofs.Common.{Some, None, refl, sym, ap, ◌∙◌, subst, inl, inr, arith}
 use Rattle.std.specs.Prelude.{slice_get}
 use Rattle.std.specs.Ordering.{nat_cmp}
 use Rattle.busy_marks.specs.Marks.{has_mark}
@@ -55,7 +56,8 @@ use Rattle.law_copies.proofs.Framed.{other_is_one}
 use Rattle.law_copies.proofs.Later.{alone_not_lost, holder_is_one, other_than}
 use Rattle.law_copies.proofs.Mute.{said_mute}
 use Rattle.law_copies.proofs.NewPlaces.{beside_same, both_cover, cover_anew, in_common, new_alone, new_twins, twins_same}
-use Rattle.law_copies.proofs.Places.{alive_on, below_at, front_or_all, linked_between, links_up, other_later, place_of_later, place_touched, place_untouched, places_up, rows_later, state_next, unborn}
+use Rattle.law_copies.proofs.Places.{alive_on, below_at, front_or_all, linked_between, links_up, other_later, place_of_later, place_touched}
+use Rattle.law_copies.proofs.Places.{place_untouched, places_up, rows_later, state_next, unborn}
 use Rattle.law_copies.proofs.Renewed.{blanked_alone, counts_more, counts_same, filled_cover, joined_not_both, joins_so, no_blank_join, no_chains}
 
 -- every server has applied entries of this log alone, now and at each world on the way

@@ -1,5 +1,6 @@
 -- Each step that is allowed keeps what is kept of two copies, by the stores that count, and so does every legal history.
-use Rattle.std.proofs.Common.{◌≡◌, ◌≤◌, ◌+◌, ◌++◌, ◌==◌, ℕ, true, false, if◌then◌else◌, List, [], ◌∷◌, Option, Some, None, refl, sym, ap, ◌∙◌, subst, ◌⊎◌, inl, inr, arith, append_assoc}
+use Rattle.std.proofs.Common.{◌≡◌, ◌≤◌, ◌+◌, ◌++◌, ◌==◌, ℕ, true, false, if◌then◌else◌, List, [], ◌∷◌, Option, Some, None, refl, sym}
+use Rattle.std.proofs.Common.{ap, ◌∙◌, subst, ◌⊎◌, inl, inr, arith, append_assoc}
 use Rattle.std.specs.Prelude.{map, unwrap_or}
 use Rattle.std.specs.Option.{option_map_or}
 use Rattle.std.specs.Ordering.{nat_cmp}
@@ -35,7 +36,8 @@ use Rattle.petal_rules.specs.Returns.{proposed}
 use Rattle.petal_rules.specs.Server.{Own, Copies, Pairs, Server, Post, Sender, Done, no_copies, no_pairs, silent, sender, letters_of}
 use Rattle.petal_rules.specs.State.{State, id_of, is_in, link_cmp, live}
 use Rattle.petal_rules.specs.Store.{Store, cell_cmp, chain_in, empty_store, mark_on}
-use Rattle.petal_rules.specs.World.{Setting, World, acts, before_blanks, blank_joins_in, chosen_log, chosen_state, counted, counted_by, kept, reacts, server_state, setting_of, stamped, start, with_store}
+use Rattle.petal_rules.specs.World.{Setting, World, acts, before_blanks, blank_joins_in, chosen_log, chosen_state, counted, counted_by, kept}
+use Rattle.petal_rules.specs.World.{reacts, server_state, setting_of, stamped, start, with_store}
 use Rattle.petal_rules.specs.declared.step.Step.{Step}
 use Rattle.petal_rules.specs.declared.step.Step.TheVariants.{Blank}
 use Rattle.petal_rules.proofs.ListLemmas.{in-append, put_apart, put_same}
@@ -48,7 +50,8 @@ use Rattle.law_state.specs.Started.{is_flagged}
 use Rattle.law_state.proofs.Entries.{start_plain}
 use Rattle.law_state.proofs.Rows.{past_link}
 use Rattle.law_state.proofs.Steady.{front_plain, log_below}
-use Rattle.law_steps.specs.Happens.{Happens, Serves, Blanks, Turns, Serving, Goes, Ends, Stays, Wakes, Fails, By_job, By_ballot, By_entry, Starts, served_so, stopped_so, shown_so, is_between, own_place, without_rev}
+use Rattle.law_steps.specs.Happens.{Happens, Serves, Blanks, Turns, Serving, Goes, Ends, Stays, Wakes, Fails, By_job, By_ballot, By_entry, Starts}
+use Rattle.law_steps.specs.Happens.{served_so, stopped_so, shown_so, is_between, own_place, without_rev}
 use Rattle.law_steps.specs.Ready.{IsRising, Rests}
 use Rattle.law_steps.specs.Waking.{AllMayWake}
 use Rattle.law_steps.proofs.Firms.{always_firm}

@@ -37,9 +37,13 @@ use Rattle.petal_rules.proofs.Tests.{by_bool, by_test, same_some, some_or_none, 
 use Rattle.law_state.specs.Started.{is_flagged}
 use Rattle.law_log.proofs.Flags.{progress_beside, same_id}
 use Rattle.law_steps.specs.Ready.{IsRising}
-use Rattle.law_steps.specs.DidLead.{DidLead, Asks, A_slot, A_copy, A_trim, A_copied_entry, A_page, An_entry_to_move, Of_the_log, Asks_for, Repeats, Is_full, Opens, Marks, Puts, Gives_up, Unmarks, Closes, Opens_alone, Marks_alone, Puts_alone, Unmarks_alone, Closes_alone, Opens_fill, Opens_fill_alone, Has_fill, Has_no_room, Goes_on_dead, Taken}
-use Rattle.law_steps.specs.DidHolder.{DidHolder, CopyStep, Asks_to_trim, Sends, Unmarks_copied, Closes_copy, TakenCopy, Copy_as_is, Copy_trimmed, Copy_synced, Asks_page, Turns_page, Begins_copy, Goes_on_copying, Finds_it_full, Tidies, IsHeldWith, first_copy}
-use Rattle.law_steps.specs.DidOther.{DidOther, first_last, TrimStep, Is_trimmed, Drops_entry, Answers_page, Is_copied_to, Goes_on_trimming, Puts_entry, Has_entry, Has_no_slot}
+use Rattle.law_steps.specs.DidLead.{DidLead, Asks, A_slot, A_copy, A_trim, A_copied_entry, A_page, An_entry_to_move, Of_the_log, Asks_for, Repeats, Is_full}
+use Rattle.law_steps.specs.DidLead.{Opens, Marks, Puts, Gives_up, Unmarks, Closes, Opens_alone, Marks_alone, Puts_alone, Unmarks_alone, Closes_alone}
+use Rattle.law_steps.specs.DidLead.{Opens_fill, Opens_fill_alone, Has_fill, Has_no_room, Goes_on_dead, Taken}
+use Rattle.law_steps.specs.DidHolder.{DidHolder, CopyStep, Asks_to_trim, Sends, Unmarks_copied, Closes_copy, TakenCopy, Copy_as_is, Copy_trimmed, Copy_synced}
+use Rattle.law_steps.specs.DidHolder.{Asks_page, Turns_page, Begins_copy, Goes_on_copying, Finds_it_full, Tidies, IsHeldWith, first_copy}
+use Rattle.law_steps.specs.DidOther.{DidOther, first_last, TrimStep, Is_trimmed, Drops_entry, Answers_page, Is_copied_to}
+use Rattle.law_steps.specs.DidOther.{Goes_on_trimming, Puts_entry, Has_entry, Has_no_slot}
 use Rattle.law_steps.specs.DidSecond.{DidSecond}
 use Rattle.law_steps.specs.Did.{Did, Ignores, Refuses, By_read, By_lead, By_second, By_holder, By_other, By_filler, By_sweep}
 use Rattle.law_steps.proofs.CopyFrames.{of_holder, of_other}
@@ -65,8 +69,10 @@ use Rattle.law_copies.proofs.Onward.{IsOnward, begun_onward, closed_onward, copi
 use Rattle.law_copies.proofs.Pacing.{IsPaced, link_itself, paced_beside, paced_copied, paced_table}
 use Rattle.law_copies.proofs.Rising.{did_rising}
 use Rattle.law_copies.proofs.Sent.{at_away, filling_not, holder_says, lead_sends, logged_not, none_in, other_says, paired_not, read_not, refused_not, untold}
-use Rattle.law_copies.proofs.Standing.{alone_not_in_both, alone_not_row, alone_not_second, cell_map, holder_not_other, idle_on, kept_lives, named_id, one_named, only_alone, page_on}
-use Rattle.law_copies.proofs.Working.{Away, IsHeldBy, copy_step_beside, filler_beside, holder_beside, holder_cell, lead_beside, lead_cell, other_beside, other_cell, other_held, page_cell, second_beside, second_follows, sweep_beside}
+use Rattle.law_copies.proofs.Standing.{alone_not_in_both, alone_not_row, alone_not_second, cell_map, holder_not_other, idle_on}
+use Rattle.law_copies.proofs.Standing.{kept_lives, named_id, one_named, only_alone, page_on}
+use Rattle.law_copies.proofs.Working.{Away, IsHeldBy, copy_step_beside, filler_beside, holder_beside, holder_cell, lead_beside, lead_cell, other_beside}
+use Rattle.law_copies.proofs.Working.{other_cell, other_held, page_cell, second_beside, second_follows, sweep_beside}
 
 module _ (heard : Body → Type 0) (here : Here) (own : Own) where
   -- ### Numbers only grow

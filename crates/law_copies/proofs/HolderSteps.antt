@@ -24,7 +24,8 @@ use Rattle.petal_rules.specs.Writes.{pending_on}
 use Rattle.petal_rules.proofs.Tests.{by_bool, none_some, same_or_apart, some_or_none, true_false}
 use Rattle.law_state.specs.Started.{is_flagged}
 use Rattle.law_steps.specs.Ready.{IsRising}
-use Rattle.law_copies.specs.Copied.{AreCopying, AreInOrder, IsCopied, IsCovered, Is_equal, Is_marked_here, Is_marked_there, Is_to_be_copied, IsLeft, IsPage, NotCopied}
+use Rattle.law_copies.specs.Copied.{AreCopying, AreInOrder, IsCopied, IsCovered, Is_equal, Is_marked_here, Is_marked_there}
+use Rattle.law_copies.specs.Copied.{Is_to_be_copied, IsLeft, IsPage, NotCopied}
 use Rattle.law_copies.specs.Steps.{IsStill, KeepsCell}
 use Rattle.law_copies.proofs.AllPut.{copied_now}
 use Rattle.law_copies.proofs.Chains.{page_chains}

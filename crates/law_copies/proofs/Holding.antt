@@ -19,7 +19,8 @@ use Rattle.petal_rules.specs.Writes.{pending_on}
 use Rattle.petal_rules.proofs.Tests.{same_some}
 use Rattle.law_state.specs.Started.{is_flagged}
 use Rattle.law_steps.specs.Ready.{IsRising}
-use Rattle.law_copies.specs.Copied.{AreAlike, AreCopying, AreInOrder, HasPage, HasSent, IsCaught, IsCopied, IsCopying, IsCovered, Is_equal, Is_marked_here, Is_marked_there, Is_to_be_copied, IsLastCopy, IsLeft, IsPast, IsSent, IsTold, IsTrimming, NotCopied, number_above}
+use Rattle.law_copies.specs.Copied.{AreAlike, AreCopying, AreInOrder, HasPage, HasSent, IsCaught, IsCopied, IsCopying, IsCovered, Is_equal, Is_marked_here}
+use Rattle.law_copies.specs.Copied.{Is_marked_there, Is_to_be_copied, IsLastCopy, IsLeft, IsPast, IsSent, IsTold, IsTrimming, NotCopied, number_above}
 use Rattle.law_copies.specs.Steps.{IsStill, PagesOf, StaysTold}
 use Rattle.law_copies.proofs.AllPut.{all_put, none_left_to_put}
 

@@ -164,7 +164,8 @@ module _ (setting : Setting) (records : List Record) (w : World) (stores : ℕ �
         (moves.stays (pair_of first own cell) first.pairs.next ok (omega arith))
 
     -- of a link that the server's state has not it has nothing in mind
-    held_pages : (row : LinkRow) → ((id : LinkId) (of : LinkRow) → link_named (server_state setting w k) id ≡ Some of → eq_by_cmp link_cmp (id_of row) (id_of of) ≡ false)
+    held_pages : (row : LinkRow)
+        → ((id : LinkId) (of : LinkRow) → link_named (server_state setting w k) id ≡ Some of → eq_by_cmp link_cmp (id_of row) (id_of of) ≡ false)
         → (id : LinkId) (o : Option LinkRow) → link_named (server_state setting w k) id ≡ o → progress_on (holds_link own o) row ≡ progress_on own row
     held_pages row apart id None is = refl
     held_pages row apart id (Some of) is = progress_beside own of (record (progress_on own of) { caught = true }) row (apart id of is)
@@ -188,7 +189,8 @@ module _ (setting : Setting) (records : List Record) (w : World) (stores : ℕ �
           marks = λ m. inl (subst (λ (s : Store). IsMarked s cell) (sym store_same) m);
           stored = λ some. subst (λ (s : Store). chain_in s.chains cell ≢ []) (sym store_same) some;
           alike = λ now still pages rising a. b.alike now a;
-          caught = λ flagged. (ap (λ (s : Store). chain_in s.chains cell) store_same, λ m. (f.old.caught own refl flagged).unmarked (marked cell m), b.flagged flagged);
+          caught = λ flagged.
+              (ap (λ (s : Store). chain_in s.chains cell) store_same, λ m. (f.old.caught own refl flagged).unmarked (marked cell m), b.flagged flagged);
         }
 
     other_keeps : (cell : Cell) (row : LinkRow) (holder : Option Own) → IsFollowing (Handled w k) here (links_at cell) row cell holder own

@@ -1,6 +1,7 @@
 -- Who may have served a cell's link at later fronts of the log: what a server that is at a place may rely on, whatever has been chosen
 -- since.
-use Rattle.std.proofs.Common.{◌≡◌, ◌≤◌, ◌<◌, ◌++◌, ◌==◌, ℕ, List, [], ◌∷◌, Bool, true, false, Some, None, is_some, refl, sym, ap, ◌∙◌, subst, ◌⊎◌, inl, inr, arith}
+use Rattle.std.proofs.Common.{◌≡◌, ◌≤◌, ◌<◌, ◌++◌, ◌==◌, ℕ, List, [], ◌∷◌, Bool, true, false, Some, None, is_some, refl}
+use Rattle.std.proofs.Common.{sym, ap, ◌∙◌, subst, ◌⊎◌, inl, inr, arith}
 use Rattle.std.specs.Option.{option_map_or}
 use Rattle.global_tables.specs.Link.{has_server, other_of}
 use Rattle.global_tables.specs.declared.link.LinkRow.{LinkRow}
@@ -228,7 +229,8 @@ module _ (setting : Setting) (records : List Record) (w : World) (stores : ℕ �
         ]
 
     -- where the other server was at no later place, the holder was done with it at this one
-    pub alone_or_flagged : (front more : List Command) (cell : Cell) (row now : LinkRow) (holder : ℕ) (whole : Bool) → IsPrefix front more → IsPrefix more chosen
+    pub alone_or_flagged : (front more : List Command) (cell : Cell) (row now : LinkRow) (holder : ℕ) (whole : Bool)
+        → IsPrefix front more → IsPrefix more chosen
         → IsLinked setting front cell row → row.state ≡ Only holder whole → IsLinked setting more cell now → AliveIn (state_after setting.servers more) cell
         → ((place : ℕ) → place_by setting front row < place → good.visits (other_of holder row) place cell ≡ None)
         → IsHeldStill holder whole now.state ⊎ (now.state ≡ Lost)
@@ -331,7 +333,8 @@ module _ (setting : Setting) (records : List Record) (w : World) (stores : ℕ �
                   one_row setting chosen firm.plain (own_front k) u.until cell row u.row (firm.servers k) until_chosen is u.linked (sym same) in
                   let here = good.here k cell row is seat (alive_on setting chosen firm.plain (own_front k) more cell one two alive) in
                   let mine : u.own ≡ here.own = same_some (sym u.visited ∙ ap (λ p. good.visits k p cell) same ∙ here.is) in
-                  inr (ap (λ (o : Own). is_flagged o (id_of row)) (sym here.same ∙ sym mine) ∙ ap (λ (r : LinkRow). is_flagged u.own (id_of r)) (sym one_is) ∙ u.flagged))
+                  inr (ap (λ (o : Own). is_flagged o (id_of row)) (sym here.same ∙ sym mine)
+                  ∙ ap (λ (r : LinkRow). is_flagged u.own (id_of r)) (sym one_is) ∙ u.flagged))
             ]
             | inr own ↦ inr (sym (held_as_flag (server_state setting w k) (w.servers k).own cell row is) ∙ own.proposed)
           ]

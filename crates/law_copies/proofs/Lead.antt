@@ -26,12 +26,15 @@ use Rattle.petal_rules.specs.Progress.{has_proposed}
 use Rattle.petal_rules.specs.State.{in_both, is_alone_on, live, second}
 use Rattle.petal_rules.specs.Store.{Chain, Store, cell_cmp, chain_in, version_of}
 use Rattle.petal_rules.specs.Server.{Own, Here, Post, Done, post_to}
-use Rattle.petal_rules.specs.Writes.{acts, ends, moved_as, next_stage, old_lead, operation, with_opened, with_reserved, with_paired, with_mark_at, ended, finishes, gives_back, marks, puts, unmarks, with_pending, without_pending}
+use Rattle.petal_rules.specs.Writes.{acts, ends, moved_as, next_stage, old_lead, operation, with_opened, with_reserved, with_paired, with_mark_at, ended}
+use Rattle.petal_rules.specs.Writes.{finishes, gives_back, marks, puts, unmarks, with_pending, without_pending}
 use Rattle.petal_rules.proofs.CellTables.{cell_same, cell_apart, cell_gone, cell_gone_apart}
 use Rattle.petal_rules.proofs.Tests.{by_test, same_some, true_false}
 use Rattle.law_state.proofs.Alone.{both_not_alone, so_both}
 use Rattle.law_steps.specs.Operations.{waiting, putting, copying}
-use Rattle.law_steps.specs.DidLead.{DidLead, Asks_for, Repeats, Is_full, Opens, Marks, Puts, Gives_up, Unmarks, Closes, Opens_alone, Marks_alone, Puts_alone, Unmarks_alone, Closes_alone, Opens_fill, Opens_fill_alone, Has_fill, Has_no_room, Goes_on_dead, Asks, A_slot, A_copy, A_trim, A_copied_entry, A_page, An_entry_to_move, Of_the_log, Taken}
+use Rattle.law_steps.specs.DidLead.{DidLead, Asks_for, Repeats, Is_full, Opens, Marks, Puts, Gives_up, Unmarks, Closes, Opens_alone, Marks_alone, Puts_alone}
+use Rattle.law_steps.specs.DidLead.{Unmarks_alone, Closes_alone, Opens_fill, Opens_fill_alone, Has_fill, Has_no_room, Goes_on_dead, Asks, A_slot, A_copy}
+use Rattle.law_steps.specs.DidLead.{A_trim, A_copied_entry, A_page, An_entry_to_move, Of_the_log, Taken}
 use Rattle.law_steps.specs.Ready.{IsReady}
 use Rattle.law_steps.proofs.Leading.{stage_live}
 use Rattle.law_steps.proofs.Letters.{one_post, posted}
@@ -141,7 +144,8 @@ module _ (heard : Body → Type 0) (here : Here) (own : Own) (ready : IsReady he
   ]
 
   -- what is sent tells nothing of the pair
-  mute : (new : Own) (posts : List Post) → ((post : Post) → In post posts → (pair : Pair) → Known pair post.body) → SaysKnown posts cell (pair_of new second_own cell)
+  mute : (new : Own) (posts : List Post) → ((post : Post) → In post posts → (pair : Pair) → Known pair post.body)
+      → SaysKnown posts cell (pair_of new second_own cell)
   mute new posts h post i is = h post i (pair_of new second_own cell)
 
   mute_one : (new : Own) (posts : List Post) (said : Body) → ((post : Post) → In post posts → post.body ≡ said) → ((pair : Pair) → Known pair said)
@@ -222,7 +226,8 @@ module _ (heard : Body → Type 0) (here : Here) (own : Own) (ready : IsReady he
       → Keeps (pair_of own second_own cell) (pair_of new second_own cell)
   done_with op new chains next pending keeps =
       let gone : at cell_cmp new.pairs.pending op.cell ≡ None = ap (λ t. at cell_cmp t op.cell) pending ∙ cell_gone own.pairs.pending op.cell in
-      at_cell op.cell new (λ q ne. ap (λ c. chain_in c q) chains) (λ q ne. ap (λ t. at cell_cmp t q) pending ∙ cell_gone_apart own.pairs.pending op.cell q ne) (omega arith)
+      at_cell op.cell new (λ q ne. ap (λ c. chain_in c q) chains)
+      (λ q ne. ap (λ t. at cell_cmp t q) pending ∙ cell_gone_apart own.pairs.pending op.cell q ne) (omega arith)
       (λ e. subst (Keeps (pair_of own second_own op.cell)) (λ i. record {
         first = chain_in (sym chains i) op.cell;
         second = chain_in second_own.store.chains op.cell;

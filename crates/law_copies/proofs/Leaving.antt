@@ -1,5 +1,6 @@
 -- What a job of a server that is In as itself leaves of its store, as other fronts than those at its own place see it.
-use Rattle.std.proofs.Common.{◌≡◌, ◌≢◌, ◌≤◌, ◌<◌, ◌==◌, ℕ, List, Bool, true, false, Option, Some, None, is_some, refl, sym, ap, ◌∙◌, subst, ◌⊎◌, inl, inr, arith}
+use Rattle.std.proofs.Common.{◌≡◌, ◌≢◌, ◌≤◌, ◌<◌, ◌==◌, ℕ, List, Bool, true, false, Option, Some, None, is_some, refl}
+use Rattle.std.proofs.Common.{sym, ap, ◌∙◌, subst, ◌⊎◌, inl, inr, arith}
 use Rattle.busy_marks.specs.Marks.{above}
 use Rattle.busy_marks.specs.declared.marks.MarkKind.{MarkKind}
 use Rattle.busy_marks.specs.declared.marks.MarkKind.TheVariants.{Busy, Stale}
@@ -31,7 +32,8 @@ use Rattle.law_copies.specs.Visits.{AliveIn, IsLinked, place_by, store_by, with_
 use Rattle.law_copies.proofs.Between.{held_same, to_fill}
 use Rattle.law_copies.proofs.Framed.{LeavesStore}
 use Rattle.law_copies.proofs.NewPlaces.{both_cover, cover_anew}
-use Rattle.law_copies.proofs.Later.{AllStarted, alone_last, alone_or_flagged, both_since, holder_is_one, holds_since, not_reached, not_serving, serves_its, unseen_beyond}
+use Rattle.law_copies.proofs.Later.{AllStarted, alone_last, alone_or_flagged, both_since, holder_is_one, holds_since}
+use Rattle.law_copies.proofs.Later.{not_reached, not_serving, serves_its, unseen_beyond}
 use Rattle.law_copies.proofs.Others.{other_apart}
 use Rattle.law_copies.proofs.Places.{alive_on, at_most_or_above, fronts_meet, other_later, places_up, rows_later}
 use Rattle.law_copies.proofs.Renewed.{filled_cover}
@@ -50,7 +52,8 @@ pub below : {a b : ℕ} → a ≤ b → a ≢ b → a < b
 below {a} {b} le ne = elim (at_most_or_above b a) [ inl more ↦ absurd (ne (omega arith)) | inr lt ↦ lt ]
 
 -- a cell that is marked neither before nor after has the same marks
-marks_none : (old new : Store) (cell : Cell) → (IsMarked old cell → ⊥) → (IsMarked new cell → ⊥) → (kind : MarkKind) → is_marked new kind cell ≡ is_marked old kind cell
+marks_none : (old new : Store) (cell : Cell) → (IsMarked old cell → ⊥) → (IsMarked new cell → ⊥) → (kind : MarkKind)
+    → is_marked new kind cell ≡ is_marked old kind cell
 marks_none old new cell before after Busy = both_off (is_marked new Busy cell) (is_marked old Busy cell) (λ e. after (inl e)) (λ e. before (inl e))
 marks_none old new cell before after Stale = both_off (is_marked new Stale cell) (is_marked old Stale cell) (λ e. after (inr e)) (λ e. before (inr e))
 
@@ -178,7 +181,8 @@ module _ (setting : Setting) (records : List Record) (w : World) (stores : ℕ �
             | ByOne h o whole so pair out ↦ (
                 let ne : h ≢ k = λ e. true_false (ap (serves k mine) so ∙ (λ i. h == sym e i) ∙ number_itself h) idle in
                 Same_store (left_so f cell now (other_leaves h whole so ne (λ m.
-                none_some (not_reached setting records w stores job.firm good front cell mine h (job.firm.servers k) is (serves_its h mine so) (omega arith)) m.met))))
+                none_some (not_reached setting records w stores job.firm good front cell mine h (job.firm.servers k) is (serves_its h mine so) (omega arith))
+                m.met))))
             | ByNone one o so pair out ↦ Same_store (left_so f cell now (lost_leaves so))
           ]
 
@@ -223,21 +227,23 @@ module _ (setting : Setting) (records : List Record) (w : World) (stores : ℕ �
 
         -- it shares the link at its own place
         both_leaves : mine.state ≡ Both → IsLeftAt f (place_by setting f row) cell row
-        both_leaves both = elim (both_since setting records w stores job.firm good k job.works.runs job.works.seat cell mine is both has f row on prefix end alive_then) [
-          | inl same ↦ absurd (ne_place same)
-          | inr alone ↦ elim (at_most_or_above (blank_joins_in setting f beside_k) (blank_joins_in setting front beside_k)) [
-            | inl le ↦ (
-                let twins = (worked.both_now setting records w stores v k server good done job cell mine is alive lives both has).twins in
-                same_covers alone.0 alone.1 (let up = joins_grow setting.servers front f beside_k on in omega arith)
-                (both_cover (news front) visits place mine row cell twins k has))
-            | inr lt ↦ without (fresh_covers since alone.0 alone.1 lt)
-          ]
-        ]
+        both_leaves both =
+            elim (both_since setting records w stores job.firm good k job.works.runs job.works.seat cell mine is both has f row on prefix end alive_then) [
+              | inl same ↦ absurd (ne_place same)
+              | inr alone ↦ elim (at_most_or_above (blank_joins_in setting f beside_k) (blank_joins_in setting front beside_k)) [
+                | inl le ↦ (
+                    let twins = (worked.both_now setting records w stores v k server good done job cell mine is alive lives both has).twins in
+                    same_covers alone.0 alone.1 (let up = joins_grow setting.servers front f beside_k on in omega arith)
+                    (both_cover (news front) visits place mine row cell twins k has))
+                | inr lt ↦ without (fresh_covers since alone.0 alone.1 lt)
+              ]
+            ]
           where
             since : (more : List Command) (other : LinkRow) → IsPrefix front more → IsPrefix more top → IsLinked setting more cell other
                 → AliveIn (state_after setting.servers more) cell → (place_by setting more other ≡ place) ⊎ ((whole : Bool) × (other.state ≡ Only k whole)) ⊎ ⊥
             since more other one two linked alive_more =
-                elim (both_since setting records w stores job.firm good k job.works.runs job.works.seat cell mine is both has more other one two linked alive_more) [
+                elim (both_since setting records w stores job.firm good k job.works.runs job.works.seat cell mine is both has more
+                other one two linked alive_more) [
                   | inl same ↦ inl same
                   | inr alone ↦ inr (inl alone)
                 ]
@@ -249,11 +255,13 @@ module _ (setting : Setting) (records : List Record) (w : World) (stores : ℕ �
         -- it holds it alone
         holder_leaves : (whole : Bool) → mine.state ≡ Only k whole → IsLeftAt f (place_by setting f row) cell row
         holder_leaves whole alone =
-            elim (holds_since setting records w stores job.firm good k job.works.runs job.works.seat cell mine is started whole alone f row on prefix end alive_then) [
+            elim (holds_since setting records w stores job.firm good k job.works.runs job.works.seat cell mine is started whole alone f
+            row on prefix end alive_then) [
               | inl so ↦ elim (at_most_or_above (blank_joins_in setting f beside_k) (blank_joins_in setting front beside_k)) [
                 | inl le ↦ elim (alone_last setting records w stores job.firm good k job.works.runs job.works.seat cell mine is started whole alone) [
                   | inl last_here ↦ (
-                      let beside = (worked.alone_now setting records w stores v k server good done job cell mine is alive k whole alone has).beside lives last_here in
+                      let beside =
+                      (worked.alone_now setting records w stores v k server good done job cell mine is alive k whole alone has).beside lives last_here in
                       same_covers so.0 so.1 (let up = joins_grow setting.servers front f beside_k on in omega arith)
                       (cover_anew mine row cell (news front k) (news front beside_k) (visits k place cell)
                       (λ all. ap is_whole so.1 ∙ so.2 (sym (ap is_whole alone) ∙ all)) beside.alike.covered))
@@ -271,7 +279,8 @@ module _ (setting : Setting) (records : List Record) (w : World) (stores : ℕ �
                 → AliveIn (state_after setting.servers more) cell → (place_by setting more other ≡ place) ⊎
                 ((kept : Bool) × (other.state ≡ Only k kept)) ⊎ (is_flagged (w.servers k).own (id_of mine) ≡ true)
             since more other one two linked alive_more =
-                elim (holds_since setting records w stores job.firm good k job.works.runs job.works.seat cell mine is started whole alone more other one two linked alive_more) [
+                elim (holds_since setting records w stores job.firm good k job.works.runs job.works.seat cell mine is started whole alone more
+                other one two linked alive_more) [
                   | inl still ↦ inr (inl (still.0, still.1))
                   | inr flagged ↦ inr (inr flagged)
                 ]
@@ -282,7 +291,8 @@ module _ (setting : Setting) (records : List Record) (w : World) (stores : ℕ �
           | inl chain ↦ Same_store (left_so f cell now (record { chain = chain; marks = (keeps_other h whole alone ne).marks }))
           | inr m ↦ elim (alone_or_flagged setting records w stores job.firm good started front f cell mine row h whole on prefix is alone end alive_then
               (unseen_later h whole alone ne)) [
-                | inl so ↦ elim (held_same setting records w stores job.firm good started front f cell mine row h whole so.0 on prefix is alone end alive_then so.1
+                | inl so ↦
+                    elim (held_same setting records w stores job.firm good started front f cell mine row h whole so.0 on prefix is alone end alive_then so.1
                     (unseen_later h whole alone ne)) [
                       | inl joins ↦ Left_by h so.0 so.1 ne unseen (still_left m so.0 so.1 so.2 joins)
                           (λ kind. ap (λ s. is_marked s kind cell) (store_now f now) ∙ (keeps_other h whole alone ne).marks kind
@@ -303,7 +313,8 @@ module _ (setting : Setting) (records : List Record) (w : World) (stores : ℕ �
                 let other_row_is : other_of h row ≡ k = other_later mine row h later_row ∙ other h whole alone ne in
                 true_false met (ap is_some (ap (λ n. good.visits n (place_by setting f row) cell) other_row_is ∙ unseen)))
 
-            still_left : IsLeftBy mine (good.visits h place cell) cell → (last_whole : Bool) → row.state ≡ Only h last_whole → (whole ≡ true → last_whole ≡ true)
+            still_left : IsLeftBy mine (good.visits h place cell) cell → (last_whole : Bool) → row.state ≡ Only h last_whole
+                → (whole ≡ true → last_whole ≡ true)
                 → blank_joins_in setting front h ≡ blank_joins_in setting f h → IsStillLeft f (place_by setting f row) cell row h
             still_left m last_whole so kept joins =
                 let same : olds front h ≡ olds f h = ap (good.stores h) joins in

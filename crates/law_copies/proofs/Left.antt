@@ -1,5 +1,6 @@
 -- What is left to copy of a link, by what the holder has marked and under way.
-use Rattle.std.proofs.Common.{cond, ◌≡◌, ◌≢◌, ◌≤◌, ◌⊎◌, ◌==◌, ◌&&◌, ℕ, true, false, List, [], ◌∷◌, Option, Some, None, refl, sym, ap, ◌∙◌, subst, inl, inr, arith}
+use Rattle.std.proofs.Common.{cond, ◌≡◌, ◌≢◌, ◌≤◌, ◌⊎◌, ◌==◌, ◌&&◌, ℕ, true, false, List, [], ◌∷◌, Option, Some, None}
+use Rattle.std.proofs.Common.{refl, sym, ap, ◌∙◌, subst, inl, inr, arith}
 use Rattle.std.specs.Prelude.{filter, is_some, nat_lt, unwrap_or, if◌then◌else◌}
 use Rattle.std.specs.List.{list_any}
 use Rattle.std.specs.Option.{option_map_or}
@@ -37,7 +38,7 @@ use Rattle.petal_rules.proofs.ListLemmas.{in-append, in_former, in_later}
 use Rattle.petal_rules.proofs.Tests.{both_true, by_bool, by_test, none_some, number_itself, same_some, some_or_none, true_false}
 use Rattle.law_state.proofs.Links.{either_false, in_map}
 use Rattle.law_steps.proofs.Resting.{among_least, cell_left, in_none, on_row, same_cell}
-use Rattle.law_copies.proofs.Marks.{is_mark, same_itself}
+use Rattle.busy_marks.proofs.Orders.{is_mark, same_itself}
 use Rattle.law_copies.proofs.Rows.{any_in, in_any, in_kept, in_left, in_mapped}
 
 -- ### The least of some numbers

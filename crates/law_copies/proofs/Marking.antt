@@ -25,15 +25,19 @@ use Rattle.petal_rules.specs.Progress.{copying_on, has_proposed, progress_on}
 use Rattle.petal_rules.specs.State.{State, is_second, leads_link, live}
 use Rattle.petal_rules.specs.Store.{Chain, Store, cell_cmp, chain_in, version_of, is_marked, mark_on, with_mark_on, without_mark_on}
 use Rattle.petal_rules.specs.Server.{Own, Here, Done}
-use Rattle.petal_rules.specs.Writes.{ends, gives_back, is_clients, is_under_way, operation, marks, pending_on, puts, tells, unmarks, with_mark_at, with_opened, with_pending, with_reserved, with_paired, without_pending}
+use Rattle.petal_rules.specs.Writes.{ends, gives_back, is_clients, is_under_way, operation, marks, pending_on, puts, tells, unmarks, with_mark_at}
+use Rattle.petal_rules.specs.Writes.{with_opened, with_pending, with_reserved, with_paired, without_pending}
 use Rattle.petal_rules.proofs.CellTables.{cell_same, cell_apart, cell_gone, cell_gone_apart}
 use Rattle.petal_rules.proofs.Tests.{by_test, not_true, same_some, none_some, some_or_none, true_false}
 use Rattle.petal_history.specs.Claims.{IsMarked}
 use Rattle.law_state.specs.Steady.{IsSteady}
-use Rattle.law_steps.specs.DidLead.{DidLead, Asks_for, Repeats, Is_full, Opens, Marks, Puts, Gives_up, Unmarks, Closes, Opens_alone, Marks_alone, Puts_alone, Unmarks_alone, Closes_alone, Opens_fill, Opens_fill_alone, Has_fill, Has_no_room, Goes_on_dead, Taken}
+use Rattle.law_steps.specs.DidLead.{DidLead, Asks_for, Repeats, Is_full, Opens, Marks, Puts, Gives_up, Unmarks, Closes, Opens_alone, Marks_alone, Puts_alone}
+use Rattle.law_steps.specs.DidLead.{Unmarks_alone, Closes_alone, Opens_fill, Opens_fill_alone, Has_fill, Has_no_room, Goes_on_dead, Taken}
 use Rattle.law_steps.specs.DidSecond.{DidSecond, Sets_apart, Promises, Declines, Follows}
-use Rattle.law_steps.specs.DidHolder.{DidHolder, CopyStep, Asks_to_trim, Sends, Unmarks_copied, Closes_copy, TakenCopy, Copy_as_is, Copy_trimmed, Copy_synced, first_copy, Asks_page, Turns_page, Begins_copy, Goes_on_copying, Finds_it_full, Tidies}
-use Rattle.law_steps.specs.DidOther.{DidOther, TrimStep, Is_trimmed, Drops_entry, Answers_page, Is_copied_to, Goes_on_trimming, Puts_entry, Has_entry, Has_no_slot}
+use Rattle.law_steps.specs.DidHolder.{DidHolder, CopyStep, Asks_to_trim, Sends, Unmarks_copied, Closes_copy, TakenCopy, Copy_as_is, Copy_trimmed, Copy_synced}
+use Rattle.law_steps.specs.DidHolder.{first_copy, Asks_page, Turns_page, Begins_copy, Goes_on_copying, Finds_it_full, Tidies}
+use Rattle.law_steps.specs.DidOther.{DidOther, TrimStep, Is_trimmed, Drops_entry, Answers_page, Is_copied_to}
+use Rattle.law_steps.specs.DidOther.{Goes_on_trimming, Puts_entry, Has_entry, Has_no_slot}
 use Rattle.law_steps.specs.Did.{Did, Ignores, Refuses, By_read, By_lead, By_second, By_holder, By_other, By_filler, By_sweep}
 use Rattle.law_steps.specs.Ready.{IsReady}
 use Rattle.law_steps.proofs.Leading.{led_by_link}

@@ -27,7 +27,8 @@ pub marks : (pair : Pair) (op new : Pending) → PairOk pair → pair.pending �
 marks pair op new ok some at begun number put = grind arith
 
 -- the first server puts its copy, once the block is marked
-pub puts : (pair : Pair) (op new : Pending) → PairOk pair → pair.pending ≡ Some op → op.stage.reserved ≡ true → op.stage.put ≡ false → new.op ≡ op.op → new.key ≡ op.key → new.bytes ≡ op.bytes → new.stage.put ≡ true → new.stage.paired ≡ false
+pub puts : (pair : Pair) (op new : Pending) → PairOk pair → pair.pending ≡ Some op → op.stage.reserved ≡ true → op.stage.put ≡ false → new.op ≡ op.op
+    → new.key ≡ op.key → new.bytes ≡ op.bytes → new.stage.put ≡ true → new.stage.paired ≡ false
     → Keeps pair (record pair {
       first = put nat_cmp pair.first op.key.epoch (record { version = version_of pair.first + 1; bytes = op.bytes });
       pending = Some new;

@@ -33,10 +33,12 @@ told_mute row holder other (body.Synced number cell index) e = cc
 told_mute row holder other _ e = tt
 
 -- a page is no such letter
-pub no_page : {B : Type 0} (said : Body) → is_between (subject_of said) ≡ false → (map link : ℕ) (after block : Option ℕ) → said ≡ body.Hello map link after block → B
+pub no_page : {B : Type 0} (said : Body) → is_between (subject_of said) ≡ false → (map link : ℕ) (after block : Option ℕ)
+    → said ≡ body.Hello map link after block → B
 no_page said e map link after block is = true_false (ap (λ (b : Body). is_between (subject_of b)) is) e
 
-pub said_mute : (setting : Setting) (top : List Command) (stores : ℕ → ℕ → Store) (visits : Visits) (reached : Cell → ℕ) (front : List Command) (said : Body) (cell : Cell)
+pub said_mute : (setting : Setting) (top : List Command) (stores : ℕ → ℕ → Store) (visits : Visits) (reached : Cell → ℕ) (front : List Command)
+    (said : Body) (cell : Cell)
     (row : LinkRow) → is_between (subject_of said) ≡ false → SaidOk setting top stores visits reached front said cell row
 said_mute setting top stores visits reached front said cell row e = record {
   both = λ alive both last of. known_mute (pair_at (store_by setting stores front) visits (place_by setting front row) cell row.primary row.secondary) said e;

@@ -23,7 +23,8 @@ use Rattle.petal_rules.proofs.Tests.{same_some}
 use Rattle.law_state.proofs.Alone.{IsBothRow}
 use Rattle.law_steps.specs.DidLead.{DidLead, Asks, A_slot, A_copy, A_trim, A_copied_entry, A_page, An_entry_to_move, Of_the_log}
 use Rattle.law_steps.specs.DidHolder.{DidHolder}
-use Rattle.law_steps.specs.DidOther.{DidOther, IsOfCopy, first_last, TrimStep, Is_trimmed, Drops_entry, Answers_page, Is_copied_to, Goes_on_trimming, Puts_entry, Has_entry, Has_no_slot}
+use Rattle.law_steps.specs.DidOther.{DidOther, IsOfCopy, first_last, TrimStep, Is_trimmed, Drops_entry, Answers_page, Is_copied_to}
+use Rattle.law_steps.specs.DidOther.{Goes_on_trimming, Puts_entry, Has_entry, Has_no_slot}
 use Rattle.law_steps.specs.DidSecond.{DidSecond}
 use Rattle.law_steps.specs.Did.{Did, Ignores, Refuses, By_read, By_lead, By_second, By_holder, By_other, By_filler, By_sweep}
 use Rattle.law_steps.proofs.Letters.{one_post, posted}
@@ -38,9 +39,12 @@ use Rattle.law_copies.proofs.Lasts.{past_last, past_of, stays_told, to_put, to_t
 use Rattle.law_copies.proofs.Left.{among_marked, least_below, on_itself}
 use Rattle.law_copies.proofs.Rising.{did_rising}
 use Rattle.law_copies.proofs.Rows.{in_kept}
-use Rattle.law_copies.proofs.Sent.{at_away, filling_not, holder_says, lead_sends, logged_not, none_in, other_says, page_after, page_block, page_link, page_map, page_sent, paired_not, read_not, refused_not, untold}
-use Rattle.law_copies.proofs.Standing.{IsHeldHere, IsOtherOf, alone_not_row, alone_not_second, copying_held, holder_works, kept_lives, named_id, one_named, other_alone, other_not_alone, other_not_leading, other_row}
-use Rattle.law_copies.proofs.Working.{Away, IsLedHere, filler_beside, holder_beside, holder_cell, lead_beside, lead_cell, lead_leads, led_alive, other_beside, other_cell, second_beside, second_follows, sweep_beside}
+use Rattle.law_copies.proofs.Sent.{at_away, filling_not, holder_says, lead_sends, logged_not, none_in, other_says, page_after, page_block, page_link}
+use Rattle.law_copies.proofs.Sent.{page_map, page_sent, paired_not, read_not, refused_not, untold}
+use Rattle.law_copies.proofs.Standing.{IsHeldHere, IsOtherOf, alone_not_row, alone_not_second, copying_held, holder_works, kept_lives, named_id}
+use Rattle.law_copies.proofs.Standing.{one_named, other_alone, other_not_alone, other_not_leading, other_row}
+use Rattle.law_copies.proofs.Working.{Away, IsLedHere, filler_beside, holder_beside, holder_cell, lead_beside, lead_cell, lead_leads, led_alive}
+use Rattle.law_copies.proofs.Working.{other_beside, other_cell, second_beside, second_follows, sweep_beside}
 
 -- what a job keeps of the cell, but for pages and for the order of its epochs
 record KeepsHere (links : ℕ) (row : LinkRow) (cell : Cell) (vh : Option Own) (own : Own) (done : Done) : Type 0 where

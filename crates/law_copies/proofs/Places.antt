@@ -1,5 +1,6 @@
 -- Fronts of one log, and the places of a link by them.
-use Rattle.std.proofs.Common.{◌≡◌, ◌+◌, ◌≤◌, ◌<◌, ◌++◌, ◌==◌, ℕ, List, [], ◌∷◌, length, length-append, true, false, if◌then◌else◌, Some, None, sym, ap, ◌∙◌, subst, ◌⊎◌, inl, inr, arith}
+use Rattle.std.proofs.Common.{◌≡◌, ◌+◌, ◌≤◌, ◌<◌, ◌++◌, ◌==◌, ℕ, List, [], ◌∷◌, length, length-append, true, false, if◌then◌else◌}
+use Rattle.std.proofs.Common.{Some, None, sym, ap, ◌∙◌, subst, ◌⊎◌, inl, inr, arith}
 use Rattle.std.proofs.lemmas.Grind.{fold-append}
 use Rattle.std.specs.Prelude.{option_and_then}
 use Rattle.std.specs.Option.{option_map_or}
@@ -155,7 +156,8 @@ module _ (setting : Setting) where
           (tuple_on setting.servers (state_after setting.servers front) (state_after setting.servers more)
           (log_plain setting.servers front (front_plain setting.servers front more plain one)) (log_plain setting.servers more plain)
           (log_grown setting.servers front more plain one) cell.map h.0 h.1 ∙ sym h.1)
-      | inr none ↦ none_some (ap (option_and_then (λ tuple. link_at (state_after setting.servers front).links cell.map (link_of (length tuple) cell.block))) none) is
+      | inr none ↦ none_some
+          (ap (option_and_then (λ tuple. link_at (state_after setting.servers front).links cell.map (link_of (length tuple) cell.block))) none) is
     ]
 
     pub links_same : (front more : List Command) (cell : Cell) (row now : LinkRow) → IsPrefix front whole → IsPrefix more whole
@@ -198,7 +200,8 @@ module _ (setting : Setting) where
           (end ∙ ap Some as_row))
     ]
       where
-        turned : (cell : Cell) (row : LinkRow) (s t : State) → cell_link t cell ≡ Some row → StaysSo cell row s t → cell_link s cell ≡ Some row → StaysSo cell row t s
+        turned : (cell : Cell) (row : LinkRow) (s t : State) → cell_link t cell ≡ Some row → StaysSo cell row s t
+            → cell_link s cell ≡ Some row → StaysSo cell row t s
         turned cell row s t is h there = record { same = there; primary = sym h.primary; secondary = sym h.secondary }
 
     -- and have one row

@@ -28,7 +28,8 @@ use Rattle.law_copies.proofs.Framed.{LeavesBoth, LeavesStore, alone_framed, both
 use Rattle.law_copies.proofs.Later.{holder_is_one}
 use Rattle.law_copies.proofs.Mute.{no_page, said_mute}
 use Rattle.law_copies.proofs.Stepping.{GoesOn, IsSoundOwn, IsTrue, KeepsFronts, good_after}
-use Rattle.law_copies.proofs.Visited.{IsAt, IsStep, IsThen, KeepsFlags, counted, counted_up, later, none_before, stored, stored_apart, stored_by, stored_frozen, visited_beside, visited_by, visited_here, was_stored}
+use Rattle.law_copies.proofs.Visited.{IsAt, IsStep, IsThen, KeepsFlags, counted, counted_up, later, none_before, stored, stored_apart, stored_by}
+use Rattle.law_copies.proofs.Visited.{stored_frozen, visited_beside, visited_by, visited_here, was_stored}
 
 -- a letter that speaks neither of pairs nor of copies is true
 pub mute_true : (setting : Setting) (top : List Command) (stores : ℕ → ℕ → Store) (visits : Visits) (reached : Cell → ℕ) (letter : Letter)
@@ -41,7 +42,8 @@ mute_true setting top stores visits reached letter e = record {
 }
 
 -- posts of which none speaks of pairs or copies
-pub posts_mute : (setting : Setting) (top : List Command) (stores : ℕ → ℕ → Store) (visits : Visits) (reached : Cell → ℕ) (who : Sender) (stamp : ℕ) (posts : List Post)
+pub posts_mute : (setting : Setting) (top : List Command) (stores : ℕ → ℕ → Store) (visits : Visits) (reached : Cell → ℕ) (who : Sender)
+    (stamp : ℕ) (posts : List Post)
     → ((post : Post) → In post posts → is_between (subject_of post.body) ≡ false) → (letter : Letter) → In letter (stamped stamp (letters_of who 0 posts))
     → IsTrue setting top stores visits reached letter
 posts_mute setting top stores visits reached who stamp posts quiet letter there =
@@ -54,7 +56,8 @@ pub stores_leave : (setting : Setting) (records : List Record) (top : List Comma
     → (front : List Command) (n : ℕ)
     → LeavesStore (store_by setting good.stores front n) (store_by setting (stored setting records top w v k server good step) front n) cell
 stores_leave setting records top w v k server good step cell same front n = elim (same_or_apart n k) [
-  | inl e ↦ subst (λ m. LeavesStore (store_by setting good.stores front m) (store_by setting (stored setting records top w v k server good step) front m) cell) (sym e)
+  | inl e ↦ subst (λ m. LeavesStore (store_by setting good.stores front m) (store_by setting (stored setting records top w v k server good step) front m) cell)
+      (sym e)
       (elim (same_or_apart (blank_joins_in setting front k) (blank_joins_in setting top k)) [
         | inl is ↦ subst (λ a. LeavesStore a (store_by setting (stored setting records top w v k server good step) front k) cell)
             (sym (was_stored setting records top w v k server good step front is))
@@ -76,7 +79,8 @@ module _ (setting : Setting) (records : List Record) (top : List Command) (w v :
   reached = counted setting records top w v k server good step
 
   -- a server that is not In as itself is nowhere
-  pub out_visits : is_in (state_in setting.servers server.log) k server.life.inc ≡ false → (n place : ℕ) (cell : Cell) → visits n place cell ≡ good.visits n place cell
+  pub out_visits : is_in (state_in setting.servers server.log) k server.life.inc ≡ false → (n place : ℕ) (cell : Cell)
+      → visits n place cell ≡ good.visits n place cell
   out_visits out n place cell =
       visited_beside setting records top w v k server good step n place cell (λ (a : IsAt setting k server place cell). true_false a.seat out)
 
@@ -102,7 +106,8 @@ module _ (setting : Setting) (records : List Record) (top : List Command) (w v :
         (store_by setting good.stores front n) (store_by setting next_stores front n) cell
     store_leaves front n cell alive = stores_leave setting records top w v k server good step cell (stores cell alive) front n
 
-    leaves : (front : List Command) (place : ℕ) (cell : Cell) (row : LinkRow) → LeavesBoth setting top good.stores next_stores good.visits visits good.reached reached front place cell row
+    leaves : (front : List Command) (place : ℕ) (cell : Cell) (row : LinkRow)
+        → LeavesBoth setting top good.stores next_stores good.visits visits good.reached reached front place cell row
     leaves front place cell row n has = record { visit = still n place cell; store = λ alive. store_leaves front n cell alive }
 
     up : (cell : Cell) → good.reached cell ≤ reached cell
@@ -120,10 +125,12 @@ module _ (setting : Setting) (records : List Record) (top : List Command) (w v :
     quiet_fronts : KeepsFronts setting records top w v k server good step
     quiet_fronts = record {
       both = λ front cell row prefix is both.
-          both_framed setting top good.stores next_stores good.visits visits good.reached reached up nones front cell row (leaves front (place_by setting front row) cell row)
+          both_framed setting top good.stores next_stores good.visits visits good.reached reached up nones front cell row
+          (leaves front (place_by setting front row) cell row)
           (good.both front cell row prefix is both);
       alone = λ front cell row holder whole prefix is alone.
-          alone_framed setting top good.stores next_stores good.visits visits good.reached reached up nones front cell row holder (holds front cell row holder prefix is whole alone)
+          alone_framed setting top good.stores next_stores good.visits visits good.reached reached up nones front cell row holder
+          (holds front cell row holder prefix is whole alone)
           (leaves front (place_by setting front row) cell row) (good.alone front cell row holder whole prefix is alone);
       said = λ letter there front cell row prefix long is alive.
           said_framed setting top good.stores next_stores good.visits visits good.reached reached up nones front letter.body cell row

@@ -126,7 +126,8 @@ module _ (setting : Setting) (records : List Record) (w : World) (firm : Firm se
     both_copies : Copies (chain_in (store_of at_top n).chains cell) (chain_in (store_of at_top m).chains cell) (is_at_work now at_top n)
         (at cell_cmp (at_top.servers n).own.pairs.pending cell) (is_marked (store_of at_top n) Busy cell)
     both_copies =
-        elim (copied (pair_at stores good.visits place cell n m) twins.pair (λ op there. let i = in_mind op there in (twins.recalled i.own op i.visit i.there).rests)) [
+        elim (copied (pair_at stores good.visits place cell n m) twins.pair
+        (λ op there. let i = in_mind op there in (twins.recalled i.own op i.visit i.there).rests)) [
           | inl same ↦ inl (sym first_chain ∙ same ∙ second_chain)
           | inr ahead ↦ (
               let i = in_mind ahead.op ahead.is in

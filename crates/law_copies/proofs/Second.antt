@@ -131,7 +131,8 @@ module _ (heard : Body → Type 0) (here : Here) (first own : Own) (cell : Cell)
   second_keeps _ (Promises number q how s is) =
       let same = told_own here own q number how in
       record {
-        keeps = off (tells here own q number how).own (ap (λ (o : Own). chain_in o.store.chains cell) same) (ap (λ (o : Own). at cell_cmp o.pairs.last cell) same);
+        keeps = off (tells here own q number how).own (ap (λ (o : Own). chain_in o.store.chains cell) same)
+            (ap (λ (o : Own). at cell_cmp o.pairs.last cell) same);
         says = subst (λ (o : Own). SaysKnown (tells here own q number how).posts cell (pair_of first o cell)) (sym same) (told_known own q number how is);
       }
   second_keeps _ (Declines number q h s no_room) = record {

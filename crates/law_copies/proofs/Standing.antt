@@ -27,7 +27,8 @@ use Rattle.law_state.specs.Steady.{IsSteady}
 use Rattle.law_state.proofs.Alone.{IsBothRow, both_row}
 use Rattle.law_state.proofs.Cells.{link_led_by, second_by}
 use Rattle.law_state.proofs.Places.{found_at}
-use Rattle.law_steps.specs.DidHolder.{DidHolder, TakenCopy, Copy_as_is, Copy_trimmed, Copy_synced, Asks_page, Turns_page, Begins_copy, Goes_on_copying, Finds_it_full, Tidies, IsHeldWith}
+use Rattle.law_steps.specs.DidHolder.{DidHolder, TakenCopy, Copy_as_is, Copy_trimmed, Copy_synced, Asks_page, Turns_page, Begins_copy}
+use Rattle.law_steps.specs.DidHolder.{Goes_on_copying, Finds_it_full, Tidies, IsHeldWith}
 use Rattle.law_steps.specs.DidOther.{DidOther, IsOfCopy, Answers_page, Is_copied_to, Goes_on_trimming, Puts_entry, Has_entry, Has_no_slot}
 use Rattle.law_steps.proofs.Leading.{stage_live}
 use Rattle.law_steps.proofs.Resting.{among_least, on_row, row_named}

@@ -31,10 +31,12 @@ use Rattle.law_copies.specs.Steps.{AreFilled}
 use Rattle.law_copies.specs.Visits.{AliveIn, IsLinked}
 use Rattle.law_copies.proofs.Came.{came_then}
 use Rattle.law_copies.proofs.Places.{below_at}
-use Rattle.law_copies.proofs.Visited.{IsStep, IsThen, KeepsFlags, all_visited, been_now, counted, counted_up, ever_then, here_now, later, now_then, reaching_now, seen, started_now, stored}
+use Rattle.law_copies.proofs.Visited.{IsStep, IsThen, KeepsFlags, all_visited, been_now, counted, counted_up, ever_then, here_now, later}
+use Rattle.law_copies.proofs.Visited.{now_then, reaching_now, seen, started_now, stored}
 
 -- a letter that is sent tells what is so, by the link at the front of its sender
-pub record IsTrue (setting : Setting) (top : List Command) (stores : ℕ → ℕ → Store) (visits : (n place : ℕ) → Cell → Option Own) (reached : Cell → ℕ) (letter : Letter) : Type 0 where
+pub record IsTrue (setting : Setting) (top : List Command) (stores : ℕ → ℕ → Store) (visits : (n place : ℕ) → Cell → Option Own) (reached : Cell → ℕ)
+    (letter : Letter) : Type 0 where
   pub rev : is_between (subject_of letter.body) ≡ true → letter.rev ≤ length top
   pub said : (front : List Command) (cell : Cell) (row : LinkRow) → IsPrefix front top → length front ≡ letter.rev → IsLinked setting front cell row
       → AliveIn (state_after setting.servers front) cell → SaidOk setting top stores visits reached front letter.body cell row
@@ -45,7 +47,8 @@ pub record IsTrue (setting : Setting) (top : List Command) (stores : ℕ → ℕ
 
 -- what is kept after one record more; with where servers have been then; places that count only rise, and no server has
 -- applied an entry beyond those known before
-pub record GoesOn (setting : Setting) (records : List Record) (top next : List Command) (w v : World) (old : Good setting records top w) (own : Record) : Type 0 where
+pub record GoesOn (setting : Setting) (records : List Record) (top next : List Command) (w v : World) (old : Good setting records top w)
+    (own : Record) : Type 0 where
   pub good : Good setting (records ++ own ∷ []) next v
   pub visits : (n place : ℕ) (cell : Cell) → good.visits n place cell ≡ seen setting old.visits v n place cell
   pub reached : (cell : Cell) → old.reached cell ≤ good.reached cell

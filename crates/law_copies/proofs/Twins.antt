@@ -42,10 +42,14 @@ use Rattle.law_steps.specs.DidFiller.{DidFiller}
 use Rattle.law_steps.specs.DidSweep.{DidSweep}
 use Rattle.law_steps.specs.Operations.{progress}
 use Rattle.law_steps.specs.DidRead.{DidRead}
-use Rattle.law_steps.specs.DidLead.{DidLead, Asks_for, Repeats, Is_full, Opens, Marks, Puts, Gives_up, Unmarks, Closes, Opens_alone, Marks_alone, Puts_alone, Unmarks_alone, Closes_alone, Opens_fill, Opens_fill_alone, Has_fill, Has_no_room, Goes_on_dead, Asks, A_slot, A_copy, A_trim, A_copied_entry, A_page, An_entry_to_move, Of_the_log, Taken}
+use Rattle.law_steps.specs.DidLead.{DidLead, Asks_for, Repeats, Is_full, Opens, Marks, Puts, Gives_up, Unmarks, Closes, Opens_alone, Marks_alone, Puts_alone}
+use Rattle.law_steps.specs.DidLead.{Unmarks_alone, Closes_alone, Opens_fill, Opens_fill_alone, Has_fill, Has_no_room, Goes_on_dead, Asks, A_slot, A_copy}
+use Rattle.law_steps.specs.DidLead.{A_trim, A_copied_entry, A_page, An_entry_to_move, Of_the_log, Taken}
 use Rattle.law_steps.specs.DidSecond.{DidSecond, with_tickets, Sets_apart, Promises, Declines, Follows}
-use Rattle.law_steps.specs.DidHolder.{DidHolder, CopyStep, Asks_to_trim, Sends, Unmarks_copied, Closes_copy, TakenCopy, Copy_as_is, Copy_trimmed, Copy_synced, Asks_page, Turns_page, Begins_copy, Goes_on_copying, Finds_it_full, Tidies}
-use Rattle.law_steps.specs.DidOther.{DidOther, TrimStep, Is_trimmed, Drops_entry, Answers_page, Is_copied_to, Goes_on_trimming, Puts_entry, Has_entry, Has_no_slot}
+use Rattle.law_steps.specs.DidHolder.{DidHolder, CopyStep, Asks_to_trim, Sends, Unmarks_copied, Closes_copy, TakenCopy, Copy_as_is, Copy_trimmed, Copy_synced}
+use Rattle.law_steps.specs.DidHolder.{Asks_page, Turns_page, Begins_copy, Goes_on_copying, Finds_it_full, Tidies}
+use Rattle.law_steps.specs.DidOther.{DidOther, TrimStep, Is_trimmed, Drops_entry, Answers_page, Is_copied_to}
+use Rattle.law_steps.specs.DidOther.{Goes_on_trimming, Puts_entry, Has_entry, Has_no_slot}
 use Rattle.law_steps.specs.Ready.{IsReady}
 use Rattle.law_steps.proofs.CopyFrames.{CopyFrame, of_holder, of_other}
 use Rattle.law_steps.proofs.Filling.{Fills, Stood, Writes, did_come}
@@ -130,7 +134,8 @@ module _ (heard : Body → Type 0) (here : Here) (own : Own) (steady : IsSteady 
   other_chain _ (Answers_page id r after h is) = refl
   other_chain done (Is_copied_to number q epochs holder _ h held newer step) = trim_chain _ q _ holder done (held_apart q holder held) step
   other_chain done (Goes_on_trimming q holder last _ held is step) = trim_chain own q last holder done (held_apart q holder held) step
-  other_chain _ (Puts_entry entry holder last of_copy at room) = chain_apart own.store.chains (cell_of entry.key) _ cell (held_apart (cell_of entry.key) holder of_copy.held)
+  other_chain _ (Puts_entry entry holder last of_copy at room) =
+      chain_apart own.store.chains (cell_of entry.key) _ cell (held_apart (cell_of entry.key) holder of_copy.held)
   other_chain _ (Has_entry entry holder last of_copy lt) = refl
   other_chain _ (Has_no_slot entry holder last of_copy at full) = refl
 
@@ -189,7 +194,8 @@ module _ (heard : Body → Type 0) (here : Here) (own : Own) (steady : IsSteady 
     told_says first second new q number far.Replicated ne = apart_says first second q _ (body.Replicated number q) ne (λ post i. posted _ _ post i) refl
 
     second_says : (first second : Own) (done : Done) → DidSecond heard here own done → Says first second done.posts
-    second_says first second _ (Sets_apart number q tickets h s le) = told_says first second (with_last (with_tickets own tickets) q number far.Reserved) q number far.Reserved (second_apart q s)
+    second_says first second _ (Sets_apart number q tickets h s le) =
+        told_says first second (with_last (with_tickets own tickets) q number far.Reserved) q number far.Reserved (second_apart q s)
     second_says first second _ (Promises number q how s is) = told_says first second own q number how (second_apart q s)
     second_says first second _ (Declines number q h s no_room) =
         apart_says first second q _ (body.PairFull number q) (second_apart q s) (λ post i. posted _ _ post i) refl
@@ -200,7 +206,8 @@ module _ (heard : Body → Type 0) (here : Here) (own : Own) (steady : IsSteady 
         (marks : HaveMarks here.state own.pairs.pending own.store)
         (idle : (q : Cell) (copy : Copying) → copying_on own q ≡ Some copy → pending_on own q ≡ None) (rising : AreRising own.store.chains)
         (bare : (q : Cell) → stage_at here.state q ≡ 0 → IsBare own q)
-        (ok : PairOk (pair_of own second cell)) (known : (said : Body) → heard said → (about said).cell ≡ Some cell → Known (pair_of own second cell) said) where
+        (ok : PairOk (pair_of own second cell))
+        (known : (said : Body) → heard said → (about said).cell ≡ Some cell → Known (pair_of own second cell) said) where
       kept_off : (new : Own) → chain_in new.store.chains cell ≡ chain_in own.store.chains cell
           → at cell_cmp new.pairs.pending cell ≡ at cell_cmp own.pairs.pending cell → own.pairs.next ≤ new.pairs.next
           → Keeps (pair_of own second cell) (pair_of new second cell)
@@ -220,7 +227,8 @@ module _ (heard : Body → Type 0) (here : Here) (own : Own) (steady : IsSteady 
           let same = (of_read heard here own done d).same in
           let next : done.own.pairs.next ≡ own.pairs.next = ap (λ (o : Own). o.pairs.next) same in
           record {
-            keeps = kept_off done.own (ap (λ (o : Own). chain_in o.store.chains cell) same) (ap (λ (o : Own). at cell_cmp o.pairs.pending cell) same) (omega arith);
+            keeps = kept_off done.own (ap (λ (o : Own). chain_in o.store.chains cell) same)
+                (ap (λ (o : Own). at cell_cmp o.pairs.pending cell) same) (omega arith);
             says = read_says done.own second done d;
           }
       step_kept _ (By_lead done d) = lead.lead_keeps heard here own ready cell row is_row alive both_row second ok known done d
@@ -327,7 +335,8 @@ module _ (heard : Body → Type 0) (here : Here) (own : Own) (steady : IsSteady 
 
       ended_says : (second : Own) (client seq : ℕ) (how : Ending) → Says first second (record { to = actor.Client client; body = ended seq how } ∷ [])
       ended_says second client seq how post i of =
-          subst (Known (pair_of first second cell)) (sym (one_post (actor.Client client) (ended seq how) post i).1) (lead.ended_known (pair_of first second cell) seq how)
+          subst (Known (pair_of first second cell)) (sym (one_post (actor.Client client) (ended seq how) post i).1)
+          (lead.ended_known (pair_of first second cell) seq how)
 
       ending_says : (second base : Own) (op : Pending) (how : Ending) → Says first second (ends here base op op.kind how).posts
       ending_says second base op how post i of = lead.ends_known here base op op.kind how post i (pair_of first second cell)
@@ -386,7 +395,8 @@ module _ (heard : Body → Type 0) (here : Here) (own : Own) (steady : IsSteady 
       lead_says second _ (Goes_on_dead now op taken dead) =
           dead_says second now op (taken_keyed now op taken) (taken_apart now op taken) (next_stage here.state here.me op)
 
-      follow_off : (new : Own) → chain_in new.store.chains cell ≡ chain_in own.store.chains cell → at cell_cmp new.pairs.last cell ≡ at cell_cmp own.pairs.last cell
+      follow_off : (new : Own) → chain_in new.store.chains cell ≡ chain_in own.store.chains cell
+          → at cell_cmp new.pairs.last cell ≡ at cell_cmp own.pairs.last cell
           → Keeps (pair_of first own cell) (pair_of first new cell)
       follow_off = follow.off heard here first own cell ok known
 

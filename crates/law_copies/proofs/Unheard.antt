@@ -22,8 +22,10 @@ use Rattle.law_log.proofs.Flags.{progress_beside, same_id}
 use Rattle.law_state.specs.Tables.{IsPlainState}
 use Rattle.law_state.proofs.Steady.{linked}
 use Rattle.law_steps.specs.Did.{Did, Ignores, Refuses, By_read, By_lead, By_second, By_holder, By_other, By_filler, By_sweep}
-use Rattle.law_steps.specs.DidHolder.{DidHolder, CopyStep, Asks_to_trim, Sends, Unmarks_copied, Closes_copy, TakenCopy, Copy_as_is, Copy_trimmed, Copy_synced, Asks_page, Turns_page, Begins_copy, Goes_on_copying, Finds_it_full, Tidies, first_copy}
-use Rattle.law_steps.specs.DidOther.{DidOther, TrimStep, Is_trimmed, Drops_entry, Answers_page, Is_copied_to, Goes_on_trimming, Puts_entry, Has_entry, Has_no_slot, first_last}
+use Rattle.law_steps.specs.DidHolder.{DidHolder, CopyStep, Asks_to_trim, Sends, Unmarks_copied, Closes_copy, TakenCopy, Copy_as_is, Copy_trimmed, Copy_synced}
+use Rattle.law_steps.specs.DidHolder.{Asks_page, Turns_page, Begins_copy, Goes_on_copying, Finds_it_full, Tidies, first_copy}
+use Rattle.law_steps.specs.DidOther.{DidOther, TrimStep, Is_trimmed, Drops_entry, Answers_page, Is_copied_to, Goes_on_trimming}
+use Rattle.law_steps.specs.DidOther.{Puts_entry, Has_entry, Has_no_slot, first_last}
 use Rattle.law_steps.proofs.CopyFrames.{of_holder, of_other}
 use Rattle.law_steps.proofs.Resting.{row_named}
 use Rattle.law_steps.proofs.Subjects.{of_filler, of_lead, of_read, of_second, of_sweep}
@@ -76,7 +78,8 @@ module _ (heard : Body → Type 0) (here : Here) (own : Own) (row : LinkRow)
 
   holder_pages : (done : Done) → DidHolder heard here own done → P done.own
   holder_pages _ (Asks_page id of other held fresh) = refl
-  holder_pages _ (Turns_page id of other after None h held fresh at) = progress_beside own of (record (progress_on own of) { paged = true }) row (apart id of held.is)
+  holder_pages _ (Turns_page id of other after None h held fresh at) =
+      progress_beside own of (record (progress_on own of) { paged = true }) row (apart id of held.is)
   holder_pages _ (Turns_page id of other after (Some block) h held fresh at) =
       progress_beside own of (record (progress_on own of) { after = Some block }) row (apart id of held.is)
   holder_pages done (Begins_copy id of other cell _ held next step) = step_pages (begins_copy own cell) refl cell (first_copy own.pairs.next) done step

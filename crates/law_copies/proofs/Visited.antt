@@ -1,5 +1,6 @@
 -- Where servers have been, once one of them has done a step.
-use Rattle.std.proofs.Common.{◌≡◌, ◌≢◌, ◌≤◌, ◌++◌, ◌==◌, ◌&&◌, ℕ, List, [], ◌∷◌, Bool, true, false, if◌then◌else◌, Option, Some, None, is_some, sym, ap, ◌∙◌, subst, ◌⊎◌, inl, inr, arith}
+use Rattle.std.proofs.Common.{◌≡◌, ◌≢◌, ◌≤◌, ◌++◌, ◌==◌, ◌&&◌, ℕ, List, [], ◌∷◌, Bool, true, false, if◌then◌else◌, Option, Some}
+use Rattle.std.proofs.Common.{None, is_some, sym, ap, ◌∙◌, subst, ◌⊎◌, inl, inr, arith}
 use Rattle.std.specs.Prelude.{max, nat_eq, option_map}
 use Rattle.std.specs.Option.{option_map_or}
 use Rattle.std.specs.Ordering.{nat_cmp}
@@ -167,7 +168,8 @@ module _ (setting : Setting) (records : List Record) (top : List Command) (w v :
   pub visited_here : (cell : Cell) (row : LinkRow) → IsLinked setting front cell row → is_in (state_in setting.servers server.log) k server.life.inc ≡ true
       → AliveIn (state_in setting.servers server.log) cell → later k (place_by setting front row) cell ≡ Some server.own
   visited_here cell row is seat alive =
-      ap (λ b. if b && is_at setting k server (place_by setting front row) cell then Some server.own else good.visits k (place_by setting front row) cell) (number_itself k)
+      ap (λ b. if b && is_at setting k server (place_by setting front row) cell then Some server.own else good.visits k (place_by setting front row) cell)
+      (number_itself k)
       ∙ ap (λ b. if b then Some server.own else good.visits k (place_by setting front row) cell) (is_at_so setting k server cell row is seat alive)
 
   pub visited_apart : (n place : ℕ) (cell : Cell) → n ≢ k → later n place cell ≡ good.visits n place cell
@@ -397,7 +399,8 @@ module _ (setting : Setting) (records : List Record) (top : List Command) (w v :
 
   pub now_then : (n : ℕ) → stored n (blank_joins_in setting top n) ≡ (v.servers n).own.store
   now_then n = elim (same_or_apart n k) [
-    | inl e ↦ subst (λ m. stored m (blank_joins_in setting top m) ≡ (v.servers m).own.store) (sym e) (stored_here ∙ ap (λ (s : Server). s.own.store) (sym step.here))
+    | inl e ↦ subst (λ m. stored m (blank_joins_in setting top m) ≡ (v.servers m).own.store) (sym e)
+        (stored_here ∙ ap (λ (s : Server). s.own.store) (sym step.here))
     | inr ne ↦ stored_apart n (blank_joins_in setting top n) ne ∙ good.now n ∙ ap (λ (s : Server). s.own.store) (sym (step.others n ne))
   ]
 

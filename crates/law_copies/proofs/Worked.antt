@@ -150,7 +150,8 @@ module _ (setting : Setting) (records : List Record) (w : World) (stores : ℕ �
       → visits k (place_by setting front row) cell ≡ Some done.own
   visit_now cell row is alive =
       ap (λ f. visits k (place_by setting f row) cell) (sym job.applied)
-      ∙ visited_here setting records top (with_stores w stores) v k server good job.step cell row (subst (λ f. IsLinked setting f cell row) (sym job.applied) is) seat_now
+      ∙ visited_here setting records top (with_stores w stores) v k server good job.step cell row
+      (subst (λ f. IsLinked setting f cell row) (sym job.applied) is) seat_now
       (subst (λ f. AliveIn (state_after setting.servers f) cell) (sym job.applied) alive)
       ∙ ap Some job.own_is
     where
@@ -172,7 +173,8 @@ module _ (setting : Setting) (records : List Record) (w : World) (stores : ℕ �
       pub twins : AreTwins news visits place cell row.primary row.secondary
       pub known : (said : Body) → Known (pair_at olds good.visits place cell row.primary row.secondary) said
           → Known (pair_at news visits place cell row.primary row.secondary) said
-      pub says : (post : Post) → In post done.posts → (about post.body).cell ≡ Some cell → Known (pair_at news visits place cell row.primary row.secondary) post.body
+      pub says : (post : Post) → In post done.posts → (about post.body).cell ≡ Some cell
+          → Known (pair_at news visits place cell row.primary row.secondary) post.body
 
     apart : row.primary ≢ row.secondary
     apart = ((seated.steady setting records w stores k good job.firm job.rests job.works).linked cell row is).apart
@@ -281,7 +283,8 @@ module _ (setting : Setting) (records : List Record) (w : World) (stores : ℕ �
       pub copying : AreCopying links row cell (visits holder place cell) (visits other place cell)
       pub told : (said : Body) → (about said).cell ≡ Some cell → IsTold row (good.visits holder place cell) (good.visits other place cell) said
           → IsTold row (visits holder place cell) (visits other place cell) said
-      pub says : (post : Post) → In post done.posts → (about post.body).cell ≡ Some cell → IsTold row (visits holder place cell) (visits other place cell) post.body
+      pub says : (post : Post) → In post done.posts → (about post.body).cell ≡ Some cell
+          → IsTold row (visits holder place cell) (visits other place cell) post.body
       pub beside : IsAliveLast → good.reached cell ≤ place → AreBeside news visits place row cell holder other
       pub stays : IsAliveLast → (o : Own) → visits holder place cell ≡ Some o → ((p : ℕ) → place < p → visits other p cell ≡ None)
           → StaysLeft row cell o (news holder)
@@ -378,7 +381,8 @@ module _ (setting : Setting) (records : List Record) (w : World) (stores : ℕ �
 
       back : other_of k row ≡ h
       back = other_back row k h has
-          (holder_is_one (server_state setting w k) (seated.steady setting records w stores k good job.firm job.rests job.works) h cell row is alone) (λ e. h_apart (sym e))
+          (holder_is_one (server_state setting w k) (seated.steady setting records w stores k good job.firm job.rests job.works) h cell row is alone)
+          (λ e. h_apart (sym e))
 
       pub keeps_other : OtherKeeps links row cell vh own done
       keeps_other = job.keeping.other cell row vh
@@ -398,7 +402,8 @@ module _ (setting : Setting) (records : List Record) (w : World) (stores : ℕ �
       -- and then the holder has not started its ballot
       pub not_caught : {B : Type 0} → IsLeftBy row vh cell → (by : Own) → vh ≡ Some by → is_flagged by (id_of row) ≡ true → B
       not_caught m by e flagged =
-          let caught = (seated.alone_here setting records w stores k good job.firm job.rests job.works cell row is alive h whole alone).copying.caught by e flagged in
+          let caught = (seated.alone_here setting records w stores k good job.firm job.rests job.works cell row is alive h whole alone).copying.caught
+          by e flagged in
           elim (subst (λ (x : Own). IsLeft x row cell) (same_some (sym m.met ∙ e)) m.left) [
             | inl marked ↦ absurd (caught.unmarked marked)
             | inr all ↦ absurd (caught.copied all.0 all.1)
@@ -458,7 +463,8 @@ module _ (setting : Setting) (records : List Record) (w : World) (stores : ℕ �
         says = λ post i of. then_other (λ x y. IsTold row x y post.body) (keeps_other.says post i of);
         beside = λ lives last. record {
           alike = subst (AreAlike row cell (news h) (news k)) (sym h_visit) (other_alike lives last);
-          still = λ by e. ap (λ (x : Own). chain_in x.store.chains cell) (same_some (sym e ∙ is_now)) ∙ ap (λ (a : Store). chain_in a.chains cell) (sym store_now);
+          still = λ by e. ap (λ (x : Own). chain_in x.store.chains cell) (same_some (sym e ∙ is_now))
+              ∙ ap (λ (a : Store). chain_in a.chains cell) (sym store_now);
         };
         stays = λ lives by e beyond.
             let stays = (seated.alone_here setting records w stores k good job.firm job.rests job.works cell row is alive h whole alone).stays lives by

@@ -27,14 +27,18 @@ use Rattle.petal_rules.specs.Fills.{fill_operation}
 use Rattle.petal_rules.specs.State.{is_lead, is_second, leads_link, live}
 use Rattle.petal_rules.specs.Store.{Stored, chain_in, version_of, with_entry, with_mark_on, with_ticket, without_entry, without_mark_on}
 use Rattle.petal_rules.specs.Sweeping.{without_dead}
-use Rattle.petal_rules.specs.Writes.{acts, ends, gives_back, marks, next_stage, operation, opened, puts, tells, unmarks, with_mark_at, with_opened, with_paired, with_pending, with_reserved, without_pending, pending_on}
+use Rattle.petal_rules.specs.Writes.{acts, ends, gives_back, marks, next_stage, operation, opened, puts, tells, unmarks, with_mark_at, with_opened}
+use Rattle.petal_rules.specs.Writes.{with_paired, with_pending, with_reserved, without_pending, pending_on}
 use Rattle.petal_rules.proofs.Tests.{by_test, same_or_apart, true_false}
 use Rattle.law_state.specs.Homes.{stage_at}
 use Rattle.law_steps.specs.Ready.{IsReady}
-use Rattle.law_steps.specs.DidLead.{DidLead, Asks_for, Repeats, Is_full, Opens, Marks, Puts, Gives_up, Unmarks, Closes, Opens_alone, Marks_alone, Puts_alone, Unmarks_alone, Closes_alone, Opens_fill, Opens_fill_alone, Has_fill, Has_no_room, Goes_on_dead, Taken}
+use Rattle.law_steps.specs.DidLead.{DidLead, Asks_for, Repeats, Is_full, Opens, Marks, Puts, Gives_up, Unmarks, Closes, Opens_alone, Marks_alone, Puts_alone}
+use Rattle.law_steps.specs.DidLead.{Unmarks_alone, Closes_alone, Opens_fill, Opens_fill_alone, Has_fill, Has_no_room, Goes_on_dead, Taken}
 use Rattle.law_steps.specs.DidSecond.{DidSecond, Sets_apart, Promises, Declines, Follows, with_tickets}
-use Rattle.law_steps.specs.DidHolder.{DidHolder, CopyStep, Asks_to_trim, Sends, Unmarks_copied, Closes_copy, TakenCopy, Copy_as_is, Copy_trimmed, Copy_synced, Asks_page, Turns_page, Begins_copy, Goes_on_copying, Finds_it_full, Tidies, first_copy}
-use Rattle.law_steps.specs.DidOther.{DidOther, first_last, TrimStep, Is_trimmed, Drops_entry, Answers_page, Is_copied_to, Goes_on_trimming, Puts_entry, Has_entry, Has_no_slot}
+use Rattle.law_steps.specs.DidHolder.{DidHolder, CopyStep, Asks_to_trim, Sends, Unmarks_copied, Closes_copy, TakenCopy, Copy_as_is, Copy_trimmed, Copy_synced}
+use Rattle.law_steps.specs.DidHolder.{Asks_page, Turns_page, Begins_copy, Goes_on_copying, Finds_it_full, Tidies, first_copy}
+use Rattle.law_steps.specs.DidOther.{DidOther, first_last, TrimStep, Is_trimmed, Drops_entry, Answers_page, Is_copied_to}
+use Rattle.law_steps.specs.DidOther.{Goes_on_trimming, Puts_entry, Has_entry, Has_no_slot}
 use Rattle.law_steps.specs.DidFiller.{DidFiller}
 use Rattle.law_steps.specs.DidSweep.{DidSweep, Sweeps, cell_swept}
 use Rattle.law_steps.proofs.Leading.{lead_links, live_stage, stage_live}
@@ -44,7 +48,8 @@ use Rattle.law_steps.proofs.Taking.{taking}
 use Rattle.law_copies.specs.Steps.{IsBare, KeepsCell}
 use Rattle.law_copies.proofs.Chains.{drop_none}
 use Rattle.law_copies.proofs.Marks.{unmark_none}
-use Rattle.law_copies.proofs.Frames.{copied_alike, copied_beside, copying_beside, dropped_beside, ended_beside, entry_beside, followed_beside, keeps_alike, keeps_itself, keeps_on, last_beside, marked_beside, pending_beside, unmarked_beside}
+use Rattle.law_copies.proofs.Frames.{copied_alike, copied_beside, copying_beside, dropped_beside, ended_beside, entry_beside, followed_beside, keeps_alike}
+use Rattle.law_copies.proofs.Frames.{keeps_itself, keeps_on, last_beside, marked_beside, pending_beside, unmarked_beside}
 
 -- the cell is another one
 abbrev pub Away : Cell → Option Cell → Type 0

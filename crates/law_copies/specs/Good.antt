@@ -79,7 +79,8 @@ module _ (setting : Setting) (top : List Command) (stores : ℕ → ℕ → Stor
   pub record AloneOk (front : List Command) (cell : Cell) (row : LinkRow) (holder : ℕ) : Type 0 where
     pub copying : AreCopying (links_of (state_after setting.servers front) cell.map) row cell
         (visits holder (place_by setting front row) cell) (visits (other_of holder row) (place_by setting front row) cell)
-    pub beside : IsAlive cell → IsLast reached setting front cell row → AreBeside (by front) visits (place_by setting front row) row cell holder (other_of holder row)
+    pub beside : IsAlive cell → IsLast reached setting front cell row
+        → AreBeside (by front) visits (place_by setting front row) row cell holder (other_of holder row)
     -- what was left to copy at the holder is so still, while the other server has been at no later place
     pub stays : IsAlive cell → (own : Own) → visits holder (place_by setting front row) cell ≡ Some own
         → ((place : ℕ) → place_by setting front row < place → visits (other_of holder row) place cell ≡ None)
@@ -94,7 +95,8 @@ module _ (setting : Setting) (top : List Command) (stores : ℕ → ℕ → Stor
         → Known (pair_at (by front) visits (place_by setting front row) cell row.primary row.secondary) said
     pub alone : (holder : ℕ) (whole : Bool) → row.state ≡ Only holder whole → (about said).cell ≡ Some cell
         → IsTold row (visits holder (place_by setting front row) cell) (visits (other_of holder row) (place_by setting front row) cell) said
-    pub page : IsAlive cell → (holder : ℕ) (whole : Bool) (after block : Option ℕ) → row.state ≡ Only holder whole → said ≡ body.Hello row.map row.link after block
+    pub page : IsAlive cell → (holder : ℕ) (whole : Bool) (after block : Option ℕ) → row.state ≡ Only holder whole
+        → said ≡ body.Hello row.map row.link after block
         → IsLast reached setting front cell row
         → IsPage cell (by front (other_of holder row)) (visits (other_of holder row) (place_by setting front row) cell) after block
     -- and that the other server was there, at each place

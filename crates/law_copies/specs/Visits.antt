@@ -1,6 +1,7 @@
 -- What servers were at the places of a link. What two servers of a link tell each other belongs to one place of it; so a server's
 -- own part is kept here as it last was at each place, and is there while the other server is still at that place.
-use Rattle.std.specs.Prelude.{◌≡◌, ◌≤◌, ◌<◌, ◌⊎◌, ◌==◌, ◌&&◌, ℕ, Bool, true, false, List, [], ◌++◌, if◌then◌else◌, nat_eq, nat_lt, Option, Some, None, option_map}
+use Rattle.std.specs.Prelude.{◌≡◌, ◌≤◌, ◌<◌, ◌⊎◌, ◌==◌, ◌&&◌, ℕ, Bool, true, false, List, [], ◌++◌, if◌then◌else◌}
+use Rattle.std.specs.Prelude.{nat_eq, nat_lt, Option, Some, None, option_map}
 use Rattle.std.specs.Option.{option_map_or}
 use Rattle.global_tables.specs.declared.link.LinkRow.{LinkRow}
 use Rattle.petal_base.specs.declared.cell.Cell.{Cell}

@@ -43,7 +43,8 @@ use Rattle.law_state.specs.Plain.{IsPlainLog}
 use Rattle.law_state.proofs.Steady.{log_below, log_rev}
 use Rattle.law_log.proofs.Histories.{history_grows}
 use Rattle.law_log.proofs.Proposing.{said_to_all}
-use Rattle.law_steps.specs.Happens.{Handled, Happens, Serves, Blanks, Turns, Worked, By_job, By_ballot, By_entry, Serving, Goes, Ends, Stays, Wakes, Fails, own_place, without_rev}
+use Rattle.law_steps.specs.Happens.{Handled, Happens, Serves, Blanks, Turns, Worked, By_job, By_ballot, By_entry, Serving, Goes}
+use Rattle.law_steps.specs.Happens.{Ends, Stays, Wakes, Fails, own_place, without_rev}
 use Rattle.law_steps.specs.DidLead.{IsNextFill}
 use Rattle.law_steps.proofs.Coming.{next_comes, stage_facts}
 use Rattle.law_steps.proofs.Filling.{Fills, Stood, Writes, did_come}

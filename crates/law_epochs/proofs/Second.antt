@@ -1,6 +1,7 @@
 -- A client's write that a second server can still put is in time. Where its link was touched after its own entries, that was by a Leave, after
 -- which the era rises only once the second server has reported; and it has applied no more than its own entries.
-use Rattle.std.proofs.Common.{◌≡◌, ◌≤◌, ◌+◌, ◌++◌, ℕ, true, List, [], ◌∷◌, Some, length, length-append, refl, sym, ap, ◌∙◌, subst, inl, inr, arith, append_assoc}
+use Rattle.std.proofs.Common.{◌≡◌, ◌≤◌, ◌+◌, ◌++◌, ℕ, true, List, [], ◌∷◌, Some, length, length-append, refl, sym, ap}
+use Rattle.std.proofs.Common.{◌∙◌, subst, inl, inr, arith, append_assoc}
 use Rattle.std.specs.Prelude.{fold}
 use Rattle.std.proofs.lemmas.Grind.{fold-append}
 use Rattle.global_tables.specs.declared.link.LinkRow.{LinkRow}
@@ -87,7 +88,8 @@ module _ (script : Script) (sound : IsSound script) (records : List Record) (leg
               (runs_at setting w known own left own_left stands m runs seat) (runs_now setting w known m runs seat) timely.born timely.stays (omega arith) in
               let made = report_was_made script records sound legal reported.until m inc reported.fence reported.stands in
               let known_of : IsPrefix reported.until own =
-              subst (λ log. IsPrefix log own) {x = ((At script made.before).servers m).log.applied} made.at (grows script sound records legal made.before (made.own ∷ made.later) made.is m) in
+              subst (λ log. IsPrefix log own) {x = ((At script made.before).servers m).log.applied} made.at
+              (grows script sound records legal made.before (made.own ∷ made.later) made.is m) in
               let one = front_long left reported.until reported.behind in
               let two = front_long reported.until own known_of in
               let three = front_long own mid onward in

@@ -26,11 +26,15 @@ use Rattle.petal_rules.specs.Lists.{In}
 use Rattle.petal_rules.specs.Server.{Own, Here, Post, Done}
 use Rattle.petal_rules.specs.Store.{Stored, cell_cmp, chain_in, epochs_of}
 use Rattle.petal_rules.specs.Writes.{acts, ended, ends, follows, gives_back, moved_as, next_stage, tells, with_last, without_pending}
-use Rattle.law_steps.specs.DidLead.{DidLead, Asks_for, Repeats, Is_full, Opens, Marks, Puts, Gives_up, Unmarks, Closes, Opens_alone, Marks_alone, Puts_alone, Unmarks_alone, Closes_alone, Opens_fill, Opens_fill_alone, Has_fill, Has_no_room, Goes_on_dead, IsNextFill, Taken, Asks, A_slot, A_copy, A_trim, A_copied_entry, A_page, An_entry_to_move, Of_the_log}
+use Rattle.law_steps.specs.DidLead.{DidLead, Asks_for, Repeats, Is_full, Opens, Marks, Puts, Gives_up, Unmarks, Closes, Opens_alone, Marks_alone, Puts_alone}
+use Rattle.law_steps.specs.DidLead.{Unmarks_alone, Closes_alone, Opens_fill, Opens_fill_alone, Has_fill, Has_no_room, Goes_on_dead, IsNextFill, Taken, Asks}
+use Rattle.law_steps.specs.DidLead.{A_slot, A_copy, A_trim, A_copied_entry, A_page, An_entry_to_move, Of_the_log}
 use Rattle.law_steps.specs.DidFiller.{IsNextKey, Is_filled, Is_out_of_slots, filled_to}
 use Rattle.law_steps.specs.DidSecond.{DidSecond, with_tickets, Sets_apart, Promises, Declines, Follows}
-use Rattle.law_steps.specs.DidHolder.{DidHolder, CopyStep, Asks_to_trim, Sends, Unmarks_copied, Closes_copy, Asks_page, Turns_page, Begins_copy, Goes_on_copying, Finds_it_full, Tidies}
-use Rattle.law_steps.specs.DidOther.{DidOther, TrimStep, Is_trimmed, Drops_entry, Answers_page, Is_copied_to, Goes_on_trimming, Puts_entry, Has_entry, Has_no_slot}
+use Rattle.law_steps.specs.DidHolder.{DidHolder, CopyStep, Asks_to_trim, Sends, Unmarks_copied, Closes_copy, Asks_page, Turns_page}
+use Rattle.law_steps.specs.DidHolder.{Begins_copy, Goes_on_copying, Finds_it_full, Tidies}
+use Rattle.law_steps.specs.DidOther.{DidOther, TrimStep, Is_trimmed, Drops_entry, Answers_page, Is_copied_to}
+use Rattle.law_steps.specs.DidOther.{Goes_on_trimming, Puts_entry, Has_entry, Has_no_slot}
 use Rattle.law_steps.specs.Did.{Did, Ignores, Refuses, By_read, By_lead, By_second, By_holder, By_other, By_filler, By_sweep}
 use Rattle.law_steps.proofs.Letters.{one_post, posted}
 use Rattle.law_steps.proofs.Subjects.{of_read, of_sweep}
@@ -195,6 +199,7 @@ module _ (bound : Cell → ℕ → Type 0) (heard : Body → Type 0) (here : Her
   did_said _ (By_second done d) post i = second_said done d post i
   did_said _ (By_holder done d) post i = holder_said done d post i
   did_said _ (By_other done d) post i = other_said done d post i
-  did_said _ (By_filler _ (Is_filled key row posts h next fills)) post i = moves (filled_to own row key) post (inr (record { key = key; row = row; told = h; next = next; is = refl })) (fills post i)
+  did_said _ (By_filler _ (Is_filled key row posts h next fills)) post i =
+      moves (filled_to own row key) post (inr (record { key = key; row = row; told = h; next = next; is = refl })) (fills post i)
   did_said _ (By_filler _ (Is_out_of_slots key row h next)) post i = none_in post i
   did_said _ (By_sweep done d) post i = absurd ((of_sweep heard here own done d).silent post i)

@@ -31,27 +31,54 @@ ghost use Rattle.law_epochs.specs.Timely.{IsTimely};
 /// A client's write that a server has pending is of the epoch that its disk has, and its cell is live and not leaving, by each front of the chosen
 /// log, from the revision on at which the write was opened, by which the server is In as the incarnation that it was there.
 pub fn a_pending_write_is_of_the_present_epoch()
-    ensures { (script : Script) (records : List Record) → IsSound script → IsLegal script records → (n inc : ℕ) (cell : Cell) (op : Pending) (opened front : List Command) → at cell_cmp ((world_after (setting_of script) (start (setting_of script)) records).servers n).own.pairs.pending cell ≡ Some op → is_clients op.kind ≡ true → IsPrefix opened front → IsPrefix front (chosen_log (setting_of script) (world_after (setting_of script) (start (setting_of script)) records)) → length opened ≡ op.rev → is_in (state_after script.servers opened) n inc ≡ true → is_in (state_after script.servers front) n inc ≡ true → IsTimely script.servers front cell op }
+    ensures { (script : Script) (records : List Record)
+        → IsSound script → IsLegal script records → (n inc : ℕ) (cell : Cell) (op : Pending) (opened front : List Command)
+        → at cell_cmp ((world_after (setting_of script) (start (setting_of script)) records).servers n).own.pairs.pending cell ≡ Some op
+        → is_clients op.kind ≡ true → IsPrefix opened front
+        → IsPrefix front (chosen_log (setting_of script) (world_after (setting_of script) (start (setting_of script)) records))
+        → length opened ≡ op.rev → is_in (state_after script.servers opened) n inc ≡ true → is_in (state_after script.servers front) n inc ≡ true
+        → IsTimely script.servers front cell op }
 {}
 
 /// So is one that a server had pending when it was last at a place of the cell's link, by each front at which the link is at that place.
 pub fn a_write_of_a_place_is_of_its_epoch()
-    ensures { (script : Script) (records : List Record) → IsSound script → IsLegal script records → (n place : ℕ) (cell : Cell) (pairs : Pairs) (op : Pending) (front : List Command) (row : LinkRow) → WasThere (setting_of script) records n place cell pairs → at cell_cmp pairs.pending cell ≡ Some op → is_clients op.kind ≡ true → IsPrefix front (chosen_log (setting_of script) (world_after (setting_of script) (start (setting_of script)) records)) → IsLinked (setting_of script) front cell row → place_by (setting_of script) front row ≡ place → op.rev ≤ length front → IsTimely script.servers front cell op }
+    ensures { (script : Script) (records : List Record)
+        → IsSound script → IsLegal script records → (n place : ℕ) (cell : Cell) (pairs : Pairs) (op : Pending) (front : List Command) (row : LinkRow)
+        → WasThere (setting_of script) records n place cell pairs → at cell_cmp pairs.pending cell ≡ Some op
+        → is_clients op.kind ≡ true → IsPrefix front (chosen_log (setting_of script) (world_after (setting_of script) (start (setting_of script)) records))
+        → IsLinked (setting_of script) front cell row → place_by (setting_of script) front row ≡ place → op.rev ≤ length front
+        → IsTimely script.servers front cell op }
 {}
 
 /// And one that the second server of a link in Both can still put, which the lead had pending at the second server's place and had opened by
 /// some front at that place, also where the lead has left by what is chosen.
 pub fn what_a_second_server_puts_is_of_the_present_epoch()
-    ensures { (script : Script) (records : List Record) → IsSound script → IsLegal script records → (n m : ℕ) (cell : Cell) (pairs : Pairs) (op : Pending) (row : LinkRow) → ((world_after (setting_of script) (start (setting_of script)) records).servers m).life.running ≡ true → is_in (server_state (setting_of script) (world_after (setting_of script) (start (setting_of script)) records) m) m ((world_after (setting_of script) (start (setting_of script)) records).servers m).life.inc ≡ true → IsLinked (setting_of script) ((world_after (setting_of script) (start (setting_of script)) records).servers m).log.applied cell row → row.state ≡ Both → row.primary ≡ n → row.secondary ≡ m → WasThere (setting_of script) records n (place_by (setting_of script) ((world_after (setting_of script) (start (setting_of script)) records).servers m).log.applied row) cell pairs → at cell_cmp pairs.pending cell ≡ Some op → is_clients op.kind ≡ true → (front : List Command) (now : LinkRow) → IsPrefix front (chosen_log (setting_of script) (world_after (setting_of script) (start (setting_of script)) records)) → IsLinked (setting_of script) front cell now → place_by (setting_of script) front now ≡ place_by (setting_of script) ((world_after (setting_of script) (start (setting_of script)) records).servers m).log.applied row → op.rev ≤ length front → IsTimely script.servers (chosen_log (setting_of script) (world_after (setting_of script) (start (setting_of script)) records)) cell op }
+    ensures { (script : Script) (records : List Record)
+        → IsSound script → IsLegal script records → (n m : ℕ) (cell : Cell) (pairs : Pairs) (op : Pending) (row : LinkRow)
+        → ((world_after (setting_of script) (start (setting_of script)) records).servers m).life.running ≡ true
+        → is_in (server_state (setting_of script) (world_after (setting_of script) (start (setting_of script)) records) m) m
+        ((world_after (setting_of script) (start (setting_of script)) records).servers m).life.inc ≡ true
+        → IsLinked (setting_of script) ((world_after (setting_of script) (start (setting_of script)) records).servers m).log.applied cell row
+        → row.state ≡ Both → row.primary ≡ n → row.secondary ≡ m → WasThere (setting_of script) records n
+        (place_by (setting_of script) ((world_after (setting_of script) (start (setting_of script)) records).servers m).log.applied row) cell pairs
+        → at cell_cmp pairs.pending cell ≡ Some op → is_clients op.kind ≡ true → (front : List Command) (now : LinkRow)
+        → IsPrefix front (chosen_log (setting_of script) (world_after (setting_of script) (start (setting_of script)) records))
+        → IsLinked (setting_of script) front cell now → place_by (setting_of script) front now ≡ place_by
+        (setting_of script) ((world_after (setting_of script) (start (setting_of script)) records).servers m).log.applied row → op.rev ≤ length front
+        → IsTimely script.servers (chosen_log (setting_of script) (world_after (setting_of script) (start (setting_of script)) records)) cell op }
 {}
 
 /// No server has an entry of an epoch above the one that its cell's disk has by the server's own entries of the log, nor one of a cell that is not
 /// live yet by them.
 pub fn entries_are_of_known_epochs()
-    ensures { (script : Script) (records : List Record) → IsSound script → IsLegal script records → HaveEarlyEntries script.servers (world_after (setting_of script) (start (setting_of script)) records) }
+    ensures { (script : Script) (records : List Record) → IsSound script → IsLegal script records
+        → HaveEarlyEntries script.servers (world_after (setting_of script) (start (setting_of script)) records) }
 {}
 
 /// No client's write is pending at a running server on a cell that is leaving, or has left, by what is chosen.
 pub fn nothing_is_written_under_an_old_map()
-    ensures { (script : Script) (records : List Record) → IsSound script → IsLegal script records → (n : ℕ) (cell : Cell) (op : Pending) → ((world_after (setting_of script) (start (setting_of script)) records).servers n).life.running ≡ true → at cell_cmp ((world_after (setting_of script) (start (setting_of script)) records).servers n).own.pairs.pending cell ≡ Some op → is_clients op.kind ≡ true → IsTimely script.servers (chosen_log (setting_of script) (world_after (setting_of script) (start (setting_of script)) records)) cell op }
+    ensures { (script : Script) (records : List Record) → IsSound script → IsLegal script records → (n : ℕ) (cell : Cell) (op : Pending)
+        → ((world_after (setting_of script) (start (setting_of script)) records).servers n).life.running ≡ true → at cell_cmp
+        ((world_after (setting_of script) (start (setting_of script)) records).servers n).own.pairs.pending cell ≡ Some op → is_clients op.kind ≡ true
+        → IsTimely script.servers (chosen_log (setting_of script) (world_after (setting_of script) (start (setting_of script)) records)) cell op }
 {}

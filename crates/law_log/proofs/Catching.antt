@@ -48,7 +48,8 @@ other_is state me other row = by_test (λ (o : Option ℕ). o ≡ Some other →
 
 module _ (here : Here) (own : Own) where
   caught_from : (row : LinkRow) → Among row here.state.links → (other : ℕ) → other_in here.state here.me row ≡ Some other → (o : Option ℕ)
-      → inc_of here.state other ≡ o → is_nothing (next_copy here.state row own) ≡ true → (c : Command) → Among c (caught_as here row other o) → IsOfLink here own c
+      → inc_of here.state other ≡ o → is_nothing (next_copy here.state row own) ≡ true → (c : Command)
+      → Among c (caught_as here row other o) → IsOfLink here own c
   caught_from row there other is None joins nothing c h = none_among c h
   caught_from row there other is (Some inc) joins nothing c h =
       let found = other_is here.state here.me other row is in record {
@@ -66,7 +67,8 @@ module _ (here : Here) (own : Own) where
       → Among c (caught_of here own row o) → IsOfLink here own c
   caught_row row there None is c h = none_among c h
   caught_row row there (Some other) is c h =
-      by_test (λ (xs : List Command). Among c xs → IsOfLink here own c) (is_nothing (next_copy here.state row own)) (caught_as here row other (inc_of here.state other)) []
+      by_test (λ (xs : List Command). Among c xs → IsOfLink here own c) (is_nothing (next_copy here.state row own))
+      (caught_as here row other (inc_of here.state other)) []
       (λ e. caught_from row there other is (inc_of here.state other) refl e c) (λ e. none_among c) h
 
   caught_rows : (rows : List LinkRow) → ((row : LinkRow) → Among row rows → Among row here.state.links) → (c : Command)
@@ -74,7 +76,8 @@ module _ (here : Here) (own : Own) where
   unfolding Among
   caught_rows [] all c h = none_among c h
   caught_rows (row ∷ rows) all c h =
-      elim (in-append c (caught_of here own row (other_in here.state here.me row)) (flat_map (λ row. caught_of here own row (other_in here.state here.me row)) rows) h) [
+      elim (in-append c (caught_of here own row (other_in here.state here.me row))
+      (flat_map (λ row. caught_of here own row (other_in here.state here.me row)) rows) h) [
         | inl now ↦ caught_row row (all row (inl refl)) (other_in here.state here.me row) refl c now
         | inr later ↦ caught_rows rows (λ other i. all other (inr i)) c later
       ]

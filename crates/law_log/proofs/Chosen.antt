@@ -1,5 +1,6 @@
 -- The chosen log of a world whose steps are those of a schedule.
-use Rattle.std.proofs.Common.{◌≡◌, ◌<◌, ◌≤◌, ◌+◌, ◌⊎◌, inl, inr, ℕ, Bool, true, false, List, [], ◌∷◌, ◌++◌, length, Some, None, sym, ap, ◌∙◌, subst, append_assoc, arith}
+use Rattle.std.proofs.Common.{◌≡◌, ◌<◌, ◌≤◌, ◌+◌, ◌⊎◌, inl, inr, ℕ, Bool, true, false, List, [], ◌∷◌, ◌++◌, length, Some}
+use Rattle.std.proofs.Common.{None, sym, ap, ◌∙◌, subst, append_assoc, arith}
 use Rattle.std.specs.Prelude.{slice_get}
 use Rattle.std.proofs.lemmas.Bool.Decides.{nat_tests}
 use Rattle.petal_command.specs.declared.command.Command.{Command}
@@ -25,7 +26,8 @@ use Rattle.law_state.proofs.Disks.{who_is_out}
 use Rattle.law_state.proofs.Incarnations.{who_is_in}
 use Rattle.law_log.specs.Logged.{Catches, Drains, IsBacked, IsCalledAnywhere, IsJoinAt, IsSaidBy, Logged, Minded, Moves, Returns, Waits, WasMinded}
 use Rattle.law_log.specs.Requested.{HasBegun, HasStopped, IsCalledFor, IsCaughtAt, IsReportAt, WasWanted}
-use Rattle.law_log.proofs.Facts.{IsFair, told_chosen, chosen_wanted, chosen_once, told_wanted, leave_stopped, no_join, no_moved, no_report, not_called, uncaught, wanted_plain}
+use Rattle.law_log.proofs.Facts.{IsFair, told_chosen, chosen_wanted, chosen_once, told_wanted, leave_stopped, no_join, no_moved}
+use Rattle.law_log.proofs.Facts.{no_report, not_called, uncaught, wanted_plain}
 use Rattle.law_log.proofs.Lists.{at_among, at_next, next_at, one_front, parted}
 use Rattle.law_log.proofs.Worlds.{IsGrown}
 

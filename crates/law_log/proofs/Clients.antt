@@ -1,5 +1,6 @@
 -- Each step of a client keeps what is kept of a world.
-use Rattle.std.proofs.Common.{◌≡◌, ◌<◌, ◌≤◌, ◌+◌, ◌-◌, ◌⊎◌, inl, inr, ℕ, Bool, true, false, zero, suc, ◌==◌, ◌&&◌, List, [], ◌∷◌, ◌++◌, length, drop, Option, Some, None, refl, sym, ap, ◌∙◌, subst, arith}
+use Rattle.std.proofs.Common.{◌≡◌, ◌<◌, ◌≤◌, ◌+◌, ◌-◌, ◌⊎◌, inl, inr, ℕ, Bool, true, false, zero, suc, ◌==◌, ◌&&◌, List, [], ◌∷◌, ◌++◌}
+use Rattle.std.proofs.Common.{length, drop, Option, Some, None, refl, sym, ap, ◌∙◌, subst, arith}
 use Rattle.std.specs.Prelude.{slice_get, ⊤, nat_le, not, map, if◌then◌else◌}
 use Rattle.std.proofs.lemmas.Bool.Decides.{nat_tests}
 use Rattle.petal_base.specs.declared.cell.Cell.{Cell}
@@ -21,7 +22,12 @@ use Rattle.petal_state.specs.Settled.{is_settled}
 use Rattle.petal_state.specs.State.{latest}
 use Rattle.petal_state.specs.Command.{after}
 use Rattle.petal_state.specs.declared.answer.DiskView.{DiskView}
-use Rattle.petal_rules.specs.Clients.{Client, Asked, Reaction, Learning, Turn, rests, in_turn, readers, epoch_for, write_posts, read_posts_at, read_posts, posts_for, command_of, refusal, witness_where, or_command, to_propose, post_in_turn, sends_or_proposes, goes_out, goes_out_where, goes_the_old_way, way_now, asking, asks_and_sends, called, replies, is_read, is_write, first_round, Sight, with_sight, stays_open, rounds, settles, sees_for, sees, sees_from, answers, hears, hears_of, verdict_for, answered_where, witnessed, is_witness, judged_by, judged, takes_entry, next_entries, takes_all, then_goes_out, takes_entries, hears_any, heard, ticked}
+use Rattle.petal_rules.specs.Clients.{Client, Asked, Reaction, Learning, Turn, rests, in_turn, readers, epoch_for, write_posts, read_posts_at, read_posts}
+use Rattle.petal_rules.specs.Clients.{posts_for, command_of, refusal, witness_where, or_command, to_propose, post_in_turn, sends_or_proposes, goes_out}
+use Rattle.petal_rules.specs.Clients.{goes_out_where, goes_the_old_way, way_now, asking, asks_and_sends, called, replies, is_read, is_write, first_round, Sight}
+use Rattle.petal_rules.specs.Clients.{with_sight, stays_open, rounds, settles, sees_for, sees, sees_from, answers, hears, hears_of, verdict_for, answered_where}
+use Rattle.petal_rules.specs.Clients.{witnessed, is_witness, judged_by, judged, takes_entry, next_entries, takes_all, then_goes_out, takes_entries, hears_any}
+use Rattle.petal_rules.specs.Clients.{heard, ticked}
 use Rattle.petal_rules.specs.Lists.{In as Among}
 use Rattle.petal_rules.specs.Posts.{Post}
 use Rattle.petal_rules.specs.State.{State, lead, servers_of}
@@ -245,7 +251,8 @@ module _ (Told : ℕ → Command → Type 0) (lines : List Line) (me : ℕ) (sta
       → Reacts Told lines me client.seq (settles state client asked sight)
   settling client asked sight f o =
       by_test (Reacts Told lines me client.seq) sight.full _ _ (λ _. answering client asked answer.NoSpace f)
-      (λ _. by_test (Reacts Told lines me client.seq) ((sight.round == asked.round) && nat_le sight.rev state.rev) _ _ (λ _. round_on client asked (with_sight asked sight) f o refl refl)
+      (λ _. by_test (Reacts Told lines me client.seq)
+      ((sight.round == asked.round) && nat_le sight.rev state.rev) _ _ (λ _. round_on client asked (with_sight asked sight) f o refl refl)
       (λ _. resting client f))
 
   seen_for : (client : Client) (asked : Asked) (sight : Sight) (what : Request) → Fine client → IsOpen lines me client.seq asked
@@ -256,10 +263,12 @@ module _ (Told : ℕ → Command → Type 0) (lines : List Line) (me : ℕ) (sta
   seen_for client asked sight request.Settle f o = settling client asked sight f o
   seen_for client asked sight _ f o = resting client f
 
-  seen : (client : Client) (asked : Option Asked) (sight : Sight) → Fine client → client.asked ≡ asked → Reacts Told lines me client.seq (sees state client asked sight)
+  seen : (client : Client) (asked : Option Asked) (sight : Sight) → Fine client → client.asked ≡ asked
+      → Reacts Told lines me client.seq (sees state client asked sight)
   seen client None sight f e = resting client f
   seen client (Some asked) sight f e =
-      by_test (Reacts Told lines me client.seq) (sight.line == asked.line) _ _ (λ _. seen_for client asked sight asked.request f (f.asked asked e)) (λ _. resting client f)
+      by_test (Reacts Told lines me client.seq) (sight.line == asked.line) _ _ (λ _. seen_for client asked sight asked.request f (f.asked asked e))
+      (λ _. resting client f)
 
   seen_from : (client : Client) (who : Actor) (sight : Sight) → Fine client → Reacts Told lines me client.seq (sees_from state client who sight)
   seen_from client (actor.Server n) sight f = seen client client.asked (record sight { server = n }) f refl

@@ -19,7 +19,12 @@ use Rattle.petal_msg.specs.declared.copying.NextCopy.{NextCopy}
 use Rattle.petal_msg.specs.declared.copying.NextCopy.TheVariants.{Ask, Block, Wait, Nothing}
 use Rattle.petal_msg.specs.declared.letter.Letter.{Letter}
 use Rattle.petal_state.specs.CellState.{cell_link}
-use Rattle.petal_rules.specs.Copies.{copies_on, copies_with, copy_acts, copy_stage, sends_entry, closes, mend_after, with_copied, begins_copy, goes_for, catches_up, tidies, takes_mark, mends_row, mends_found, mends, next_copy, idle_mark, cell_at, answers_page, on_hello_ask, with_page, hears_page, hears_hello, on_hello, same_block, cell_holder, trims_first, trims_for, trims_on, trims_newly, trims_again, hears_trim, hears_trim_of, on_trim, Entry, puts_entry, hears_entry, hears_sync, on_sync, hears_trimmed, on_trimmed, is_syncing, hears_synced, on_synced, hears_sync_full, on_sync_full, page_asked, page_wanted, page_for, page_posts, copy_awaited, copy_posts}
+use Rattle.petal_rules.specs.Copies.{copies_on, copies_with, copy_acts, copy_stage, sends_entry, closes, mend_after, with_copied, begins_copy, goes_for}
+use Rattle.petal_rules.specs.Copies.{catches_up, tidies, takes_mark, mends_row, mends_found, mends, next_copy, idle_mark, cell_at, answers_page, on_hello_ask}
+use Rattle.petal_rules.specs.Copies.{with_page, hears_page, hears_hello, on_hello, same_block, cell_holder, trims_first, trims_for, trims_on, trims_newly}
+use Rattle.petal_rules.specs.Copies.{trims_again, hears_trim, hears_trim_of, on_trim, Entry, puts_entry, hears_entry, hears_sync, on_sync, hears_trimmed}
+use Rattle.petal_rules.specs.Copies.{on_trimmed, is_syncing, hears_synced, on_synced, hears_sync_full, on_sync_full, page_asked, page_wanted, page_for}
+use Rattle.petal_rules.specs.Copies.{page_posts, copy_awaited, copy_posts}
 use Rattle.petal_rules.specs.Lists.{In as Among}
 use Rattle.petal_rules.specs.Progress.{copying_on, last_copy, progress_on, with_progress, with_copying, without_copying, with_last_copy}
 use Rattle.petal_rules.specs.Server.{Own, Here, Post, Done, silent, says_to}
@@ -198,7 +203,8 @@ calm_hears_trim here own number cell epochs holder (Some last) =
     by_test (IsCalm own) (nat_lt number last.op) _ _ (λ e. calm_silent own)
     (λ e. by_test (IsCalm own) (number == last.op) _ _ (λ f. calm_again own cell number holder _) (λ f. calm_newly here own number cell epochs))
 
-calm_trim_of : (here : Here) (own : Own) (number : ℕ) (cell : Cell) (epochs : List ℕ) (holder : Option ℕ) → IsCalm own (hears_trim_of here own number cell epochs holder)
+calm_trim_of : (here : Here) (own : Own) (number : ℕ) (cell : Cell) (epochs : List ℕ) (holder : Option ℕ)
+    → IsCalm own (hears_trim_of here own number cell epochs holder)
 calm_trim_of here own number cell epochs None = calm_silent own
 calm_trim_of here own number cell epochs (Some holder) = calm_hears_trim here own number cell epochs holder (last_copy own cell)
 

@@ -16,7 +16,8 @@ use Rattle.petal_msg.specs.declared.operation.Ending.TheVariants as ending
 use Rattle.petal_state.specs.CellState.{target}
 use Rattle.petal_table.specs.Table.{at}
 use Rattle.petal_table.proofs.Rows.{at-put}
-use Rattle.petal_rules.specs.Fills.{Moving, fill_of, fill_operation, fill_posts, fills_row, goes_behind, has_epoch, hears_fill, hears_fill_full, hears_filled, is_next, link_before, on_fill, on_fill_full, on_filled, opens_fill, sends_key, sends_moving, with_filled}
+use Rattle.petal_rules.specs.Fills.{Moving, fill_of, fill_operation, fill_posts, fills_row, goes_behind, has_epoch, hears_fill, hears_fill_full, hears_filled}
+use Rattle.petal_rules.specs.Fills.{is_next, link_before, on_fill, on_fill_full, on_filled, opens_fill, sends_key, sends_moving, with_filled}
 use Rattle.petal_rules.specs.Lists.{In as Among}
 use Rattle.petal_rules.specs.Progress.{has_proposed, with_full}
 use Rattle.petal_rules.specs.Server.{Own, Here, Post}

@@ -58,7 +58,8 @@ pub flags_put : (own : Own) (row : LinkRow) (new : Progress) → ((progress_on o
 flags_put own row new keeps id is = by_bool (eq_by_cmp link_cmp id (id_of row))
     (λ e.
     let same : id ≡ id_of row = link_cmp_same id (id_of row) (tied (link_cmp id (id_of row)) e) in
-    ap (λ o. option_map_or (λ (p : Progress). p.caught) o false) (at-put link_cmp_total own.copies.progress (id_of row) new id ∙ ap (λ b. cond b (Some new) (at link_cmp own.copies.progress id)) e)
+    ap (λ o. option_map_or (λ (p : Progress). p.caught) o false)
+    (at-put link_cmp_total own.copies.progress (id_of row) new id ∙ ap (λ b. cond b (Some new) (at link_cmp own.copies.progress id)) e)
     ∙ keeps (sym (same_caught own row) ∙ ap (is_flagged own) (sym same) ∙ is))
     (λ no. ap (λ o. option_map_or (λ (p : Progress). p.caught) o false)
     (at-put link_cmp_total own.copies.progress (id_of row) new id ∙ ap (λ b. cond b (Some new) (at link_cmp own.copies.progress id)) no) ∙ is)
@@ -71,7 +72,8 @@ same_id a b e = link_cmp_same a b (tied (link_cmp a b) e)
 pub progress_beside : (own : Own) (row : LinkRow) (new : Progress) (other : LinkRow) → eq_by_cmp link_cmp (id_of other) (id_of row) ≡ false
     → progress_on (with_progress own row new) other ≡ progress_on own other
 progress_beside own row new other apart = ap (λ o. unwrap_or o no_progress)
-    (at-put link_cmp_total own.copies.progress (id_of row) new (id_of other) ∙ ap (λ b. cond b (Some new) (at link_cmp own.copies.progress (id_of other))) apart)
+    (at-put link_cmp_total own.copies.progress (id_of row) new (id_of other)
+    ∙ ap (λ b. cond b (Some new) (at link_cmp own.copies.progress (id_of other))) apart)
 
 -- of this one it is what was put
 pub progress_here : (own : Own) (row : LinkRow) (new : Progress) (other : LinkRow) → eq_by_cmp link_cmp (id_of other) (id_of row) ≡ true

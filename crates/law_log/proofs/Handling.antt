@@ -23,10 +23,13 @@ use Rattle.petal_rules.specs.declared.job.Job.{Job}
 use Rattle.petal_rules.specs.declared.job.Job.TheVariants as job
 use Rattle.petal_rules.proofs.ListLemmas.{in-append}
 use Rattle.petal_rules.proofs.Tests.{by_test}
-use Rattle.law_log.proofs.Copying.{IsCalm, calm_silent, calm_copies, calm_mends, calm_hello_ask, calm_hello, calm_trims, calm_trim, calm_sync, calm_trimmed, calm_synced, calm_sync_full, other_copy_posts, other_page_posts}
+use Rattle.law_log.proofs.Copying.{IsCalm, calm_silent, calm_copies, calm_mends, calm_hello_ask, calm_hello, calm_trims, calm_trim, calm_sync}
+use Rattle.law_log.proofs.Copying.{calm_trimmed, calm_synced, calm_sync_full, other_copy_posts, other_page_posts}
 use Rattle.law_log.proofs.Filling.{calm_fill_full, calm_filled, calm_sweeps, keeps_fill, other_fill_posts, quiet_fill}
-use Rattle.law_log.proofs.Pairs.{IsOther, IsQuiet, quiet_goes, quiet_read, quiet_write, quiet_reserve, quiet_reserved, quiet_pair_full, quiet_replicate, quiet_replicated, quiet_says}
-use Rattle.law_log.proofs.Stores.{Keeps, kept, keeps_goes, keeps_read, keeps_write, keeps_reserve, keeps_reserved, keeps_pair_full, keeps_replicate, keeps_replicated}
+use Rattle.law_log.proofs.Pairs.{IsOther, IsQuiet, quiet_goes, quiet_read, quiet_write, quiet_reserve, quiet_reserved}
+use Rattle.law_log.proofs.Pairs.{quiet_pair_full, quiet_replicate, quiet_replicated, quiet_says}
+use Rattle.law_log.proofs.Stores.{Keeps, kept, keeps_goes, keeps_read, keeps_write, keeps_reserve, keeps_reserved}
+use Rattle.law_log.proofs.Stores.{keeps_pair_full, keeps_replicate, keeps_replicated}
 use Rattle.law_log.proofs.Turns.{no_posts}
 
 -- an operation leaves the copies as they are
@@ -40,7 +43,8 @@ calm_pair own done quiet keeps = record {
 
 calm_handles : (here : Here) (own : Own) (what : Body) → IsCalm own (handles here own what)
 unfolding handles
-calm_handles here own (body.Read client seq cell epoch) = calm_pair own _ (quiet_read here own client seq cell epoch) (keeps_read here own client seq cell epoch)
+calm_handles here own (body.Read client seq cell epoch) =
+    calm_pair own _ (quiet_read here own client seq cell epoch) (keeps_read here own client seq cell epoch)
 calm_handles here own (body.Write client seq cell epoch bytes) = calm_pair own _ (quiet_write here own _) (keeps_write here own _)
 calm_handles here own (body.Reserve number cell) = calm_pair own _ (quiet_reserve here own number cell) (keeps_reserve here own number cell)
 calm_handles here own (body.Reserved number cell) = calm_pair own _ (quiet_reserved here own number cell) (keeps_reserved here own number cell)
@@ -91,7 +95,8 @@ calm_job here own job.Start = calm_silent own
 -- what a tick sends for copies and fills
 pub other_copies_anew : (here : Here) (own : Own) (post : Post) → Among post (copies_anew here own) → IsOther post.body
 other_copies_anew here own post i =
-    by_test (λ posts. Among post posts → IsOther post.body) (is_in here.state here.me here.inc) (copy_posts here own ++ page_posts here own ++ fill_posts here own) []
+    by_test (λ posts. Among post posts → IsOther post.body) (is_in here.state here.me here.inc)
+    (copy_posts here own ++ page_posts here own ++ fill_posts here own) []
     (λ e j. elim (in-append post (copy_posts here own ++ page_posts here own) (fill_posts here own) j) [
       | inl former ↦ elim (in-append post (copy_posts here own) (page_posts here own) former) [
         | inl copy ↦ other_copy_posts here own post copy

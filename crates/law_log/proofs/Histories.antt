@@ -21,7 +21,8 @@ use Rattle.petal_rules.specs.Server.{Server}
 use Rattle.law_state.specs.Firm.{Firm}
 use Rattle.law_log.specs.Logged.{Catches, Drains, IsBacked, IsCalledAnywhere, IsSaidBy, Logged, Minded, Moves, Waits}
 use Rattle.law_log.specs.Requested.{HasBegun, HasStopped, IsCalledFor, IsCaughtAt, IsReportAt, WasDraining, WasMoving, WasReturning, WasStarted, WasWanted}
-use Rattle.law_log.proofs.Chosen.{agrees, caught_at, caught_was, firm, called_for, join_at, join_chosen, join_waited, moved_was, report_at, report_was, in_begun, leave_chosen, out_stopped, runs_in, has_schedule, grown_log}
+use Rattle.law_log.proofs.Chosen.{agrees, caught_at, caught_was, firm, called_for, join_at, join_chosen, join_waited, moved_was, report_at, report_was}
+use Rattle.law_log.proofs.Chosen.{in_begun, leave_chosen, out_stopped, runs_in, has_schedule, grown_log}
 use Rattle.law_log.proofs.Facts.{IsFair, leave_stopped}
 use Rattle.law_log.proofs.Steps.{history_goes, start_logged}
 use Rattle.law_log.proofs.Worlds.{Remembers}
@@ -90,10 +91,12 @@ chosen_is_called_for script records sound legal command i =
 
 -- a Caught that is chosen acts behind the entries before it, and its holder started the ballot there
 pub chosen_caught : (script : Script) (records : List Record) → IsSound script → IsLegal script records → (front : List Command)
-    (of link holder inc other other_inc : ℕ) → IsPrefix (front ++ Caught of link holder inc other other_inc ∷ []) (chosen_log (setting_of script) (At script records))
+    (of link holder inc other other_inc : ℕ)
+    → IsPrefix (front ++ Caught of link holder inc other other_inc ∷ []) (chosen_log (setting_of script) (At script records))
     → IsCaughtAt script.servers (At script records).servers front of link holder inc other other_inc
 chosen_caught script records sound legal front of link holder inc other other_inc prefix =
-    caught_at (setting_of script) (At script records) (sound_fair script sound) (logged script records sound legal) front of link holder inc other other_inc prefix
+    caught_at (setting_of script) (At script records) (sound_fair script sound)
+    (logged script records sound legal) front of link holder inc other other_inc prefix
 
 -- and its holder had it in mind there, on the way
 pub chosen_caught_was : (script : Script) (records : List Record) → IsSound script → IsLegal script records → (front : List Command)

@@ -1,5 +1,6 @@
 -- Each job of the log, as the schedule has it.
-use Rattle.std.proofs.Common.{◌≡◌, ◌<◌, ◌≤◌, ◌+◌, ◌⊎◌, inl, inr, ℕ, zero, suc, Bool, true, false, if◌then◌else◌, ◌||◌, List, [], ◌∷◌, ◌++◌, length, Option, Some, None, is_some, refl, sym, ap, ◌∙◌, subst, arith, length-append}
+use Rattle.std.proofs.Common.{◌≡◌, ◌<◌, ◌≤◌, ◌+◌, ◌⊎◌, inl, inr, ℕ, zero, suc, Bool, true, false, if◌then◌else◌, ◌||◌, List, [], ◌∷◌, ◌++◌, length}
+use Rattle.std.proofs.Common.{Option, Some, None, is_some, refl, sym, ap, ◌∙◌, subst, arith, length-append}
 use Rattle.std.specs.Prelude.{slice_get, nat_lt, fold, not}
 use Rattle.std.proofs.lemmas.Bool.Decides.{nat_tests}
 use Rattle.petal_command.specs.Same.{has_command, same_command}
@@ -26,8 +27,10 @@ use Rattle.petal_paxos.specs.declared.phase.Phase.{Phase}
 use Rattle.petal_paxos.specs.declared.phase.Phase.TheVariants.{Idle}
 use Rattle.petal_state.specs.State.{inc_of}
 use Rattle.petal_rules.specs.Agreement.{IsTold, IsProposer}
-use Rattle.petal_rules.specs.Ballots.{is_due, own_leave, leave_before, with_leave, wanted, on_down, on_propose, on_pax, first_wanted, starts, starts_for, hears_of_ballot, proposes}
-use Rattle.petal_rules.specs.Entries.{learns, applies_then, unknown_from, learns_first, on_news, with_entry, applies, applies_known, before_known, known_run, on_ask}
+use Rattle.petal_rules.specs.Ballots.{is_due, own_leave, leave_before, with_leave, wanted, on_down, on_propose, on_pax, first_wanted}
+use Rattle.petal_rules.specs.Ballots.{starts, starts_for, hears_of_ballot, proposes}
+use Rattle.petal_rules.specs.Entries.{learns, applies_then, unknown_from, learns_first, on_news, with_entry, applies}
+use Rattle.petal_rules.specs.Entries.{applies_known, before_known, known_run, on_ask}
 use Rattle.petal_rules.specs.Jobs.{log_does, hears_log}
 use Rattle.petal_rules.specs.Lists.{In as Among}
 use Rattle.petal_rules.specs.Log.{Log, LogDone, Voter, state_in, rev_of, next_place, known, keeps}
@@ -74,7 +77,8 @@ run_by log place command later h None is i e = none_some refl e
 run_by log place command later h (Some first) is zero e = let at : place + 0 ≡ place = omega arith in ap (known log) at ∙ is ∙ e
 run_by log place command later h (Some first) is (suc i) e = let at : place + suc i ≡ place + 1 + i = omega arith in ap (known log) at ∙ h i e
 
-pub run_known : (log : Log) (most place i : ℕ) (command : Command) → slice_get (known_run log place most) i ≡ Some command → known log (place + i) ≡ Some command
+pub run_known : (log : Log) (most place i : ℕ) (command : Command) → slice_get (known_run log place most) i ≡ Some command
+    → known log (place + i) ≡ Some command
 run_known log zero place i command e = none_some refl e
 run_known log (suc most) place i command e =
     run_by log place command (known_run log (place + 1) most) (λ i. run_known log most (place + 1) i command) (known log place) refl i e
@@ -141,10 +145,12 @@ learn_follows log place command letter h = applies_follow letter (known log plac
 pax_wants : (voter : Voter) (log : Log) (from : ℕ) (said : Pax) → WantsSame log (hears_of_ballot voter log from said).log
 pax_wants voter log from (pax.Prepare place b) =
     by_test (WantsSame log) (is_open (acceptor_of log.records place) b) _ _
-    (λ e. record { wants = refl; leaves = refl; incs = inc_promise log.records place b; applied = refl }) (λ e. record { wants = refl; leaves = refl; incs = refl; applied = refl })
+    (λ e. record { wants = refl; leaves = refl; incs = inc_promise log.records place b; applied = refl })
+    (λ e. record { wants = refl; leaves = refl; incs = refl; applied = refl })
 pax_wants voter log from (pax.Accept place b command) =
     by_test (WantsSame log) (is_open (acceptor_of log.records place) b) _ _
-    (λ e. record { wants = refl; leaves = refl; incs = inc_accepted log.records place b command; applied = refl }) (λ e. record { wants = refl; leaves = refl; incs = refl; applied = refl })
+    (λ e. record { wants = refl; leaves = refl; incs = inc_accepted log.records place b command; applied = refl })
+    (λ e. record { wants = refl; leaves = refl; incs = refl; applied = refl })
 pax_wants voter log from (pax.Chosen place command) = learn_wants log place command
 pax_wants voter log from (pax.Promise place b best) = out_wants voter log (hear voter.servers log.phase from (pax.Promise place b best)) _
 pax_wants voter log from (pax.Accepted place b) = out_wants voter log (hear voter.servers log.phase from (pax.Accepted place b)) _
@@ -211,7 +217,8 @@ own_leaves {A} me inc (Some earlier) c so h = by_test (λ (xs : List Command). A
     less : (a b : ℕ) → nat_lt a b ≡ true → a < b
     less a b e = grind (arith, nat_tests)
 
-module _ (servers n inc : ℕ) (small : servers ≤ 256) (member : n < servers) (log : Log) (p : World) (low : AreLow p) (seen : IsSeenAt n log.records log.applied p)
+module _ (servers n inc : ℕ) (small : servers ≤ 256) (member : n < servers) (log : Log) (p : World) (low : AreLow p)
+    (seen : IsSeenAt n log.records log.applied p)
     (busy : IsBusyAs servers n true log.phase p) (one : (place : ℕ) (c d : Command) → IsTold p place c → IsTold p place d → d ≡ c)
     (Good : ℕ → Command → Type 0) (Fine : Command → Type 0) (fine : (c : Command) → Among c log.wants → Fine c)
     (leaving : (c : Command) → Among c log.leaves → Fine c) (own_leaving : (earlier : ℕ) → earlier < inc → Fine (Leave n earlier))

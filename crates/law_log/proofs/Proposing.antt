@@ -1,5 +1,6 @@
 -- A proposer: the ballot that it starts, and what it makes of the letters that answer it.
-use Rattle.std.proofs.Common.{◌≡◌, ◌<◌, ◌≤◌, ◌+◌, inl, inr, ℕ, zero, suc, Bool, true, false, not, ◌&&◌, List, [], ◌∷◌, map, set, Option, Some, None, refl, sym, ap, ◌∙◌, subst, arith}
+use Rattle.std.proofs.Common.{◌≡◌, ◌<◌, ◌≤◌, ◌+◌, inl, inr, ℕ, zero, suc, Bool, true, false, not, ◌&&◌, List, [], ◌∷◌, map, set}
+use Rattle.std.proofs.Common.{Option, Some, None, refl, sym, ap, ◌∙◌, subst, arith}
 use Rattle.std.specs.Prelude.{⊤, nat_le, nat_lt, if◌then◌else◌}
 use Rattle.std.specs.List.{range_with_len}
 use Rattle.std.proofs.lemmas.Bool.Decides.{nat_tests}
@@ -26,7 +27,8 @@ use Rattle.petal_paxos.specs.declared.record.StateRecord.TheVariants.{Promise}
 use Rattle.law_agreement.proofs.Members.{in_here, in_there}
 use Rattle.law_agreement.proofs.Moves.{not_in_nobody}
 use Rattle.petal_rules.specs.Agreement.{IsTold, IsAskedFor, IsAbout, IsProposer}
-use Rattle.petal_rules.specs.Ballots.{post_of, round_of, next_round, first_wanted, starts, starts_for, starts_ballot, greatest_place, gives_way, proposes, comes_out, hears_of_ballot}
+use Rattle.petal_rules.specs.Ballots.{post_of, round_of, next_round, first_wanted, starts, starts_for, starts_ballot, greatest_place}
+use Rattle.petal_rules.specs.Ballots.{gives_way, proposes, comes_out, hears_of_ballot}
 use Rattle.petal_rules.specs.Entries.{learns}
 use Rattle.petal_rules.specs.Lists.{In as Among}
 use Rattle.petal_rules.specs.Log.{Log, rev_of, next_place, with_phase}
@@ -35,7 +37,8 @@ use Rattle.petal_rules.proofs.Tests.{true_false, by_test, none_some, same_some}
 use Rattle.law_log.specs.Logged.{IsSeenAt, AreLow, IsLow, IsBusyAs, IsBacked}
 use Rattle.law_log.proofs.Lists.{put_here}
 use Rattle.law_log.proofs.Taking.{seen_promise, prepare_turn, accept_turn, learn_turn}
-use Rattle.law_log.proofs.Turns.{Turns, HasTurn, apart_itself, apart_both, apart_keep, apart_send, apart_turn, by_letter, turned, still as nothing_happens, no_posts, low_keep, low_send, low_turn, seen_same, about_itself}
+use Rattle.law_log.proofs.Turns.{Turns, HasTurn, apart_itself, apart_both, apart_keep, apart_send, apart_turn, by_letter, turned}
+use Rattle.law_log.proofs.Turns.{still as nothing_happens, no_posts, low_keep, low_send, low_turn, seen_same, about_itself}
 
 -- ### Nobody is no majority
 
@@ -154,7 +157,8 @@ both_so a b e f = cc
 below : (k m : ℕ) → k < m → nat_lt k m ≡ true
 below k m h = grind (arith, nat_tests)
 
-module _ (servers n inc : ℕ) (small : servers ≤ 256) (member : n < servers) (log : Log) (p : World) (low : AreLow p) (seen : IsSeenAt n log.records log.applied p)
+module _ (servers n inc : ℕ) (small : servers ≤ 256) (member : n < servers) (log : Log) (p : World) (low : AreLow p)
+    (seen : IsSeenAt n log.records log.applied p)
     (busy : IsBusyAs servers n true log.phase p) (Good : ℕ → Command → Type 0) (there : Phase) (is : p.proposers n ≡ Some there) where
   ballot_turn : (place : ℕ) (b : Ballot) (want : Command) → b.server ≡ n → is_unpromised (p.acceptors n place) b ≡ true
       → Turns servers n true (starts_ballot (record { me = n; inc = inc; servers = servers }) log place b want).log

@@ -1,5 +1,6 @@
 -- Each step of a server keeps what is kept of a world.
-use Rattle.std.proofs.Common.{◌≡◌, ◌<◌, ◌≤◌, ◌+◌, ◌==◌, ◌⊎◌, inl, inr, ℕ, true, false, not, if◌then◌else◌, ◌&&◌, List, [], ◌∷◌, ◌++◌, length, map, Option, Some, None, refl, sym, ap, ◌∙◌, subst, arith}
+use Rattle.std.proofs.Common.{◌≡◌, ◌<◌, ◌≤◌, ◌+◌, ◌==◌, ◌⊎◌, inl, inr, ℕ, true, false, not, if◌then◌else◌, ◌&&◌, List, [], ◌∷◌, ◌++◌}
+use Rattle.std.proofs.Common.{length, map, Option, Some, None, refl, sym, ap, ◌∙◌, subst, arith}
 use Rattle.std.specs.Prelude.{filter, slice_get}
 use Rattle.std.specs.List.{range_with_len, flat_map}
 use Rattle.std.specs.Option.{option_map_or}
@@ -34,7 +35,9 @@ use Rattle.petal_state.specs.Command.{after, may_join}
 use Rattle.petal_state.specs.Place.{touches}
 use Rattle.petal_rules.specs.Crossing.{crossed_by, is_mended, jobs_by, link_jobs, stage_jobs, touches_cell}
 use Rattle.petal_rules.specs.Entries.{applies, applies_known}
-use Rattle.petal_rules.specs.Jobs.{Acted, is_log_job, voter_of, here_of, worked, entered, crossing, job_done, down_posts, stops, is_overfull, works, faults, glances, glance_sender, delivered, tick_jobs, tick_posts, ticks, log_does, does, sent_anew, copies_anew, starting, own_wants, wanted_by}
+use Rattle.petal_rules.specs.Jobs.{Acted, is_log_job, voter_of, here_of, worked, entered, crossing, job_done, down_posts, stops, is_overfull}
+use Rattle.petal_rules.specs.Jobs.{works, faults, glances, glance_sender, delivered, tick_jobs, tick_posts, ticks, log_does, does, sent_anew}
+use Rattle.petal_rules.specs.Jobs.{copies_anew, starting, own_wants, wanted_by}
 use Rattle.petal_rules.specs.Lists.{In as Among, put_at}
 use Rattle.petal_rules.specs.Log.{Log, LogDone, Voter, known, next_place, rev_of}
 use Rattle.petal_rules.specs.Posts.{Post, Sender, letters_of}
@@ -52,7 +55,8 @@ use Rattle.petal_rules.specs.declared.step.WorkEnd.{WorkEnd}
 use Rattle.petal_rules.specs.declared.step.WorkEnd.TheVariants as work_end
 use Rattle.petal_rules.proofs.ListLemmas.{in-append, put_apart, put_same}
 use Rattle.petal_rules.proofs.Tests.{number_itself, only, by_test, same_or_apart}
-use Rattle.law_log.specs.Logged.{Catches, IsBacked, IsCalledAnywhere, IsSaidBy, IsReached, IsSeenAt, IsBusyAs, IsToldBefore, Logged, MayWant, Minded, Returns, WasMinded}
+use Rattle.law_log.specs.Logged.{Catches, IsBacked, IsCalledAnywhere, IsSaidBy, IsReached, IsSeenAt, IsBusyAs, IsToldBefore}
+use Rattle.law_log.specs.Logged.{Logged, MayWant, Minded, Returns, WasMinded}
 use Rattle.law_state.specs.Started.{HasFlag, is_flagged}
 use Rattle.global_tables.specs.declared.fence.Member.TheVariants as member
 use Rattle.law_state.specs.Tables.{IsPlainState}
@@ -216,7 +220,8 @@ no_stage [] letter h = absurd h
 no_stage (row ∷ rows) letter (inl e) = let f : job.Letter letter ≡ job.Stage row.0 = e in absurd cc
 no_stage (row ∷ rows) letter (inr h) = no_stage rows letter h
 
-stages_only : {A : Type 0} (state : State) (me : ℕ) (entry : Option Command) (own : Own) (letter : Letter) → Among (job.Letter letter) (jobs_by state me entry own) → A
+stages_only : {A : Type 0} (state : State) (me : ℕ) (entry : Option Command) (own : Own) (letter : Letter)
+    → Among (job.Letter letter) (jobs_by state me entry own) → A
 stages_only state me None own letter h = no_jobs letter h
 stages_only state me (Some entry) own letter h = elim (in-append (job.Letter letter) (stage_jobs state entry own) (link_jobs state entry me) h) [
   | inl stage ↦ no_stage (filter (λ row. touches_cell state entry row.0) own.pairs.pending) letter stage
@@ -250,7 +255,8 @@ module _ {Was : Minded} (setting : Setting) (fair : IsFair setting) (w : World) 
       each s = elim (same_or_apart s n) [
         | inl e ↦ subst (λ k. KeepsStarted (put_at w.servers n to k) (put_at w.servers n later k)) (sym e)
             (subst (λ (x : Server × Server). KeepsStarted x.0 x.1) (λ i. (sym (put_same w.servers n to) i, sym (put_same w.servers n later) i)) keeps)
-        | inr ne ↦ subst (λ (x : Server × Server). KeepsStarted x.0 x.1) (λ i. (sym (put_apart w.servers n to s ne) i, sym (put_apart w.servers n later s ne) i))
+        | inr ne ↦ subst (λ (x : Server × Server). KeepsStarted x.0 x.1)
+            (λ i. (sym (put_apart w.servers n to s ne) i, sym (put_apart w.servers n later s ne) i))
             (started_same (w.servers s))
       ]
 
@@ -352,7 +358,8 @@ module _ {Was : Minded} (setting : Setting) (fair : IsFair setting) (w : World) 
             refl refl (kept_itself (w.servers n).own) refl refl refl refl
             (λ other h. elim (in-append (job.Letter other) (w.servers n).queue (job.Letter letter ∷ []) h) [
               | inl old ↦ l.is.queued n other old
-              | inr new ↦ (let same : job.Letter other ≡ job.Letter letter = only (λ x. x ≡ job.Letter letter) (job.Letter letter) (job.Letter other) new refl in
+              | inr new ↦
+                  (let same : job.Letter other ≡ job.Letter letter = only (λ x. x ≡ job.Letter letter) (job.Letter letter) (job.Letter other) new refl in
                   subst (λ x. Among x w.sent) (sym (letter_is other letter same)) i)
             ])
             (λ post h. no_posts post h);
@@ -378,7 +385,8 @@ module _ {Was : Minded} (setting : Setting) (fair : IsFair setting) (w : World) 
                 | inl earlier ↦ elim (in-append post ballots pairs earlier) [
                   | inl ballot ↦ ballot_backed P n (voter_of here) (w.servers n).log.phase
                       (subst (λ k. IsAskedFor P n k (w.servers n).log.phase) (sym (as_many setting w fair l n)) (l.is.busy n member).asked) post ballot
-                  | inr pair ↦ other_backed P (λ c. ⊥) (λ said. In (sent n said) P.letters) post.body (other_anew here (w.servers n).own (w.servers n).own.pairs.pending post pair)
+                  | inr pair ↦ other_backed P (λ c. ⊥) (λ said. In (sent n said) P.letters) post.body
+                      (other_anew here (w.servers n).own (w.servers n).own.pairs.pending post pair)
                 ]
               ]
               | inr ask ↦ only (λ (x : Post). IsBacked P (λ c. ⊥) (λ said. In (sent n said) P.letters) x.body) _ post ask tt
@@ -407,7 +415,8 @@ module _ {Was : Minded} (setting : Setting) (fair : IsFair setting) (w : World) 
     AnyOutcome to = Outcome setting.servers n (w.servers n).log first P (Good to) (IsCalledAnywhere setting w)
 
     logs : (done : LogDone) (own : Own) (queue : List Job)
-        → KeepsStarted (w.servers n) (left done own queue) → AnyOutcome (left done own queue) done → ((letter : Letter) → Among (job.Letter letter) queue → Among (job.Letter letter) (rest ++ done.jobs))
+        → KeepsStarted (w.servers n) (left done own queue) → AnyOutcome (left done own queue) done
+        → ((letter : Letter) → Among (job.Letter letter) queue → Among (job.Letter letter) (rest ++ done.jobs))
         → Acts Was setting w P n (left done own queue) done.posts
     logs done own queue started out follows = record {
       incs = out.incs ∙ l.is.incs n;
@@ -523,7 +532,14 @@ module _ {Was : Minded} (setting : Setting) (fair : IsFair setting) (w : World) 
               holds = seat;
               joins = ap (λ o. option_map_or (λ present. present == caught.inc) o false) caught.joins ∙ number_itself caught.inc;
               started = subst (λ (x : Server). IsMinded here.inc (length (w.servers n).log.applied) (id_of caught.row) x) (sym (put_same w.servers n starts_to))
-                  (inr (refl, record { reached = (let e = ap length (start_applied (voter_of here) (w.servers n).log (wanted_by here (w.servers n))) in omega arith); flagged = λ e. flagged }));
+                  (inr (
+                    refl,
+                    record {
+                      reached = (let e = ap length (start_applied (voter_of here) (w.servers n).log (wanted_by here (w.servers n))) in
+                          omega arith);
+                      flagged = λ e. flagged;
+                    },
+                  ));
             });
             was = subst (WasMinded Was (w.servers n).log.applied) (sym caught.is)
                 (subst (λ (front : List Command). Was n here.inc front (Catches (id_of caught.row)))
@@ -611,7 +627,8 @@ module _ {Was : Minded} (setting : Setting) (fair : IsFair setting) (w : World) 
         (started setting.servers n here.inc fair.small member (w.servers n).log P l.is.low (l.is.servers n) busy_now (told_once setting w fair.small l)
         (Good starts_to) (IsCalledAnywhere setting w) (l.is.wants n) (l.is.leaves n) (λ earlier lt. (inr (inr lt), refl)) (called_good starts_to) first
         (wants_of setting.servers)
-        (λ c e. elim (fine_wanted setting.servers n here.inc fair.small member (w.servers n).log P l.is.low (l.is.servers n) busy_now (told_once setting w fair.small l)
+        (λ c e. elim (fine_wanted setting.servers n here.inc fair.small member (w.servers n).log P l.is.low (l.is.servers n) busy_now
+        (told_once setting w fair.small l)
         (Good starts_to) (IsCalledAnywhere setting w) (l.is.wants n) (l.is.leaves n) (λ earlier lt. (inr (inr lt), refl)) (called_good starts_to)
         (own_wants here (w.servers n).own) c (first_among (w.servers n).log.phase (rev_of (w.servers n).log) (wants_of setting.servers) c e)) [
           | inl called ↦ called_good starts_to c called
@@ -641,7 +658,8 @@ module _ {Was : Minded} (setting : Setting) (fair : IsFair setting) (w : World) 
 
   life_kept : Runs → (first : Job) (rest : List Job) → (job_done here (w.servers n) first rest).server.life.running ≡ true
   life_kept runs job.Apply rest = runs
-  life_kept runs (job.Letter letter) rest = by_test (λ (acted : Acted). acted.server.life.running ≡ true) (is_log_job (job.Letter letter)) _ _ (λ e. runs) (λ e. runs)
+  life_kept runs (job.Letter letter) rest =
+      by_test (λ (acted : Acted). acted.server.life.running ≡ true) (is_log_job (job.Letter letter)) _ _ (λ e. runs) (λ e. runs)
   life_kept runs (job.Stage cell) rest = runs
   life_kept runs (job.Mend link) rest = runs
   life_kept runs job.Sweep rest = runs
@@ -651,7 +669,8 @@ module _ {Was : Minded} (setting : Setting) (fair : IsFair setting) (w : World) 
       → GoesBy (works here (w.servers n) jobs)
   works_on runs [] is remembers = did_goes _ (record { posts = []; letters = refl; by = unchanged })
   works_on runs (first ∷ rest) is remembers =
-      by_test (λ (acted : Acted). Remembers Was setting.servers n (w.servers n) acted.server → GoesBy acted) (is_overfull (job_done here (w.servers n) first rest).server) _ _
+      by_test (λ (acted : Acted). Remembers Was setting.servers n (w.servers n) acted.server → GoesBy acted)
+      (is_overfull (job_done here (w.servers n) first rest).server) _ _
       (λ full kept. stops_now runs) (λ room kept. did_goes (job_done here (w.servers n) first rest) (does_job runs first rest is kept)) remembers
 
   -- a fault behind the commit leaves what the job commits, and one before it nothing

@@ -19,7 +19,8 @@ use Rattle.petal_rules.specs.Agreement.{IsTold}
 use Rattle.petal_rules.specs.Clients.{Client, Asked, Reaction, client_sender}
 use Rattle.petal_rules.specs.Lists.{In as Among}
 use Rattle.petal_rules.specs.Server.{letters_of}
-use Rattle.petal_rules.specs.World.{Setting, World, start, stamped, reacts, step, MayActor, MayClient, client_step, client_state, calls, next_line, server_state, server_step}
+use Rattle.petal_rules.specs.World.{Setting, World, start, stamped, reacts, step, MayActor, MayClient, client_step, client_state}
+use Rattle.petal_rules.specs.World.{calls, next_line, server_state, server_step}
 use Rattle.petal_rules.specs.declared.step.Step.{Step}
 use Rattle.petal_rules.specs.declared.step.Step.TheVariants.{Call, Deliver, Tick, Work, StopIn, Stop, Blank, Boot, Arm, Glance}
 use Rattle.petal_rules.proofs.ListLemmas.{in-append, in_later, put_same}
@@ -100,7 +101,8 @@ module _ {Was : Minded} (setting : Setting) (w : World) (l : Logged Was setting 
                   subst (IsBacked P (IsCalledAnywhere setting (After reacted)) (IsSaidBy P letter.from)) (sym post.2) backed)
               | inr old ↦ backed_more P P _ _ (IsSaidBy P letter.from) (IsSaidBy P letter.from) (λ x i. i) more (λ said h. h) letter.body (l.is.sent letter old)
             ];
-            wanted = λ place command h. may_more setting w (After reacted) w.servers w.servers P P more (λ s. started_same (w.servers s)) (λ x i. i) place command
+            wanted = λ place command h.
+                may_more setting w (After reacted) w.servers w.servers P P more (λ s. started_same (w.servers s)) (λ x i. i) place command
                 (l.is.wanted place command h);
             wants = λ s command i. more command (l.is.wants s command i);
             leaves = λ s command i. more command (l.is.leaves s command i);
@@ -141,17 +143,20 @@ module _ {Was : Minded} (setting : Setting) (w : World) (l : Logged Was setting 
 -- ### A step, and a history
 
 pub step_goes : {Was : Minded} (setting : Setting) → IsFair setting → (w : World) → Logged Was setting w → (who : Actor) (what : Step) (stamp : ℕ)
-    → MayActor who what setting w → AllRemember Was setting.servers w (step who what setting w stamp).world → Goes Was setting w (step who what setting w stamp).world
+    → MayActor who what setting w → AllRemember Was setting.servers w (step who what setting w stamp).world
+    → Goes Was setting w (step who what setting w stamp).world
 unfolding step
 step_goes {Was} setting fair w l (actor.Server n) what stamp may remember =
     server_steps setting fair w l n stamp may.0 what may.1
-    (subst (Remembers Was setting.servers n (w.servers n)) (put_same w.servers n (server_step what (server_state setting w n) n (w.servers n)).server) (remember n))
+    (subst (Remembers Was setting.servers n (w.servers n))
+    (put_same w.servers n (server_step what (server_state setting w n) n (w.servers n)).server) (remember n))
 step_goes setting fair w l (actor.Client c) what stamp may remember = client_steps setting w l c stamp what may.1
 
 -- each step remembers
 pub history_goes : {Was : Minded} (setting : Setting) → IsFair setting → (records : List Record) (w : World) → Logged Was setting w
     → IsLegalFrom setting w records → ((before : List Record) (own : Record) (later : List Record) → records ≡ before ++ own ∷ later
-    → AllRemember Was setting.servers (world_after setting w before) (world_after setting w (before ++ own ∷ []))) → Goes Was setting w (world_after setting w records)
+    → AllRemember Was setting.servers (world_after setting w before) (world_after setting w (before ++ own ∷ [])))
+    → Goes Was setting w (world_after setting w records)
 history_goes setting fair [] w l legal remember = record { logged = l; grown = λ s place ballot command i. i }
 history_goes setting fair (own ∷ later) w l legal remember =
     let first = step_goes setting fair w l own.actor own.step own.stamp legal.0.may.may (remember [] own later refl) in

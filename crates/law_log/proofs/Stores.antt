@@ -17,7 +17,10 @@ use Rattle.petal_msg.specs.declared.operation.Pending.{Pending}
 use Rattle.petal_rules.specs.Reads.{on_read}
 use Rattle.petal_rules.specs.Server.{Own, Copies, Here, Done}
 use Rattle.petal_rules.specs.State.{is_lead, is_second, readable}
-use Rattle.petal_rules.specs.Writes.{Wanted, Standing, Older, Again, Newer, acts, ends, goes_on_with, goes_on, gives_back, gives_up, without_pending, pending_on, opens, opened, takes_newer, takes, is_pending_for, is_kept_back, is_under_way, on_write, is_reserving, is_replicating, hears_reserved, on_reserved, hears_pair_full, on_pair_full, hears_replicated, on_replicated, tells, reserves, hears_reserve, on_reserve, follows_once, hears_replicate, on_replicate, last_on}
+use Rattle.petal_rules.specs.Writes.{Wanted, Standing, Older, Again, Newer, acts, ends, goes_on_with, goes_on, gives_back, gives_up, without_pending}
+use Rattle.petal_rules.specs.Writes.{pending_on, opens, opened, takes_newer, takes, is_pending_for, is_kept_back, is_under_way, on_write, is_reserving}
+use Rattle.petal_rules.specs.Writes.{is_replicating, hears_reserved, on_reserved, hears_pair_full, on_pair_full, hears_replicated, on_replicated, tells}
+use Rattle.petal_rules.specs.Writes.{reserves, hears_reserve, on_reserve, follows_once, hears_replicate, on_replicate, last_on}
 use Rattle.petal_rules.proofs.Tests.{by_test}
 
 -- the copies

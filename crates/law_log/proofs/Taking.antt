@@ -21,10 +21,12 @@ use Rattle.petal_rules.specs.Entries.{learns}
 use Rattle.petal_rules.specs.Log.{Log, commits}
 use Rattle.petal_rules.proofs.Tests.{by_test, same_or_apart, same_some}
 use Rattle.law_log.specs.Logged.{IsSeenAt, AreLow, IsLow, IsBusyAs}
-use Rattle.petal_paxos.proofs.Committed.{known_promise, known_accepted, known_here, known_elsewhere, acceptor_promise, acceptor_accepted, acceptor_chosen, inc_promise, inc_accepted, inc_chosen}
+use Rattle.petal_paxos.proofs.Committed.{known_promise, known_accepted, known_here, known_elsewhere, acceptor_promise, acceptor_accepted}
+use Rattle.petal_paxos.proofs.Committed.{acceptor_chosen, inc_promise, inc_accepted, inc_chosen}
 use Rattle.law_log.proofs.Kept.{in_committed}
 use Rattle.law_log.proofs.Lists.{put_here, put_away, put_at_here, put_at_beside, put_at_itself}
-use Rattle.law_log.proofs.Turns.{apart_itself, no_posts, Turns, HasTurn, by_letter, replied, seen_same, busy_same, apart_both, low_keep, low_cast, low_learn, apart_keep, apart_cast, apart_learn}
+use Rattle.law_log.proofs.Turns.{apart_itself, no_posts, Turns, HasTurn, by_letter, replied, seen_same, busy_same, apart_both, low_keep}
+use Rattle.law_log.proofs.Turns.{low_cast, low_learn, apart_keep, apart_cast, apart_learn}
 
 -- ### Rows after a commit
 

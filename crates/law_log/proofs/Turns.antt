@@ -10,7 +10,8 @@ use Rattle.petal_msg.specs.declared.body.Body.TheVariants as body
 use Rattle.petal_msg.specs.declared.letter.Actor.{Actor}
 use Rattle.petal_paxos.specs.Acceptor.{Acceptor}
 use Rattle.petal_paxos.specs.Member.{In}
-use Rattle.petal_paxos.specs.Schedule.{handed, Vote, vote, Sent, sent, World, Event, Starts, Handed, Stops, Boots, Goes, keep, cast, learn, send, turn, happens, run, IsWanted}
+use Rattle.petal_paxos.specs.Schedule.{handed, Vote, vote, Sent, sent, World, Event, Starts, Handed, Stops, Boots, Goes, keep, cast}
+use Rattle.petal_paxos.specs.Schedule.{learn, send, turn, happens, run, IsWanted}
 use Rattle.petal_paxos.specs.declared.phase.Phase.{Phase}
 use Rattle.petal_paxos.specs.declared.record.StateRecord.{StateRecord}
 use Rattle.petal_paxos.specs.declared.phase.Phase.TheVariants.{Idle, Collecting, Voting}
@@ -263,7 +264,8 @@ turned servers n log posts p r there a low seen about asked posted = record {
     proposer = subst (IsProposer true log.phase) (sym (put_here r.proposers n (Some there))) (refl, about);
     asked = asked_more r (turn r n (Some there)) (λ x i. i) n servers log.phase asked;
   };
-  posted = λ post i. backed_more r (turn r n (Some there)) (λ c. ⊥) (λ c. ⊥) (λ said. In (sent n said) r.letters) (λ said. In (sent n said) r.letters) (λ x i. i)
+  posted = λ post i. backed_more r (turn r n (Some there)) (λ c. ⊥) (λ c. ⊥) (λ said. In (sent n said) r.letters)
+      (λ said. In (sent n said) r.letters) (λ x i. i)
       (λ c h. h) (λ said h. h) post.body (posted post i);
 }
 
@@ -304,7 +306,8 @@ stop_turn servers n log posts p Good turn_of =
     let t = turn_of.turns in
     record {
       events = turn_of.events ++ Stops n ∷ [];
-      wanted = λ place command h. elim (wanted_on turn_of.events (Stops n ∷ []) place command h) [ inl old ↦ turn_of.wanted place command old | inr none ↦ absurd none ];
+      wanted = λ place command h.
+          elim (wanted_on turn_of.events (Stops n ∷ []) place command h) [ inl old ↦ turn_of.wanted place command old | inr none ↦ absurd none ];
       turns = subst (Turns servers n false log [] p) (sym (run_on servers turn_of.events (Stops n ∷ []) p)) (record {
         apart = apart_both n p q (turn q n None) t.apart (apart_turn n q None);
         low = low_turn q n None t.low;

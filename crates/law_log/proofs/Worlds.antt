@@ -27,7 +27,8 @@ use Rattle.petal_rules.specs.World.{Setting, World, devices, stamped, acts}
 use Rattle.petal_rules.specs.declared.job.Job.TheVariants as job
 use Rattle.petal_rules.proofs.ListLemmas.{in-append, in_later}
 use Rattle.petal_rules.proofs.Tests.{all_put_apart}
-use Rattle.law_log.specs.Logged.{Catches, IsCalledAnywhere, IsSeenAt, IsBusyAs, IsBacked, IsSaidBy, IsLogged, Logged, MayWant, Minded, Drains, Moves, Returns, Waits}
+use Rattle.law_log.specs.Logged.{Catches, IsCalledAnywhere, IsSeenAt, IsBusyAs, IsBacked, IsSaidBy, IsLogged, Logged}
+use Rattle.law_log.specs.Logged.{MayWant, Minded, Drains, Moves, Returns, Waits}
 use Rattle.law_log.specs.Requested.{HasStopped, IsCalledFor, IsOfLives, IsScripted}
 use Rattle.law_state.specs.Started.{HasFlag, is_flagged}
 use Rattle.law_log.proofs.Turns.{Turns, HasTurn, seen_apart, busy_same, told_more, reached_more, backed_more, run_on, wanted_on}
@@ -205,7 +206,8 @@ module _ {Was : Minded} (setting : Setting) (w : World) (events : List Event) (p
     ];
     wanted = λ place c h. elim (wanted_on events new place c h) [
       | inl old ↦ may_more setting w After w.servers After.servers p q more keeps_started t.apart.letters place c (l.wanted place c old)
-      | inr now ↦ may_more setting w After After.servers After.servers p q more (λ s. started_same (After.servers s)) t.apart.letters place c (wanted place c now)
+      | inr now ↦ may_more setting w After After.servers After.servers p q more
+          (λ s. started_same (After.servers s)) t.apart.letters place c (wanted place c now)
     ];
     wants = all_put_apart w.servers n to (λ s (x : Server). (c : Command) → Among c x.log.wants → IsCalledAnywhere setting After c)
         (λ s ne c i. more c (l.wants s c i)) (λ c i. more c (wants c i));

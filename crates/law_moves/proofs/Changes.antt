@@ -54,7 +54,8 @@ use Rattle.law_copies.proofs.Later.{alone_or_flagged, holder_is_one, other_than,
 use Rattle.law_copies.proofs.Others.{IsOther, held_by, other_apart}
 use Rattle.law_copies.proofs.Places.{at_most_or_above}
 use Rattle.law_epochs.proofs.Histories.{running_timely}
-use Rattle.law_moves.proofs.Chains.{A_copy, An_asked, An_own, CopiesSo, Is_dropped, Is_dropped_first, Is_put, NeverDead, Nothing_new, Of_the_dead, StoresSo, copied_apart, did_stores}
+use Rattle.law_moves.proofs.Chains.{A_copy, An_asked, An_own, CopiesSo, Is_dropped, Is_dropped_first, Is_put, NeverDead, Nothing_new}
+use Rattle.law_moves.proofs.Chains.{Of_the_dead, StoresSo, copied_apart, did_stores}
 use Rattle.law_moves.proofs.Worlds.{firm, good, own_counts, rests, steady_at, up}
 
 -- no fill is pending at a server that runs but while its cell comes

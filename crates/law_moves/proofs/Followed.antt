@@ -1,6 +1,8 @@
--- A step keeps that no second server will put what its lead asked for, of a cell that is leaving or has left: where the region begins to leave, each such letter is
+-- A step keeps that no second server will put what its lead asked for, of a cell that is leaving or has left: where the region begins to
+-- leave, each such letter is
 -- of an operation that the second server has followed; and none is sent from then on.
-use Rattle.std.proofs.Common.{◌≡◌, ◌≤◌, ◌<◌, ◌+◌, ◌++◌, ◌==◌, ◌||◌, ℕ, Bool, true, false, List, [], ◌∷◌, length, Option, Some, None, is_some, refl, sym, ap, ◌∙◌, subst, inl, inr, arith}
+use Rattle.std.proofs.Common.{◌≡◌, ◌≤◌, ◌<◌, ◌+◌, ◌++◌, ◌==◌, ◌||◌, ℕ, Bool, true, false, List, [], ◌∷◌, length, Option, Some, None}
+use Rattle.std.proofs.Common.{is_some, refl, sym, ap, ◌∙◌, subst, inl, inr, arith}
 use Rattle.std.specs.Prelude.{cond, not}
 use Rattle.std.specs.Option.{option_map_or}
 use Rattle.std.specs.Ordering.{nat_cmp}
@@ -75,7 +77,8 @@ use Rattle.law_moves.proofs.Knows.{AllKnown, HaveFollowed, Known}
 use Rattle.law_moves.proofs.Opened.{opened_mine}
 use Rattle.law_moves.proofs.Putting.{did_follow}
 use Rattle.law_moves.proofs.Saying.{Asks_copy, Is_done, Is_done_alone, Is_neither, Is_there, Says, did_says, is_replicate}
-use Rattle.law_moves.proofs.Steps.{Awakes, Before, Enters, HasGone, IsPosted, Is_blanked, Other, Posted, Raises, Rests, Starts_ballot, Works, chosen_on, gone, here, knows_now, part, sent}
+use Rattle.law_moves.proofs.Steps.{Awakes, Before, Enters, HasGone, IsPosted, Is_blanked, Other, Posted, Raises, Rests, Starts_ballot}
+use Rattle.law_moves.proofs.Steps.{Works, chosen_on, gone, here, knows_now, part, sent}
 use Rattle.law_moves.proofs.Still.{asked_then, moved_now, not_jumped}
 use Rattle.law_moves.proofs.There.{told_already}
 use Rattle.law_moves.proofs.Worlds.{good, own_counts, rests, row_serving, up}
@@ -429,7 +432,8 @@ module _ (script : Script) (sound : IsSound script) (front : List Record) (own :
         no_write t clients =
             let at_it = at_by setting row.primary ((At script was.before).servers row.primary) place cell was.there in
             let on_v = history_grows script records sound legal was.before was.later was.is in
-            let lies_then = front_on _ (chosen_log setting (At script was.before)) whole ((history_is_firm script was.before sound legal_then).servers row.primary) on_v in
+            let lies_then = front_on _ (chosen_log setting (At script was.before)) whole
+            ((history_is_firm script was.before sound legal_then).servers row.primary) on_v in
             let le = opened_mine script sound was.before legal_then row.primary cell op pending_then clients in
             let so = t.so_far in
             let stays = (second_timely script records sound legal row.primary m cell by.pairs op row runs t.seat_mine t.linked_mine both refl second
@@ -441,7 +445,8 @@ module _ (script : Script) (sound : IsSound script) (front : List Record) (own :
         no_early : visit m ≡ None → ⊥
         no_early none =
             let one = numbered_then was.before was.later was.is row.primary cell op pending_then in
-            let least = begun_by _ _ far_is (at cell_cmp (half (visit row.primary) (store_by setting G.stores f row.primary)).pairs.pending cell) op twins.pair.copies
+            let least =
+            begun_by _ _ far_is (at cell_cmp (half (visit row.primary) (store_by setting G.stores f row.primary)).pairs.pending cell) op twins.pair.copies
             (ap (λ o. at cell_cmp (half o (store_by setting G.stores f row.primary)).pairs.pending cell) there ∙ pending) put in
             let zero_far : far_is ≡ 0 = ap (λ k. progress (at cell_cmp (half (visit k) (store_by setting G.stores f k)).pairs.last cell)) second
             ∙ ap (λ o. progress (at cell_cmp (half o (store_by setting G.stores f m)).pairs.last cell)) none ∙ ap progress (at-empty cell_cmp cell) in

@@ -1,6 +1,7 @@
 -- Who serves a link at a front of what is chosen after a step, behind what was chosen before it: a server that served it then, or the other server of
 -- one that held it alone, by a Caught right behind what was chosen then. That one's holder had started the ballot, so the two copies are equal.
-use Rattle.std.proofs.Common.{◌≡◌, ◌≢◌, ◌<◌, ◌++◌, ◌==◌, ◌&&◌, ◌||◌, ◌⊎◌, ℕ, Bool, true, false, List, [], ◌∷◌, length, length-append, Some, refl, sym, ap, ◌∙◌, subst, inl, inr, arith}
+use Rattle.std.proofs.Common.{◌≡◌, ◌≢◌, ◌<◌, ◌++◌, ◌==◌, ◌&&◌, ◌||◌, ◌⊎◌, ℕ, Bool, true, false, List, [], ◌∷◌, length}
+use Rattle.std.proofs.Common.{length-append, Some, refl, sym, ap, ◌∙◌, subst, inl, inr, arith}
 use Rattle.std.specs.Prelude.{if◌then◌else◌}
 use Rattle.std.specs.Option.{option_map_or}
 use Rattle.global_tables.specs.Link.{blanked_state, has_server, other_of, row_blanked}
@@ -179,13 +180,15 @@ module _ (script : Script) (sound : IsSound script) (front : List Record) (own :
       there = linked_between setting whole plain top j.until f cell row serving.row j.behind until_f lies is serving.is
 
       has : has_server n there.0 ≡ true
-      has = sym (one_before there.0 serving.row n (rows_later setting whole plain j.until f cell there.0 serving.row until_f lies there.1 serving.is)) ∙ serving.one_of
+      has = sym (one_before there.0 serving.row n (rows_later setting whole plain j.until f cell there.0 serving.row until_f lies there.1 serving.is))
+          ∙ serving.one_of
 
       behind : length top < length joined
       behind = let a = front_long top j.until j.behind in omega (arith, length-append j.until (Join n inc true ∷ []))
 
       -- the link's row then
-      by_row : (r : LinkRow) → IsLinked setting joined cell r → (r.state ≡ Lost) ⊎ ((h : ℕ) × (fills : Bool) × ((h == n) ≡ false) × (r.state ≡ Only h fills)) → ⊥
+      by_row : (r : LinkRow) → IsLinked setting joined cell r
+          → (r.state ≡ Lost) ⊎ ((h : ℕ) × (fills : Bool) × ((h == n) ≡ false) × (r.state ≡ Only h fills)) → ⊥
       by_row r linked (inl lost) = not_lost (log_lost script.servers joined f (plain_at f lies) j.stands cell r serving.row linked lost serving.is)
       by_row r linked (inr one) = elim (log_alone script.servers joined f (plain_at f lies) j.stands cell r serving.row one.0 one.1 linked one.3 serving.is) [
         | inl still ↦ not_held one.0 one.2 still.1
@@ -238,7 +241,8 @@ module _ (script : Script) (sound : IsSound script) (front : List Record) (own :
     is_one = sym (one_before row serving.row n (rows_later setting whole plain top f cell row serving.row on lies is serving.is)) ∙ serving.one_of
 
     -- by a Caught right behind what was chosen
-    module _ (h : ℕ) (fills : Bool) (alone : row.state ≡ Only h fills) (apart : (h == n) ≡ false) (still : IsCaughtStill script.servers top f cell row h fills) where
+    module _ (h : ℕ) (fills : Bool) (alone : row.state ≡ Only h fills) (apart : (h == n) ≡ false)
+        (still : IsCaughtStill script.servers top f cell row h fills) where
       abbrev c : IsCaughtIn script.servers top f cell (record row { state = Only h still.later })
       c = still.found
 

@@ -39,7 +39,8 @@ use Rattle.law_epochs.proofs.Histories.{running_timely}
 use Rattle.law_moves.specs.Fills.{Has}
 use Rattle.law_moves.proofs.Changes.{Asked_put, IsPutOn, Own_put, Same, chain_so}
 use Rattle.law_moves.proofs.Knows.{AllKnown, Known}
-use Rattle.law_moves.proofs.Steps.{Awakes, Enters, Goes_on, HasGone, HasStore, Is_bare, Is_blanked, Raises, Rests, Starts_ballot, Works, is_off, knows, part, stored}
+use Rattle.law_moves.proofs.Steps.{Awakes, Enters, Goes_on, HasGone, HasStore, Is_bare, Is_blanked, Raises, Rests}
+use Rattle.law_moves.proofs.Steps.{Starts_ballot, Works, is_off, knows, part, stored}
 use Rattle.law_moves.proofs.Worlds.{steady_at, up}
 
 -- what an entry leaves of a chain
@@ -176,7 +177,8 @@ module _ (script : Script) (sound : IsSound script) (front : List Record) (own :
       joins : ℕ
       joins = blank_joins_in setting top n
 
-      by : (b : Option BeforeBlank) → HasStore script sound front own legal n (v.servers n) b → P (kept_store (blank_joins_in setting top n) b (v.servers n).own.store)
+      by : (b : Option BeforeBlank) → HasStore script sound front own legal n (v.servers n) b
+          → P (kept_store (blank_joins_in setting top n) b (v.servers n).own.store)
       by b (Goes_on g live same) =
           subst (λ o. P (kept_store (blank_joins_in setting top n) o (v.servers n).own.store)) (sym same)
           (kept_map P (blank_joins_in setting top n) (w.before_blank n) (w.servers n).own.store (v.servers n).own.store was (step g live))

@@ -1,6 +1,7 @@
 -- What a lead of a cell, by its own state, has of it while nothing of its own is under way, or its second server has followed: each server that serves the
 -- link by what is chosen has it too. And of two such leads the one has just held the link alone, and is behind its own Caught.
-use Rattle.std.proofs.Common.{◌≡◌, ◌≢◌, ◌≤◌, ◌<◌, ◌+◌, ◌==◌, ◌⊎◌, ℕ, Bool, true, false, List, Option, Some, None, is_some, refl, sym, ap, ◌∙◌, subst, inl, inr, arith}
+use Rattle.std.proofs.Common.{◌≡◌, ◌≢◌, ◌≤◌, ◌<◌, ◌+◌, ◌==◌, ◌⊎◌, ℕ, Bool, true, false, List, Option, Some, None, is_some}
+use Rattle.std.proofs.Common.{refl, sym, ap, ◌∙◌, subst, inl, inr, arith}
 use Rattle.std.specs.Prelude.{option_and_then}
 use Rattle.std.specs.Ordering.{nat_cmp}
 use Rattle.global_tables.specs.Link.{has_server}
@@ -236,14 +237,16 @@ module _ (script : Script) (sound : IsSound script) (records : List Record) (leg
   -- nothing is pending on the cell, or its second server has followed, or the server holds the link alone and may go on with it
   pub data IsIdle : Type 0 where
     Nothing : pending_on own cell ≡ None → IsIdle
-    Followed : (op : Pending) → pending_on own cell ≡ Some op → op.stage.put ≡ true → op.stage.paired ≡ true → in_both (server_state setting w k) cell ≡ true → IsIdle
+    Followed : (op : Pending) → pending_on own cell ≡ Some op → op.stage.put ≡ true → op.stage.paired ≡ true
+        → in_both (server_state setting w k) cell ≡ true → IsIdle
     Holds : (op : Pending) → pending_on own cell ≡ Some op → is_alone_on (server_state setting w k) k cell ≡ true → IsIdle
 
   module _ (born : 1 ≤ stage_at (server_state setting w k) cell) (idle : IsIdle) (epoch : ℕ) (has : Has (chain_in own.store.chains cell) epoch) where
     -- where an operation is pending, the server has started no ballot for the link's Caught
     not_flagged : (op : Pending) → pending_on own cell ≡ Some op → has_proposed (server_state setting w k) own cell ≡ true → ⊥
     not_flagged op is flagged =
-        true_false flagged ((((rests script sound records legal).pending k).staged cell op is).unheld (stage_live (server_state setting w k) cell born mine_alive))
+        true_false flagged
+        ((((rests script sound records legal).pending k).staged cell op is).unheld (stage_live (server_state setting w k) cell born mine_alive))
 
     kept_mine : Has (chain_in (kept setting w k).chains cell) epoch
     kept_mine = subst (λ (s : Store). Has (chain_in s.chains cell) epoch) (sym mine_kept) has
@@ -341,7 +344,8 @@ module _ (script : Script) (sound : IsSound script) (records : List Record) (leg
       → has_proposed (server_state this u n) (u.servers n).own cell ≡ true → ⊥
   unheld n one o there flagged =
       let le = up script sound records legal (u.servers n).log.applied by_all ((firm script sound records legal).servers n) (front_itself by_all) cell in
-      true_false flagged ((((rests script sound records legal).pending n).staged cell o there).unheld (stage_live (server_state this u n) cell one (omega arith)))
+      true_false flagged
+      ((((rests script sound records legal).pending n).staged cell o there).unheld (stage_live (server_state this u n) cell one (omega arith)))
 
   -- the link by what is chosen, with both in their places
   pub record AreApart : Type 0 where
@@ -385,7 +389,8 @@ module _ (script : Script) (sound : IsSound script) (records : List Record) (leg
       ∙ visit_mine script sound records legal m m_runs m_seat cell low m_leads now a.first.linked in
       let second_is : now.secondary ≡ k = same_numbers now.secondary k (either_true (now.primary == k) (now.secondary == k) a.second.one_of
       (by_bool (now.primary == k) (λ t. absurd (apart (sym a.first.first ∙ same_numbers now.primary k t))) (λ f. f))) in
-      let far_is : far (pair_at (λ n. good_now.stores n (blank_joins_in this by_all n)) good_now.visits (place_by this by_all now) cell now.primary now.secondary) ≡ 0 =
+      let far_is : far
+      (pair_at (λ n. good_now.stores n (blank_joins_in this by_all n)) good_now.visits (place_by this by_all now) cell now.primary now.secondary) ≡ 0 =
       ap (λ o. progress (at cell_cmp (half o (good_now.stores now.secondary (blank_joins_in this by_all now.secondary))).pairs.last cell))
       (ap visit second_is ∙ a.second.unseen) ∙ ap progress (at-empty cell_cmp cell) in
       let mine_all = (firm script sound records legal).servers k in

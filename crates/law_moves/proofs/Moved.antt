@@ -90,7 +90,8 @@ module _ (script : Script) (sound : IsSound script) (records : List Record) (leg
   By log = state_after script.servers log
 
   module _ (front : List Command) (old new : Cell) (row : LinkRow)
-      (stands : IsPrefix (front ++ Moved old.map (region_of old.block) row.link ∷ []) (chosen_log setting w)) (way : IsOnWay script.servers front old new row) where
+      (stands : IsPrefix (front ++ Moved old.map (region_of old.block) row.link ∷ []) (chosen_log setting w))
+      (way : IsOnWay script.servers front old new row) where
     pub was : WasMoving setting records front old.map (region_of old.block) row.link
     was = moved_was_wanted script records sound legal front old.map (region_of old.block) row.link stands
 
@@ -123,7 +124,8 @@ module _ (script : Script) (sound : IsSound script) (records : List Record) (leg
     one_row =
         let map_is = map_of script.servers (By front)
         (log_plain script.servers front (plain script sound records legal front (until_lies script sound records legal front _ stands))) old row way.linked in
-        same_some (sym was.linked ∙ ap (λ k. link_named (By front) (record { map = k; link = row.link })) (sym map_is) ∙ row_named (By front) old row way.linked)
+        same_some (sym was.linked ∙ ap (λ k. link_named (By front) (record { map = k; link = row.link })) (sym map_is)
+        ∙ row_named (By front) old row way.linked)
 
     serving : IsServing (By front) was.server old
     serving =

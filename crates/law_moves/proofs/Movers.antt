@@ -65,7 +65,8 @@ module _ (script : Script) (sound : IsSound script) (records : List Record) (leg
 
     pub three : stage_at here old ≡ 3
     three =
-        (stage_facts script.servers log plain old).leaves (leaves_with here (key_at old 0) row.map region (on_row here (id_of row) row there old ours.on).1 ours.of
+        (stage_facts script.servers log plain old).leaves
+        (leaves_with here (key_at old 0) row.map region (on_row here (id_of row) row there old ours.on).1 ours.of
         (region_left here y row region moves))
 
     serving : IsServing here y old

@@ -51,7 +51,8 @@ use Rattle.law_moves.proofs.Knows.{Known}
 use Rattle.law_moves.proofs.Newest.{at_coming, frozen_newest, has_left}
 use Rattle.law_moves.proofs.Newness.{AllNewest, IsNewest}
 use Rattle.law_moves.proofs.Over.{facts, plain}
-use Rattle.law_moves.proofs.Steps.{Awakes, Before, Enters, HasGone, Is_blanked, Other, Posted, Raises, Rests, Starts_ballot, Works, chosen_on, gone, knows, knows_now, part, sent}
+use Rattle.law_moves.proofs.Steps.{Awakes, Before, Enters, HasGone, Is_blanked, Other, Posted, Raises, Rests, Starts_ballot, Works}
+use Rattle.law_moves.proofs.Steps.{chosen_on, gone, knows, knows_now, part, sent}
 use Rattle.law_moves.proofs.Telling.{frozen_on, next_frozen}
 use Rattle.law_moves.proofs.Then.{frozen_then}
 use Rattle.law_moves.proofs.Told.{HasTold, lift, told_before, told_now}
@@ -156,7 +157,8 @@ module _ (script : Script) (sound : IsSound script) (front : List Record) (own_r
       (λ clients. subst (λ (c : Cell). New c op.key.epoch) (sym staged.keyed) (write_newest n cell op is clients))
       (λ fills.
       let frozen = frozen_on script sound front own_record legal known op.rev op.key op.bytes (known.filled.asked n cell op is fills) in
-      let comes = (comes_after setting (start setting) front (always_firm script front sound was_legal) (start_rests script) (start_comes script) was_legal).opened n cell op is (is_fill op staged.opened fills) in
+      let comes = (comes_after setting (start setting) front (always_firm script front sound was_legal) (start_rests script)
+      (start_comes script) was_legal).opened n cell op is (is_fill op staged.opened fills) in
       frozen_newest script sound all legal op.rev op.key op.bytes frozen
       (subst (λ (c : Cell). 1 ≤ stage_at (chosen_state setting v) c) (sym staged.keyed) (coming_born op.rev cell comes)))
 

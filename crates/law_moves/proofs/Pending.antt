@@ -46,7 +46,8 @@ use Rattle.law_moves.proofs.Leads.{other_idle, other_lacks}
 use Rattle.law_moves.proofs.Putting.{Is_new, It_was, did_was}
 use Rattle.law_moves.proofs.Saying.{Asks_copy, Is_done, Is_done_alone, Is_neither, Is_there, Says, did_says, is_filled}
 use Rattle.law_moves.proofs.Serving.{lead_serves, link_lead_serves}
-use Rattle.law_moves.proofs.Steps.{Awakes, Before, Enters, HasGone, IsJob, IsPosted, Is_blanked, Other, Posted, Raises, Rests, Starts_ballot, Works, chosen_on, gone, knows, part, sent}
+use Rattle.law_moves.proofs.Steps.{Awakes, Before, Enters, HasGone, IsJob, IsPosted, Is_blanked, Other, Posted, Raises, Rests}
+use Rattle.law_moves.proofs.Steps.{Starts_ballot, Works, chosen_on, gone, knows, part, sent}
 use Rattle.law_moves.proofs.Still.{moved_now}
 use Rattle.law_moves.proofs.There.{filled_key, kept_own, no_other, told_already}
 use Rattle.law_moves.proofs.Worlds.{facts_at, firm, good, own_counts, rests, steady_at, up}
@@ -89,7 +90,8 @@ module _ (script : Script) (sound : IsSound script) (front : List Record) (own :
   abbrev pending_at : World → ℕ → Cell → Option Pending
   pending_at u m cell = at cell_cmp (u.servers m).own.pairs.pending cell
 
-  staged : (m : ℕ) (cell : Cell) (op : Pending) → pending_at w m cell ≡ Some op → IsStaged (server_state setting w m) m (has_proposed (server_state setting w m) (w.servers m).own) cell op
+  staged : (m : ℕ) (cell : Cell) (op : Pending) → pending_at w m cell ≡ Some op
+      → IsStaged (server_state setting w m) m (has_proposed (server_state setting w m) (w.servers m).own) cell op
   staged m cell op is = ((rests script sound front legal_was).pending m).staged cell op is
 
   pub keyed_was : (m : ℕ) (cell : Cell) (op : Pending) → pending_at w m cell ≡ Some op → cell_of op.key ≡ cell
@@ -295,7 +297,8 @@ module _ (script : Script) (sound : IsSound script) (front : List Record) (own :
 
   -- ### The region is on its way
 
-  pub opened_next : ((m : ℕ) (cell : Cell) (op : Pending) → pending_at v m cell ≡ Some op → is_clients op.kind ≡ false → IsFrozen setting v op.rev op.key op.bytes)
+  pub opened_next : ((m : ℕ) (cell : Cell) (op : Pending) → pending_at v m cell ≡ Some op → is_clients op.kind ≡ false
+      → IsFrozen setting v op.rev op.key op.bytes)
       → (m : ℕ) (cell : Cell) (op : Pending) → (v.servers m).life.running ≡ true → pending_at v m cell ≡ Some op → is_clients op.kind ≡ false
       → stage_at (chosen_state setting v) cell ≡ 1
   opened_next asked m cell op runs is fills =
@@ -303,7 +306,8 @@ module _ (script : Script) (sound : IsSound script) (front : List Record) (own :
       let le = up script sound records legal top whole (chosen_on script sound front own legal) (front_itself whole) cell in
       elim (at_most_or_above (stage_at (By whole) cell) 1) [
         | inl low ↦ omega arith
-        | inr two ↦ absurd (unsaid_next m cell op runs is fills (told_already script sound records legal (moved_now script sound front own legal all) op.rev op.key
+        | inr two ↦
+            absurd (unsaid_next m cell op runs is fills (told_already script sound records legal (moved_now script sound front own legal all) op.rev op.key
             op.bytes (asked m cell op is fills) (subst (λ (q : Cell). 2 ≤ stage_at (By whole) q) (sym (keyed_now m cell op is)) two)))
       ]
 
@@ -339,7 +343,8 @@ module _ (script : Script) (sound : IsSound script) (front : List Record) (own :
   ]
 
   -- and until it is, it is not
-  pub lacks_next : ((m : ℕ) (cell : Cell) (op : Pending) → pending_at v m cell ≡ Some op → is_clients op.kind ≡ false → IsFrozen setting v op.rev op.key op.bytes)
+  pub lacks_next : ((m : ℕ) (cell : Cell) (op : Pending) → pending_at v m cell ≡ Some op → is_clients op.kind ≡ false
+      → IsFrozen setting v op.rev op.key op.bytes)
       → (m : ℕ) (cell : Cell) (op : Pending) → (v.servers m).life.running ≡ true → pending_at v m cell ≡ Some op → is_clients op.kind ≡ false
       → op.stage.put ≡ false → at nat_cmp (chain_in (v.servers m).own.store.chains cell) op.key.epoch ≡ None
   lacks_next asked m cell op runs is fills fresh =

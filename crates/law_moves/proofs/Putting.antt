@@ -18,7 +18,8 @@ use Rattle.petal_rules.proofs.CellTables.{cell_apart, cell_gone, cell_gone_apart
 use Rattle.petal_rules.proofs.Tests.{none_some, same_some}
 use Rattle.law_steps.specs.Operations.{far_of, progress}
 use Rattle.law_steps.specs.Did.{Did, Ignores, Refuses, By_read, By_lead, By_second, By_holder, By_other, By_filler, By_sweep}
-use Rattle.law_steps.specs.DidLead.{DidLead, Asks_for, Repeats, Is_full, Opens, Marks, Puts, Gives_up, Unmarks, Closes, Opens_alone, Marks_alone, Puts_alone, Unmarks_alone, Closes_alone, Opens_fill, Opens_fill_alone, Has_fill, Has_no_room, Goes_on_dead, Taken, told}
+use Rattle.law_steps.specs.DidLead.{DidLead, Asks_for, Repeats, Is_full, Opens, Marks, Puts, Gives_up, Unmarks, Closes, Opens_alone, Marks_alone, Puts_alone}
+use Rattle.law_steps.specs.DidLead.{Unmarks_alone, Closes_alone, Opens_fill, Opens_fill_alone, Has_fill, Has_no_room, Goes_on_dead, Taken, told}
 use Rattle.law_steps.specs.DidSecond.{DidSecond, Sets_apart, Promises, Declines, Follows, with_tickets}
 use Rattle.law_steps.proofs.CopyFrames.{of_holder, of_other}
 use Rattle.law_steps.proofs.Restages.{IsSame, same_itself, stood}
@@ -68,7 +69,8 @@ module _ (heard : Body → Type 0) (here : Here) (own : Own) (never : NeverDead 
   is_put new q o next op is same has e = subst (WasSo own new q) e (It_was o is same (λ done. inr has))
 
   -- what stands where one operation was put
-  where_put : {P : Type 0} (t : Table Cell Pending) (cell : Cell) (next : Pending) (q : Cell) (op : Pending) → at cell_cmp (put cell_cmp t cell next) q ≡ Some op
+  where_put : {P : Type 0} (t : Table Cell Pending) (cell : Cell) (next : Pending) (q : Cell) (op : Pending)
+      → at cell_cmp (put cell_cmp t cell next) q ≡ Some op
       → (q ≡ cell → next ≡ op → P) → (q ≢ cell → at cell_cmp t q ≡ Some op → P) → P
   where_put t cell next q op there one beside = elim (same_cell_or_apart q cell) [
     | inl e ↦ one e (same_some (sym (cell_same t cell next) ∙ ap (at cell_cmp (put cell_cmp t cell next)) (sym e) ∙ there))

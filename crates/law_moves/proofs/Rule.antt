@@ -64,7 +64,8 @@ module _ (script : Script) (sound : IsSound script) (records : List Record) (leg
       → Matters now (cell_of key) n → IsFilledFrom setting w (cell_of key) before
       → HasNewer before key.epoch (chain_in (kept setting w n).chains (cell_of key))
   newer_there key bytes rev n before f comes matters from epoch later has =
-      let old : from.old ≡ f.old = source_same script.servers f.front chosen (all_plain script sound records legal) f.lies (cell_of key) f.old from.old f.from from.is in
+      let old : from.old ≡ f.old =
+      source_same script.servers f.front chosen (all_plain script sound records legal) f.lies (cell_of key) f.old from.old f.from from.is in
       let same : before ≡ f.before = same_some (sym from.frozen ∙ ap w.frozen old ∙ f.frozen) in
       told_there (cell_of key) n epoch comes matters (f.newer epoch later (subst (λ (c : Chain). Has c epoch) same has))
 

@@ -1,5 +1,6 @@
 -- What a step of a history may have done to each server, and which letters it sent that tell of entries.
-use Rattle.std.proofs.Common.{◌≡◌, ◌≢◌, ◌≤◌, ◌+◌, ◌++◌, ◌==◌, ℕ, Bool, true, false, List, [], ◌∷◌, Option, Some, length, refl, sym, ap, ◌∙◌, subst, inl, inr, arith}
+use Rattle.std.proofs.Common.{◌≡◌, ◌≢◌, ◌≤◌, ◌+◌, ◌++◌, ◌==◌, ℕ, Bool, true, false, List, [], ◌∷◌, Option, Some, length}
+use Rattle.std.proofs.Common.{refl, sym, ap, ◌∙◌, subst, inl, inr, arith}
 use Rattle.std.specs.List.{range_with_len}
 use Rattle.std.specs.Prelude.{filter, not}
 use Rattle.petal_command.specs.declared.command.Command.{Command}
@@ -34,7 +35,8 @@ use Rattle.law_state.proofs.Steady.{front_plain, log_rev}
 use Rattle.law_log.proofs.Histories.{first_incs, history_grows, history_is_firm, join_was_wanted}
 use Rattle.law_log.proofs.Proposing.{said_to_all}
 use Rattle.law_steps.specs.Did.{Did}
-use Rattle.law_steps.specs.Happens.{Handled, Happens, Serves, Blanks, Turns, IsSeated, Starts, Worked, By_job, By_ballot, By_entry, Serving, Goes, Ends, Stays, Wakes, Fails, own_place, without_rev}
+use Rattle.law_steps.specs.Happens.{Handled, Happens, Serves, Blanks, Turns, IsSeated, Starts, Worked, By_job, By_ballot, By_entry, Serving}
+use Rattle.law_steps.specs.Happens.{Goes, Ends, Stays, Wakes, Fails, own_place, without_rev}
 use Rattle.law_steps.proofs.Firms.{always_firm}
 use Rattle.law_steps.proofs.Fronts.{below_itself, front_itself, front_more}
 use Rattle.law_steps.proofs.Histories.{last_happens}
@@ -222,7 +224,8 @@ module _ (script : Script) (sound : IsSound script) (front : List Record) (own :
   downs_none n inc servers post i = ap (λ (b : Body). is_of_entries (subject_of b))
       (said_to_all (body.Down n inc) (filter (λ k. not (k == n)) (range_with_len 0 servers)) post i)
 
-  worked_said : (n stamp : ℕ) (log : Log) (done : Done) (to : Server) → ((m : ℕ) → m ≢ n → v.servers m ≡ Was m) → v.servers n ≡ to → (Was n).life.running ≡ true → to.own ≡ done.own
+  worked_said : (n stamp : ℕ) (log : Log) (done : Done) (to : Server) → ((m : ℕ) → m ≢ n → v.servers m ≡ Was m) → v.servers n ≡ to
+      → (Was n).life.running ≡ true → to.own ≡ done.own
       → to.log.applied ≡ log.applied → to.life.inc ≡ (Was n).life.inc → Worked setting w n log done → (letter : Letter)
       → In letter (stamped stamp (letters_of (sender (own_place setting w n)) 0 done.posts)) → IsSent letter
   unfolding In
@@ -243,11 +246,14 @@ module _ (script : Script) (sound : IsSound script) (front : List Record) (own :
       none_said letter (sender (own_place setting w n)) stamp posts (λ post j. logged_none (subject_of post.body) (says post j)) i
   worked_said n stamp _ _ to others is runs own_is log_is inc_is (By_entry log entry more onward) letter i = absurd i
 
-  served_said : (n stamp : ℕ) (what : Step) (acted : Acted) → ((m : ℕ) → m ≢ n → v.servers m ≡ Was m) → v.servers n ≡ acted.server → Serving setting w n what acted → (letter : Letter)
+  served_said : (n stamp : ℕ) (what : Step) (acted : Acted) → ((m : ℕ) → m ≢ n → v.servers m ≡ Was m) → v.servers n ≡ acted.server
+      → Serving setting w n what acted → (letter : Letter)
       → In letter (stamped stamp acted.letters) → IsSent letter
   unfolding In
-  served_said n stamp what _ others is (Goes log done queue runs works queued so) letter i = worked_said n stamp log done _ others is runs refl refl refl works letter i
-  served_said n stamp what _ others is (Ends log done runs works) letter i = none_said letter (without_rev (own_place setting w n)) stamp _ (downs_none n (Was n).life.inc _) i
+  served_said n stamp what _ others is (Goes log done queue runs works queued so) letter i =
+      worked_said n stamp log done _ others is runs refl refl refl works letter i
+  served_said n stamp what _ others is (Ends log done runs works) letter i =
+      none_said letter (without_rev (own_place setting w n)) stamp _ (downs_none n (Was n).life.inc _) i
   served_said n stamp what _ others is (Stays who posts from shown) letter i = none_said letter who stamp posts (λ post j. ap is_of_entries (shown post j)) i
   served_said n stamp what _ others is (Wakes booted asleep) letter i = none_said letter _ stamp _ (downs_none n (Was n).life.inc _) i
   served_said n stamp what _ others is (Fails booted asleep) letter i = none_said letter (sender (own_place setting w n)) stamp [] (λ post j. absurd j) i
@@ -256,7 +262,8 @@ module _ (script : Script) (sound : IsSound script) (front : List Record) (own :
   sent_by state _ is (Serves n stamp what acted lt within unblanked serves) letter i =
       elim (in-append letter (stamped stamp acted.letters) w.sent i) [
         | inl new ↦ served_said n stamp what acted
-            (λ m ne. ap (λ (u : World). u.servers m) is ∙ put_apart w.servers n acted.server m ne) (ap (λ (u : World). u.servers n) is ∙ put_same w.servers n acted.server) serves letter new
+            (λ m ne. ap (λ (u : World). u.servers m) is ∙ put_apart w.servers n acted.server m ne)
+            (ap (λ (u : World). u.servers n) is ∙ put_same w.servers n acted.server) serves letter new
         | inr old ↦ Before old
       ]
   sent_by state _ is (Blanks n stamp lt within asleep) letter i = Before i

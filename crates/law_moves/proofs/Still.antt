@@ -1,6 +1,7 @@
 -- A step keeps that the copies of a cell that is leaving are what was frozen; and where it chooses the entry with which the region's fence takes effect, they
 -- are equal then.
-use Rattle.std.proofs.Common.{◌≡◌, ◌≤◌, ◌+◌, ◌++◌, ◌==◌, ℕ, Bool, true, false, List, [], ◌∷◌, Option, Some, None, is_some, refl, sym, ap, ◌∙◌, subst, inl, inr, arith}
+use Rattle.std.proofs.Common.{◌≡◌, ◌≤◌, ◌+◌, ◌++◌, ◌==◌, ℕ, Bool, true, false, List, [], ◌∷◌, Option, Some, None, is_some}
+use Rattle.std.proofs.Common.{refl, sym, ap, ◌∙◌, subst, inl, inr, arith}
 use Rattle.std.specs.Prelude.{option_map}
 use Rattle.global_tables.specs.Region.{region_of}
 use Rattle.global_tables.specs.declared.link.LinkRow.{LinkRow}
@@ -213,7 +214,8 @@ module _ (script : Script) (sound : IsSound script) (front : List Record) (own :
             → Has (chain_in (kept setting v row.secondary).chains q) op.key.epoch) keyed ((there_now op.key said).now row.secondary) (omega arith) (omega arith)
             second_serves
 
-        followed : is_clients op.kind ≡ false → op.op + op.op + 1 ≤ far (pair_at stores (good script sound records legal).visits place cell row.primary row.secondary)
+        followed : is_clients op.kind ≡ false
+            → op.op + op.op + 1 ≤ far (pair_at stores (good script sound records legal).visits place cell row.primary row.secondary)
         followed fills = elim (at_most_or_above (op.op + op.op + 1)
             (far (pair_at stores (good script sound records legal).visits place cell row.primary row.secondary))) [
               | inl past ↦ past
@@ -270,7 +272,8 @@ module _ (script : Script) (sound : IsSound script) (front : List Record) (own :
 
     -- ### All of it
 
-    now_next : (n : ℕ) (cell : Cell) → stage_at (By whole) cell ≡ 3 → IsServing (By whole) n cell → v.frozen cell ≡ Some (chain_in (kept setting v n).chains cell)
+    now_next : (n : ℕ) (cell : Cell) → stage_at (By whole) cell ≡ 3 → IsServing (By whole) n cell
+        → v.frozen cell ≡ Some (chain_in (kept setting v n).chains cell)
     now_next n cell three serving = elim (at_most_or_above (stage_at (By top) cell) 2) [
       | inl low ↦ begins cell low three n serving
       | inr high ↦

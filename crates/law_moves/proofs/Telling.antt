@@ -56,7 +56,8 @@ use Rattle.law_moves.proofs.Frozen.{frozen_stays}
 use Rattle.law_moves.proofs.Knows.{HasBegun, HaveBegun, Known}
 use Rattle.law_moves.proofs.Movers.{had, three, way}
 use Rattle.law_moves.proofs.NextFill.{next_is}
-use Rattle.law_moves.proofs.Steps.{Awakes, Before, Enters, HasGone, IsJob, IsPosted, Is_blanked, Other, Posted, Raises, Rests, Starts_ballot, Works, chosen_on, gone, knows, part, sent}
+use Rattle.law_moves.proofs.Steps.{Awakes, Before, Enters, HasGone, IsJob, IsPosted, Is_blanked, Other, Posted, Raises, Rests}
+use Rattle.law_moves.proofs.Steps.{Starts_ballot, Works, chosen_on, gone, knows, part, sent}
 use Rattle.law_moves.proofs.Told.{HasTold, begun_here, lift, same_frozen, told_before, told_now}
 
 -- ### What is remembered
@@ -166,7 +167,8 @@ module _ (script : Script) (sound : IsSound script) (front : List Record) (own_r
         subst (HasBegun setting (Was y).log.applied id) same
         (subst (λ (i : LinkId). HasBegun setting (Was y).log.applied i told) (sym one)
         (begun_here script sound front own_record legal known y job.runs key row heard next)))
-        (λ apart. known.begun y id last (sym (filled_beside (Was y).own row (record { map = row.map; block = key.block; epoch = key.epoch }) id apart) ∙ there)))
+        (λ apart. known.begun y id last
+        (sym (filled_beside (Was y).own row (record { map = row.map; block = key.block; epoch = key.epoch }) id apart) ∙ there)))
   ]
 
   begun_by : (y : ℕ) (to : Server) → Gone y to → HaveSince to.log.applied to.own.filled
@@ -253,7 +255,8 @@ module _ (script : Script) (sound : IsSound script) (front : List Record) (own_r
         let n = next_is here f.row f.region now f.key f.next in
         let held : IsKept now old epoch = subst (λ (s : Store). Has (chain_in s.chains old) epoch) (sym kept) has in
         let earlier : comes_before (key_at old epoch) f.key ≡ true =
-        (λ i. nat_lt f.key.block f.key.block || (number_itself f.key.block i && is_lower f.key.epoch epoch lt i)) ∙ or_true (nat_lt f.key.block f.key.block) true refl in
+        (λ i. nat_lt f.key.block f.key.block || (number_itself f.key.block i && is_lower f.key.epoch epoch lt i))
+        ∙ or_true (nat_lt f.key.block f.key.block) true refl in
         let k = n.before old epoch on held earlier in
         told log old f.cell f.row k.until lies_v
         (way script sound front (part script sound front own_record legal) known y runs f.seated f.row named f.region f.moves old on f.cell f.goes_to)
@@ -329,7 +332,8 @@ module _ (script : Script) (sound : IsSound script) (front : List Record) (own_r
       ∙ ap (λ (p : Pairs). p.pending) (proposed_pairs (server_state setting w m) (Was m).own b.started))) (still_asked m)
   asked_by m to (Enters e) =
       subst AreAsked (sym (ap (λ (o : Own). o.pairs.pending) e.own_is
-      ∙ ap (λ (p : Pairs). p.pending) (settling (own_place setting w m) e.entry (crossed (server_state setting w m) e.entry (Was m).own)).pairs)) (still_asked m)
+      ∙ ap (λ (p : Pairs). p.pending) (settling (own_place setting w m) e.entry (crossed (server_state setting w m) e.entry (Was m).own)).pairs))
+      (still_asked m)
   asked_by m to (Awakes asleep same) =
       subst (λ (s : Server). AreAsked s.own.pairs.pending) (sym same) (λ cell op is. none_some (at-empty cell_cmp cell) is)
   asked_by m to (Raises asleep same) = subst (λ (s : Server). AreAsked s.own.pairs.pending) (sym same) (still_asked m)

@@ -153,7 +153,8 @@ module _ (script : Script) (sound : IsSound script) (front : List Record) (own :
       → Has (chain_in (v.servers n).own.store.chains cell) epoch
   kept_own n runs f on lies cell low serving epoch has = by (v.servers n) (v.before_blank n) (stored script sound front own legal n) runs
     where
-      by : (to : Server) (b : Option BeforeBlank) → HasStore script sound front own legal n to b → to.life.running ≡ true → Has (chain_in to.own.store.chains cell) epoch
+      by : (to : Server) (b : Option BeforeBlank) → HasStore script sound front own legal n to b → to.life.running ≡ true
+          → Has (chain_in to.own.store.chains cell) epoch
       by to b (Goes_on g live same) up = has_on script sound front own legal all n f on lies cell low serving to g live epoch has
       by to b (Is_bare asleep bare same) up = true_false (ap (λ (s : Server). s.life.running) (sym bare) ∙ up) asleep
 

@@ -190,7 +190,8 @@ module _ (script : Script) (sound : IsSound script) (front : List Record) (own_r
       begun_here = record { map = refl; front = log; lies = front_itself log; leaves = leaves }
 
       -- of a cell of the link and the region: the key itself, or one that comes before it
-      module _ (f : List Command) (old new : Cell) (at_row : LinkRow) (lies_f : IsPrefix f (chosen_log setting v)) (way : IsOnWay script.servers f old new at_row)
+      module _ (f : List Command) (old new : Cell) (at_row : LinkRow) (lies_f : IsPrefix f (chosen_log setting v))
+          (way : IsOnWay script.servers f old new at_row)
           (id : id_of at_row ≡ id_of row) (region : region_of old.block ≡ region_of key.block) where
         map_is : old.map ≡ row.map
         map_is =
@@ -256,7 +257,8 @@ module _ (script : Script) (sound : IsSound script) (front : List Record) (own_r
       told_now f old new at_row last lies_f way is = by_bool (eq_by_cmp link_cmp (id_of at_row) (id_of row))
           (λ t.
           let id = same_id (id_of at_row) (id_of row) t in
-          let last_is : told_key ≡ last = same_some (sym (ap (at link_cmp (put link_cmp own.filled (id_of row) told_key)) id ∙ filled_here own row told_key) ∙ is) in
+          let last_is : told_key ≡ last =
+          same_some (sym (ap (at link_cmp (put link_cmp own.filled (id_of row) told_key)) id ∙ filled_here own row told_key) ∙ is) in
           subst (λ (k : Key). AllFilled v old new (IsToldOf k old)) last_is (λ before epoch frozen has told.
           told_here f old new at_row lies_f way id told.region before epoch frozen has told))
           (λ apart. told_before f old new at_row last lies_f way (sym (filled_beside own row told_key (id_of at_row) apart) ∙ is))

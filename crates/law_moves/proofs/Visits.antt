@@ -1,5 +1,6 @@
 -- A fill that a server had pending when it was last at the place that the cell's link has by what is chosen: no letter says that its entry is there.
-use Rattle.std.proofs.Common.{◌≡◌, ◌≢◌, ◌≤◌, ◌+◌, ◌++◌, ◌==◌, ◌⊎◌, ℕ, Bool, true, false, List, [], ◌∷◌, Option, Some, None, is_some, refl, sym, ap, ◌∙◌, subst, inl, inr, arith, append_assoc}
+use Rattle.std.proofs.Common.{◌≡◌, ◌≢◌, ◌≤◌, ◌+◌, ◌++◌, ◌==◌, ◌⊎◌, ℕ, Bool, true, false, List, [], ◌∷◌, Option, Some, None, is_some}
+use Rattle.std.proofs.Common.{refl, sym, ap, ◌∙◌, subst, inl, inr, arith, append_assoc}
 use Rattle.std.specs.Prelude.{option_and_then}
 use Rattle.std.specs.Ordering.{nat_cmp}
 use Rattle.std.proofs.lemmas.List.{append-nil}
@@ -58,7 +59,8 @@ use Rattle.law_moves.proofs.Leads.{Alone, As_first, Behind, IsBehind, led_as}
 use Rattle.law_moves.proofs.Pending.{by_itself, new_unsaid, posted_says}
 use Rattle.law_moves.proofs.Saying.{Asks_copy, Is_done, Is_done_alone, Is_neither, Is_there, Says, is_filled}
 use Rattle.law_moves.proofs.Seen.{same_rest}
-use Rattle.law_moves.proofs.Steps.{Awakes, Before, Enters, HasGone, IsPosted, Is_blanked, Other, Posted, Raises, Rests, Starts_ballot, Works, chosen_on, gone, knows, knows_now, not_new, part, sent}
+use Rattle.law_moves.proofs.Steps.{Awakes, Before, Enters, HasGone, IsPosted, Is_blanked, Other, Posted, Raises, Rests, Starts_ballot, Works}
+use Rattle.law_moves.proofs.Steps.{chosen_on, gone, knows, knows_now, not_new, part, sent}
 use Rattle.law_moves.proofs.Still.{frozen_on}
 use Rattle.law_moves.proofs.There.{filled_key, no_other, told_already}
 use Rattle.law_moves.proofs.Worlds.{chosen_twins, facts_at, good, own_counts, rests, steady_at, up, was_seen}
@@ -263,10 +265,12 @@ module _ (script : Script) (sound : IsSound script) (front : List Record) (own :
         visit = was_seen script sound front legal_was n place cell pairs was
 
         -- by the server itself
-        pub not_itself : n ≡ k → (now_pending : is_at setting n (v.servers n) place cell ≡ true → at cell_cmp (v.servers n).own.pairs.pending cell ≡ Some op) → ⊥
+        pub not_itself : n ≡ k
+            → (now_pending : is_at setting n (v.servers n) place cell ≡ true → at cell_cmp (v.servers n).own.pairs.pending cell ≡ Some op) → ⊥
         not_itself e had =
             let been = (good script sound front legal_was).been n place cell visit.0 visit.1 in
-            let mid = linked_between setting whole plain been.front (mine n) whole cell been.row row been.within (mine_whole n) (front_itself whole) been.linked linked in
+            let mid = linked_between setting whole plain been.front (mine n) whole cell been.row row been.within (mine_whole n)
+            (front_itself whole) been.linked linked in
             let a = places_up setting whole plain been.front (mine n) cell been.row mid.0 been.within (mine_whole n) been.linked mid.1 in
             let b = places_up setting whole plain (mine n) whole cell mid.0 row (mine_whole n) (front_itself whole) mid.1 linked in
             let at = been.at in
@@ -286,7 +290,8 @@ module _ (script : Script) (sound : IsSound script) (front : List Record) (own :
           where
             same_at : (i : ℕ) (s t : Server) → s.log.applied ≡ t.log.applied → s.life.inc ≡ t.life.inc
                 → is_at setting i s place cell ≡ is_at setting i t place cell
-            same_at i s t logs incs = λ j. is_at setting i (record t { life = record t.life { inc = incs j }; log = record t.log { applied = logs j } }) place cell
+            same_at i s t logs incs =
+                λ j. is_at setting i (record t { life = record t.life { inc = incs j }; log = record t.log { applied = logs j } }) place cell
 
         -- by another one: it comes behind the server, as the second one of the link, and has nothing of the fill's epoch
         module _ (apart : n ≢ k) where
@@ -325,7 +330,8 @@ module _ (script : Script) (sound : IsSound script) (front : List Record) (own :
               ap at_place first_is ∙ ap (λ q. good_now.visits n q cell) spot_top ∙ visit.1 in
               let second_is : now.secondary ≡ k = same_numbers now.secondary k (either_true (now.primary == k) (now.secondary == k) b.one_of
               (by_bool (now.primary == k) (λ t. absurd (apart (sym first_is ∙ same_numbers now.primary k t))) (λ f. f))) in
-              let far_is : far (pair_at (λ i. good_now.stores i (blank_joins_in setting top i)) good_now.visits (place_by setting top now) cell now.primary now.secondary) ≡ 0 =
+              let far_is : far (pair_at (λ i. good_now.stores i (blank_joins_in setting top i)) good_now.visits
+              (place_by setting top now) cell now.primary now.secondary) ≡ 0 =
               ap (λ o. progress (at cell_cmp (half o (good_now.stores now.secondary (blank_joins_in setting top now.secondary))).pairs.last cell))
               (ap at_place second_is ∙ b.unseen) ∙ ap progress (at-empty cell_cmp cell) in
               let none = (chosen_twins script sound front legal_was cell now linked_top.1 b.both (omega arith)).lacks visit.0 op there
@@ -375,7 +381,8 @@ module _ (script : Script) (sound : IsSound script) (front : List Record) (own :
           ]
       end_by to (Starts_ballot ballot) there had told =
           known.filled.unsaid n cell op ballot.runs (ap (λ (q : Pairs). at cell_cmp q.pending cell)
-          (sym (proposed_pairs (server_state setting w n) (w.servers n).own ballot.started) ∙ ap (λ (o : Own). o.pairs) (sym ballot.own_is) ∙ had) ∙ is) fills told
+          (sym (proposed_pairs (server_state setting w n) (w.servers n).own ballot.started) ∙ ap (λ (o : Own). o.pairs) (sym ballot.own_is) ∙ had)
+          ∙ is) fills told
       end_by to (Enters entry) there had told =
           known.filled.unsaid n cell op entry.runs (ap (λ (q : Pairs). at cell_cmp q.pending cell)
           (sym (settling (own_place setting w n) entry.entry (crossed (server_state setting w n) entry.entry (w.servers n).own)).pairs
@@ -413,7 +420,8 @@ module _ (script : Script) (sound : IsSound script) (front : List Record) (own :
             ]
         | inr more ↦ unsaid_new (earlier n place cell pairs was more.0 more.1) letter said p (λ there.
             ap (λ (q : Pairs). at cell_cmp q.pending cell) (ap (λ rs. ((At script rs).servers n).own.pairs) was.is
-            ∙ was.since was.later [] (sym (append-nil was.later)) (subst (λ rs. is_at setting n ((At script rs).servers n) place cell ≡ true) was.is there)) ∙ is)
+            ∙ was.since was.later [] (sym (append-nil was.later)) (subst (λ rs. is_at setting n ((At script rs).servers n) place cell ≡ true) was.is there))
+            ∙ is)
       ]
 
   pub unsaid_at : AreUnsaid setting records v

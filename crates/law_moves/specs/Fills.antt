@@ -98,7 +98,8 @@ pub record AreFilled (setting : Setting) (w : World) : Type 0 where
   pub told : (y : ℕ) (front : List Command) (old new : Cell) (row : LinkRow) (last : Key) → (w.servers y).life.running ≡ true
       → IsPrefix front (chosen_log setting w) → IsOnWay setting.servers front old new row → at link_cmp (w.servers y).own.filled (id_of row) ≡ Some last
       → AllFilled w old new (IsToldOf last old)
-  pub moved : (front : List Command) (region : ℕ) (old new : Cell) (row : LinkRow) → IsPrefix (front ++ Moved old.map region row.link ∷ []) (chosen_log setting w)
+  pub moved : (front : List Command) (region : ℕ) (old new : Cell) (row : LinkRow)
+      → IsPrefix (front ++ Moved old.map region row.link ∷ []) (chosen_log setting w)
       → IsOnWay setting.servers front old new row → region_of old.block ≡ region → AllFilled w old new (λ epoch. Unit {0})
 
 -- by these entries the cell's region is on its way, and the link of the old map's cell is noted, or it has just come

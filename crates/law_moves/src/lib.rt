@@ -32,38 +32,64 @@ ghost use Rattle.law_state.specs.Homes.{stage_at};
 
 /// The copies of a cell that is leaving are what was frozen.
 pub fn old_copies_are_still()
-    ensures { (script : Script) (records : List Record) → IsSound script → IsLegal script records → AreStill (setting_of script) (world_after (setting_of script) (start (setting_of script)) records) }
+    ensures { (script : Script) (records : List Record) → IsSound script → IsLegal script records
+        → AreStill (setting_of script) (world_after (setting_of script) (start (setting_of script)) records) }
 {}
 
 /// What is frozen stays so.
 pub fn what_is_frozen_stays()
-    ensures { (script : Script) (front back : List Record) (cell : Cell) (before : Chain) → IsSound script → IsLegal script (front ++ back) → (world_after (setting_of script) (start (setting_of script)) front).frozen cell ≡ Some before → (world_after (setting_of script) (start (setting_of script)) (front ++ back)).frozen cell ≡ Some before }
+    ensures { (script : Script) (front back : List Record) (cell : Cell) (before : Chain)
+        → IsSound script → IsLegal script (front ++ back) → (world_after (setting_of script) (start (setting_of script)) front).frozen cell ≡ Some before
+        → (world_after (setting_of script) (start (setting_of script)) (front ++ back)).frozen cell ≡ Some before }
 {}
 
 /// What fills, their letters and old leads know.
 pub fn fills_come_newest_first()
-    ensures { (script : Script) (records : List Record) → IsSound script → IsLegal script records → AreFilled (setting_of script) (world_after (setting_of script) (start (setting_of script)) records) }
+    ensures { (script : Script) (records : List Record) → IsSound script → IsLegal script records
+        → AreFilled (setting_of script) (world_after (setting_of script) (start (setting_of script)) records) }
 {}
 
 /// A fill that a server had pending when it was last at a place of the cell's link, which the link has by what is chosen, also where the server has
 /// stopped since: the region is on its way still; and the fill is of a frozen entry, and all that is newer is there.
 pub fn a_fill_of_a_place_is_under_way()
-    ensures coming { (script : Script) (records : List Record) → IsSound script → IsLegal script records → (n place : ℕ) (cell : Cell) (pairs : Pairs) (op : Pending) (row : LinkRow) → WasThere (setting_of script) records n place cell pairs → at cell_cmp pairs.pending cell ≡ Some op → is_clients op.kind ≡ false → IsLinked (setting_of script) (chosen_log (setting_of script) (world_after (setting_of script) (start (setting_of script)) records)) cell row → place_by (setting_of script) (chosen_log (setting_of script) (world_after (setting_of script) (start (setting_of script)) records)) row ≡ place → op.rev ≤ length (chosen_log (setting_of script) (world_after (setting_of script) (start (setting_of script)) records)) → stage_at (chosen_state (setting_of script) (world_after (setting_of script) (start (setting_of script)) records)) cell ≡ 1 }
-    ensures frozen { (script : Script) (records : List Record) → IsSound script → IsLegal script records → (n place : ℕ) (cell : Cell) (pairs : Pairs) (op : Pending) → WasThere (setting_of script) records n place cell pairs → at cell_cmp pairs.pending cell ≡ Some op → is_clients op.kind ≡ false → IsFrozen (setting_of script) (world_after (setting_of script) (start (setting_of script)) records) op.rev op.key op.bytes }
+    ensures coming { (script : Script) (records : List Record) → IsSound script
+        → IsLegal script records → (n place : ℕ) (cell : Cell) (pairs : Pairs) (op : Pending) (row : LinkRow)
+        → WasThere (setting_of script) records n place cell pairs → at cell_cmp pairs.pending cell ≡ Some op → is_clients op.kind ≡ false
+        → IsLinked (setting_of script) (chosen_log (setting_of script) (world_after (setting_of script) (start (setting_of script)) records)) cell row
+        → place_by (setting_of script) (chosen_log (setting_of script) (world_after (setting_of script) (start (setting_of script)) records)) row ≡ place
+        → op.rev ≤ length (chosen_log (setting_of script) (world_after (setting_of script) (start (setting_of script)) records))
+        → stage_at (chosen_state (setting_of script) (world_after (setting_of script) (start (setting_of script)) records)) cell ≡ 1 }
+    ensures frozen { (script : Script) (records : List Record) → IsSound script
+        → IsLegal script records → (n place : ℕ) (cell : Cell) (pairs : Pairs) (op : Pending)
+        → WasThere (setting_of script) records n place cell pairs → at cell_cmp pairs.pending cell ≡ Some op → is_clients op.kind ≡ false
+        → IsFrozen (setting_of script) (world_after (setting_of script) (start (setting_of script)) records) op.rev op.key op.bytes }
 {}
 
 /// And one that the second server of a link in Both can still put, which the lead had pending at the second server's place; this is said while
 /// the cell is not dead.
 pub fn what_a_second_server_fills_is_under_way()
-    ensures { (script : Script) (records : List Record) → IsSound script → IsLegal script records → (n m : ℕ) (cell : Cell) (pairs : Pairs) (op : Pending) (row : LinkRow) → ((world_after (setting_of script) (start (setting_of script)) records).servers m).life.running ≡ true → is_in (server_state (setting_of script) (world_after (setting_of script) (start (setting_of script)) records) m) m ((world_after (setting_of script) (start (setting_of script)) records).servers m).life.inc ≡ true → IsLinked (setting_of script) ((world_after (setting_of script) (start (setting_of script)) records).servers m).log.applied cell row → row.state ≡ Both → row.primary ≡ n → row.secondary ≡ m → WasThere (setting_of script) records n (place_by (setting_of script) ((world_after (setting_of script) (start (setting_of script)) records).servers m).log.applied row) cell pairs → at cell_cmp pairs.pending cell ≡ Some op → is_clients op.kind ≡ false → progress (at cell_cmp ((world_after (setting_of script) (start (setting_of script)) records).servers m).own.pairs.last cell) ≤ op.op + op.op → stage_at (chosen_state (setting_of script) (world_after (setting_of script) (start (setting_of script)) records)) cell ≤ 3 → stage_at (chosen_state (setting_of script) (world_after (setting_of script) (start (setting_of script)) records)) cell ≡ 1 }
+    ensures { (script : Script) (records : List Record)
+        → IsSound script → IsLegal script records → (n m : ℕ) (cell : Cell) (pairs : Pairs) (op : Pending) (row : LinkRow)
+        → ((world_after (setting_of script) (start (setting_of script)) records).servers m).life.running ≡ true
+        → is_in (server_state (setting_of script) (world_after (setting_of script) (start (setting_of script)) records) m) m
+        ((world_after (setting_of script) (start (setting_of script)) records).servers m).life.inc ≡ true
+        → IsLinked (setting_of script) ((world_after (setting_of script) (start (setting_of script)) records).servers m).log.applied cell row
+        → row.state ≡ Both → row.primary ≡ n → row.secondary ≡ m → WasThere (setting_of script) records n
+        (place_by (setting_of script) ((world_after (setting_of script) (start (setting_of script)) records).servers m).log.applied row) cell pairs
+        → at cell_cmp pairs.pending cell ≡ Some op → is_clients op.kind ≡ false
+        → progress (at cell_cmp ((world_after (setting_of script) (start (setting_of script)) records).servers m).own.pairs.last cell) ≤ op.op + op.op
+        → stage_at (chosen_state (setting_of script) (world_after (setting_of script) (start (setting_of script)) records)) cell ≤ 3
+        → stage_at (chosen_state (setting_of script) (world_after (setting_of script) (start (setting_of script)) records)) cell ≡ 1 }
 {}
 
 /// A region that has moved has all that was frozen.
 pub fn a_region_that_has_moved_has_all()
-    ensures { (script : Script) (records : List Record) → IsSound script → IsLegal script records → HaveComeOver (setting_of script) (world_after (setting_of script) (start (setting_of script)) records) }
+    ensures { (script : Script) (records : List Record) → IsSound script → IsLegal script records
+        → HaveComeOver (setting_of script) (world_after (setting_of script) (start (setting_of script)) records) }
 {}
 
 /// The two-copy rule in a region that is on its way.
 pub fn moves_keep_the_rule()
-    ensures { (script : Script) (records : List Record) → IsSound script → IsLegal script records → Moves (setting_of script) (world_after (setting_of script) (start (setting_of script)) records) }
+    ensures { (script : Script) (records : List Record) → IsSound script → IsLegal script records
+        → Moves (setting_of script) (world_after (setting_of script) (start (setting_of script)) records) }
 {}

@@ -22,7 +22,9 @@ use Rattle.petal_rules.specs.Writes.{acts, ended, ends, gives_back, moved_as, ne
 use Rattle.petal_rules.proofs.Tests.{true_false}
 use Rattle.law_steps.specs.Did.{Did, Ignores, Refuses, By_read, By_lead, By_second, By_holder, By_other, By_filler, By_sweep}
 use Rattle.law_steps.specs.DidFiller.{DidFiller, Is_filled, Is_out_of_slots}
-use Rattle.law_steps.specs.DidLead.{DidLead, IsNewFill, Asks_for, Repeats, Is_full, Gives_up, Opens, Marks, Puts, Unmarks, Closes, Opens_alone, Marks_alone, Puts_alone, Unmarks_alone, Closes_alone, Opens_fill, Opens_fill_alone, Has_fill, Has_no_room, Goes_on_dead, Asks, A_slot, A_copy, A_trim, A_copied_entry, A_page, An_entry_to_move, Of_the_log}
+use Rattle.law_steps.specs.DidLead.{DidLead, IsNewFill, Asks_for, Repeats, Is_full, Gives_up, Opens, Marks, Puts, Unmarks, Closes, Opens_alone, Marks_alone}
+use Rattle.law_steps.specs.DidLead.{Puts_alone, Unmarks_alone, Closes_alone, Opens_fill, Opens_fill_alone, Has_fill, Has_no_room, Goes_on_dead, Asks, A_slot}
+use Rattle.law_steps.specs.DidLead.{A_copy, A_trim, A_copied_entry, A_page, An_entry_to_move, Of_the_log}
 use Rattle.law_steps.proofs.CopyFrames.{of_holder, of_other}
 use Rattle.law_steps.proofs.Letters.{one_post, posted}
 use Rattle.law_steps.proofs.Subjects.{of_read, of_second, of_sweep}
@@ -86,7 +88,8 @@ acts_unfilled here own op action.Drop post i = absurd i
 same_key : {a b : Key} → body.FillFull a ≡ body.FillFull b → a ≡ b
 same_key e = cc
 
-module _ (heard : Body → Type 0) (here : Here) (own : Own) (keyed : (cell : Cell) (op : Pending) → at cell_cmp own.pairs.pending cell ≡ Some op → cell_of op.key ≡ cell) where
+module _ (heard : Body → Type 0) (here : Here) (own : Own)
+    (keyed : (cell : Cell) (op : Pending) → at cell_cmp own.pairs.pending cell ≡ Some op → cell_of op.key ≡ cell) where
   -- what was so where a server said that there is no slot for the entry
   pub data SaysNone (key : Key) : Type 0 where
     Has_none : (moving : Moving) → moving.key ≡ key → IsNewFill heard here own moving → free_of own.store ≡ 0 → SaysNone key

@@ -28,7 +28,8 @@ use Rattle.petal_state.specs.Command.{state_after}
 use Rattle.petal_rules.specs.State.{first, second, in_both, is_in, is_second, leads_link, live}
 use Rattle.petal_rules.specs.Store.{cell_cmp}
 use Rattle.petal_rules.specs.Server.{Own, Here, Pairs, Post, Done, post_to}
-use Rattle.petal_rules.specs.Writes.{acts, ends, gives_back, is_clients, moved_as, next_stage, old_lead, operation, opened, ended, pending_on, tells, with_mark_at, with_opened, without_pending}
+use Rattle.petal_rules.specs.Writes.{acts, ends, gives_back, is_clients, moved_as, next_stage, old_lead, operation, opened, ended}
+use Rattle.petal_rules.specs.Writes.{pending_on, tells, with_mark_at, with_opened, without_pending}
 use Rattle.petal_rules.specs.World.{Setting, World, chosen_log, server_state}
 use Rattle.petal_rules.specs.declared.step.Step.TheVariants.{Work}
 use Rattle.petal_rules.specs.declared.step.WorkEnd.TheVariants as work_end
@@ -40,7 +41,9 @@ use Rattle.law_state.proofs.Ages.{in_once}
 use Rattle.law_state.proofs.Alone.{both_row, lead_first, second_both}
 use Rattle.law_state.proofs.Cells.{both_first, both_leads}
 use Rattle.law_steps.specs.DidRead.{DidRead}
-use Rattle.law_steps.specs.DidLead.{DidLead, Asks_for, Repeats, Is_full, Gives_up, Opens, Marks, Puts, Unmarks, Closes, Opens_alone, Marks_alone, Puts_alone, Unmarks_alone, Closes_alone, Opens_fill, Opens_fill_alone, Has_fill, Has_no_room, Goes_on_dead, Taken, Asks, A_slot, A_copy, A_trim, A_copied_entry, A_page, An_entry_to_move, Of_the_log}
+use Rattle.law_steps.specs.DidLead.{DidLead, Asks_for, Repeats, Is_full, Gives_up, Opens, Marks, Puts, Unmarks, Closes, Opens_alone, Marks_alone, Puts_alone}
+use Rattle.law_steps.specs.DidLead.{Unmarks_alone, Closes_alone, Opens_fill, Opens_fill_alone, Has_fill, Has_no_room, Goes_on_dead, Taken, Asks, A_slot, A_copy}
+use Rattle.law_steps.specs.DidLead.{A_trim, A_copied_entry, A_page, An_entry_to_move, Of_the_log}
 use Rattle.law_steps.specs.DidSecond.{DidSecond, Sets_apart, Promises, Declines, Follows, FoundNoSlot}
 use Rattle.law_steps.specs.Did.{Did, Ignores, Refuses, By_read, By_lead, By_second, By_holder, By_other, By_filler, By_sweep}
 use Rattle.law_steps.specs.Happens.{Handled, IsSeated, own_place}
@@ -122,7 +125,8 @@ pub record TellsNone (S : ℕ → ℕ → Type 0) (setting : Setting) (w : World
   pub revision : letter.rev ≡ length (w.servers n).log.applied
   pub asked : IsNumbered setting w letter number cell
   pub to : post.to ≡ actor.Server asked.server
-  pub refused : (op : Pending) → at cell_cmp (w.servers asked.server).own.pairs.pending cell ≡ Some op → op.op ≡ number → is_clients op.kind ≡ true → S op.client op.seq
+  pub refused : (op : Pending) → at cell_cmp (w.servers asked.server).own.pairs.pending cell ≡ Some op → op.op ≡ number
+      → is_clients op.kind ≡ true → S op.client op.seq
 
 -- what a job has to show: of what it remembers, of what is pending, and of what it sends
 pub record JobRefuses (S : ℕ → ℕ → Type 0) (setting : Setting) (w : World) (n : ℕ) (new : Own) (posts : List Post) : Type 0 where

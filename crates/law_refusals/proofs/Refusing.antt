@@ -1,5 +1,6 @@
 -- Over every legal history, each answer that there was no space has a reason.
-use Rattle.std.proofs.Common.{◌≡◌, ◌≤◌, ◌<◌, arith, ℕ, List, [], ◌∷◌, ◌++◌, Bool, true, false, Option, Some, None, refl, sym, ap, ◌∙◌, subst, ◌⊎◌, inl, inr, append_assoc}
+use Rattle.std.proofs.Common.{◌≡◌, ◌≤◌, ◌<◌, arith, ℕ, List, [], ◌∷◌, ◌++◌, Bool, true, false, Option, Some, None, refl, sym}
+use Rattle.std.proofs.Common.{ap, ◌∙◌, subst, ◌⊎◌, inl, inr, append_assoc}
 use Rattle.std.specs.Prelude.{◌||◌, if◌then◌else◌, is_some, length, ◌==◌, map}
 use Rattle.std.specs.Ordering.{nat_cmp}
 use Rattle.petal_base.specs.declared.cell.Cell.{Cell}
@@ -28,7 +29,8 @@ use Rattle.petal_state.specs.State.{latest}
 use Rattle.petal_state.specs.declared.answer.DiskView.{DiskView}
 use Rattle.petal_rules.specs.Ballots.{post_of}
 use Rattle.petal_rules.specs.Boots.{awake, blanked, raised, stays, wakes}
-use Rattle.petal_rules.specs.Clients.{Asked, Reaction, Sight, client_sender, epoch_for, is_unread, refusal, read_refusal, read_refusal_at, write_refusal, verdict_answer, verdict_for}
+use Rattle.petal_rules.specs.Clients.{Asked, Reaction, Sight, client_sender, epoch_for, is_unread, refusal, read_refusal}
+use Rattle.petal_rules.specs.Clients.{read_refusal_at, write_refusal, verdict_answer, verdict_for}
 use Rattle.petal_rules.specs.Crossing.{crossed, settled_by}
 use Rattle.petal_rules.specs.Jobs.{Acted, down_posts}
 use Rattle.petal_rules.specs.Lists.{In}
@@ -37,7 +39,8 @@ use Rattle.petal_rules.specs.Returns.{proposed}
 use Rattle.petal_rules.specs.Server.{Own, Server, Pairs, Done, Post, Sender, silent, sender, letters_of, no_pairs, stopped}
 use Rattle.petal_rules.specs.State.{State, find, lead, servers_of}
 use Rattle.petal_rules.specs.Store.{cell_cmp}
-use Rattle.petal_rules.specs.World.{Setting, World, reacts, step, stamped, start, setting_of, client_step, client_state, server_state, chosen_log, next_line, MayActor}
+use Rattle.petal_rules.specs.World.{Setting, World, reacts, step, stamped, start, setting_of, client_step, client_state}
+use Rattle.petal_rules.specs.World.{server_state, chosen_log, next_line, MayActor}
 use Rattle.petal_rules.specs.declared.job.Job.{Job}
 use Rattle.petal_rules.specs.declared.step.Step.{Step}
 use Rattle.petal_rules.specs.declared.step.Step.TheVariants.{Blank, Work}
@@ -51,9 +54,11 @@ use Rattle.petal_history.specs.Sound.{IsSound}
 use Rattle.petal_history.specs.declared.record.Record.{Record}
 use Rattle.law_state.specs.Firm.{Firm}
 use Rattle.law_state.proofs.Steady.{log_rev}
-use Rattle.law_steps.specs.Happens.{Heard, IsIdle, Worked, By_job, By_ballot, By_entry, Serving, Goes as Serves_on, Ends as Stops_so, Stays, Wakes, Fails, own_place, without_rev, served, served_so, stopped_so, shown_so}
+use Rattle.law_steps.specs.Happens.{Heard, IsIdle, Worked, By_job, By_ballot, By_entry, Serving, Goes as Serves_on, Ends as Stops_so, Stays, Wakes}
+use Rattle.law_steps.specs.Happens.{Fails, own_place, without_rev, served, served_so, stopped_so, shown_so}
 use Rattle.law_steps.specs.Ready.{AreFirm, Rests}
-use Rattle.law_steps.specs.Turned.{Turned, Goes_on, Is_told, Begins, Reads, Ends, Shown, Judges, IsReason, By_verdict, By_witness, IsSeenAs, Stops_it, Starts_it, Blanks_it, Has_no_space, Is_settled}
+use Rattle.law_steps.specs.Turned.{Turned, Goes_on, Is_told, Begins, Reads, Ends, Shown, Judges, IsReason, By_verdict, By_witness, IsSeenAs}
+use Rattle.law_steps.specs.Turned.{Stops_it, Starts_it, Blanks_it, Has_no_space, Is_settled}
 use Rattle.law_steps.proofs.Histories.{front_firm, front_legal, own_steady, proposed_pairs, rests_next, start_rests, world_more}
 use Rattle.law_steps.proofs.Letters.{said}
 use Rattle.law_steps.proofs.Restages.{was_same}

@@ -13,5 +13,6 @@ ghost use Rattle.law_reports.specs.Reports.{WritesNothingHeld};
 /// on a cell whose writes were held from the report's place up to the server's own: so also until it has applied the entry at
 /// which the fence takes effect.
 pub fn a_server_that_reported_writes_nothing()
-    ensures { (script : Script) (records : List Record) → IsSound script → IsLegal script records → WritesNothingHeld (setting_of script) (world_after (setting_of script) (start (setting_of script)) records) }
+    ensures { (script : Script) (records : List Record) → IsSound script → IsLegal script records
+        → WritesNothingHeld (setting_of script) (world_after (setting_of script) (start (setting_of script)) records) }
 {}

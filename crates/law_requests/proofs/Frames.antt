@@ -28,7 +28,8 @@ use Rattle.law_steps.proofs.Fronts.{front_itself, front_on, front_same}
 use Rattle.law_steps.proofs.Histories.{own_plain}
 use Rattle.law_steps.proofs.Restages.{IsSame, Was, was_same}
 use Rattle.law_requests.specs.Asked.{IsWrite, IsOpen}
-use Rattle.law_requests.specs.Known.{Lives, LedBy, lives_after, seen, done_by, EndKnownAt, NothingKnownAt, Known, KnownLetter, asked_for, IsLedAlong, PendingFor, IsUsed, Has_pending, AskingBy, KnowsReports}
+use Rattle.law_requests.specs.Known.{Lives, LedBy, lives_after, seen, done_by, EndKnownAt, NothingKnownAt, Known, KnownLetter, asked_for}
+use Rattle.law_requests.specs.Known.{IsLedAlong, PendingFor, IsUsed, Has_pending, AskingBy, KnowsReports}
 use Rattle.law_requests.proofs.Later.{Later, known_later, pending_further, way_later}
 use Rattle.law_requests.proofs.Lives.{Lived, done_now, dones_rise, lived_on, lives_still, ran_same}
 use Rattle.law_requests.proofs.Running.{PendingHere}

@@ -1,5 +1,6 @@
 -- What is known of requests holds after every legal history, and the rule of requests follows.
-use Rattle.std.proofs.Common.{◌≡◌, ◌≢◌, ◌≤◌, ◌<◌, ◌++◌, ℕ, List, [], ◌∷◌, Option, Some, None, true, false, length, refl, ap, sym, ◌∙◌, subst, ◌⊎◌, inl, inr, arith, append_assoc}
+use Rattle.std.proofs.Common.{◌≡◌, ◌≢◌, ◌≤◌, ◌<◌, ◌++◌, ℕ, List, [], ◌∷◌, Option, Some, None, true, false, length, refl, ap, sym}
+use Rattle.std.proofs.Common.{◌∙◌, subst, ◌⊎◌, inl, inr, arith, append_assoc}
 use Rattle.std.proofs.lemmas.List.{append-nil}
 use Rattle.std.specs.Ordering.{nat_cmp}
 use Rattle.petal_base.specs.declared.cell.Cell.{Cell}
@@ -42,7 +43,8 @@ use Rattle.law_steps.proofs.Histories.{chosen_below, firm_after, front_legal, la
 use Rattle.law_steps.proofs.Records.{none_before_none, split_last, split_one}
 use Rattle.law_steps.proofs.Waking.{may_wake}
 use Rattle.law_requests.specs.Asked.{IsOpen}
-use Rattle.law_requests.specs.Known.{Lives, LedBy, lives_after, seen, done_by, WriteKnown, Known, IsUsed, Has_pending, Has_finished, asked_for, AskingBy, Asking, KnowsReports}
+use Rattle.law_requests.specs.Known.{Lives, LedBy, lives_after, seen, done_by, WriteKnown, Known, IsUsed, Has_pending}
+use Rattle.law_requests.specs.Known.{Has_finished, asked_for, AskingBy, Asking, KnowsReports}
 use Rattle.law_requests.specs.Still.{AreOpen}
 use Rattle.law_requests.proofs.Drained.{held_write}
 use Rattle.law_requests.proofs.Later.{one_log}
@@ -186,7 +188,8 @@ module _ (script : Script) (sound : IsSound script) where
     not_then n cell op is clients until lies holds rev =
         let p = asking_now.pending n cell op is clients in
         let at = p.known.sent.at in
-        let same : at.front ≡ until = one_front at.front until (chosen_log setting v) (chosen_front setting v firm_now op.client op.rev at) lies (at.long ∙ rev) in
+        let same : at.front ≡ until =
+        one_front at.front until (chosen_log setting v) (chosen_front setting v firm_now op.client op.rev at) lies (at.long ∙ rev) in
         true_false holds (subst (λ log. is_writes_held (held (state_after setting.servers log) cell) ≡ false) same p.unfenced)
 
     -- a server that had reported before
@@ -209,7 +212,8 @@ module _ (script : Script) (sound : IsSound script) where
         ]
 
     -- one that reported in the step before this one
-    drained_last : (n : ℕ) (until : List Command) → (w.servers n).log.applied ≡ until → has_held_write (state_after setting.servers until) (w.servers n).own ≡ false
+    drained_last : (n : ℕ) (until : List Command) → (w.servers n).log.applied ≡ until
+        → has_held_write (state_after setting.servers until) (w.servers n).own ≡ false
         → (cell : Cell) (op : Pending) → at cell_cmp (v.servers n).own.pairs.pending cell ≡ Some op → is_clients op.kind ≡ true
         → is_writes_held (held (state_after setting.servers until) cell) ≡ true → length until < op.rev
     drained_last n until here drained cell op is clients holds =
@@ -351,7 +355,8 @@ module _ (setting : Setting) (w : World) (firm : Firm setting w) (rests : Rests 
           subst (λ log. LedBy (state_after setting.servers log) n (w.servers n).life.inc want.cell) same led in
           let stays : IsUnleft setting w n (w.servers n).life.inc want.cell =
           subst (λ i. IsUnleft setting w n i want.cell) ran
-          (unleft_now setting w firm lives reports n want.cell (subst (λ i. LedBy (server_state setting w n) n i want.cell) (sym ran) led) (ap is_writes_held free)) in
+          (unleft_now setting w firm lives reports n want.cell (subst (λ i. LedBy (server_state setting w n) n i want.cell) (sym ran) led)
+          (ap is_writes_held free)) in
           elim (late_where setting w firm lives n runs want.cell led stays at.front (front_same own at.front (sym same)) want.client want.seq
           (late n (w.servers n).life.inc then)) [
             | inl past ↦ (

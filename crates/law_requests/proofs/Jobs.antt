@@ -28,7 +28,8 @@ use Rattle.petal_rules.specs.State.{State, coming, held, is_in, is_lead, live}
 use Rattle.petal_rules.specs.Store.{cell_cmp}
 use Rattle.petal_rules.specs.Fills.{Moving, fill_operation}
 use Rattle.petal_rules.specs.Server.{Own, Here, Pairs, Post, Done}
-use Rattle.petal_rules.specs.Writes.{Wanted, acts, ends, gives_back, is_clients, is_writes_held, moved_as, next_stage, old_lead, operation, ended, finishes, pending_on, with_mark_at, without_pending}
+use Rattle.petal_rules.specs.Writes.{Wanted, acts, ends, gives_back, is_clients, is_writes_held, moved_as, next_stage, old_lead, operation}
+use Rattle.petal_rules.specs.Writes.{ended, finishes, pending_on, with_mark_at, without_pending}
 use Rattle.petal_rules.specs.World.{Setting, World}
 use Rattle.petal_rules.proofs.CellTables.{cell_same, cell_apart, cell_gone}
 use Rattle.petal_rules.proofs.Tests.{by_bool, by_test, none_some, same_or_apart, same_some, true_false}
@@ -36,12 +37,15 @@ use Rattle.law_state.specs.Plain.{IsPlainLog}
 use Rattle.law_state.proofs.Steady.{log_rev}
 use Rattle.law_steps.specs.Operations.{done_to}
 use Rattle.law_steps.specs.DidRead.{DidRead, Not_here, Shows as Shows_data}
-use Rattle.law_steps.specs.DidLead.{DidLead, IsNew, Asks_for, Repeats, Is_full, Gives_up, Opens, Marks, Puts, Unmarks, Closes, Opens_alone, Marks_alone, Puts_alone, Unmarks_alone, Closes_alone, Opens_fill, Opens_fill_alone, Has_fill, Has_no_room, Goes_on_dead, Taken, Asks, A_slot, A_copy, A_trim, A_copied_entry, A_page, An_entry_to_move, Of_the_log}
+use Rattle.law_steps.specs.DidLead.{DidLead, IsNew, Asks_for, Repeats, Is_full, Gives_up, Opens, Marks, Puts, Unmarks, Closes, Opens_alone, Marks_alone}
+use Rattle.law_steps.specs.DidLead.{Puts_alone, Unmarks_alone, Closes_alone, Opens_fill, Opens_fill_alone, Has_fill, Has_no_room, Goes_on_dead, Taken, Asks}
+use Rattle.law_steps.specs.DidLead.{A_slot, A_copy, A_trim, A_copied_entry, A_page, An_entry_to_move, Of_the_log}
 use Rattle.law_steps.specs.DidSecond.{DidSecond}
 use Rattle.law_steps.specs.Did.{Did, Ignores, Refuses, By_read, By_lead, By_second, By_holder, By_other, By_filler, By_sweep, is_not_here}
 use Rattle.law_steps.specs.Happens.{Handled, IsSeated, own_place}
 use Rattle.law_steps.proofs.Letters.{one_post, posted}
-use Rattle.law_steps.proofs.Restages.{Restages, Was, was_same, stood, marked, has_put, unmarked, was_taken, was_before, marked_alone, put_alone, unmarked_alone, was_acted}
+use Rattle.law_steps.proofs.Restages.{Restages, Was, was_same, stood, marked, has_put, unmarked, was_taken, was_before}
+use Rattle.law_steps.proofs.Restages.{marked_alone, put_alone, unmarked_alone, was_acted}
 use Rattle.law_steps.proofs.Staged.{same_cell_or_apart, put_put}
 use Rattle.law_steps.proofs.CopyFrames.{CopyFrame, of_holder, of_other}
 use Rattle.law_steps.proofs.Fronts.{front_itself, front_same}
@@ -49,7 +53,8 @@ use Rattle.law_steps.proofs.Leading.{lead_links}
 use Rattle.law_steps.proofs.Subjects.{of_filler, of_second, of_sweep}
 use Rattle.law_steps.proofs.Taking.{taking}
 use Rattle.law_requests.specs.Asked.{IsRead, IsWrite, IsOpen}
-use Rattle.law_requests.specs.Known.{Lives, LedBy, seen, done_by, NothingKnown, ReadKnown, WriteKnown, Known, asked_for, IsUsed, Has_pending, Has_finished, AskingBy}
+use Rattle.law_requests.specs.Known.{Lives, LedBy, seen, done_by, NothingKnown, ReadKnown, WriteKnown, Known, asked_for}
+use Rattle.law_requests.specs.Known.{IsUsed, Has_pending, Has_finished, AskingBy}
 use Rattle.law_requests.proofs.Cells.{coming_untold}
 use Rattle.law_requests.proofs.Ended.{write_now}
 use Rattle.law_requests.proofs.Frames.{Ends, Tells, SaysOk, JobTells, Scene}
@@ -131,7 +136,8 @@ module _ (scene : Scene) (n : ℕ) (runs : (scene.w.servers n).life.running ≡ 
   -- the write is of its cell by the server's own state
   write_here : (want : Wanted) (k : WriteKnown setting (seen lives w) want here.state.rev)
       → IsWrite here.state setting.lines want.client want.seq want.cell want.bytes
-  write_here want k = subst (λ log. IsWrite (state_after setting.servers log) setting.lines want.client want.seq want.cell want.bytes) (sym (at_own want k)) k.sent.served
+  write_here want k =
+      subst (λ log. IsWrite (state_after setting.servers log) setting.lines want.client want.seq want.cell want.bytes) (sym (at_own want k)) k.sent.served
 
   -- what has something pending, or has finished something, is In as itself
   used_seat : IsUsed own → IsSeat
@@ -303,7 +309,8 @@ module _ (scene : Scene) (n : ℕ) (runs : (scene.w.servers n).life.running ≡ 
   -- a pending operation goes on to its next stage
   restages_tells : (done : Done) → Restages own done → J done.own done.posts
   restages_tells done r =
-      calm done.own done.posts (λ c. ap (λ t. done_to (at nat_cmp t c)) r.finished) (λ cell op is clients. r.was cell op is) (λ post i. absurd (r.silent post i))
+      calm done.own done.posts (λ c. ap (λ t. done_to (at nat_cmp t c)) r.finished) (λ cell op is clients. r.was cell op is)
+      (λ post i. absurd (r.silent post i))
 
   -- a client's write is done with
   done_tells : (op : Pending) (new : Own) (how : Ending) → Was own op.cell op → is_clients op.kind ≡ true
@@ -359,8 +366,10 @@ module _ (scene : Scene) (n : ℕ) (runs : (scene.w.servers n).life.running ≡ 
       → In post (ends here left op of how).posts → S new post.to post.body
   unfolding In
   ends_mute op left new kind.Write how e post i = true_false refl e
-  ends_mute op left new kind.Fill ending.Written e post i = says_any new _ post (posted (old_lead here.state op.cell) (moved_as op.key ending.Written) post i) (λ to. tt)
-  ends_mute op left new kind.Fill ending.Full e post i = says_any new _ post (posted (old_lead here.state op.cell) (moved_as op.key ending.Full) post i) (λ to. tt)
+  ends_mute op left new kind.Fill ending.Written e post i =
+      says_any new _ post (posted (old_lead here.state op.cell) (moved_as op.key ending.Written) post i) (λ to. tt)
+  ends_mute op left new kind.Fill ending.Full e post i =
+      says_any new _ post (posted (old_lead here.state op.cell) (moved_as op.key ending.Full) post i) (λ to. tt)
   ends_mute op left new kind.Copy how e post i = absurd i
 
   -- whatever an operation does next that is not a client's

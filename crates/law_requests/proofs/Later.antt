@@ -25,7 +25,8 @@ use Rattle.petal_rules.proofs.Tests.{same_some, true_false}
 use Rattle.law_state.specs.Plain.{IsPlainLog}
 use Rattle.law_steps.proofs.Fronts.{front_itself, front_long, front_on, front_within, one_front}
 use Rattle.law_requests.specs.Asked.{IsWrite, IsOpen, IsOpenFrom, HasItsWay, WasToldAt}
-use Rattle.law_requests.specs.Known.{Seen, IsLate, Is_past, Had_no_lead, Had_another, IsLedAlong, AreLate, IsSent, WriteKnown, EndKnownAt, NothingKnownAt, Known, PendingFor}
+use Rattle.law_requests.specs.Known.{Seen, IsLate, Is_past, Had_no_lead, Had_another, IsLedAlong, AreLate, IsSent, WriteKnown}
+use Rattle.law_requests.specs.Known.{EndKnownAt, NothingKnownAt, Known, PendingFor}
 
 -- of two fronts of one log one stands at the front of the other
 pub either_front : (one two whole : List Command) → IsPrefix one whole → IsPrefix two whole → IsPrefix one two ⊎ IsPrefix two one

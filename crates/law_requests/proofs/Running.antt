@@ -41,7 +41,8 @@ use Rattle.law_steps.proofs.Histories.{runs_now}
 use Rattle.law_steps.proofs.Leading.{lead_links}
 use Rattle.law_steps.proofs.Minds.{held_as_flag}
 use Rattle.law_requests.specs.Asked.{IsOpen}
-use Rattle.law_requests.specs.Known.{Lives, seen, IsAt, LedBy, IsLate, Is_past, Had_no_lead, Had_another, IsLedAlong, PendingFor, asked_for, AskingBy, KnowsReports}
+use Rattle.law_requests.specs.Known.{Lives, seen, IsAt, LedBy, IsLate, Is_past, Had_no_lead, Had_another, IsLedAlong}
+use Rattle.law_requests.specs.Known.{PendingFor, asked_for, AskingBy, KnowsReports}
 use Rattle.law_requests.proofs.Later.{either_front, one_log}
 use Rattle.law_requests.proofs.Leads.{led_at_place, led_stage, one_lead, same_only, stage_by}
 

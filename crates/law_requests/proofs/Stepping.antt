@@ -39,7 +39,8 @@ use Rattle.law_state.specs.Firm.{Firm}
 use Rattle.law_state.specs.Plain.{IsPlainLog}
 use Rattle.law_state.specs.Started.{is_flagged}
 use Rattle.law_state.proofs.Steady.{log_rev, front_plain}
-use Rattle.law_steps.specs.Happens.{Happens, Heard, Serves, Blanks, Turns, Serving, Goes, Ends, Stays, Wakes, Fails, Worked, By_job, By_ballot, By_entry, served_so, stopped_so, shown_so, without_rev, own_place}
+use Rattle.law_steps.specs.Happens.{Happens, Heard, Serves, Blanks, Turns, Serving, Goes, Ends, Stays, Wakes, Fails, Worked, By_job, By_ballot}
+use Rattle.law_steps.specs.Happens.{By_entry, served_so, stopped_so, shown_so, without_rev, own_place}
 use Rattle.law_steps.specs.Operations.{done_to}
 use Rattle.law_steps.specs.Ready.{Ready}
 use Rattle.law_steps.specs.Turned.{Turned}
@@ -49,7 +50,8 @@ use Rattle.law_steps.proofs.Histories.{own_plain, runs_at}
 pub use Rattle.law_steps.proofs.Histories.{proposed_pairs}
 use Rattle.law_steps.proofs.Letters.{said}
 use Rattle.law_steps.proofs.Restages.{was_same}
-use Rattle.law_requests.specs.Known.{Seen, Lives, AreLives, LedBy, lives_after, seen, done_by, Known, KnownLetter, IsLedAlong, PendingFor, asked_for, IsUsed, Has_pending, Has_finished, AskingBy, KnowsReports}
+use Rattle.law_requests.specs.Known.{Seen, Lives, AreLives, LedBy, lives_after, seen, done_by, Known, KnownLetter, IsLedAlong, PendingFor}
+use Rattle.law_requests.specs.Known.{asked_for, IsUsed, Has_pending, Has_finished, AskingBy, KnowsReports}
 use Rattle.law_requests.proofs.Ended.{bound_now, pending_new, rises}
 use Rattle.law_requests.proofs.Frames.{Scene, IsSettled, IsStepped, WasOrNew, goes_on, opened_now, says_known, step_asking, steps}
 use Rattle.law_requests.proofs.Jobs.{Shows, job_tells, kept_tells}

@@ -1,5 +1,6 @@
 -- Each kind of step of a client keeps what is known of requests.
-use Rattle.std.proofs.Common.{◌≡◌, ◌≤◌, ◌<◌, ◌+◌, ◌-◌, ◌++◌, ℕ, List, [], ◌∷◌, Bool, true, false, Option, Some, None, length, refl, ap, sym, ◌∙◌, subst, inl, inr, arith, append_assoc}
+use Rattle.std.proofs.Common.{◌≡◌, ◌≤◌, ◌<◌, ◌+◌, ◌-◌, ◌++◌, ℕ, List, [], ◌∷◌, Bool, true, false, Option, Some, None, length, refl}
+use Rattle.std.proofs.Common.{ap, sym, ◌∙◌, subst, inl, inr, arith, append_assoc}
 use Rattle.std.specs.Prelude.{slice_get, if◌then◌else◌, is_some, option_map}
 use Rattle.std.specs.Option.{option_map_or}
 use Rattle.petal_base.specs.declared.cell.Cell.{Cell}
@@ -36,7 +37,9 @@ use Rattle.law_state.proofs.Ages.{in_once}
 use Rattle.law_state.proofs.Entries.{log_plain}
 use Rattle.law_state.proofs.Steady.{log_rev, front_plain}
 use Rattle.law_steps.specs.Happens.{Heard}
-use Rattle.law_steps.specs.Turned.{Turned, Says, Of_the_log, A_write, A_read, OnlySays, IsSame, WasSent, As_it_was, Anew, StaysOpen, IsCalled, IsReason, By_verdict, By_witness, IsJudged, IsSeenAs, Stops_it, Starts_it, Blanks_it, Has_no_space, Is_settled, Goes_on, Is_told, Begins, Reads, Shown, Judges, line_by}
+use Rattle.law_steps.specs.Turned.{Turned, Says, Of_the_log, A_write, A_read, OnlySays, IsSame, WasSent, As_it_was, Anew, StaysOpen, IsCalled, IsReason}
+use Rattle.law_steps.specs.Turned.{By_verdict, By_witness, IsJudged, IsSeenAs, Stops_it, Starts_it, Blanks_it, Has_no_space, Is_settled, Goes_on}
+use Rattle.law_steps.specs.Turned.{Is_told, Begins, Reads, Shown, Judges, line_by}
 use Rattle.law_steps.specs.Turned as turns
 use Rattle.law_steps.proofs.Fronts.{front_itself, front_long, front_more, front_on, front_within}
 use Rattle.law_requests.specs.Asked.{HasItsWay, IsWrite, IsAsked, IsOpenFrom, WasToldAt}
@@ -184,7 +187,8 @@ module _ (setting : Setting) (w : World) (lives : Lives) (firm : Firm setting w)
       by (Anew at way) e = true_false e way
 
   -- so it is of whatever is open then
-  stays_known : (to : Client) → IsPrefix client.applied to.applied → to.seq ≡ client.seq → (o : Option Asked) → ((old : Asked) → o ≡ Some old → IsAsked lines c client old)
+  stays_known : (to : Client) → IsPrefix client.applied to.applied → to.seq ≡ client.seq → (o : Option Asked)
+      → ((old : Asked) → o ≡ Some old → IsAsked lines c client old)
       → (new : Asked) → StaysOpen (length to.applied) o (Some new) → IsAsked lines c to new
   stays_known to more seq None known new stays = absurd stays
   stays_known to more seq (Some old) known new stays = same_known to more old new (known old refl) stays seq
@@ -301,7 +305,8 @@ module _ (setting : Setting) (w : World) (lives : Lives) (firm : Firm setting w)
     closes = λ s rev le h. inr (
         let same : h.now.asked ≡ asked = same_some (sym h.now.is ∙ is) in
         let before : rev ≤ asked.rev = subst (λ (x : Asked). rev ≤ x.rev) same h.sent in
-        subst (λ (i : ℕ). Closed setting w lives (seen_with lives w sent_then c to) c i rev) (ap (λ (x : Asked). x.seq) (sym same) ∙ h.now.same) (closed rev before));
+        subst (λ (i : ℕ). Closed setting w lives (seen_with lives w sent_then c to) c i rev)
+        (ap (λ (x : Asked). x.seq) (sym same) ∙ h.now.same) (closed rev before));
     says = λ post h. absurd h;
   }
 

@@ -46,7 +46,8 @@ abbrev pub seen_with : Lives → World → List Letter → (c : ℕ) → Client 
 seen_with lives w sent c client = seen (lives_after lives w) (record w { clients = put_at w.clients c client; sent = sent })
 
 module _ (scene : Scene) (c stamp : ℕ) (reacted : Reaction)
-    (turn : TurnOk scene.setting scene.w scene.lives (seen_with scene.lives scene.w (reacts scene.w c stamp reacted).world.sent c reacted.client) c reacted.client reacted.posts)
+    (turn : TurnOk scene.setting scene.w scene.lives (seen_with scene.lives scene.w (reacts scene.w c stamp reacted).world.sent c reacted.client)
+    c reacted.client reacted.posts)
     (onward : IsOnward scene.setting.servers scene.state (scene.w.clients c).applied reacted.client.applied) where
   abbrev setting : Setting
   setting = scene.setting
@@ -77,7 +78,8 @@ module _ (scene : Scene) (c stamp : ℕ) (reacted : Reaction)
   turn_later = record {
     sent = λ letter h. in_later letter (stamped stamp (letters_of (client_sender c reacted.client) 0 reacted.posts)) w.sent h;
     seqs = all_put w.clients c reacted.client (λ j client. (w.clients j).seq ≤ client.seq) (λ j. omega arith) turn.seqs;
-    clients = all_put w.clients c reacted.client (λ j (x : Client). IsPrefix (w.clients j).applied x.applied) (λ j. front_itself (w.clients j).applied) onward.grows;
+    clients = all_put w.clients c reacted.client (λ j (x : Client). IsPrefix (w.clients j).applied x.applied)
+        (λ j. front_itself (w.clients j).applied) onward.grows;
     logs = λ n. front_itself (w.servers n).log.applied;
     logs_plain = own_plain setting w scene.firm;
     dones = dones_rise lives w later asking.lived steps;
@@ -101,7 +103,8 @@ module _ (scene : Scene) (c stamp : ℕ) (reacted : Reaction)
 
   -- an operation, as far as its server has come
   pending_now : (n : ℕ) (cell : Cell) (op : Pending) → at cell_cmp (w.servers n).own.pairs.pending cell ≡ Some op
-      → is_clients op.kind ≡ true → (q : PendingFor setting (seen after later) n (after.ran n) (asked_for cell op) op.rev) × (q.upto ≡ (w.servers n).log.applied)
+      → is_clients op.kind ≡ true → (q : PendingFor setting (seen after later) n (after.ran n) (asked_for cell op) op.rev)
+      × (q.upto ≡ (w.servers n).log.applied)
   pending_now n cell op is clients =
       let p = asking.pending n cell op is clients in
       let come = asking.come n cell op is clients in

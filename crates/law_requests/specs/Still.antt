@@ -27,7 +27,8 @@ pub record AreOpen (setting : Setting) (w : World) : Type 0 where
   pub running : (n : ℕ) (cell : Cell) (op : Pending) → at cell_cmp (w.servers n).own.pairs.pending cell ≡ Some op
       → is_clients op.kind ≡ true → (w.servers n).life.running ≡ true → IsOpen (w.clients op.client) op.seq
   pub led : (n leader : ℕ) (cell : Cell) (op : Pending) → at cell_cmp (w.servers n).own.pairs.pending cell ≡ Some op
-      → is_clients op.kind ≡ true → lead (chosen_state setting w) cell ≡ Some leader → IsStill setting w leader → NoOtherHolds setting w n cell → IsOpen (w.clients op.client) op.seq
+      → is_clients op.kind ≡ true → lead (chosen_state setting w) cell ≡ Some leader → IsStill setting w leader → NoOtherHolds setting w n cell
+      → IsOpen (w.clients op.client) op.seq
   pub in_both : (n : ℕ) (cell : Cell) (op : Pending) → at cell_cmp (w.servers n).own.pairs.pending cell ≡ Some op
       → is_clients op.kind ≡ true → state.in_both (chosen_state setting w) cell ≡ true → IsOpen (w.clients op.client) op.seq
   pub beside : (n m leader : ℕ) (cell : Cell) (op : Pending) → at cell_cmp (w.servers n).own.pairs.pending cell ≡ Some op

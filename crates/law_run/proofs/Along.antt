@@ -28,7 +28,8 @@ use Rattle.law_state.proofs.Owners.{disk_on, epoch_in, epoch_is, home, home_late
 use Rattle.law_state.proofs.Places.{found_at, get_in, in_get}
 use Rattle.law_state.proofs.Rows.{HasRowLater, known_row, stays_row}
 use Rattle.law_state.proofs.Steady.{viewed}
-use Rattle.law_run.proofs.Named.{IsHomed, entry_named, entry_over, has_named, has_over, is_between, is_named, lives_apart, comes_between, named_homed, old_cell_homed, is_old_cell, leaves_between}
+use Rattle.law_run.proofs.Named.{IsHomed, entry_named, entry_over, has_named, has_over, is_between, is_named, lives_apart, comes_between}
+use Rattle.law_run.proofs.Named.{named_homed, old_cell_homed, is_old_cell, leaves_between}
 
 -- the disks that are chosen
 abbrev pub rows_in : Setting → World → List DiskRow

@@ -103,7 +103,8 @@ module _ (this : ClientStep) where
   abbrev pub look_here : (reacted : Reaction) → Letter → List Event
   look_here reacted letter = look_of this.setting this.w (after_turn reacted) (actor.Client this.c) this.later letter letter.body
 
-  pub no_looks : (in_call : Bool) (reacted : Reaction) → Turn in_call reacted → flat_map (look_here reacted) (reacts this.w this.c this.stamp reacted).letters ≡ []
+  pub no_looks : (in_call : Bool) (reacted : Reaction) → Turn in_call reacted
+      → flat_map (look_here reacted) (reacts this.w this.c this.stamp reacted).letters ≡ []
   no_looks in_call reacted turned =
       all_empty (look_here reacted) (stamped this.stamp (letters_of (client_sender this.c reacted.client) 0 reacted.posts))
       (λ letter h. let s = said (client_sender this.c reacted.client) this.stamp 0 reacted.posts letter h in
@@ -176,7 +177,8 @@ module _ (this : ClientStep) where
         all_put_apart this.w.clients this.c reacted.client
         (λ i x. op.client ≡ i → IsOpen x op.seq → is_held k i ≡ true)
         (λ i ne e open_now. ap held_in (turn.others i ne)
-        ∙ subst (λ j. is_held this.m j ≡ true) e (this.follow.pending n cell op on is clients counted (subst (λ j. IsOpen (this.w.clients j) op.seq) (sym e) open_now)))
+        ∙ subst (λ j. is_held this.m j ≡ true) e
+        (this.follow.pending n cell op on is clients counted (subst (λ j. IsOpen (this.w.clients j) op.seq) (sym e) open_now)))
         (λ e open_now.
         let old : op.seq ≤ client.seq = subst (λ j. op.seq ≤ (this.w.clients j).seq) e (this.ground.asking.pending n cell op is clients).known.sent.old in
         held_still op.seq old open_now (λ was. subst (λ j. is_held this.m j ≡ true) e

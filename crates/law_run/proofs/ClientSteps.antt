@@ -1,5 +1,6 @@
 -- What the machine is told of a client's step is allowed, and keeps it tied to the world.
-use Rattle.std.proofs.Common.{◌≡◌, ◌<◌, ◌+◌, ℕ, List, [], ◌∷◌, ◌++◌, Bool, true, false, Option, Some, None, refl, sym, ap, ◌∙◌, subst, ◌⊎◌, inl, inr, arith, is_some}
+use Rattle.std.proofs.Common.{◌≡◌, ◌<◌, ◌+◌, ℕ, List, [], ◌∷◌, ◌++◌, Bool, true, false, Option, Some, None, refl, sym, ap}
+use Rattle.std.proofs.Common.{◌∙◌, subst, ◌⊎◌, inl, inr, arith, is_some}
 use Rattle.petal_state.specs.CellState.{cell_asked}
 use Rattle.std.specs.List.{flat_map}
 use Rattle.std.specs.Prelude.{if◌then◌else◌, length}
@@ -29,7 +30,8 @@ use Rattle.petal_rules.proofs.ListLemmas.{put_same}
 use Rattle.petal_history.specs.Events as events
 use Rattle.petal_history.specs.Events.{open_write, write_asked, write_by, begun, end_of, change_by, freezes, takes, makes, looks, told_with}
 use Rattle.law_steps.specs.Happens.{Heard}
-use Rattle.law_steps.specs.Turned.{StaysOpen, IsCalled, OnlySays, IsReason, By_verdict, By_witness, IsJudged, Goes_on, Begins, Reads, Ends, Shown, Judges, IsSeenAs, Stops_it, Starts_it, Blanks_it, Has_no_space, Is_settled, answer_of, Is_told}
+use Rattle.law_steps.specs.Turned.{StaysOpen, IsCalled, OnlySays, IsReason, By_verdict, By_witness, IsJudged, Goes_on, Begins, Reads, Ends, Shown, Judges}
+use Rattle.law_steps.specs.Turned.{IsSeenAs, Stops_it, Starts_it, Blanks_it, Has_no_space, Is_settled, answer_of, Is_told}
 use Rattle.petal_rules.proofs.Tests.{by_bool, same_some, none_some}
 use Rattle.law_requests.specs.Asked.{IsOpen}
 use Rattle.law_run.specs.Onward.{held_in, is_held, Seat}
@@ -37,7 +39,8 @@ use Rattle.law_run.specs.Follow.{Follow}
 use Rattle.law_run.proofs.Along.{rows_in}
 use Rattle.law_run.proofs.Machine.{disks_after, after_mindful, begin_seat, begin_others, end_seat, end_others}
 use Rattle.law_run.proofs.Takes.{open_own}
-use Rattle.law_run.proofs.ClientFrames.{ClientStep, TurnFollow, Turn, after_turn, no_looks, unwritten, nothing_taken, nothing_made, nothing_frozen, turn_follow, look_here}
+use Rattle.law_run.proofs.ClientFrames.{ClientStep, TurnFollow, Turn, after_turn, no_looks, unwritten, nothing_taken, nothing_made}
+use Rattle.law_run.proofs.ClientFrames.{nothing_frozen, turn_follow, look_here}
 
 -- no write of this request
 not_write : (c seq : ℕ) (asked : Request) → is_read asked ≡ true → write_by c seq asked ≡ None
@@ -86,7 +89,8 @@ refused_end state (Some disk) block given opened write e under_way = by_bool (is
     (λ t. none_some (ap (λ b. if b then None else Some answer.Unavailable) t) e)
     (λ f. subst (λ g. MayEnd opened write (end_of g)) (same_some (sym (ap (λ b. if b then None else Some answer.Unavailable) f) ∙ e)) under_way)
 
-judged_end : (c seq : ℕ) (told : Bool) (asked : Request) (write : Write) (given : Answer) (state : State) (opened : List Open) → write_by c seq asked ≡ Some write
+judged_end : (c seq : ℕ) (told : Bool) (asked : Request) (write : Write) (given : Answer) (state : State) (opened : List Open)
+    → write_by c seq asked ≡ Some write
     → refusal state told asked ≡ Some given → IsUnderWay opened write → MayEnd opened write (end_of given)
 unfolding refusal
 judged_end c seq told (request.Write name block pattern) write given state opened is e under_way =
@@ -176,7 +180,8 @@ module _ (this : ClientStep) where
   open_now reacted = ap (λ (x : Client). write_asked this.c x.asked) (put_same this.w.clients this.c reacted.client)
 
   begins_told : (reacted : Reaction) (line : Line) (asked : Asked) (is : next_line lines this.c client ≡ Some line) (free : client.asked ≡ None)
-      (seq : reacted.client.seq ≡ client.seq + 1) (there : reacted.client.asked ≡ Some asked) (called : IsCalled line (client.seq + 1) (length client.applied) asked)
+      (seq : reacted.client.seq ≡ client.seq + 1) (there : reacted.client.asked ≡ Some asked)
+      (called : IsCalled line (client.seq + 1) (length client.applied) asked)
       (only : OnlySays this.setting.servers this.c reacted) → ClientTold true reacted
   begins_told reacted line asked is free seq there called only = by (write_by this.c (client.seq + 1) line.request) refl
     where

@@ -35,7 +35,7 @@ use Rattle.law_copies.proofs.Later.{alone_or_flagged, been_below, holder_is_one,
 use Rattle.law_copies.proofs.Others.{IsOther, held_by, other_apart}
 use Rattle.law_copies.proofs.Places.{fronts_meet, one_row, places_up, rows_later, alive_on, linked_alive}
 use Rattle.law_run.specs.Follow.{Ground}
-use Rattle.law_run.proofs.Chains.{CopiesSo, Is_put, Is_dropped, Is_dropped_first, PutsCopy}
+use Rattle.law_moves.proofs.Chains.{CopiesSo, Is_put, Is_dropped, Is_dropped_first, PutsCopy}
 use Rattle.law_run.proofs.Seats.{IsSharing, visit_here, alive_here}
 
 -- ### The block is left to copy at the holder

@@ -26,7 +26,8 @@ same_kept joins (Some b) one other same =
 pub frozen_stays : (setting : Setting) (w next : World) → chosen_log setting next ≡ chosen_log setting w → (cell : Cell)
     → frozen_by setting w next cell ≡ w.frozen cell
 frozen_stays setting w next same cell =
-    let leaves : leaving (chosen_state setting next) cell ≡ leaving (chosen_state setting w) cell = ap (λ log. leaving (state_after setting.servers log) cell) same in
+    let leaves : leaving (chosen_state setting next) cell ≡ leaving (chosen_state setting w) cell =
+    ap (λ log. leaving (state_after setting.servers log) cell) same in
     let never : begins_to_leave setting w next cell ≡ false =
     ap (λ b. b && not (leaving (chosen_state setting w) cell)) leaves ∙ not_both (leaving (chosen_state setting w) cell) in
     ap (λ b. if b then chain_that_counts setting next cell else w.frozen cell) never

@@ -41,7 +41,8 @@ use Rattle.law_run.proofs.Seats.{IsSharing, op_seat, op_shared, shared_before, o
 use Rattle.law_run.proofs.Filled.{serving_same}
 use Rattle.law_run.proofs.Along.{rows_in}
 use Rattle.law_run.proofs.Machine.{seat_onward, held_onward}
-use Rattle.law_run.proofs.Steps.{ServerStep, new, later_world, letters, joined_now, joined_then, kept_here, kept_other, logs_grow, logs_within, own_now, own_other}
+use Rattle.law_run.proofs.Steps.{ServerStep, new, later_world, letters, joined_now, joined_then, kept_here, kept_other}
+use Rattle.law_run.proofs.Steps.{logs_grow, logs_within, own_now, own_other}
 
 -- the server runs after the step
 abbrev pub Runs : ServerStep → Type 0
@@ -65,11 +66,13 @@ module _ (this : ServerStep) (k : Plain) where
     pub finished : (c : ℕ) (last : Finished) → Runs this → at nat_cmp after.pairs.finished c ≡ Some last → last.ending ≡ ending.Written
         → IsOpen (this.w.clients c) last.seq → is_held k c ≡ true
     pub as_lead : (cell : Cell) (op : Pending) → Runs this → at cell_cmp after.pairs.pending cell ≡ Some op
-        → is_clients op.kind ≡ true → HasCounted this.setting this.w this.n cell op (chain_in after.store.chains cell) → IsOpen (this.w.clients op.client) op.seq
+        → is_clients op.kind ≡ true → HasCounted this.setting this.w this.n cell op (chain_in after.store.chains cell)
+        → IsOpen (this.w.clients op.client) op.seq
         → is_held k op.client ≡ true
     pub as_second : joined_now this this.n ≡ joined_then this this.n → (cell : Cell) (p : ℕ) (op : Pending) (row : LinkRow)
         → IsSharing this.setting this.state this.w this.along.firm this.ground p cell row
-        → row.primary ≡ p → row.secondary ≡ this.n → at cell_cmp (owns_of this.w p).pairs.pending cell ≡ Some op → is_clients op.kind ≡ true → op.stage.put ≡ true
+        → row.primary ≡ p → row.secondary ≡ this.n → at cell_cmp (owns_of this.w p).pairs.pending cell ≡ Some op
+        → is_clients op.kind ≡ true → op.stage.put ≡ true
         → IsOpen (this.w.clients op.client) op.seq
         → chain_in (kept this.setting this.w p).chains cell ≡ chain_in (kept this.setting v this.n).chains cell
         → (chain_in (kept this.setting this.w p).chains cell ≡ chain_in (kept this.setting this.w this.n).chains cell)
@@ -264,7 +267,8 @@ module _ (this : ServerStep) (k : Plain) where
 
     -- those of another server
     theirs : (i : ℕ) → i ≢ this.n → (cell : Cell) (op : Pending) → (v.servers i).life.running ≡ true → at cell_cmp (owns_of v i).pairs.pending cell ≡ Some op
-        → is_clients op.kind ≡ true → HasCounted this.setting v i cell op (chain_now i cell) → IsOpen (this.w.clients op.client) op.seq → is_held k op.client ≡ true
+        → is_clients op.kind ≡ true → HasCounted this.setting v i cell op (chain_now i cell) → IsOpen (this.w.clients op.client) op.seq
+        → is_held k op.client ≡ true
     theirs i ne cell op on there clients counted still = by counted
       where
         runs : (this.w.servers i).life.running ≡ true
@@ -320,7 +324,8 @@ module _ (this : ServerStep) (k : Plain) where
         ]
 
     pending : (i : ℕ) (cell : Cell) (op : Pending) → (v.servers i).life.running ≡ true → at cell_cmp (owns_of v i).pairs.pending cell ≡ Some op
-        → is_clients op.kind ≡ true → HasCounted this.setting v i cell op (chain_now i cell) → IsOpen (this.w.clients op.client) op.seq → is_held k op.client ≡ true
+        → is_clients op.kind ≡ true → HasCounted this.setting v i cell op (chain_now i cell) → IsOpen (this.w.clients op.client) op.seq
+        → is_held k op.client ≡ true
     pending i cell op on is clients counted still = elim (same_or_apart i this.n) [
       | inl e ↦ subst (λ j. (v.servers j).life.running ≡ true → at cell_cmp (owns_of v j).pairs.pending cell ≡ Some op
           → HasCounted this.setting v j cell op (chain_now j cell) → is_held k op.client ≡ true) (sym e)
@@ -357,7 +362,8 @@ module _ (this : ServerStep) (k : Plain) where
 
     pub kept_pending : (this.w.servers this.n).life.running ≡ true → (after : Own) → after.pairs.pending ≡ own.pairs.pending
         → (cell : Cell) → chain_in after.store.chains cell ≡ chain_in own.store.chains cell → (op : Pending)
-        → at cell_cmp after.pairs.pending cell ≡ Some op → is_clients op.kind ≡ true → HasCounted this.setting this.w this.n cell op (chain_in after.store.chains cell)
+        → at cell_cmp after.pairs.pending cell ≡ Some op → is_clients op.kind ≡ true
+        → HasCounted this.setting this.w this.n cell op (chain_in after.store.chains cell)
         → IsOpen (this.w.clients op.client) op.seq → is_held k op.client ≡ true
     kept_pending runs after pending cell chain op is clients counted still =
         let was : at cell_cmp own.pairs.pending cell ≡ Some op = ap (λ t. at cell_cmp t cell) (sym pending) ∙ is in

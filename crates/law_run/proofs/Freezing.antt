@@ -1,5 +1,6 @@
 -- What the machine is told of a server's step, put together: takes, then disks that are made, then snapshots that are taken, then looks.
-use Rattle.std.proofs.Common.{◌≡◌, ◌≤◌, ◌==◌, ℕ, List, [], ◌++◌, Bool, true, false, Option, Some, None, is_some, refl, sym, ap, ◌∙◌, subst, inl, inr, arith, length}
+use Rattle.std.proofs.Common.{◌≡◌, ◌≤◌, ◌==◌, ℕ, List, [], ◌++◌, Bool, true, false, Option, Some, None, is_some, refl}
+use Rattle.std.proofs.Common.{sym, ap, ◌∙◌, subst, inl, inr, arith, length}
 use Rattle.std.specs.Prelude.{map, option_and_then, slice_get}
 use Rattle.std.specs.List.{flat_map}
 use Rattle.std.proofs.lemmas.List.{append-nil}
@@ -157,7 +158,8 @@ module _ (this : ServerStep) where
         frozen_low : (there : In row new_rows) (b : ℕ) → is_between row b ≡ true → (chain : Chain) → v.frozen (old_cell row b) ≡ Some chain
             → AreUpTo chain (length (done row))
         frozen_low there b between chain is r there_row =
-            let low = was_low there (old_cell row b) (old_map_is this.setting.servers after two (disks_now this.setting v this.next.firm) row there b between) in
+            let low =
+            was_low there (old_cell row b) (old_map_is this.setting.servers after two (disks_now this.setting v this.next.firm) row there b between) in
             let up = frozen_early this (old_cell row b) chain is r there_row in
             omega arith
 

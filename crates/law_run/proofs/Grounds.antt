@@ -1,6 +1,7 @@
 -- What follows from the ground on which the run stands: of operations that are remembered, of the epochs of those that are put, and of
 -- entries.
-use Rattle.std.proofs.Common.{◌≡◌, ◌≤◌, ◌+◌, ℕ, List, [], ◌∷◌, true, false, Option, Some, None, refl, sym, ap, ◌∙◌, subst, inl, inr, arith, length, ◌⊎◌, ◌<◌, nat_cmp}
+use Rattle.std.proofs.Common.{◌≡◌, ◌≤◌, ◌+◌, ℕ, List, [], ◌∷◌, true, false, Option, Some, None, refl, sym, ap, ◌∙◌, subst}
+use Rattle.std.proofs.Common.{inl, inr, arith, length, ◌⊎◌, ◌<◌, nat_cmp}
 use Rattle.std.proofs.lemmas.Bool.{cases_lt}
 use Rattle.std.specs.Cmp.{nat_cmp_total}
 use Rattle.global_tables.specs.declared.link.LinkRow.{LinkRow}
@@ -44,7 +45,7 @@ use Rattle.law_epochs.specs.Early.{AreEarly}
 use Rattle.law_epochs.specs.Timely.{IsTimely}
 use Rattle.law_moves.specs.Fills.{IsFrozen}
 use Rattle.law_run.specs.Follow.{Ground, IsRemembered, Is_pending, Was_pending}
-use Rattle.law_run.proofs.Chains.{Drops, NeverDead, PutsAsked}
+use Rattle.law_moves.proofs.Chains.{Drops, NeverDead, PutsAsked}
 use Rattle.law_run.proofs.Counted.{of_kept}
 use Rattle.law_run.proofs.Entries.{AreUpTo}
 use Rattle.law_run.proofs.Seats.{IsSharing, alive_here, heard_shared, op_lives, op_seat, second_shares, sharing_last, store_there, visit_here, own_there}

@@ -11,7 +11,8 @@ use Rattle.petal_rules.specs.World.{Setting, World, server_state}
 use Rattle.petal_rules.specs.declared.step.Step.{Step}
 use Rattle.petal_rules.proofs.Settled.{settling}
 use Rattle.petal_rules.proofs.Tests.{all_put_apart}
-use Rattle.law_steps.specs.Happens.{served, Happens, Serves, Blanks, Turns, Serving, Goes, Ends, Stays, Wakes, Fails, Worked, By_job, By_ballot, By_entry, own_place}
+use Rattle.law_steps.specs.Happens.{served, Happens, Serves, Blanks, Turns, Serving, Goes, Ends, Stays, Wakes, Fails, Worked}
+use Rattle.law_steps.specs.Happens.{By_job, By_ballot, By_entry, own_place}
 use Rattle.law_requests.proofs.Stepping.{proposed_pairs}
 
 -- its operations and its entries; its entries, where it is In as itself; its operations; or nothing, where it boots

@@ -9,7 +9,6 @@ pub mod ReadScripts
 pub mod Entries
 pub mod Overlay
 pub mod Named
-pub mod Chains
 pub mod Leaving
 pub mod Seats
 pub mod Copies

@@ -12,7 +12,8 @@ use Rattle.petal_rules.specs.Lists.{In}
 use Rattle.petal_rules.specs.Log.{LogDone, known, next_place, rev_of}
 use Rattle.petal_rules.specs.Server.{Server, Here, Sender, letters_of, no_pairs, sender}
 use Rattle.petal_rules.specs.State.{State, servers_of}
-use Rattle.petal_rules.specs.Jobs.{Acted, here_of, works, job_done, crossing, entered, worked, stops, is_overfull, is_log_job, voter_of, wanted_by, does, log_does, down_posts}
+use Rattle.petal_rules.specs.Jobs.{Acted, here_of, works, job_done, crossing, entered, worked, stops, is_overfull, is_log_job}
+use Rattle.petal_rules.specs.Jobs.{voter_of, wanted_by, does, log_does, down_posts}
 use Rattle.petal_rules.specs.World.{server_step, stamped}
 use Rattle.petal_rules.specs.declared.job.Job.{Job}
 use Rattle.petal_rules.specs.declared.job.Job.TheVariants as job

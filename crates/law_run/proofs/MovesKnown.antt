@@ -1,5 +1,6 @@
 -- What is known of moves after each legal history.
-use Rattle.std.proofs.Common.{◌+◌, ◌≡◌, ◌≤◌, ◌++◌, ◌⊎◌, ℕ, List, [], ◌∷◌, Bool, true, false, Option, Some, None, refl, sym, ap, ◌∙◌, subst, inl, inr, arith, length, is_some}
+use Rattle.std.proofs.Common.{◌+◌, ◌≡◌, ◌≤◌, ◌++◌, ◌⊎◌, ℕ, List, [], ◌∷◌, Bool, true, false, Option, Some, None, refl, sym, ap}
+use Rattle.std.proofs.Common.{◌∙◌, subst, inl, inr, arith, length, is_some}
 use Rattle.std.specs.Prelude.{option_map, if◌then◌else◌}
 use Rattle.std.specs.Ordering.{nat_cmp}
 use Rattle.std.proofs.lemmas.Bool.{cases_lt}
@@ -78,7 +79,8 @@ rising_after script records sound legal =
     along script AreRising (λ front own part old cell before is.
     let setting = setting_of script in
     let w = At script front in
-    let now : (stepped setting w own).world.frozen cell ≡ Some before = subst (λ v. v.frozen cell ≡ Some before) (world_more setting (start setting) front own) is in
+    let now : (stepped setting w own).world.frozen cell ≡ Some before =
+    subst (λ v. v.frozen cell ≡ Some before) (world_more setting (start setting) front own) is in
     elim (frozen_or_counts setting w own.actor own.step own.stamp cell before now) [
       | inl was ↦ old cell before was
       | inr counts ↦

@@ -8,7 +8,8 @@ use Rattle.global_tables.specs.declared.disk.DiskRow.{DiskRow}
 use Rattle.global_tables.specs.declared.disk.Move.{Move}
 use Rattle.global_tables.specs.declared.disk.RegionState.{RegionState}
 use Rattle.global_tables.specs.declared.disk.RegionState.TheVariants.{Old, Fenced, New}
-use Rattle.petal_state.specs.CellState.{cell_asked, has_map, is_fenced, map_asked, move_region, named_cell, named_map, old_map, read_cell, read_map, region_at, view_of}
+use Rattle.petal_state.specs.CellState.{cell_asked, has_map, is_fenced, map_asked, move_region, named_cell, named_map, old_map}
+use Rattle.petal_state.specs.CellState.{read_cell, read_map, region_at, view_of}
 use Rattle.petal_state.specs.State.{leaves}
 use Rattle.petal_state.specs.declared.answer.DiskView.{DiskView}
 use Rattle.petal_rules.specs.State.{State, authority}

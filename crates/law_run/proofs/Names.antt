@@ -16,7 +16,8 @@ use Rattle.petal_rules.specs.declared.step.Step.{Step}
 use Rattle.petal_rules.specs.declared.step.Step.TheVariants.{Blank}
 use Rattle.petal_rules.proofs.ListLemmas.{in-append, put_same}
 use Rattle.petal_history.specs.Events.{same_actor, same_name}
-use Rattle.law_steps.specs.Happens.{Happens, Serves, Blanks, Turns, Serving, Goes, Ends, Stays, Wakes, Fails, served_so, stopped_so, shown_so, without_rev, own_place}
+use Rattle.law_steps.specs.Happens.{Happens, Serves, Blanks, Turns, Serving, Goes, Ends, Stays, Wakes, Fails, served_so}
+use Rattle.law_steps.specs.Happens.{stopped_so, shown_so, without_rev, own_place}
 use Rattle.law_steps.proofs.Letters.{said}
 use Rattle.petal_rules.proofs.Tests.{both_true, same_numbers, all_put}
 use Rattle.law_run.specs.Follow.{Named}

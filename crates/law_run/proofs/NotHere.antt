@@ -5,7 +5,8 @@ use Rattle.law_state.specs.Tables.{IsPlainState}
 use Rattle.law_state.specs.Disks.{AreDisks}
 use Rattle.law_steps.specs.Ready.{IsRising}
 use Rattle.std.specs.Ordering.{nat_cmp}
-use Rattle.std.proofs.Common.{◌≡◌, ◌≤◌, ◌++◌, ℕ, List, [], ◌∷◌, Bool, true, false, Option, Some, None, is_some, length, refl, sym, ap, ◌∙◌, subst, inl, inr, arith, option_and_then}
+use Rattle.std.proofs.Common.{◌≡◌, ◌≤◌, ◌++◌, ℕ, List, [], ◌∷◌, Bool, true, false, Option, Some, None, is_some, length, refl, sym}
+use Rattle.std.proofs.Common.{ap, ◌∙◌, subst, inl, inr, arith, option_and_then}
 use Rattle.std.specs.List.{flat_map}
 use Rattle.std.proofs.lemmas.Bool.{cases_lt}
 use Rattle.petal_base.specs.declared.cell.Cell.{Cell}
@@ -52,7 +53,8 @@ use Rattle.law_run.proofs.Named.{entry_over, has_over, is_between}
 use Rattle.law_run.proofs.OldReads.{IsFoundAt, IsOld, found}
 use Rattle.law_run.proofs.Overlay.{entry_there, has_below}
 use Rattle.law_run.proofs.Reading.{IsAskedAt, IsKnownRead, IsOfDisk, known_read}
-use Rattle.law_run.proofs.Shows.{AreCalm, IsReading, all_looked, entry_is, look_may, named, nothing_looked, now_high, now_low, of, row_has, same_above, same_chain, serving_now, shown_none, some_is}
+use Rattle.law_run.proofs.Shows.{AreCalm, IsReading, all_looked, entry_is, look_may, named, nothing_looked, now_high, now_low, of, row_has}
+use Rattle.law_run.proofs.Shows.{same_above, same_chain, serving_now, shown_none, some_is}
 use Rattle.law_run.proofs.Sources.{source_here, source_stays}
 use Rattle.law_run.proofs.Steps.{LooksTold, ServerStep, frozen_same, later_world, letters, look_here}
 
@@ -187,7 +189,8 @@ module _ (this : ServerStep) where
         source_stays this.setting.servers front (chosen_log this.setting this.w) this.along.firm.plain (this.along.firm.servers this.n) cell old from_old
         o.row o.there has one in
         let at_old : this.w.frozen (old_cell o.row cell.block) ≡ Some before = ap this.w.frozen (sym is_old) ∙ frozen in
-        let top : entry_of chosen (counted this.setting this.w) (named_cell o.row cell.block) e ≡ None = entry_is this cell r o.row o.there has e ∙ none_at e asked in
+        let top : entry_of chosen (counted this.setting this.w) (named_cell o.row cell.block) e ≡ None =
+        entry_is this cell r o.row o.there has e ∙ none_at e asked in
         let some = some_is this cell r o.row o.there has in (
           has_content_is this.setting this.w this.along.firm o.row o.there e cell.block
               ∙ (λ i. has_over (between i) (some i) (top i) (is_some (at_old i))),

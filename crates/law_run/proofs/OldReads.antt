@@ -1,5 +1,6 @@
 -- A read that was told that the new map has nothing, and is answered under the old one: whoever answers has what was frozen.
-use Rattle.std.proofs.Common.{◌+◌, ◌||◌, ◌≡◌, ◌≤◌, ◌==◌, ◌&&◌, ℕ, List, [], ◌∷◌, ◌++◌, Bool, true, false, Option, Some, None, length, refl, sym, ap, ◌∙◌, subst, ◌⊎◌, inl, inr, arith, not}
+use Rattle.std.proofs.Common.{◌+◌, ◌||◌, ◌≡◌, ◌≤◌, ◌==◌, ◌&&◌, ℕ, List, [], ◌∷◌, ◌++◌, Bool, true, false, Option, Some, None, length}
+use Rattle.std.proofs.Common.{refl, sym, ap, ◌∙◌, subst, ◌⊎◌, inl, inr, arith, not}
 use Rattle.std.specs.Prelude.{if◌then◌else◌, option_map}
 use Rattle.petal_base.specs.declared.cell.Cell.{Cell}
 use Rattle.petal_command.specs.declared.command.Command.{Command}
@@ -15,7 +16,8 @@ use Rattle.petal_rules.specs.Lists.{In}
 use Rattle.petal_rules.specs.Server.{Done, Post, Sender, letters_of, sender}
 use Rattle.petal_rules.specs.State.{State, leaving, servers_of}
 use Rattle.petal_rules.specs.Store.{chain_in, entry_at, bytes_of}
-use Rattle.petal_rules.specs.World.{Setting, World, acts, before_blanks, chosen_log, chosen_state, server_state, server_step, stamped, step, MayActor, begins_to_leave, chain_that_counts}
+use Rattle.petal_rules.specs.World.{Setting, World, acts, before_blanks, chosen_log, chosen_state, server_state, server_step, stamped}
+use Rattle.petal_rules.specs.World.{step, MayActor, begins_to_leave, chain_that_counts}
 use Rattle.petal_rules.specs.declared.step.Step.{Step}
 use Rattle.petal_rules.specs.declared.step.Step.TheVariants.{Blank}
 use Rattle.petal_rules.proofs.ListLemmas.{in_former}
@@ -30,7 +32,8 @@ use Rattle.law_state.specs.Steady.{IsSteady}
 use Rattle.law_state.proofs.Steady.{log_below, log_rev}
 use Rattle.law_steps.specs.Did.{By_read, Did}
 use Rattle.law_steps.specs.DidRead.{IsReadable, Not_here, Shows}
-use Rattle.law_steps.specs.Happens.{By_ballot, By_entry, By_job, Ends, Fails, Goes, Handled, Serving, Stays, Wakes, Worked, own_place, stopped_so, served_so, without_rev}
+use Rattle.law_steps.specs.Happens.{By_ballot, By_entry, By_job, Ends, Fails, Goes, Handled, Serving, Stays, Wakes, Worked}
+use Rattle.law_steps.specs.Happens.{own_place, stopped_so, served_so, without_rev}
 use Rattle.law_steps.proofs.Coming.{stage_facts}
 use Rattle.law_steps.proofs.Fronts.{front_itself, front_on}
 use Rattle.law_steps.proofs.Histories.{own_plain, own_steady}
@@ -39,7 +42,7 @@ use Rattle.law_steps.proofs.Serving.{server_serves}
 use Rattle.law_copies.specs.Pair.{owns_of}
 use Rattle.law_requests.specs.Asked.{IsRead}
 use Rattle.law_run.specs.Follow.{Ground}
-use Rattle.law_run.proofs.Chains.{NeverDead}
+use Rattle.law_moves.proofs.Chains.{NeverDead}
 use Rattle.law_run.proofs.Entries.{AreUpTo}
 use Rattle.law_run.proofs.Grounds.{never_dead}
 use Rattle.law_run.proofs.Looks.{Accepts, AreGrounded, ground_now, is_looked, who_accepts}
@@ -226,7 +229,8 @@ module _ (setting : Setting) (state : State) (steady : IsSteady state) where
       mapped : (o : Option ℕ) (bytes : List ℕ) (given : ℕ × List ℕ) → option_map (λ (line : ℕ). (line, bytes)) o ≡ Some given
           → (o ≡ Some given.0) × (bytes ≡ given.1)
       mapped None bytes given e = none_some refl e
-      mapped (Some line) bytes given e = let same : (line, bytes) ≡ given = same_some e in (ap (λ (g : ℕ × List ℕ). Some g.0) same, ap (λ (g : ℕ × List ℕ). g.1) same)
+      mapped (Some line) bytes given e = let same : (line, bytes) ≡ given = same_some e in
+          (ap (λ (g : ℕ × List ℕ). Some g.0) same, ap (λ (g : ℕ × List ℕ). g.1) same)
   one_data told later letter _ given says e letters there = none_some refl e
 
   in_data : (told : NotThere) (later : List Record) (letters : List Letter) (given : ℕ × List ℕ) → data_among told later letters ≡ Some given

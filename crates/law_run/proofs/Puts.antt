@@ -1,5 +1,6 @@
 -- A server's put of the copy that counts gives a block the bytes of a write under way; one of another copy changes no content.
-use Rattle.std.proofs.Common.{◌≡◌, ◌≢◌, ◌<◌, ℕ, true, Some, is_some, sym, ap, ◌∙◌, subst, ◌⊎◌, inl, inr, ◌≤◌, ◌&&◌, ◌||◌, Bool, List, Option, None, false, refl, arith}
+use Rattle.std.proofs.Common.{◌≡◌, ◌≢◌, ◌<◌, ℕ, true, Some, is_some, sym, ap, ◌∙◌, subst, ◌⊎◌, inl, inr, ◌≤◌, ◌&&◌, ◌||◌}
+use Rattle.std.proofs.Common.{Bool, List, Option, None, false, refl, arith}
 use Rattle.law_steps.proofs.Coming.{stage_facts}
 use Rattle.std.specs.Prelude.{option_and_then}
 use Rattle.law_steps.proofs.Staged.{same_cell_or_apart}
@@ -51,13 +52,15 @@ use Rattle.law_requests.specs.Known.{asked_for}
 use Rattle.law_requests.proofs.Beside.{open_beside}
 use Rattle.law_requests.proofs.Running.{open_running, pending_here}
 use Rattle.law_run.specs.Onward.{is_held, Onward}
-use Rattle.law_run.proofs.Along.{HasDisk, cell_comes, cell_named, content_is, disk_here, disks_now, has_content_is, named_epoch, named_high, named_map_is, one_row_of, plain_now, rows_in}
-use Rattle.law_run.proofs.Chains.{StoresSo, Nothing_new, An_own, An_asked, A_copy, PutsAsked, PutsCopy, copied_apart, Drops, Of_the_dead}
+use Rattle.law_run.proofs.Along.{HasDisk, cell_comes, cell_named, content_is, disk_here, disks_now, has_content_is, named_epoch}
+use Rattle.law_run.proofs.Along.{named_high, named_map_is, one_row_of, plain_now, rows_in}
+use Rattle.law_moves.proofs.Chains.{StoresSo, Nothing_new, An_own, An_asked, A_copy, PutsAsked, PutsCopy, copied_apart, Drops, Of_the_dead}
 use Rattle.law_run.proofs.Copies.{copied_uncounted}
 use Rattle.law_run.proofs.Contents.{IsGiven, AreGiven, Taken, all_given, given_held, takes_of, was_kept, now_has, now_kept, StaysAt, was_has}
 use Rattle.law_run.proofs.Entries.{entry_below, entry_put}
 use Rattle.law_run.proofs.Frames.{OwnFollow, SaysOk, CountsOk}
-use Rattle.law_run.proofs.Grounds.{Followed, followed, followed_epoch, followed_recalled, remembered, write_of, alive_or_dead, dropped_same, followed_comes, followed_frozen, followed_lacks, followed_timely, pending_timely, pending_write}
+use Rattle.law_run.proofs.Grounds.{Followed, followed, followed_epoch, followed_recalled, remembered, write_of, alive_or_dead, dropped_same, followed_comes}
+use Rattle.law_run.proofs.Grounds.{followed_frozen, followed_lacks, followed_timely, pending_timely, pending_write}
 use Rattle.law_run.proofs.Placed.{Placed, placed}
 use Rattle.law_run.proofs.ServerJobs.{PutHeld}
 use Rattle.law_run.proofs.Seats.{op_seat, lives_now, second_shares}
@@ -237,7 +240,8 @@ module _ (this : ServerStep) (same : chosen_log this.setting (later_world this) 
         ∙ over_first (is_between place.row place.block)
         ∙ bytes
       where
-        over_first : (between : Bool) → bytes_of (entry_over between (Some entry) (entry_before this.w (old_cell place.row place.block) place.row.epoch)) ≡ entry.bytes
+        over_first : (between : Bool)
+            → bytes_of (entry_over between (Some entry) (entry_before this.w (old_cell place.row place.block) place.row.epoch)) ≡ entry.bytes
         over_first true = refl
         over_first false = refl
 
@@ -463,9 +467,10 @@ module _ (this : ServerStep) (same : chosen_log this.setting (later_world this) 
         let k = replay this.m taken.es in
         takes_of this taken (job k taken.onward held) (counts k) (says k taken.onward)
 
-    own_told : (op : Pending) (is : at cell_cmp own.pairs.pending op.cell ≡ Some op) (unput : op.stage.put ≡ false) (entry : Stored) (bytes : entry.bytes ≡ op.bytes)
+    own_told : (op : Pending) (is : at cell_cmp own.pairs.pending op.cell ≡ Some op) (unput : op.stage.put ≡ false) (entry : Stored)
+        (bytes : entry.bytes ≡ op.bytes)
         (chains : (new this).store.chains ≡ chains_with own.store.chains op.key entry)
-        → Jobs (An_own (record { op = op; is = is; unput = unput; entry = entry; bytes = bytes; chains = chains })) → TakesTold this
+        → Jobs (An_own (record { op = op; is = is; fresh = unput; entry = entry; bytes = bytes; chains = chains })) → TakesTold this
     own_told op is unput entry bytes chains job = elim (some_or_none (authority chosen op.cell)) [
       | inr none ↦ other (λ e. none_some none e)
       | inl some ↦ elim (same_or_apart some.0 this.n) [
@@ -486,7 +491,8 @@ module _ (this : ServerStep) (same : chosen_log this.setting (later_world this) 
             (λ mine. ap (λ c. chain_in c (named_cell row b)) chains
             ∙ chain_apart own.store.chains (cell_of op.key) _ (named_cell row b)
             (λ e. never (ap (authority chosen) (sym keyed ∙ sym e) ∙ mine))))) in
-            told_of taken (An_own (record { op = op; is = is; unput = unput; entry = entry; bytes = bytes; chains = chains })) job (λ clients e. absurd (never e))
+            told_of taken (An_own (record { op = op; is = is; fresh = unput; entry = entry; bytes = bytes; chains = chains })) job
+            (λ clients e. absurd (never e))
 
         mine : is_clients op.kind ≡ true → authority chosen op.cell ≡ Some this.n → TakesTold this
         mine clients counted =
@@ -502,7 +508,7 @@ module _ (this : ServerStep) (same : chosen_log this.setting (later_world this) 
             (pending_write this.setting this.state this.along.steady this.w firm this.ground this.n this.n op.cell op runs is clients) still) in
             let here_mine : authority chosen (cell_of op.key) ≡ Some this.n = ap (authority chosen) keyed ∙ counted in
             let taken = all_given this (given_put op.key entry epoch chains own_counts here_mine op bytes place) in
-            told_of taken (An_own (record { op = op; is = is; unput = unput; entry = entry; bytes = bytes; chains = chains })) job
+            told_of taken (An_own (record { op = op; is = is; fresh = unput; entry = entry; bytes = bytes; chains = chains })) job
             (λ clients e. put_held op.key entry epoch chains own_counts here_mine op bytes place taken)
 
         -- a fill
@@ -515,16 +521,17 @@ module _ (this : ServerStep) (same : chosen_log this.setting (later_world this) 
             ∙ this.ground.moves.fills.lacks this.n op.cell op runs is fill unput in
             let taken = all_given this (fill_given op.key entry op.bytes bytes chains own_counts here_mine one op.rev
             (this.ground.moves.fills.asked this.n op.cell op is fill) lacks) in
-            told_of taken (An_own (record { op = op; is = is; unput = unput; entry = entry; bytes = bytes; chains = chains })) job
+            told_of taken (An_own (record { op = op; is = is; fresh = unput; entry = entry; bytes = bytes; chains = chains })) job
             (λ clients e. true_false clients fill)
 
     asked_told : (a : PutsAsked hears here own (new this)) → Jobs (An_asked a) → TakesTold this
-    asked_told a job = elim (alive_or_dead chosen (cell_of a.key) (stage_facts this.setting.servers (chosen_log this.setting this.w) this.along.firm.plain (cell_of a.key)).most) [
-      | inr dead ↦ dead_told a job dead
-      | inl alive ↦
-          let f = followed this.setting this.state this.along.steady this.w this.along.firm this.ground this.n runs (new this) a alive in
-          by_bool (is_clients f.putting.op.kind) (λ clients. write_told a alive f clients job) (λ fill. fill_told a alive f fill job)
-    ]
+    asked_told a job = elim (alive_or_dead chosen (cell_of a.key)
+        (stage_facts this.setting.servers (chosen_log this.setting this.w) this.along.firm.plain (cell_of a.key)).most) [
+          | inr dead ↦ dead_told a job dead
+          | inl alive ↦
+              let f = followed this.setting this.state this.along.steady this.w this.along.firm this.ground this.n runs (new this) a alive in
+              by_bool (is_clients f.putting.op.kind) (λ clients. write_told a alive f clients job) (λ fill. fill_told a alive f fill job)
+        ]
       where
         same_op : (a : PutsAsked hears here own (new this)) (f g : FollowedHere a) → f.putting.op ≡ g.putting.op
         same_op a f g =
@@ -595,7 +602,7 @@ module _ (this : ServerStep) (same : chosen_log this.setting (later_world this) 
     -- a job that changes at most one chain
     pub stored_told : (s : StoresSo hears here own (new this)) → Jobs s → TakesTold this
     stored_told (Nothing_new chains) job = calm_told chains (λ k onward. job k onward tt) says
-    stored_told (An_own p) job = own_told p.op p.is p.unput p.entry p.bytes p.chains job
+    stored_told (An_own p) job = own_told p.op p.is p.fresh p.entry p.bytes p.chains job
     stored_told (An_asked a) job = asked_told a job
     stored_told (A_copy c) job = copy_told c job
     stored_told (Of_the_dead d) job = dead_drops d job

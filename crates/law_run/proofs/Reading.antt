@@ -95,7 +95,8 @@ module _ (setting : Setting) (w : World) (firm : Firm setting w) (front : List C
   grown = log_grown setting.servers front (chosen_log setting w) firm.plain lies
 
   -- the disk of a read, by these entries and by what is chosen
-  pub record IsOfDisk (lines : List Line) (client seq : ℕ) (told : Bool) (cell : Cell) (epoch : ℕ) (read : IsRead s lines client seq told cell epoch) : Type 0 where
+  pub record IsOfDisk (lines : List Line) (client seq : ℕ) (told : Bool) (cell : Cell) (epoch : ℕ)
+      (read : IsRead s lines client seq told cell epoch) : Type 0 where
     pub was : DiskRow
     pub was_there : In was s.disks.rows
     pub asked : (told : Bool) → has_map (cell_asked s read.disk read.block told).map was ≡ true

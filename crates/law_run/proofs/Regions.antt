@@ -1,6 +1,7 @@
 -- What is chosen grows: by which cells a block's content is told after a step, and before it. A region that begins its way has what counted at the
 -- old map, and one that has come has at the new one all that was frozen.
-use Rattle.std.proofs.Common.{◌≡◌, ◌≢◌, ◌≤◌, ◌<◌, ◌&&◌, ◌||◌, not, ℕ, Bool, List, [], true, false, Option, Some, None, is_some, refl, sym, ap, ◌∙◌, subst, ◌⊎◌, inl, inr, arith}
+use Rattle.std.proofs.Common.{◌≡◌, ◌≢◌, ◌≤◌, ◌<◌, ◌&&◌, ◌||◌, not, ℕ, Bool, List, [], true, false, Option, Some, None, is_some}
+use Rattle.std.proofs.Common.{refl, sym, ap, ◌∙◌, subst, ◌⊎◌, inl, inr, arith}
 use Rattle.std.proofs.lemmas.Bool.{cases_lt}
 use Rattle.std.specs.Prelude.{if◌then◌else◌, option_and_then, option_map, slice_get}
 use Rattle.petal_base.specs.declared.cell.Cell.{Cell}
@@ -23,7 +24,8 @@ use Rattle.law_state.proofs.Places.{get_in}
 use Rattle.law_state.proofs.Rows.{HasRowLater}
 use Rattle.law_steps.proofs.Coming.{stage_facts}
 use Rattle.law_moves.specs.Fills.{Has}
-use Rattle.law_run.proofs.Along.{HasDisk, cell_comes, cell_leaves, cell_lives, cell_named, cell_old, content_is, disk_here, disks_now, has_content_is, later_row, named_comes, named_high, named_lives, named_low, named_map_is, old_leaves, plain_now, rows_in, stage_here}
+use Rattle.law_run.proofs.Along.{HasDisk, cell_comes, cell_leaves, cell_lives, cell_named, cell_old, content_is, disk_here, disks_now, has_content_is}
+use Rattle.law_run.proofs.Along.{later_row, named_comes, named_high, named_lives, named_low, named_map_is, old_leaves, plain_now, rows_in, stage_here}
 use Rattle.law_run.proofs.Contents.{now_has, now_kept, was_has, was_kept}
 use Rattle.law_run.proofs.Counting.{counts_serves}
 use Rattle.law_run.proofs.Fills.{old_source}
@@ -299,7 +301,8 @@ module _ (this : ServerStep) where
           of_map None e = e
           of_map (Some i) e = refl
 
-          by : (c : Bool) → (c && (is_some {T = Stored} None || is_some (chain_that_counts this.setting v named))) ≡ true → is_some (authority after named) ≡ true
+          by : (c : Bool) → (c && (is_some {T = Stored} None || is_some (chain_that_counts this.setting v named))) ≡ true
+              → is_some (authority after named) ≡ true
           by true e = of_map (authority after named) e
           by false e = true_false e refl
 

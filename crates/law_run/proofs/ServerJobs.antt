@@ -34,7 +34,8 @@ use Rattle.law_state.proofs.Alone.{alone_not_both, so_both}
 use Rattle.law_state.proofs.Cells.{led_by, second_by}
 use Rattle.law_state.proofs.Roles.{secondary_is_one}
 use Rattle.law_steps.specs.Operations.{answering, putting}
-use Rattle.law_steps.specs.DidLead.{DidLead, Taken, Asks_for, Repeats, Is_full, Gives_up, Opens, Marks, Puts, Unmarks, Closes, Opens_alone, Marks_alone, Puts_alone, Unmarks_alone, Closes_alone, Opens_fill, Opens_fill_alone, Has_fill, Has_no_room, Goes_on_dead}
+use Rattle.law_steps.specs.DidLead.{DidLead, Taken, Asks_for, Repeats, Is_full, Gives_up, Opens, Marks, Puts, Unmarks, Closes, Opens_alone, Marks_alone}
+use Rattle.law_steps.specs.DidLead.{Puts_alone, Unmarks_alone, Closes_alone, Opens_fill, Opens_fill_alone, Has_fill, Has_no_room, Goes_on_dead}
 use Rattle.law_steps.specs.DidSecond.{DidSecond, Sets_apart, Promises, Declines, Follows}
 use Rattle.law_steps.specs.DidOther.{DidOther}
 use Rattle.law_steps.specs.Did.{Did, Ignores, Refuses, By_read, By_lead, By_second, By_holder, By_other, By_filler, By_sweep}
@@ -54,13 +55,15 @@ use Rattle.law_requests.proofs.Leads.{one_lead}
 use Rattle.law_requests.specs.Asked.{IsOpen}
 use Rattle.law_run.specs.Onward.{is_held, Onward}
 use Rattle.law_run.specs.Follow.{HasCounted, Is_told, Is_followed, Is_counted}
-use Rattle.law_run.proofs.Chains.{Drops, NeverDead, StoresSo, Nothing_new, An_own, An_asked, A_copy, Of_the_dead, OtherStores, PutsAsked, PutsCopy, PutsOwn, copied_apart, did_stores, holder_chains, lead_stores, other_changes, second_stores, swept}
+use Rattle.law_moves.proofs.Chains.{Drops, NeverDead, StoresSo, Nothing_new, An_own, An_asked, A_copy, Of_the_dead, OtherStores, PutsAsked, PutsCopy, PutsOwn}
+use Rattle.law_moves.proofs.Chains.{copied_apart, did_stores, holder_chains, lead_stores, other_changes, second_stores, swept}
 use Rattle.law_run.proofs.Copies.{copied_unfollowed}
 use Rattle.law_run.proofs.Frames.{OwnFollow, kept_finished, own_counted}
 use Rattle.law_run.proofs.Entries.{not_ahead}
 use Rattle.law_run.proofs.Grounds.{Followed, dropped_same, followed}
 use Rattle.law_run.proofs.Machine.{held_onward}
-use Rattle.law_run.proofs.Seats.{IsSharing, first_ok, heard_shared, one_place_of, op_alone, op_lead, op_leads, op_seat, op_shared, peer, place_of, shared_or_alone, shared_store, store_there, visit_here, alive_here}
+use Rattle.law_run.proofs.Seats.{IsSharing, first_ok, heard_shared, one_place_of, op_alone, op_lead, op_leads, op_seat, op_shared, peer, place_of}
+use Rattle.law_run.proofs.Seats.{shared_or_alone, shared_store, store_there, visit_here, alive_here}
 use Rattle.law_run.proofs.Steps.{ServerStep, joined_now, joined_then, kept_here, later_world, new as own_left, own_after}
 
 module _ (this : ServerStep) (k : Plain) where
@@ -210,7 +213,8 @@ module _ (this : ServerStep) (k : Plain) where
     not_both cell alone both = true_false both (alone_not_both here.state this.n cell alone)
 
     -- an operation that is taken up has had its bytes once it is put
-    taken_held : (now : Own) (op new : Pending) → Taken own now op → is_alone_on here.state this.n op.cell ≡ true → new.kind ≡ op.kind → new.client ≡ op.client → new.seq ≡ op.seq
+    taken_held : (now : Own) (op new : Pending) → Taken own now op → is_alone_on here.state this.n op.cell ≡ true → new.kind ≡ op.kind
+        → new.client ≡ op.client → new.seq ≡ op.seq
         → (new.stage.put ≡ true → op.stage.put ≡ true) → (chain : Chain) → Counted op.cell new chain → Held new
     taken_held now op new taken alone kind client seq put chain (Is_told both e) clients still = not_both op.cell alone both
     taken_held now op new taken alone kind client seq put chain (Is_followed row linked both shared e same) clients still =
@@ -504,7 +508,8 @@ module _ (this : ServerStep) (k : Plain) where
       asked_second new a held same = elim (same_cell_or_apart cell (cell_of a.key)) [
         | inr ne ↦ inl (same ∙ ap (λ c. chain_in c cell) a.chains ∙ chain_apart own.store.chains (cell_of a.key) _ cell ne)
         | inl e ↦
-            let f = followed this.setting this.state this.along.steady this.w this.along.firm this.ground this.n runs new a (subst (AliveIn (chosen_state this.setting this.w)) e shares.alive) in
+            let f = followed this.setting this.state this.along.steady this.w this.along.firm this.ground this.n runs new a
+            (subst (AliveIn (chosen_state this.setting this.w)) e shares.alive) in
             let shares' : IsSharing this.setting this.state this.w this.along.firm this.ground p (cell_of a.key) row =
             subst (λ (c : Cell). IsSharing this.setting this.state this.w this.along.firm this.ground p c row) e shares in
             let at_one = one_place_of this.setting this.state this.w this.along.firm this.ground this.n p

@@ -39,14 +39,15 @@ use Rattle.petal_history.specs.Events.{accepted}
 use Rattle.petal_history.specs.declared.record.Record.{Record}
 use Rattle.law_state.specs.Tables.{IsGrown}
 use Rattle.law_steps.specs.Did.{Did, By_read}
-use Rattle.law_steps.specs.Happens.{Handled, Worked, By_job, By_ballot, By_entry, IsSeated, Serving, Goes, Ends, Stays, Wakes, Fails, own_place, without_rev, served_so, stopped_so}
+use Rattle.law_steps.specs.Happens.{Handled, Worked, By_job, By_ballot, By_entry, IsSeated, Serving, Goes, Ends, Stays, Wakes, Fails}
+use Rattle.law_steps.specs.Happens.{own_place, without_rev, served_so, stopped_so}
 use Rattle.law_steps.proofs.Letters.{said}
 use Rattle.law_steps.proofs.Serving.{chosen_same}
 use Rattle.law_copies.specs.Pair.{owns_of}
 use Rattle.law_run.specs.Follow.{Ground, Follow}
 use Rattle.law_run.specs.Onward.{Onward}
 use Rattle.law_run.proofs.Along.{Along, rows_in}
-use Rattle.law_run.proofs.Chains.{did_stores, NeverDead}
+use Rattle.law_moves.proofs.Chains.{did_stores, NeverDead}
 use Rattle.law_run.proofs.Frames.{AreKept, As_before, Anew, OwnFollow, Runs, SaysOk, kept_own}
 use Rattle.law_run.proofs.LogSteps.{IsOfKind, Of_the_log, Of_a_boot, Of_the_rest}
 use Rattle.law_run.proofs.Looks.{is_looked, AreGrounded, who_accepts}

@@ -1,5 +1,6 @@
 -- A read's data are those that the machine has.
-use Rattle.std.proofs.Common.{◌≡◌, ◌≤◌, ◌==◌, ℕ, List, [], ◌∷◌, ◌++◌, Bool, true, Option, Some, None, is_some, refl, sym, ap, ◌∙◌, subst, inl, inr, arith, ◌⊎◌, ◌<◌, false}
+use Rattle.std.proofs.Common.{◌≡◌, ◌≤◌, ◌==◌, ℕ, List, [], ◌∷◌, ◌++◌, Bool, true, Option, Some, None, is_some, refl, sym, ap}
+use Rattle.std.proofs.Common.{◌∙◌, subst, inl, inr, arith, ◌⊎◌, ◌<◌, false}
 use Rattle.std.specs.List.{flat_map}
 use Rattle.std.proofs.lemmas.Bool.{cases_lt}
 use Rattle.petal_state.specs.CellState.{has_map, named_cell, serves}
@@ -19,7 +20,8 @@ use Rattle.law_run.specs.Follow.{Follow}
 use Rattle.law_run.specs.Onward.{IsMindful}
 use Rattle.law_run.proofs.Machine.{onward_itself}
 use Rattle.law_run.proofs.Named.{entry_over, has_over, is_between}
-use Rattle.law_run.proofs.Reading.{AsksFor, IsAskedAt, IsKnownRead, IsOfDisk, known_read, may_look, of_disk, own_epoch, own_up_to, reader_serves, reads_old_is, same_disk}
+use Rattle.law_run.proofs.Reading.{AsksFor, IsAskedAt, IsKnownRead, IsOfDisk, known_read, may_look, of_disk, own_epoch}
+use Rattle.law_run.proofs.Reading.{own_up_to, reader_serves, reads_old_is, same_disk}
 use Rattle.std.specs.Prelude.{option_and_then, option_map, if◌then◌else◌}
 use Rattle.petal_base.specs.declared.cell.Cell.{Cell}
 use Rattle.petal_command.specs.declared.command.Command.{Command}
@@ -295,9 +297,11 @@ module _ (this : ServerStep) where
 
   -- where the contents are as before, the machine has what the server shows
   module _ (cell : Cell) (r : IsReading cell) (client seq epoch : ℕ) (k : IsKnownRead this.setting this.w this.n client seq cell epoch) where
-    abbrev pub of : IsOfDisk this.setting this.w this.along.firm (this.w.servers this.n).log.applied (this.along.firm.servers this.n) lines client seq k.told cell epoch
+    abbrev pub of : IsOfDisk this.setting this.w this.along.firm (this.w.servers this.n).log.applied
+        (this.along.firm.servers this.n) lines client seq k.told cell epoch
         k.read
-    of = of_disk this.setting this.w this.along.firm (this.w.servers this.n).log.applied (this.along.firm.servers this.n) lines client seq k.told cell epoch k.read
+    of = of_disk this.setting this.w this.along.firm (this.w.servers this.n).log.applied
+        (this.along.firm.servers this.n) lines client seq k.told cell epoch k.read
 
     now_disk : HasDisk this.setting.servers chosen (plain_now this.setting this.w this.along.firm) (disks_now this.setting this.w this.along.firm) cell
     now_disk = disk_here this.setting.servers chosen (plain_now this.setting this.w this.along.firm) (disks_now this.setting this.w this.along.firm) cell
@@ -323,7 +327,8 @@ module _ (this : ServerStep) where
     same_above = same_chain cell of.has (chain_in own.store.chains cell)
         (own_up_to this.setting this.state this.w this.along.firm this.ground this.n cell r.runs r.seat)
 
-    pub read_content : (there : entry_at (chain_in own.store.chains cell) epoch ≡ None → coming own_state cell ≡ false) → (e : ℕ) → IsAskedAt epoch k.read.snap e
+    pub read_content : (there : entry_at (chain_in own.store.chains cell) epoch ≡ None → coming own_state cell ≡ false) → (e : ℕ)
+        → IsAskedAt epoch k.read.snap e
         → (was_has this of.row e k.read.block ≡ true) × (was_kept this of.row e k.read.block ≡ data_of cell epoch)
     read_content there e asked =
         let same = same_above e asked in
@@ -374,7 +379,8 @@ module _ (this : ServerStep) where
       let r : IsReading cell = record { runs = runs; seat = readable.seated; may = readable.readable; unheld = readable.unheld; idle = none; stays = f } in
       let known = known_read this.setting this.state this.w this.along.firm this.ground this.n client seq cell epoch readable.asked in
       let o = of cell r client seq epoch known in
-      let may = look_may same calm k following o.row o.there epoch known.read.block bytes known.read.snap o.asks (read_content cell r client seq epoch known there) in
+      let may = look_may same calm k following o.row o.there epoch known.read.block bytes known.read.snap o.asks
+      (read_content cell r client seq epoch known there) in
       subst (λ es. Looked k (es ++ [])) (sym (ap (λ b. if b then [] else looks_for) (old_is ∙ f)))
       (all_looked k o.row.name known.read.snap known.read.block bytes may following.stores.mindful looks_for
       (letter_looks lines numbered letter seq client o.row.name known.read.snap known.read.block bytes known.read.line to known.read.is

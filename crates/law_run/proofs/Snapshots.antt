@@ -1,5 +1,6 @@
 -- The machine's snapshots are those of the chosen disks; and a freeze takes one more.
-use Rattle.std.proofs.Common.{◌≡◌, ◌≢◌, ◌≤◌, ◌+◌, ℕ, zero, suc, List, [], ◌∷◌, ◌++◌, Bool, true, Some, None, refl, sym, ap, ◌∙◌, subst, inl, inr, arith, append_assoc, length, cond}
+use Rattle.std.proofs.Common.{◌≡◌, ◌≢◌, ◌≤◌, ◌+◌, ℕ, zero, suc, List, [], ◌∷◌, ◌++◌, Bool, true, Some, None, refl, sym, ap, ◌∙◌}
+use Rattle.std.proofs.Common.{subst, inl, inr, arith, append_assoc, length, cond}
 use Rattle.std.specs.Prelude.{find, map, slice_get}
 use Rattle.std.proofs.lemmas.List.{append-nil, length-append}
 use Rattle.global_tables.specs.Disk.{same_name, snapshot_named}
@@ -97,7 +98,8 @@ AreNext done [] = Unit {0}
 AreNext done (snap ∷ more) = (snap.epoch ≡ length done) × ((other : Snapshot) → In other done → other.name ≢ snap.name) × AreNext (done ++ snap ∷ []) more
 
 -- the machine after snapshots of the disk were taken, so that it has these
-pub record Frozen (row : DiskRow) (has : (epoch block : ℕ) → Bool) (contents : (epoch block : ℕ) → List ℕ) (m : Plain) (es : List Event) (snaps : List Snapshot) : Type 0 where
+pub record Frozen (row : DiskRow) (has : (epoch block : ℕ) → Bool) (contents : (epoch block : ℕ) → List ℕ) (m : Plain) (es : List Event)
+    (snaps : List Snapshot) : Type 0 where
   pub may : Obeys m es
   pub known : Holds (replay m es).disks (as_of row snaps) has contents
   pub others : (name : List ℕ) → name ≢ row.name → disk_of (replay m es).disks name ≡ disk_of m.disks name

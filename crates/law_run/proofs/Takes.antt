@@ -1,5 +1,6 @@
 -- What the machine is told of contents that change.
-use Rattle.std.proofs.Common.{◌≡◌, ◌<◌, ◌==◌, ◌&&◌, ◌||◌, not, Bool, ℕ, List, [], ◌∷◌, true, false, Option, Some, None, refl, sym, ap, ◌∙◌, subst, ◌⊎◌, inl, inr, arith}
+use Rattle.std.proofs.Common.{◌≡◌, ◌<◌, ◌==◌, ◌&&◌, ◌||◌, not, Bool, ℕ, List, [], ◌∷◌, true, false, Option, Some, None}
+use Rattle.std.proofs.Common.{refl, sym, ap, ◌∙◌, subst, ◌⊎◌, inl, inr, arith}
 use Rattle.std.specs.Prelude.{map}
 use Rattle.std.specs.List.{range_with_len, filter_map, flat_map}
 use Rattle.std.proofs.lemmas.Cmp.{nat_list_eq_equiv}
@@ -17,9 +18,11 @@ use Rattle.petal_rules.specs.Store.{Chain, cell_cmp}
 use Rattle.petal_rules.specs.Clients.{Asked}
 use Rattle.petal_rules.specs.World.{World}
 use Rattle.petal_rules.proofs.CellTables.{cell_cmp_same}
-use Rattle.petal_history.specs.Events.{Change, before_step, after_step, had_content, has_content_next, open_write, write_by, write_asked, blocks_of, blocks_in, changed_blocks, is_changed, writes_so, taker, taken, takes_on, takes, all_there, with_first}
+use Rattle.petal_history.specs.Events.{Change, before_step, after_step, had_content, has_content_next, open_write, write_by, write_asked, blocks_of, blocks_in}
+use Rattle.petal_history.specs.Events.{changed_blocks, is_changed, writes_so, taker, taken, takes_on, takes, all_there, with_first}
 use Rattle.petal_rules.proofs.Tests.{by_bool, true_false, both_true, same_numbers, number_itself, nat_lists_same, none_some, same_some}
-use Rattle.law_run.proofs.Members.{all_empty, into_map, of_map, into_flat_map, of_flat_map, into_range, into_filter, of_filter, none_pass, into_filter_map, of_filter_map, found_one, row_at, key_at, put_key}
+use Rattle.law_run.proofs.Members.{all_empty, into_map, of_map, into_flat_map, of_flat_map, into_range, into_filter, of_filter, none_pass}
+use Rattle.law_run.proofs.Members.{into_filter_map, of_filter_map, found_one, row_at, key_at, put_key}
 
 unlike : (xs ys : List ℕ) → xs ≡ ys → not (same_bytes xs ys) ≡ false
 unlike xs ys e = ap (λ zs. not (same_bytes xs zs)) (sym e) ∙ ap not (nat_list_eq_equiv.refl xs)
@@ -86,7 +89,8 @@ module _ (change : Change) where
   pub no_takes : ((row : DiskRow) → In row rows → (b : ℕ) → has_content_next change row b ≡ true → IsAsBefore row b) → takes change ≡ Some []
   no_takes same = ap all_there (all_empty (takes_on change) rows (λ row h.
       ap (map (λ b. taken (taker change.w row.name b (after_step change row b))))
-      (none_pass (is_changed change row) (blocks_in change.setting change.next) (λ b i. and_when _ _ (λ has. let k = same row h b has in same_there _ _ _ k.0 k.1)))))
+      (none_pass (is_changed change row) (blocks_in change.setting change.next)
+      (λ b i. and_when _ _ (λ has. let k = same row h b has in same_there _ _ _ k.0 k.1)))))
 
   -- a block of which a server has an entry is among those that are looked at
   pub block_there : (n map block : ℕ) (chain : Chain) → n < change.setting.servers

@@ -1,6 +1,7 @@
 -- What is chosen grows: where a cell's second server leaves, and the first one is one put ahead, the first one's write is taken; and where
 -- a link is in Both again, or held by the other server, the copies are equal. Of a link that is Lost nothing is told.
-use Rattle.std.proofs.Common.{◌≡◌, ◌<◌, ◌+◌, ◌==◌, ◌++◌, ℕ, Bool, [], ◌∷◌, true, false, Some, None, is_some, refl, sym, ap, ◌∙◌, subst, ◌⊎◌, inl, inr, arith, ◌≢◌, List, ◌≤◌, ◌&&◌, ◌||◌, Option, length}
+use Rattle.std.proofs.Common.{◌≡◌, ◌<◌, ◌+◌, ◌==◌, ◌++◌, ℕ, Bool, [], ◌∷◌, true, false, Some, None, is_some, refl, sym, ap, ◌∙◌, subst, ◌⊎◌}
+use Rattle.std.proofs.Common.{inl, inr, arith, ◌≢◌, List, ◌≤◌, ◌&&◌, ◌||◌, Option, length}
 use Rattle.std.specs.Ordering.{nat_cmp}
 use Rattle.petal_base.specs.Cells.{cell_of}
 use Rattle.law_steps.proofs.Coming.{stage_facts}
@@ -59,7 +60,8 @@ use Rattle.law_requests.proofs.Leads.{leader_alone, same_only}
 use Rattle.law_requests.proofs.Running.{open_at_place}
 use Rattle.law_run.specs.Onward.{is_held}
 use Rattle.law_run.specs.Follow.{IsRemembered, Is_followed}
-use Rattle.law_run.proofs.Along.{rows_in, disks_now, plain_now, cell_comes, content_is, has_content_is, named_epoch, named_low, named_map_is, one_row_of, named_high}
+use Rattle.law_run.proofs.Along.{rows_in, disks_now, plain_now, cell_comes, content_is, has_content_is, named_epoch}
+use Rattle.law_run.proofs.Along.{named_low, named_map_is, one_row_of, named_high}
 use Rattle.law_run.proofs.Contents.{IsGiven, AreGiven, Taken, all_given, given_held, takes_of, was_kept, now_has, now_kept, StaysAt, was_has}
 use Rattle.law_run.proofs.Entries.{entry_below, entry_put}
 use Rattle.law_run.proofs.Filled.{been_within, caught_visit, serving_same, visits}
@@ -466,7 +468,8 @@ module _ (this : ServerStep) (same_store : (new this).store.chains ≡ (owns_of 
 
   -- by how a cell goes on: its entries stay, or nothing counts any more; or the first server is a put ahead, of a client's write or of a fill
   data Turns (cell : Cell) : Type 0 where
-    Is_same : is_some (authority chosen cell) ≡ true → ((e : ℕ) → entry_of chosen (counted this.setting this.w) cell e ≡ entry_of after (counted this.setting v) cell e)
+    Is_same : is_some (authority chosen cell) ≡ true
+        → ((e : ℕ) → entry_of chosen (counted this.setting this.w) cell e ≡ entry_of after (counted this.setting v) cell e)
         → Turns cell
     Is_gone : authority after cell ≡ None → Turns cell
     Is_written : (left : IsLeftToFirst cell) (a : IsPutAhead cell left) → is_clients a.op.kind ≡ true → Turns cell
@@ -607,10 +610,12 @@ module _ (this : ServerStep) (same_store : (new this).store.chains ≡ (owns_of 
         let q = left.link.secondary in
         let keyed : cell_of a.op.key ≡ cell =
         this.ground.moves.keyed left.link.primary (spot cell left) cell a.own.pairs a.op (was_there cell left a.own a.visit a.op a.is a.ahead fill) a.is in
-        let high = named_high this.setting.servers chosen (plain_now this.setting this.w this.along.firm) (disks_now this.setting this.w this.along.firm) row h b in
+        let high = named_high this.setting.servers chosen (plain_now this.setting this.w this.along.firm)
+        (disks_now this.setting this.w this.along.firm) row h b in
         let one = fill_comes cell left a.own a.visit a.op a.is a.ahead fill (omega arith) in
         let frozen = fill_frozen cell left a.own a.visit a.op a.is a.ahead fill in
-        let there = fill_there this.setting this.state this.w this.along.firm this.ground a.op.key a.op.bytes (ap (stage_at chosen) keyed ∙ one) a.op.rev frozen row h
+        let there = fill_there this.setting this.state this.w this.along.firm this.ground a.op.key a.op.bytes
+        (ap (stage_at chosen) keyed ∙ one) a.op.rev frozen row h
         (ap (λ (c : Cell). has_map c.map row) keyed ∙ named_map_is this.setting.servers chosen (plain_now this.setting this.w this.along.firm)
         (disks_now this.setting this.w this.along.firm) row h b) q (ap (authority chosen) keyed ∙ left.was)
         (chain_in (kept this.setting this.w q).chains cell) (ap (chain_in (kept this.setting this.w q).chains) keyed) lacks in
@@ -622,10 +627,13 @@ module _ (this : ServerStep) (same_store : (new this).store.chains ≡ (owns_of 
         let before : entry_before this.w old e ≡ entry_at frozen.before e = ap (option_and_then (λ c. entry_at c e)) frozen_here in
         let same : SameOver e =
         (λ i. bytes_of (first_entry (was_second cell left a.own a.visit a.op a.is a.ahead e i) (before i)))
-        ∙ fill_same (chain_in (kept this.setting this.w q).chains cell) frozen.before a.op.key.epoch (entry cell left a.own a.visit a.op a.is a.ahead) a.op.bytes refl there e
+        ∙ fill_same (chain_in (kept this.setting this.w q).chains cell) frozen.before a.op.key.epoch
+        (entry cell left a.own a.visit a.op a.is a.ahead) a.op.bytes refl there e
         ∙ sym (λ i. bytes_of (first_entry (now_first cell left a.own a.visit a.op a.is a.ahead e i) (before i))) in
-        let between = cell_comes this.setting.servers chosen (plain_now this.setting this.w this.along.firm) (disks_now this.setting this.w this.along.firm) row h
-        cell (named_map_is this.setting.servers chosen (plain_now this.setting this.w this.along.firm) (disks_now this.setting this.w this.along.firm) row h b) one in
+        let between =
+        cell_comes this.setting.servers chosen (plain_now this.setting this.w this.along.firm) (disks_now this.setting this.w this.along.firm) row h
+        cell (named_map_is this.setting.servers chosen (plain_now this.setting this.w this.along.firm) (disks_now this.setting this.w this.along.firm) row h b)
+        one in
         stays_now (ap is_some left.was) e (λ apart. true_false between apart) (λ t. same) (λ t some. inr (ap is_some frozen_here)) (is_now this row h b)
 
   -- ### A client's write
@@ -638,7 +646,8 @@ module _ (this : ServerStep) (same_store : (new this).store.chains ≡ (owns_of 
     written_bytes : now_kept this put_at.row put_at.row.epoch put_at.block ≡ a.op.bytes
     written_bytes = by (is_now this put_at.row put_at.there put_at.block)
       where
-        there_now : entry_of after (counted this.setting v) (named_cell put_at.row put_at.block) put_at.row.epoch ≡ Some (entry cell left a.own a.visit a.op a.is a.ahead)
+        there_now : entry_of after (counted this.setting v) (named_cell put_at.row put_at.block) put_at.row.epoch
+            ≡ Some (entry cell left a.own a.visit a.op a.is a.ahead)
         there_now = ap (λ (c : Cell). entry_of after (counted this.setting v) c put_at.row.epoch) (sym put_at.at_block)
             ∙ now_entry cell left a.own a.visit a.op a.is a.ahead clients
 
@@ -669,7 +678,8 @@ module _ (this : ServerStep) (same_store : (new this).store.chains ≡ (owns_of 
     -- and it has had them, where the cell takes writes still
     written_held : stage_at after cell ≤ 2 → (taken : Taken this) → is_held (replay this.m taken.es) a.op.client ≡ true
     written_held most taken =
-        given_held this (replay this.m taken.es) taken.onward taken.stores put_at.row put_at.there put_at.block a.op.client put_at.write (has_now (is_now this put_at.row put_at.there put_at.block))
+        given_held this (replay this.m taken.es) taken.onward taken.stores put_at.row put_at.there put_at.block a.op.client put_at.write
+        (has_now (is_now this put_at.row put_at.there put_at.block))
         put_at.under_way put_at.disk_is put_at.block_is (put_at.bytes_is ∙ sym written_bytes)
       where
         counts : is_some (authority after (named_cell put_at.row put_at.block)) ≡ true

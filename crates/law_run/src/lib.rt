@@ -23,7 +23,8 @@ pub fn events_are_a_run()
 /// After it, the machine has the disks of the chosen state, each with the contents of the world and of its snapshots, by the stores that
 /// count and but for blocks of links that are Lost, and no other.
 pub fn contents_are_the_machines()
-    ensures { (script : Script) (records : List Record) → IsSound script → IsLegal script records → AreHeld (setting_of script) (world_after (setting_of script) (start (setting_of script)) records) (machine_after (events_of script records)).disks }
+    ensures { (script : Script) (records : List Record) → IsSound script → IsLegal script records
+        → AreHeld (setting_of script) (world_after (setting_of script) (start (setting_of script)) records) (machine_after (events_of script records)).disks }
 {}
 
 /// The whole law: every legal history of a sound script keeps agreement, the two-copy rule, that of empty stores and those of requests and

@@ -1,5 +1,6 @@
 -- What a taken line
-use Rattle.std.proofs.Common.{◌≡◌, ℕ, ◌+◌, Bool, true, false, not, ◌||◌, List, [], ◌∷◌, ◌++◌, length, refl, ap, subst, ◌∙◌, Option, Some, None, Result, Ok, Err, ◌⊎◌, inl, inr, cond, codes, nat_lt}
+use Rattle.std.proofs.Common.{◌≡◌, ℕ, ◌+◌, Bool, true, false, not, ◌||◌, List, [], ◌∷◌, ◌++◌, length, refl, ap, subst, ◌∙◌, Option, Some}
+use Rattle.std.proofs.Common.{None, Result, Ok, Err, ◌⊎◌, inl, inr, cond, codes, nat_lt}
 use Rattle.std.specs.List.{list_all}
 use Rattle.std.specs.Char.{is_ascii}
 use Rattle.script_words.specs.Text.{words_of}
@@ -7,7 +8,8 @@ use Rattle.script_words.specs.Words.{Word, is_word, ◌>>=◌, front_word, no_wo
 use Rattle.petal_script.specs.Client.{client_request}
 use Rattle.petal_script.specs.Operator.{operator_request}
 use Rattle.script_lines.specs.declared.script.Script.{Script}
-use Rattle.petal_script.specs.Script.{TextLine, script_of, text_lines, first_line, line_verdict, later_line, line_by, adds, client_of, is_skipped, too_many, no_majority}
+use Rattle.petal_script.specs.Script.{TextLine, script_of, text_lines, first_line, line_verdict, later_line, line_by, adds}
+use Rattle.petal_script.specs.Script.{client_of, is_skipped, too_many, no_majority}
 use Rattle.law_script.specs.Laws.{Does, skipped, nets, waits, asks, Asks, line_at, Taken, Follows, IsAccepted}
 use Rattle.law_script.proofs.Firsts.{is_script}
 use Rattle.script_words.specs.declared.cause.Cause.{Cause}
@@ -52,12 +54,14 @@ adds_ok s t number client request is =
       after = after;
     }
 
-asks_ok : (s t : Script) (told : TextLine) (first : Word) (words : List Word) (client : ℕ) (request : Request) → words_of told.text ≡ first ∷ words → Asks s.servers first words client request → adds s told.number client request ≡ Ok t → Does s told t
+asks_ok : (s t : Script) (told : TextLine) (first : Word) (words : List Word) (client : ℕ) (request : Request) → words_of told.text ≡ first ∷ words
+    → Asks s.servers first words client request → adds s told.number client request ≡ Ok t → Does s told t
 asks_ok s t told first words client request spelled asked is =
     let a = adds_ok s t told.number client request is in
     asks first words client request spelled asked a.few a.many a.after
 
-line_ok : (s t : Script) (told : TextLine) (first : Word) (words : List Word) → words_of told.text ≡ first ∷ words → line_by s told.number first words ≡ Ok t → Does s told t
+line_ok : (s t : Script) (told : TextLine) (first : Word) (words : List Word) → words_of told.text ≡ first ∷ words
+    → line_by s told.number first words ≡ Ok t → Does s told t
 line_ok s t told first words spelled taken =
     let later = passed (is_word first (codes "servers")) BadLine _ t taken in
     elim (chosen (is_word first (codes "net")) _ _ (Ok t) later.1) [
@@ -86,7 +90,8 @@ later_ok s t told is =
     let r = bind_ok (front_word (words_of told.text)) (λ first. line_by s told.number first.0 first.1) t is in
     line_ok s t told r.0.0 r.0.1 (front_ok (words_of told.text) r.0 r.1) r.2
 
-pub taken_does : (s : Script) (told : TextLine) (after : Option Script) → line_verdict (Some s) told ≡ Ok after → (t : Script) × (after ≡ Some t) × Does s told t
+pub taken_does : (s : Script) (told : TextLine) (after : Option Script) → line_verdict (Some s) told ≡ Ok after
+    → (t : Script) × (after ≡ Some t) × Does s told t
 unfolding line_verdict
 taken_does s told after is =
     let ascii = passed (not (list_all is_ascii told.text)) NotAscii _ after is in
@@ -106,7 +111,8 @@ follows (told ∷ more) s t taken =
     let P : Option Script → Type 0 = λ o. Taken more o (Some t) in
     (d.0, d.2, follows more d.0 t (subst P d.1 taken.2))
 
-begun : (told : TextLine) (after : Option Script) → line_verdict None told ≡ Ok after → ((is_skipped told.text ≡ true) × (after ≡ None)) ⊎ ((s : Script) × (after ≡ Some s) × (first_line (words_of told.text) ≡ Ok s))
+begun : (told : TextLine) (after : Option Script) → line_verdict None told ≡ Ok after → ((is_skipped told.text ≡ true) × (after ≡ None))
+    ⊎ ((s : Script) × (after ≡ Some s) × (first_line (words_of told.text) ≡ Ok s))
 unfolding line_verdict
 begun told after taken =
     let ascii = passed (not (list_all is_ascii told.text)) NotAscii _ after taken in
@@ -126,8 +132,26 @@ accepted_from (told ∷ more) s taken =
     elim (begun told taken.0 taken.1) [
       | inl h ↦ (
           let a = accepted_from more s (subst P h.1 taken.2) in
-          record { front = told ∷ a.front; servers = a.servers; behind = a.behind; begun = a.begun; lies = ap (λ ls. told ∷ ls) a.lies; skipped_front = (h.0, a.skipped_front); begins = a.begins; follows = a.follows })
-      | inr h ↦ record { front = []; servers = told; behind = more; begun = h.0; lies = refl; skipped_front = tt; begins = h.2; follows = follows more h.0 s (subst P h.1 taken.2) }
+          record {
+            front = told ∷ a.front;
+            servers = a.servers;
+            behind = a.behind;
+            begun = a.begun;
+            lies = ap (λ ls. told ∷ ls) a.lies;
+            skipped_front = (h.0, a.skipped_front);
+            begins = a.begins;
+            follows = a.follows;
+          })
+      | inr h ↦ record {
+        front = [];
+        servers = told;
+        behind = more;
+        begun = h.0;
+        lies = refl;
+        skipped_front = tt;
+        begins = h.2;
+        follows = follows more h.0 s (subst P h.1 taken.2);
+      }
     ]
 
 pub is_accepted : (text : List ℕ) (s : Script) → script_of text ≡ Ok s → IsAccepted (text_lines text) s

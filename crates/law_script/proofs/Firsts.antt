@@ -1,5 +1,6 @@
 -- The first refused line.
-use Rattle.std.proofs.Common.{◌≡◌, ◌≢◌, ℕ, zero, suc, ◌+◌, ◌-◌, ◌<◌, List, [], ◌∷◌, ◌++◌, length, get_or, slice_get, refl, ap, sym, ◌∙◌, arith, Option, Some, None, Result, Ok, Err, ◌⊎◌, inl, inr, ◌↔◌}
+use Rattle.std.proofs.Common.{◌≡◌, ◌≢◌, ℕ, zero, suc, ◌+◌, ◌-◌, ◌<◌, List, [], ◌∷◌, ◌++◌, length, get_or, slice_get, refl, ap, sym, ◌∙◌}
+use Rattle.std.proofs.Common.{arith, Option, Some, None, Result, Ok, Err, ◌⊎◌, inl, inr, ◌↔◌}
 use Rattle.std.proofs.lemmas.Bool.{cases_eq, eq-eqb, ne_eqb}
 use Rattle.std.specs.List.{onto_first}
 use Rattle.script_words.specs.Text.{pieces, without_end}
@@ -48,12 +49,30 @@ refused_by : (line : TextLine) (lines : List TextLine) (start : Option Script) (
     → (v : Result (Option Script) Cause) → line_verdict start line ≡ v → goes_on (script_from lines) line.number v ≡ Err r
     → RefusedFrom (line ∷ lines) start r ⊎ EndsBare (line ∷ lines) start r
 refused_by line lines start r again (Ok next) verdict is = elim (again next is) [
-  | inl h ↦ inl (record { front = line ∷ h.front; line = h.line; behind = h.behind; before = h.before; lies = ap (λ ls. line ∷ ls) h.lies; taken = (next, verdict, h.taken); wrong = h.wrong; number = h.number })
+  | inl h ↦ inl (record {
+    front = line ∷ h.front;
+    line = h.line;
+    behind = h.behind;
+    before = h.before;
+    lies = ap (λ ls. line ∷ ls) h.lies;
+    taken = (next, verdict, h.taken);
+    wrong = h.wrong;
+    number = h.number;
+  })
   | inr h ↦ inr (record { taken = (next, verdict, h.taken); line = h.line; cause = h.cause })
 ]
 refused_by line lines start r again (Err cause) verdict is =
     let e : r ≡ record { line = line.number; cause = cause } = cc in
-    inl (record { front = []; line = line; behind = lines; before = start; lies = refl; taken = refl; wrong = verdict ∙ ap (λ x. Err x.cause) (sym e); number = ap (λ x. x.line) e })
+    inl (record {
+      front = [];
+      line = line;
+      behind = lines;
+      before = start;
+      lies = refl;
+      taken = refl;
+      wrong = verdict ∙ ap (λ x. Err x.cause) (sym e);
+      number = ap (λ x. x.line) e;
+    })
 
 script_refused : (lines : List TextLine) (start : Option Script) (r : Refusal) → script_from lines start ≡ Err r
     → RefusedFrom lines start r ⊎ EndsBare lines start r
@@ -88,7 +107,8 @@ unfolding script_of
 is_script text s = (script_taken (text_lines text) None s, taken_script (text_lines text) None s)
 
 at_front : (lines : List TextLine) (r : Refusal) → RefusedFrom lines None r ⊎ EndsBare lines None r → IsFirstRefused lines r ⊎ IsWithoutLines lines r
-at_front lines r (inl h) = inl (record { front = h.front; line = h.line; behind = h.behind; before = h.before; lies = h.lies; taken = h.taken; wrong = h.wrong; number = h.number })
+at_front lines r (inl h) =
+    inl (record { front = h.front; line = h.line; behind = h.behind; before = h.before; lies = h.lies; taken = h.taken; wrong = h.wrong; number = h.number })
 at_front lines r (inr h) = inr (record { taken = h.taken; line = h.line; cause = h.cause })
 
 from_front : (lines : List TextLine) (r : Refusal) → IsFirstRefused lines r ⊎ IsWithoutLines lines r → script_from lines None ≡ Err r
@@ -136,7 +156,8 @@ pieces_are (b ∷ bs) =
 numbered : (n reach : ℕ) (parts : List (List ℕ)) (k : ℕ) (line : TextLine) → slice_get (lines_behind n reach parts) k ≡ Some line → line.number ≡ n + k + 1
 unfolding lines_behind
 numbered n reach [] k line is = absurd (cc)
-numbered n reach (piece ∷ more) zero line is = (let first : TextLine = record { number = n + 1; text = without_end piece; reach = reach + length piece } in let e : first ≡ line = cc in ap (λ l. l.number) (sym e) ∙ omega arith)
+numbered n reach (piece ∷ more) zero line is = (let first : TextLine = record { number = n + 1; text = without_end piece; reach = reach + length piece } in
+    let e : first ≡ line = cc in ap (λ l. l.number) (sym e) ∙ omega arith)
 numbered n reach (piece ∷ more) (suc k) line is = numbered (n + 1) (reach + length piece) more k line is ∙ omega arith
 
 pub number_at : (text : List ℕ) (k : ℕ) (line : TextLine) → slice_get (text_lines text) k ≡ Some line → line.number ≡ k + 1

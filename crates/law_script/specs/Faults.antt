@@ -1,5 +1,6 @@
 -- The nine faults of a line, each said for itself by the line's form and the words in their places.
-use Rattle.std.specs.Prelude.{ℕ, ◌+◌, ◌-◌, Bool, true, false, not, ◌||◌, ◌&&◌, ◌==◌, nat_eq, nat_lt, nat_le, List, [], ◌∷◌, ◌++◌, length, take, drop, if◌then◌else◌, codes, slice_index, Option, Some, None, is_none, is_some, Result, Ok, Err, map}
+use Rattle.std.specs.Prelude.{ℕ, ◌+◌, ◌-◌, Bool, true, false, not, ◌||◌, ◌&&◌, ◌==◌, nat_eq, nat_lt, nat_le, List, [], ◌∷◌, ◌++◌, length, take, drop}
+use Rattle.std.specs.Prelude.{if◌then◌else◌, codes, slice_index, Option, Some, None, is_none, is_some, Result, Ok, Err, map}
 use Rattle.std.specs.List.{list_all, list_any, position}
 use Rattle.std.specs.Char.{is_ascii}
 use Rattle.petal_base.specs.Name.{is_name}

@@ -58,7 +58,9 @@ pub data Does (s : Script) (told : TextLine) (t : Script) : Type 0 where
   skipped : is_skipped told.text ≡ true → t ≡ s → Does s told t
   nets : (first : Word) (words : List Word) → words_of told.text ≡ first ∷ words → is_word first (codes "net") ≡ true → net_line s words ≡ Ok t → Does s told t
   waits : (first : Word) → words_of told.text ≡ first ∷ [] → is_word first (codes "wait") ≡ true → t ≡ record s { phases = s.phases + 1 } → Does s told t
-  asks : (first : Word) (words : List Word) (client : ℕ) (request : Request) → words_of told.text ≡ first ∷ words → Asks s.servers first words client request → too_many t.lines ≡ false → no_majority t.servers t.lines ≡ false → t ≡ record s { lines = s.lines ++ line_at s told.number client request ∷ [] } → Does s told t
+  asks : (first : Word) (words : List Word) (client : ℕ) (request : Request)
+      → words_of told.text ≡ first ∷ words → Asks s.servers first words client request → too_many t.lines ≡ false → no_majority t.servers t.lines ≡ false
+      → t ≡ record s { lines = s.lines ++ line_at s told.number client request ∷ [] } → Does s told t
 
 -- The lines behind the servers line, one by one, from script to script.
 abbrev pub Follows : Script → List TextLine → Script → Type 0

@@ -1,6 +1,7 @@
 -- A link that is in Both again: the Caught that made it so stands in the log. And a link's place in Both is told by the incarnations
 -- of its two servers.
-use Rattle.std.proofs.Common.{◌≡◌, ◌+◌, ◌++◌, ◌==◌, ◌&&◌, ℕ, List, [], ◌∷◌, Bool, true, false, if◌then◌else◌, Some, None, refl, sym, ap, ◌∙◌, subst, ◌⊎◌, inl, inr, append_assoc, arith}
+use Rattle.std.proofs.Common.{◌≡◌, ◌+◌, ◌++◌, ◌==◌, ◌&&◌, ℕ, List, [], ◌∷◌, Bool, true, false, if◌then◌else◌, Some, None, refl, sym}
+use Rattle.std.proofs.Common.{ap, ◌∙◌, subst, ◌⊎◌, inl, inr, append_assoc, arith}
 use Rattle.std.specs.Prelude.{fold, slice_get}
 use Rattle.std.proofs.lemmas.Grind.{fold-append}
 use Rattle.petal_base.specs.declared.cell.Cell.{Cell}
@@ -350,7 +351,8 @@ module _ (servers : ℕ) (front whole : List Command) (all : IsPlainLog servers 
       places_of_both servers front whole c.row prefix
       ∙ ap (λ k. places_from (start servers) front c.row + k) (ap (λ xs. places_from s xs c.row) f.lies ∙ places_on c.row s f.before (f.entry ∷ f.rest)) in
       let two : places_from (fold after s f.before) (f.entry ∷ f.rest) c.row ≡ places_from (after (fold after s f.before) f.entry) f.rest c.row + 1 =
-      ap (λ b. if b then places_from (after (fold after s f.before) f.entry) f.rest c.row + 1 else places_from (after (fold after s f.before) f.entry) f.rest c.row) f.on in
+      ap (λ b. if b then places_from (after (fold after s f.before) f.entry) f.rest c.row + 1
+      else places_from (after (fold after s f.before) f.entry) f.rest c.row) f.on in
       let three : places_from (start servers) (front ++ f.before) c.row ≡ places_from (start servers) front c.row + places_from s f.before c.row =
       places_on c.row (start servers) front f.before in
       let quiet = c.quiet in
@@ -402,6 +404,7 @@ module _ (servers : ℕ) (front whole : List Command) (all : IsPlainLog servers 
       → places_from (start servers) whole row ≡ places_from (start servers) front row
   log_both_place cell row one other is both first second first_on second_on =
       let quiet = both_quiet servers prefix.later s plain more cell row one other is both first second
-      (sym (ap (λ (t : State). is_up_as t row.primary one) whole_is) ∙ first_on) (sym (ap (λ (t : State). is_up_as t row.secondary other) whole_is) ∙ second_on) in
+      (sym (ap (λ (t : State). is_up_as t row.primary one) whole_is) ∙ first_on)
+      (sym (ap (λ (t : State). is_up_as t row.secondary other) whole_is) ∙ second_on) in
       let e = places_of_both servers front whole row prefix in
       omega arith

@@ -28,7 +28,8 @@ up_by None e = true_false e refl
 up_by (Some (member.In i)) e = (i, number_itself i)
 up_by (Some (member.Out i)) e = true_false e refl
 
-stands_by : (o : Option Member) (inc : ℕ) → option_map_or (λ present. present == inc) (option_and_then inc_in o) false ≡ true → option_map_or is_in o false ≡ true
+stands_by : (o : Option Member) (inc : ℕ) → option_map_or (λ present. present == inc) (option_and_then inc_in o) false ≡ true
+    → option_map_or is_in o false ≡ true
 stands_by None inc e = true_false e refl
 stands_by (Some (member.In i)) inc e = refl
 stands_by (Some (member.Out i)) inc e = true_false e refl

@@ -162,7 +162,8 @@ module _ (state : State) (steady : IsSteady state) where
       holder_is : (h : ℕ) {a b : Bool} → Only n a ≡ Only h b → n ≡ h
       holder_is h f = cc
 
-      by : (s : LinkState) {row : LinkRow} {whole : Bool} → row.state ≡ Only n whole → row.primary ≡ i → row.secondary ≡ j → IsServedBy (is_up state) (λ k. is_up_as state k 1) row
+      by : (s : LinkState) {row : LinkRow} {whole : Bool} → row.state ≡ Only n whole → row.primary ≡ i → row.secondary ≡ j
+          → IsServedBy (is_up state) (λ k. is_up_as state k 1) row
           → IsLeft n cell i j
       by s alone first second (ByBoth both up up') = let f : Both ≡ Only n _ = sym both ∙ alone in absurd cc
       by s alone first second (ByNone one other lost pair out) = let f : Lost ≡ Only n _ = sym lost ∙ alone in absurd cc
@@ -230,7 +231,8 @@ touched_alone servers s p entry plain was steady below cell n inc e one together
     let b = both_row s cell together in
     let row = b.row in
     let t = after s entry in
-    let gone = touched_out servers s p entry plain cell row b.is (sym (ap (λ o. option_map_or (touches s entry) o false) b.is) ∙ e) (was.linked cell row b.is).served b.both in
+    let gone = touched_out servers s p entry plain cell row b.is (sym (ap (λ o. option_map_or (touches s entry) o false) b.is) ∙ e)
+    (was.linked cell row b.is).served b.both in
     let mine : has_server n row ≡ true = elim one [
       | inl first ↦ primary_is_one row n (same_some (sym (ap (option_map (λ (r : LinkRow). r.primary)) b.is) ∙ first))
       | inr second ↦ secondary_is_one row n (same_some (sym (ap (option_map (λ (r : LinkRow). r.secondary)) b.is) ∙ second))

@@ -134,7 +134,8 @@ module _ (servers : ℕ) (s : State) (p : IsPlainState servers s) (of link holde
   pub the_row : (row : LinkRow) → link_at s.links row.map row.link ≡ Some row → is_link of link row ≡ true → IsCatchable holder other row
   the_row row is same =
       let h = both_true (row.map == of) (row.link == link) same in
-      let there : link_at s.links of link ≡ Some row = (λ i. link_at s.links (sym (same_numbers row.map of h.0) i) (sym (same_numbers row.link link h.1) i)) ∙ is in
+      let there : link_at s.links of link ≡ Some row =
+      (λ i. link_at s.links (sym (same_numbers row.map of h.0) i) (sym (same_numbers row.link link h.1) i)) ∙ is in
       subst (IsCatchable holder other) (same_some (sym acts.is ∙ there)) acts.found
 
   served_caught : (row : LinkRow) → link_at s.links row.map row.link ≡ Some row → IsServed s row → IsServed t (row_caught of link row)

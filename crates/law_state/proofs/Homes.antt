@@ -1,5 +1,6 @@
 -- What a state says of a cell, its stage says.
-use Rattle.std.proofs.Common.{◌≡◌, ◌≢◌, ◌≤◌, ◌<◌, ◌+◌, ◌==◌, ◌&&◌, ℕ, List, Bool, true, false, not, Option, Some, None, is_some, refl, sym, ap, ◌∙◌, ◌⊎◌, inl, inr, arith}
+use Rattle.std.proofs.Common.{◌≡◌, ◌≢◌, ◌≤◌, ◌<◌, ◌+◌, ◌==◌, ◌&&◌, ℕ, List, Bool, true, false, not, Option, Some, None}
+use Rattle.std.proofs.Common.{is_some, refl, sym, ap, ◌∙◌, ◌⊎◌, inl, inr, arith}
 use Rattle.std.specs.Prelude.{◌||◌, nat_le, option_map, option_and_then, slice_get, if◌then◌else◌}
 use Rattle.std.specs.Option.{option_map_or}
 use Rattle.std.proofs.lemmas.Bool.Decides.{nat_tests}
@@ -11,7 +12,8 @@ use Rattle.global_tables.specs.declared.disk.Move.{Move}
 use Rattle.global_tables.specs.declared.disk.RegionState.{RegionState}
 use Rattle.global_tables.specs.declared.disk.RegionState.TheVariants.{Old, Fenced, New}
 use Rattle.global_tables.specs.declared.map.MapRow.{MapRow}
-use Rattle.petal_state.specs.CellState.{cell_link, comes_under, coming, has_map, is_fenced, leaving, live, live_new, live_old, live_under, move_region, owner, row_lead, source, source_in, target}
+use Rattle.petal_state.specs.CellState.{cell_link, comes_under, coming, has_map, is_fenced, leaving, live, live_new, live_old, live_under}
+use Rattle.petal_state.specs.CellState.{move_region, owner, row_lead, source, source_in, target}
 use Rattle.petal_state.specs.State.{leaves, mover}
 use Rattle.petal_rules.specs.State.{State, is_lead, is_the, lead, leads_link}
 use Rattle.petal_rules.proofs.Tests.{by_bool, none_some, number_itself, same_numbers, some_or_none, true_false}

@@ -152,7 +152,8 @@ module _ (servers : ℕ) (s : State) (p : IsPlainState servers s) (server inc : 
 
   served_left : (row : LinkRow) → IsServed s row → IsServed t (row_left server row)
   served_left row (ByBoth state one two) = by_test (IsServed t) (has_server server row) _ _
-      (λ has. ByOne (other_of server row) server false (ap (left_state (other_of server row)) state) (other_between row server has) (out_not t server out_now 1))
+      (λ has. ByOne (other_of server row) server false (ap (left_state (other_of server row)) state) (other_between row server has)
+      (out_not t server out_now 1))
       (λ no. let apart = either_false (row.primary == server) (row.secondary == server) no in
       ByBoth state (up_beside row.primary (differ row.primary apart.0) ∙ one) (up_beside row.secondary (differ row.secondary apart.1) ∙ two))
     where

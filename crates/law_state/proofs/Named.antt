@@ -53,15 +53,18 @@ module _ (row : DiskRow) (block : ℕ) where
 
   is_named : (of : ℕ) → 1 ≤ stage_of (record { map = of; block = block }) row → stage_of (record { map = of; block = block }) row ≤ 2 → of ≡ named
   is_named of low most = by_bool (has_map of row) has
-      (λ none. let e : stage_of (record { map = of; block = block }) row ≡ 4 = ap (λ b. if b then stage_under (record { map = of; block = block }) row else 4) none in
+      (λ none. let e : stage_of (record { map = of; block = block }) row ≡ 4 =
+      ap (λ b. if b then stage_under (record { map = of; block = block }) row else 4) none in
       absurd (omega arith))
     where
       has : has_map of row ≡ true → of ≡ named
       has is = by_bool (row.map == of)
-          (λ own. let e : stage_of (record { map = of; block = block }) row ≡ new_stage region = ap (λ b. if b then stage_under (record { map = of; block = block }) row else 4) is
+          (λ own. let e : stage_of (record { map = of; block = block }) row ≡ new_stage region =
+          ap (λ b. if b then stage_under (record { map = of; block = block }) row else 4) is
           ∙ ap (λ b. if b then new_stage region else old_stage region) own in
           own_named of own row.moving (omega arith))
-          (λ other. let e : stage_of (record { map = of; block = block }) row ≡ old_stage region = ap (λ b. if b then stage_under (record { map = of; block = block }) row else 4) is
+          (λ other. let e : stage_of (record { map = of; block = block }) row ≡ old_stage region =
+          ap (λ b. if b then stage_under (record { map = of; block = block }) row else 4) is
           ∙ ap (λ b. if b then new_stage region else old_stage region) other in
           old_named of row.moving (sym (ap (λ b. b || leaves of row.moving) other) ∙ is) (omega arith))
 

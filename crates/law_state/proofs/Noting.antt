@@ -1,5 +1,6 @@
 -- Links are noted one by one, each behind its own Moved: what of this a state says, that stands in its log.
-use Rattle.std.proofs.Common.{◌≡◌, ◌≢◌, ◌≤◌, ◌<◌, ◌+◌, ◌++◌, ◌==◌, ◌&&◌, ℕ, zero, suc, List, [], ◌∷◌, length, Bool, true, false, Option, Some, None, is_some, not, refl, sym, ap, ◌∙◌, subst, ◌⊎◌, inl, inr, append_assoc, arith}
+use Rattle.std.proofs.Common.{◌≡◌, ◌≢◌, ◌≤◌, ◌<◌, ◌+◌, ◌++◌, ◌==◌, ◌&&◌, ℕ, zero, suc, List, [], ◌∷◌, length, Bool, true, false, Option, Some, None}
+use Rattle.std.proofs.Common.{is_some, not, refl, sym, ap, ◌∙◌, subst, ◌⊎◌, inl, inr, append_assoc, arith}
 use Rattle.std.specs.Prelude.{◌||◌, fold, nat_eq, option_map, option_and_then, replicate, slice_get, slice_set, unwrap_or, if◌then◌else◌}
 use Rattle.std.specs.List.{list_all, list_any, range_with_len}
 use Rattle.std.specs.Option.{option_map_or}
@@ -42,10 +43,12 @@ use Rattle.law_state.proofs.Joins.{joined_by}
 use Rattle.law_state.proofs.Leaves.{left_by}
 use Rattle.law_state.proofs.Making as making
 use Rattle.law_state.proofs.Making.{map_on, new_map, row_last, same_home}
-use Rattle.law_state.proofs.Moves.{IsNoting, act_moved, act_note, act_start, at_row, begins, known, move_then, moved_state, noted_state, noting, on_way, onward, over, row_now}
+use Rattle.law_state.proofs.Moves.{IsNoting, act_moved, act_note, act_start, at_row, begins, known, move_then, moved_state}
+use Rattle.law_state.proofs.Moves.{noted_state, noting, on_way, onward, over, row_now}
 use Rattle.law_state.proofs.Owners.{disk_on, home, mover_is, no_home, stage_in, stage_is}
 use Rattle.law_state.proofs.Owners.{left_by as left_by_row}
-use Rattle.law_state.proofs.Passing.{framed_itself, framed_passed, here_row, one_passed, passed_beside, passed_here, passing, region_beside, region_here, region_row, settled_keeps}
+use Rattle.law_state.proofs.Passing.{framed_itself, framed_passed, here_row, one_passed, passed_beside, passed_here, passing}
+use Rattle.law_state.proofs.Passing.{region_beside, region_here, region_row, settled_keeps}
 use Rattle.law_state.proofs.Places.{get_last, get_replicate, get_set_beside, get_set_here}
 use Rattle.law_state.proofs.Rowed.{beside, here, here_now}
 use Rattle.law_state.proofs.Snaps.{act_drained, act_snap, none_of}

@@ -1,5 +1,6 @@
 -- An era rises behind reports: while a server stays In as one incarnation, the active fence that holds a cell's writes awaits its report.
-use Rattle.std.proofs.Common.{◌≡◌, ◌≢◌, ◌≤◌, ◌<◌, ◌+◌, ◌==◌, ◌&&◌, ◌++◌, ℕ, Bool, List, [], ◌∷◌, length, true, false, not, Option, Some, None, is_some, refl, sym, ap, ◌∙◌, subst, ◌⊎◌, inl, inr, append_assoc, arith}
+use Rattle.std.proofs.Common.{◌≡◌, ◌≢◌, ◌≤◌, ◌<◌, ◌+◌, ◌==◌, ◌&&◌, ◌++◌, ℕ, Bool, List, [], ◌∷◌, length, true, false, not, Option, Some, None}
+use Rattle.std.proofs.Common.{is_some, refl, sym, ap, ◌∙◌, subst, ◌⊎◌, inl, inr, append_assoc, arith}
 use Rattle.std.specs.Prelude.{◌||◌, fold, nat_eq, replicate, slice_get, unwrap_or, if◌then◌else◌}
 use Rattle.std.specs.List.{list_any}
 use Rattle.std.specs.Option.{option_map_or}
@@ -41,12 +42,15 @@ use Rattle.law_state.specs.Tables.{IsForSnapshot, IsPlainState, Of_disk, Of_regi
 use Rattle.law_state.proofs.Ages.{between, in_once, in_up}
 use Rattle.law_state.proofs.Caughts.{act_caught}
 use Rattle.law_state.proofs.Entries.{acting, entering, folding, log_plain}
-use Rattle.law_state.proofs.Eras.{HasRows, IsKept, era_low, fenced_apart, holds_before, kept_by_place, kept_by_stage, lives, low_now, rows_of, stage_now, stage_was}
-use Rattle.law_state.proofs.Fences.{Acted, IsReady, IsUnsettled, head_awaiting, head_behind, head_get, head_queued, head_reported, none_ready, present_waits, ready_by, unsettled, waits_still}
+use Rattle.law_state.proofs.Eras.{HasRows, IsKept, era_low, fenced_apart, holds_before, kept_by_place, kept_by_stage, lives}
+use Rattle.law_state.proofs.Eras.{low_now, rows_of, stage_now, stage_was}
+use Rattle.law_state.proofs.Fences.{Acted, IsReady, IsUnsettled, head_awaiting, head_behind, head_get, head_queued, head_reported}
+use Rattle.law_state.proofs.Fences.{none_ready, present_waits, ready_by, unsettled, waits_still}
 use Rattle.law_state.proofs.Joins.{joined_by}
 use Rattle.law_state.proofs.Leaves.{left_by}
 use Rattle.law_state.proofs.Making.{making}
-use Rattle.law_state.proofs.Moves.{IsNoting, act_moved, act_note, act_start, at_row, begins, known, low_map, moved_state, noted_state, noting, onward, over, row_now}
+use Rattle.law_state.proofs.Moves.{IsNoting, act_moved, act_note, act_start, at_row, begins, known, low_map, moved_state}
+use Rattle.law_state.proofs.Moves.{noted_state, noting, onward, over, row_now}
 use Rattle.law_state.proofs.Noting.{keeps_old}
 use Rattle.law_state.proofs.Passing.{in_settled, one_passed, passed_beside, passed_here, passing, region_beside, region_here, region_row}
 use Rattle.law_state.proofs.Places.{get_front, get_replicate}
@@ -240,7 +244,8 @@ module _ (which : Hold → Bool) (every : which All ≡ true) (nothing : which N
         (λ fence e. inl e)
 
     -- a queue with one fence more
-    heads_queued : (v : View) (kind : FenceKind) → v.queue ≡ s.view.queue → v.members ≡ s.view.members → (fence : Fence) → head (queued v kind).queue ≡ Some fence
+    heads_queued : (v : View) (kind : FenceKind) → v.queue ≡ s.view.queue → v.members ≡ s.view.members → (fence : Fence)
+        → head (queued v kind).queue ≡ Some fence
         → (head s.view.queue ≡ Some fence) ⊎ (awaits fence n ≡ true)
     heads_queued v kind same members fence e = elim (head_queued v kind fence e) [
       | inl old ↦ inl (sym (ap head same) ∙ old)
@@ -580,7 +585,8 @@ log_left servers front whole n inc other other_inc cell all prefix acts is end l
     let s = state_after servers front in
     let plain = front_plain servers front next (front_plain servers next whole all prefix) (record { later = Leave other other_inc ∷ []; is = refl }) in
     let e : state_after servers next ≡ after s (Leave other other_inc) = fold-append after (start servers) front (Leave other other_inc ∷ []) in
-    let h = left_still is_writes_held refl refl servers s (log_plain servers front plain) other other_inc n inc cell acts (sym (ap (λ (t : State). is_up_as t n inc) e) ∙ is) low high in
+    let h = left_still is_writes_held refl refl servers s (log_plain servers front plain) other other_inc n inc cell acts
+    (sym (ap (λ (t : State). is_up_as t n inc) e) ∙ is) low high in
     let k = subst (IsStill is_writes_held refl refl s n cell) (sym e) h in
     let was = era_low (epoch_at s cell) (stage_at s cell) high in
     let now = era_low (epoch_at (state_after servers next) cell) (stage_at (state_after servers next) cell) k.high in

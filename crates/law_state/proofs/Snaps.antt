@@ -1,6 +1,7 @@
 -- A Snap queues a fence for a snapshot that nobody has, and that no other fence is for. A report takes its server from those for whom the
 -- active fence waits.
-use Rattle.std.proofs.Common.{◌≡◌, ◌==◌, ◌&&◌, ◌+◌, ℕ, zero, suc, List, [], ◌∷◌, Bool, true, false, Option, Some, None, is_some, Result, Ok, Err, refl, sym, ap, ◌∙◌, inl, inr}
+use Rattle.std.proofs.Common.{◌≡◌, ◌==◌, ◌&&◌, ◌+◌, ℕ, zero, suc, List, [], ◌∷◌, Bool, true, false, Option, Some, None, is_some}
+use Rattle.std.proofs.Common.{Result, Ok, Err, refl, sym, ap, ◌∙◌, inl, inr}
 use Rattle.std.specs.Prelude.{slice_get}
 use Rattle.std.specs.List.{list_any}
 use Rattle.global_tables.specs.declared.disk.DiskRow.{DiskRow}
@@ -16,7 +17,8 @@ use Rattle.petal_state.specs.Command.{act, is_head, is_new, is_taken, snap_targe
 use Rattle.petal_rules.specs.State.{State}
 use Rattle.petal_rules.proofs.Tests.{both_true, by_test, none_some, number_itself, same_numbers, same_some, true_false}
 use Rattle.law_state.specs.Tables.{IsPlainState, Of_disk}
-use Rattle.law_state.proofs.Fences.{Acted, AreQueued, fence_kept, fences_queued, head_queued, head_reported, queued_on, requeued, requeued_reported, unsettled, waits_before, waits_present}
+use Rattle.law_state.proofs.Fences.{Acted, AreQueued, fence_kept, fences_queued, head_queued, head_reported, queued_on, requeued}
+use Rattle.law_state.proofs.Fences.{requeued_reported, unsettled, waits_before, waits_present}
 use Rattle.law_state.proofs.Links.{either_false}
 use Rattle.law_state.proofs.Places.{find_here, found_at, get_last, text_itself}
 

@@ -1,5 +1,6 @@
 -- A plain state is steady, and what it says stays so in each state that has grown from it.
-use Rattle.std.proofs.Common.{◌≡◌, ◌≢◌, ◌≤◌, ◌<◌, ◌+◌, ◌*◌, ◌==◌, ℕ, zero, suc, List, [], ◌∷◌, length, Bool, true, false, cond, Option, Some, None, refl, sym, ap, ◌∙◌, subst, ◌⊎◌, inl, inr, arith}
+use Rattle.std.proofs.Common.{◌≡◌, ◌≢◌, ◌≤◌, ◌<◌, ◌+◌, ◌*◌, ◌==◌, ℕ, zero, suc, List, [], ◌∷◌, length, Bool, true, false, cond, Option}
+use Rattle.std.proofs.Common.{Some, None, refl, sym, ap, ◌∙◌, subst, ◌⊎◌, inl, inr, arith}
 use Rattle.std.specs.Prelude.{◌%◌, ◌||◌, fold, slice_get, option_map, option_and_then, unwrap_or, if◌then◌else◌}
 use Rattle.std.specs.Option.{option_map_or}
 use Rattle.std.proofs.lemmas.Option.{slice_get_within}
@@ -22,7 +23,8 @@ use Rattle.global_tables.specs.View.{inc_in}
 use Rattle.petal_command.specs.declared.command.Command.{Command}
 use Rattle.petal_state.specs.declared.answer.DiskView.{DiskView}
 use Rattle.petal_state.specs.State.{leaves, start}
-use Rattle.petal_state.specs.CellState.{cell_asked, cell_link, has_map, is_fenced, live_new, live_old, live_under, map_asked, move_region, owner, region_at, view_of}
+use Rattle.petal_state.specs.CellState.{cell_asked, cell_link, has_map, is_fenced, live_new, live_old, live_under, map_asked}
+use Rattle.petal_state.specs.CellState.{move_region, owner, region_at, view_of}
 use Rattle.petal_state.specs.Command.{after, state_after}
 use Rattle.petal_rules.specs.Lists.{In}
 use Rattle.petal_rules.proofs.ListLemmas.{in_former, in_later}

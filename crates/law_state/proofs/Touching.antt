@@ -1,6 +1,7 @@
 -- What an entry does to a link: one that does not touch it leaves its row and its two servers as they are. A longer log has no fewer
 -- places.
-use Rattle.std.proofs.Common.{◌≡◌, ◌≢◌, ◌≤◌, ◌+◌, ◌++◌, ◌==◌, ◌&&◌, ℕ, List, [], ◌∷◌, length, Bool, true, false, not, if◌then◌else◌, Option, Some, None, is_some, refl, sym, ap, ◌∙◌, subst, ◌⊎◌, inl, inr, arith}
+use Rattle.std.proofs.Common.{◌≡◌, ◌≢◌, ◌≤◌, ◌+◌, ◌++◌, ◌==◌, ◌&&◌, ℕ, List, [], ◌∷◌, length, Bool, true, false, not, if◌then◌else◌, Option}
+use Rattle.std.proofs.Common.{Some, None, is_some, refl, sym, ap, ◌∙◌, subst, ◌⊎◌, inl, inr, arith}
 use Rattle.std.specs.Prelude.{fold, slice_get, option_map, option_and_then}
 use Rattle.std.proofs.lemmas.Grind.{fold-append}
 use Rattle.petal_base.specs.declared.cell.Cell.{Cell}
@@ -258,7 +259,8 @@ module _ (servers : ℕ) (s : State) (p : IsPlainState servers s) (cell : Cell) 
 pub log_entry_stays : (servers : ℕ) (log : List Command) (entry : Command) (cell : Cell) (row : LinkRow) → IsPlainLog servers log → IsPlain servers entry
     → cell_link (state_after servers log) cell ≡ Some row → touches (state_after servers log) entry row ≡ false
     → StaysSo cell row (state_after servers log) (after (state_after servers log) entry) ⊎ HasDied (after (state_after servers log) entry) cell
-log_entry_stays servers log entry cell row all plain is off = entry_stays servers (state_after servers log) (log_plain servers log all) cell row is entry plain off
+log_entry_stays servers log entry cell row all plain is off =
+    entry_stays servers (state_after servers log) (log_plain servers log all) cell row is entry plain off
 
 pub log_touched : (servers : ℕ) (log : List Command) (entry : Command) (cell : Cell) (row : LinkRow) → IsPlainLog servers log → IsPlain servers entry
     → cell_link (state_after servers log) cell ≡ Some row → touches (state_after servers log) entry row ≡ true

@@ -102,7 +102,8 @@ module _ (servers : ℕ) (s : State) (p : IsPlainState servers s) (old new : Cel
   of_source : source s new ≡ Some old → IsMoved s old new
   of_source comes = elim (row_or_none s p.rows p.homes new) [
     | inr none ↦ none_some
-        (ap (option_and_then (source_in new)) (owner_is s p.rows new.map ∙ ap (option_and_then (kept_by new.map)) (no_home s p.rows p.homes new.map none))) comes
+        (ap (option_and_then (source_in new)) (owner_is s p.rows new.map ∙ ap (option_and_then (kept_by new.map)) (no_home s p.rows p.homes new.map none)))
+        comes
     | inl h ↦
         let owns = λ (b : Bool) (e : has_map new.map h.row ≡ b).
         owner_is s p.rows new.map ∙ ap (option_and_then (kept_by new.map)) h.is ∙ ap (λ x. if x then Some h.row else None) e in

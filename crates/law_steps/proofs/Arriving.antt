@@ -39,10 +39,12 @@ use Rattle.law_state.specs.Firm.{Firm}
 use Rattle.law_state.proofs.Steady.{log_rev}
 use Rattle.law_steps.specs.Coming.{AreComing, WasComing}
 use Rattle.law_steps.specs.DidLead.{IsNextFill}
-use Rattle.law_steps.specs.Happens.{Handled, Happens, Serves, Blanks, Turns, Worked, By_job, By_ballot, By_entry, Serving, Goes, Ends, Stays, Wakes, Fails, own_place}
+use Rattle.law_steps.specs.Happens.{Handled, Happens, Serves, Blanks, Turns, Worked, By_job, By_ballot, By_entry, Serving}
+use Rattle.law_steps.specs.Happens.{Goes, Ends, Stays, Wakes, Fails, own_place}
 use Rattle.law_steps.specs.Ready.{AreFirm, Rests}
 use Rattle.law_steps.proofs.Coming.{next_comes}
-use Rattle.law_steps.proofs.Filling.{HasCome, Stood, Writes, Fills, SaysFill, Is_other, Is_next, did_come, did_fills, is_fill, is_filling, logged_said, other_subject}
+use Rattle.law_steps.proofs.Filling.{HasCome, Stood, Writes, Fills, SaysFill, Is_other, Is_next, did_come, did_fills, is_fill}
+use Rattle.law_steps.proofs.Filling.{is_filling, logged_said, other_subject}
 use Rattle.law_steps.proofs.Fronts.{below_itself, front_on}
 use Rattle.law_steps.proofs.Histories.{firm_now, happens, own_plain, proposed_pairs, rests_next}
 use Rattle.law_steps.proofs.Letters.{said}

@@ -24,8 +24,10 @@ use Rattle.petal_rules.proofs.Tests.{by_test}
 use Rattle.law_log.proofs.Flags.{caught_put}
 use Rattle.law_steps.specs.Ready.{IsRising}
 use Rattle.law_steps.proofs.Tables.{put_rises, without_rises}
-use Rattle.law_steps.specs.DidHolder.{DidHolder, CopyStep, Asks_to_trim, Sends, Unmarks_copied, Closes_copy, TakenCopy, Copy_as_is, Copy_trimmed, Copy_synced, Asks_page, Turns_page, Begins_copy, Goes_on_copying, Finds_it_full, Tidies}
-use Rattle.law_steps.specs.DidOther.{DidOther, first_last, TrimStep, Is_trimmed, Drops_entry, Answers_page, Is_copied_to, Goes_on_trimming, Puts_entry, Has_entry, Has_no_slot}
+use Rattle.law_steps.specs.DidHolder.{DidHolder, CopyStep, Asks_to_trim, Sends, Unmarks_copied, Closes_copy, TakenCopy, Copy_as_is, Copy_trimmed, Copy_synced}
+use Rattle.law_steps.specs.DidHolder.{Asks_page, Turns_page, Begins_copy, Goes_on_copying, Finds_it_full, Tidies}
+use Rattle.law_steps.specs.DidOther.{DidOther, first_last, TrimStep, Is_trimmed, Drops_entry, Answers_page, Is_copied_to}
+use Rattle.law_steps.specs.DidOther.{Goes_on_trimming, Puts_entry, Has_entry, Has_no_slot}
 use Rattle.law_steps.proofs.Letters.{posted}
 
 pub record CopyFrame (own : Own) (done : Done) : Type 0 where
@@ -62,7 +64,8 @@ after_mend (Some row) letter h = one_mend _ letter h
 
 -- the pairs stay
 abbrev same : (own : Own) (done : Done) → done.own.pairs ≡ own.pairs
-    → ((row : LinkRow) → (progress_on done.own row).caught ≡ (progress_on own row).caught) → (IsRising cell_cmp own.copies.pending → IsRising cell_cmp done.own.copies.pending)
+    → ((row : LinkRow) → (progress_on done.own row).caught ≡ (progress_on own row).caught)
+    → (IsRising cell_cmp own.copies.pending → IsRising cell_cmp done.own.copies.pending)
     → ((post : Post) → In post done.posts → subject_of post.body ≡ Copied)
     → ((letter : Letter) → In (job.Letter letter) done.jobs → ⊥) → CopyFrame own done
 same own done e caught rises says none = record {
@@ -96,7 +99,8 @@ page_pending : (own : Own) (row : LinkRow) (before : Progress) (block : Option �
 page_pending own row before None = refl
 page_pending own row before (Some block) = refl
 
-copied_caught : (row : Option LinkRow) (own : Own) (block : ℕ) (other : LinkRow) → (progress_on (with_copied row own block) other).caught ≡ (progress_on own other).caught
+copied_caught : (row : Option LinkRow) (own : Own) (block : ℕ) (other : LinkRow)
+    → (progress_on (with_copied row own block) other).caught ≡ (progress_on own other).caught
 copied_caught None own block other = refl
 copied_caught (Some row) own block other =
     by_test (λ (left : Own). (progress_on left other).caught ≡ (progress_on own other).caught) (above (progress_on own row).copied block)
@@ -133,10 +137,12 @@ step_frame here own cell copy _ (Unmarks_copied kind synced left) = same own _ r
 step_frame here own cell copy _ (Closes_copy synced left) =
     same own _ (copied_pairs (cell_link here.state cell) (without_copying own cell) cell.block)
     (copied_caught (cell_link here.state cell) (without_copying own cell) cell.block)
-    (λ h. subst (IsRising cell_cmp) (sym (copied_pending (cell_link here.state cell) (without_copying own cell) cell.block)) (without_rises cell_cmp own.copies.pending cell h))
+    (λ h. subst (IsRising cell_cmp) (sym (copied_pending (cell_link here.state cell) (without_copying own cell) cell.block))
+    (without_rises cell_cmp own.copies.pending cell h))
     (λ post i. no_posts post i) (after_mend (cell_link here.state cell))
 
-taken_frame : (heard : Body → Type 0) (own : Own) (cell : Cell) (now : Own) (copy : Copying) (done : Done) → TakenCopy heard own cell now copy → CopyFrame now done
+taken_frame : (heard : Body → Type 0) (own : Own) (cell : Cell) (now : Own) (copy : Copying) (done : Done)
+    → TakenCopy heard own cell now copy → CopyFrame now done
     → CopyFrame own done
 taken_frame heard own cell now copy done (Copy_as_is _ is) f = f
 taken_frame heard own cell now copy done (Copy_trimmed old h is fresh) f =
@@ -148,10 +154,12 @@ pub of_holder : (heard : Body → Type 0) (here : Here) (own : Own) (done : Done
 of_holder heard here own _ (Asks_page id row other held fresh) = same own _ refl (λ r. refl) (λ h. h)
     (λ post i. ap subject_of (posted (Some other) (page_wanted own row) post i)) no_jobs
 of_holder heard here own _ (Turns_page id row other after block h held fresh at) =
-    same own _ (page_pairs own row (progress_on own row) block) (page_caught own row block) (λ h. subst (IsRising cell_cmp) (sym (page_pending own row (progress_on own row) block)) h)
+    same own _ (page_pairs own row (progress_on own row) block) (page_caught own row block)
+    (λ h. subst (IsRising cell_cmp) (sym (page_pending own row (progress_on own row) block)) h)
     (λ post i. no_posts post i) (one_mend _)
 of_holder heard here own done (Begins_copy id row other cell _ held next step) =
-    frame_from own (begins_copy own cell) done refl refl refl (omega arith) (λ r. put_rises cell_cmp_total own.copies.pending cell _ r) (λ row. refl) (step_frame here (begins_copy own cell) cell _ done step)
+    frame_from own (begins_copy own cell) done refl refl refl (omega arith) (λ r. put_rises cell_cmp_total own.copies.pending cell _ r) (λ row. refl)
+    (step_frame here (begins_copy own cell) cell _ done step)
 of_holder heard here own done (Goes_on_copying cell now copy _ taken step) =
     taken_frame heard own cell now copy done taken (step_frame here now cell copy done step)
 of_holder heard here own _ (Finds_it_full cell copy h is trimmed lt) = same own _ refl (λ r. refl) (λ h. without_rises cell_cmp own.copies.pending cell h)

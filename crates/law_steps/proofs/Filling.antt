@@ -23,7 +23,9 @@ use Rattle.petal_rules.proofs.CellTables.{cell_apart, cell_same}
 use Rattle.petal_rules.proofs.Tests.{by_bool, same_some, true_false}
 use Rattle.law_steps.specs.Did.{Did, Ignores, Refuses, By_read, By_lead, By_second, By_holder, By_other, By_filler, By_sweep}
 use Rattle.law_steps.specs.DidFiller.{Is_filled, Is_out_of_slots}
-use Rattle.law_steps.specs.DidLead.{DidLead, Asks, A_slot, A_copy, A_trim, A_copied_entry, A_page, An_entry_to_move, Of_the_log, Asks_for, Repeats, Is_full, Opens, Marks, Puts, Gives_up, Unmarks, Closes, Opens_alone, Marks_alone, Puts_alone, Unmarks_alone, Closes_alone, Opens_fill, Opens_fill_alone, Has_fill, Has_no_room, Goes_on_dead, IsNewFill, IsNextFill}
+use Rattle.law_steps.specs.DidLead.{DidLead, Asks, A_slot, A_copy, A_trim, A_copied_entry, A_page, An_entry_to_move, Of_the_log, Asks_for, Repeats, Is_full}
+use Rattle.law_steps.specs.DidLead.{Opens, Marks, Puts, Gives_up, Unmarks, Closes, Opens_alone, Marks_alone, Puts_alone, Unmarks_alone, Closes_alone}
+use Rattle.law_steps.specs.DidLead.{Opens_fill, Opens_fill_alone, Has_fill, Has_no_room, Goes_on_dead, IsNewFill, IsNextFill}
 use Rattle.law_steps.proofs.CopyFrames.{of_holder, of_other}
 use Rattle.law_steps.proofs.Letters.{one_post, posted}
 use Rattle.law_steps.proofs.Restages.{Was, has_put, marked, marked_alone, put_alone, stood, unmarked, unmarked_alone, was_acted, was_same}

@@ -1,5 +1,6 @@
 -- Each step that is allowed is of one of the kinds that the relation names, and what each kind keeps holds after every history.
-use Rattle.std.proofs.Common.{◌≡◌, true, Bool, false, length, Option, Some, None, inl, inr, ap, ◌∙◌, ◌<◌, ◌≤◌, ◌+◌, ℕ, List, [], ◌∷◌, ◌++◌, refl, sym, subst, arith, append_assoc}
+use Rattle.std.proofs.Common.{◌≡◌, true, Bool, false, length, Option, Some, None, inl, inr, ap, ◌∙◌, ◌<◌, ◌≤◌, ◌+◌, ℕ, List, []}
+use Rattle.std.proofs.Common.{◌∷◌, ◌++◌, refl, sym, subst, arith, append_assoc}
 use Rattle.std.specs.Prelude.{max}
 use Rattle.petal_base.specs.declared.cell.Cell.{Cell}
 use Rattle.global_tables.specs.Link.{other_of}
@@ -30,7 +31,8 @@ use Rattle.petal_rules.specs.Progress.{has_proposed}
 use Rattle.petal_rules.specs.State.{State, id_of, in_both, is_alone_on, is_in, leads_link, link_named, live}
 use Rattle.petal_rules.specs.Store.{cell_cmp}
 use Rattle.petal_rules.specs.Jobs.{Acted}
-use Rattle.petal_rules.specs.World.{Setting, World, acts, reacts, step, server_step, client_step, next_line, received, clock_of, server_state, client_state, chosen_log, chosen_state, setting_of, start, MayServer, MayActor}
+use Rattle.petal_rules.specs.World.{Setting, World, acts, reacts, step, server_step, client_step, next_line, received, clock_of, server_state}
+use Rattle.petal_rules.specs.World.{client_state, chosen_log, chosen_state, setting_of, start, MayServer, MayActor}
 use Rattle.petal_rules.specs.declared.job.Job.{Job}
 use Rattle.petal_rules.specs.declared.step.Step.{Step}
 use Rattle.petal_rules.specs.declared.step.Step.TheVariants.{Blank}
@@ -50,7 +52,8 @@ use Rattle.law_state.proofs.Alone.{alone_not_both, alone_row, so_alone, so_both}
 use Rattle.law_state.proofs.Cells.{IsHeldBy}
 use Rattle.law_state.proofs.Roles.{holder_is_one, log_roles}
 use Rattle.law_state.proofs.Steady.{log_steady, log_below, front_plain}
-use Rattle.law_steps.specs.Happens.{Handled, AreQueued, Worked, By_job, By_ballot, By_entry, Serving, Goes, Ends, Stays, Wakes, Fails, served_so, stopped_so, shown_so, own_place, Happens, Serves, Blanks, Turns}
+use Rattle.law_steps.specs.Happens.{Handled, AreQueued, Worked, By_job, By_ballot, By_entry, Serving, Goes, Ends, Stays, Wakes, Fails, served_so}
+use Rattle.law_steps.specs.Happens.{stopped_so, shown_so, own_place, Happens, Serves, Blanks, Turns}
 use Rattle.law_steps.specs.Ready.{IsReady, IsRising, Ready, Rests, AreFirm}
 use Rattle.law_steps.proofs.Subjects.{copies_rise, unheld_stays}
 use Rattle.law_steps.proofs.Tables.{rising_filter}
@@ -226,7 +229,8 @@ module _ (setting : Setting) (w : World) (firm : Firm setting w) where
       let until_chosen = front_on found.until _ _ (front_more found.until found.entry) stands in
       let seated_then = runs_at (w.servers n).log.applied found.until found.behind until_chosen n runs seat in
       let inc_is : acts.inc ≡ (w.servers n).life.inc =
-      in_once (state_after setting.servers found.until) n acts.inc (w.servers n).life.inc (subst (λ k. is_in (state_after setting.servers found.until) k acts.inc ≡ true) mine acts.holds) seated_then in
+      in_once (state_after setting.servers found.until) n acts.inc (w.servers n).life.inc
+      (subst (λ k. is_in (state_after setting.servers found.until) k acts.inc ≡ true) mine acts.holds) seated_then in
       let started = firm.started found.until row.map row.link acts.holder acts.inc (other_of acts.holder row) acts.other_inc
       (subst (λ (c : Command). IsPrefix (found.until ++ c ∷ []) (chosen_log setting w)) acts.is stands) in
       let mine_started = subst (λ k. HasStarted w.servers k acts.inc (length found.until) (id_of row)) mine started in
@@ -288,7 +292,8 @@ module _ (setting : Setting) (w : World) (rests : Rests setting w) (firm : Firm 
   worked_ready : (n : ℕ) → (w.servers n).life.running ≡ true → (log : Log) (done : Done) → Worked setting w n log done
       → IsReady (state_in setting.servers log) n (has_proposed (state_in setting.servers log) done.own) done.own.pairs.pending
   worked_ready n runs _ _ (By_job log done same did seat) =
-      subst (λ applied. IsReady (state_after setting.servers applied) n (has_proposed (state_after setting.servers applied) done.own) done.own.pairs.pending) (sym same)
+      subst (λ applied. IsReady (state_after setting.servers applied) n (has_proposed (state_after setting.servers applied) done.own) done.own.pairs.pending)
+      (sym same)
       (ready_held (server_state setting w n) n _ _ done.own.pairs.pending
       (λ cell op is alive unheld. unheld_stays (Handled w n) (own_place setting w n) (w.servers n).own done did (server_state setting w n) cell unheld)
       (did_ready (Handled w n) (own_place setting w n) (w.servers n).own (rests.pending n) done did))
@@ -302,7 +307,8 @@ module _ (setting : Setting) (w : World) (rests : Rests setting w) (firm : Firm 
   worked_ready n runs _ _ (By_entry log entry more front) =
       let on : IsPrefix (w.servers n).log.applied log.applied = record { later = entry ∷ []; is = more } in
       let now = state_after setting.servers log.applied in
-      by_settled (λ (own : Own). IsReady now n (has_proposed now own) own.pairs.pending) (own_place setting w n) entry (crossed (server_state setting w n) entry (w.servers n).own) (λ store.
+      by_settled (λ (own : Own). IsReady now n (has_proposed now own) own.pairs.pending) (own_place setting w n) entry
+      (crossed (server_state setting w n) entry (w.servers n).own) (λ store.
       ready_held (state_after setting.servers log.applied) n _ _ (w.servers n).own.pairs.pending
       (λ cell op is alive unheld.
       let below = log_below setting.servers (w.servers n).log.applied log.applied (front_plain setting.servers _ _ firm.plain front) on in
@@ -327,7 +333,8 @@ module _ (setting : Setting) (w : World) (rests : Rests setting w) (firm : Firm 
       subst (λ applied. is_in (state_after setting.servers applied) n (w.servers n).life.inc ≡ true) (sym same) now
   worked_seated n runs _ _ (By_ballot log started posts same starts says) cell op is =
       subst (λ applied. is_in (state_after setting.servers applied) n (w.servers n).life.inc ≡ true) (sym same)
-      (rests.seated n cell op runs (sym (ap (λ (p : Pairs). at cell_cmp p.pending cell) (proposed_pairs (server_state setting w n) (w.servers n).own started)) ∙ is))
+      (rests.seated n cell op runs
+      (sym (ap (λ (p : Pairs). at cell_cmp p.pending cell) (proposed_pairs (server_state setting w n) (w.servers n).own started)) ∙ is))
   worked_seated n runs _ _ (By_entry log entry more front) cell op is =
       let e = (settling (own_place setting w n) entry (crossed (server_state setting w n) entry (w.servers n).own)).pairs in
       runs_at setting w firm (w.servers n).log.applied log.applied (record { later = entry ∷ []; is = more }) front n runs
@@ -371,7 +378,8 @@ module _ (setting : Setting) (w : World) (rests : Rests setting w) (firm : Firm 
         queues = all_put w.servers n acted.server (λ m (x : Server). AreQueued v m x.queue)
             (λ m. queues_later w v (λ letter. in_later letter _ w.sent) m (w.servers m).queue (rests.queues m))
             (queues_later w v (λ letter. in_later letter _ w.sent) n acted.server.queue queued);
-        pending = all_put w.servers n acted.server (λ m (x : Server). IsReady (state_in setting.servers x.log) m (has_proposed (state_in setting.servers x.log) x.own) x.own.pairs.pending)
+        pending = all_put w.servers n acted.server
+            (λ m (x : Server). IsReady (state_in setting.servers x.log) m (has_proposed (state_in setting.servers x.log) x.own) x.own.pairs.pending)
             rests.pending ready;
         seated = all_put w.servers n acted.server (λ m (x : Server). (cell : Cell) (op : Pending) → x.life.running ≡ true
             → at cell_cmp x.own.pairs.pending cell ≡ Some op → is_in (state_in setting.servers x.log) m x.life.inc ≡ true) rests.seated seated;

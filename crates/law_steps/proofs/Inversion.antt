@@ -81,10 +81,12 @@ module _ (heard : Body → Type 0) (here : Here) (own : Own) (steady : IsSteady 
       by_test D (not (is_in here.state here.me here.inc)) _ _ (λ t. Ignores) (λ seat.
       by_test D (not (letter.rev == here.state.rev)) _ _ (λ t. other_rev letter letter.from) (λ same.
       by_test D (not (is_from_in here.state letter.inc letter.from)) _ _ (λ t. Ignores)
-      (λ t. did_handle (not_false (is_in here.state here.me here.inc) seat) letter.body (h (same_numbers letter.rev here.state.rev (not_false (letter.rev == here.state.rev) same))))))
+      (λ t. did_handle (not_false (is_in here.state here.me here.inc) seat) letter.body
+      (h (same_numbers letter.rev here.state.rev (not_false (letter.rev == here.state.rev) same))))))
   did (job.Stage cell) h = by_test D (is_in here.state here.me here.inc) _ _
       (λ t. by_test D (is_some (pending_on own cell)) _ _ (λ s. did_next heard here own steady staged cell _ refl)
-      (λ s. by_test D (is_some (copying_on own cell)) _ _ (λ u. did_copies heard here own cell (copying_on own cell) refl) (λ u. did_trims heard here own cell)))
+      (λ s. by_test D (is_some (copying_on own cell)) _ _ (λ u. did_copies heard here own cell (copying_on own cell) refl)
+      (λ u. did_trims heard here own cell)))
       (λ t. Ignores)
   did (job.Mend link) h = by_test D (is_in here.state here.me here.inc) _ _ (λ t. did_mends heard here own link) (λ t. Ignores)
   did job.Sweep h = by_test D (is_in here.state here.me here.inc) _ _ (λ t. did_sweeps heard here own t) (λ t. Ignores)

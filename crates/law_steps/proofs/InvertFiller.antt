@@ -13,7 +13,8 @@ use Rattle.petal_table.specs.Table.{at}
 use Rattle.petal_msg.specs.declared.body.Body.{Body}
 use Rattle.petal_msg.specs.declared.body.Body.TheVariants as body
 use Rattle.petal_state.specs.CellState.{cell_link, source, target}
-use Rattle.petal_rules.specs.Fills.{fill_left, fill_of, fills_row, hears_fill_full, hears_filled, is_next, link_before, next_fill, on_fill_full, on_filled, region_to_move, sends_key, sends_moving}
+use Rattle.petal_rules.specs.Fills.{fill_left, fill_of, fills_row, hears_fill_full, hears_filled, is_next, link_before, next_fill}
+use Rattle.petal_rules.specs.Fills.{on_fill_full, on_filled, region_to_move, sends_key, sends_moving}
 use Rattle.petal_rules.specs.Lists.{In}
 use Rattle.petal_rules.specs.Server.{Own, Here, Post, Done, post_to}
 use Rattle.petal_rules.specs.State.{State, is_in, lead}
@@ -123,7 +124,8 @@ module _ (heard : Body → Type 0) (here : Here) (own : Own) (seated : is_in her
       by : (o : Option LinkRow) → link_before here.state key ≡ o → D (hears_filled here own key o)
       by None e = Ignores
       by (Some row) e = by_test D (is_next (fill_of here.state here.me row own) key) _ _
-          (λ t. By_filler _ (Is_filled key row _ h (next_key key row e t) (row_fills here (filled_to own row key) seated row (linked_in here.state key row e)))) (λ t. Ignores)
+          (λ t. By_filler _ (Is_filled key row _ h (next_key key row e t) (row_fills here (filled_to own row key) seated row (linked_in here.state key row e))))
+          (λ t. Ignores)
 
   pub did_fill_full : (key : Key) → heard (body.FillFull key) → D (on_fill_full here own key)
   unfolding on_fill_full

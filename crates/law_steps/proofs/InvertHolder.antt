@@ -16,7 +16,10 @@ use Rattle.petal_msg.specs.declared.copying.Copying.{Copying}
 use Rattle.petal_msg.specs.declared.copying.LinkId.{LinkId}
 use Rattle.petal_msg.specs.declared.copying.NextCopy.{NextCopy}
 use Rattle.petal_msg.specs.declared.copying.NextCopy.TheVariants.{Ask, Block, Wait, Nothing}
-use Rattle.petal_rules.specs.Copies.{begins_copy, blocks_left, catches_up, cell_at, copies_on, copies_with, copy_acts, copy_stage, goes_for, hears_hello, hears_page, hears_sync_full, hears_synced, hears_trimmed, idle_mark, is_link_under_way, is_syncing, least, mends, mends_found, mends_row, next_block, next_copy, on_hello, on_sync_full, on_synced, on_trimmed, same_block, sends_entry, takes_mark, tidies}
+use Rattle.petal_rules.specs.Copies.{begins_copy, blocks_left, catches_up, cell_at, copies_on, copies_with, copy_acts, copy_stage, goes_for, hears_hello}
+use Rattle.petal_rules.specs.Copies.{hears_page, hears_sync_full, hears_synced, hears_trimmed, idle_mark, is_link_under_way, is_syncing, least, mends}
+use Rattle.petal_rules.specs.Copies.{mends_found, mends_row, next_block, next_copy, on_hello, on_sync_full, on_synced, on_trimmed, same_block}
+use Rattle.petal_rules.specs.Copies.{sends_entry, takes_mark, tidies}
 use Rattle.petal_rules.specs.Progress.{copying_on, progress_on, with_copying}
 use Rattle.petal_rules.specs.Server.{Own, Here, Done}
 use Rattle.petal_rules.specs.State.{State, link_named, other_in}
@@ -26,7 +29,8 @@ use Rattle.petal_rules.proofs.CellTables.{cell_same}
 use Rattle.petal_rules.proofs.Tests.{both_true, by_test, not_true, same_numbers}
 use Rattle.law_state.proofs.Places.{get_within}
 use Rattle.law_steps.specs.Did.{Did, Ignores, By_holder}
-use Rattle.law_steps.specs.DidHolder.{CopyStep, Asks_to_trim, Sends, Unmarks_copied, Closes_copy, IsHeldWith, IsSynced, first_copy, Copy_as_is, Copy_trimmed, Copy_synced, Asks_page, Turns_page, Begins_copy, Goes_on_copying, Finds_it_full, Tidies}
+use Rattle.law_steps.specs.DidHolder.{CopyStep, Asks_to_trim, Sends, Unmarks_copied, Closes_copy, IsHeldWith, IsSynced, first_copy, Copy_as_is, Copy_trimmed}
+use Rattle.law_steps.specs.DidHolder.{Copy_synced, Asks_page, Turns_page, Begins_copy, Goes_on_copying, Finds_it_full, Tidies}
 
 less : (a b : ℕ) → nat_lt a b ≡ true → a < b
 less a b e = grind (arith, nat_tests)
@@ -62,7 +66,8 @@ module _ (here : Here) (own : Own) (cell : Cell) (copy : Copying) where
       (λ past. unmarks_or_closes (mark_left own.store cell) refl
       (record { trimmed = trimmed; past = no_less copy.index (length (chain_in own.store.chains cell)) past })))
 
-pub copy_goes : (here : Here) (now : Own) (cell : Cell) (copy : Copying) → copying_on now cell ≡ Some copy → CopyStep here now cell copy (copies_on here now cell)
+pub copy_goes : (here : Here) (now : Own) (cell : Cell) (copy : Copying) → copying_on now cell ≡ Some copy
+    → CopyStep here now cell copy (copies_on here now cell)
 unfolding copies_on
 copy_goes here now cell copy is = subst (λ o. CopyStep here now cell copy (copies_with here now cell o)) (sym is) (copy_step here now cell copy)
 

@@ -19,7 +19,8 @@ use Rattle.petal_paxos.specs.declared.phase.Heard.TheVariants.{Nothing, Send, Re
 use Rattle.petal_paxos.specs.declared.phase.Heard.TheVariants.{Chosen as Decided}
 use Rattle.petal_paxos.specs.declared.phase.Phase.{Phase}
 use Rattle.petal_paxos.specs.declared.phase.Phase.TheVariants.{Idle, Collecting, Voting}
-use Rattle.petal_rules.specs.Ballots.{on_down, on_propose, on_pax, hears_of_ballot, comes_out, proposes, to_all, to_unheard, post_of, first_wanted, starts, starts_for, ballot_posts, ask_posts}
+use Rattle.petal_rules.specs.Ballots.{on_down, on_propose, on_pax, hears_of_ballot, comes_out, proposes, to_all, to_unheard, post_of}
+use Rattle.petal_rules.specs.Ballots.{first_wanted, starts, starts_for, ballot_posts, ask_posts}
 use Rattle.petal_rules.specs.Entries.{on_ask, on_news, learns, learns_first, applies, applies_known, applies_then, unknown_from}
 use Rattle.petal_rules.specs.Jobs.{log_does, hears_log}
 use Rattle.petal_rules.specs.Lists.{In}

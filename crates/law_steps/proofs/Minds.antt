@@ -52,7 +52,8 @@ flag_before state entry own id e =
     (at-where link_cmp own.copies.progress (λ k. not (ends_link state entry k)) id
     (λ k tie. ap (λ q. not (ends_link state entry q)) (sym (same_id id k (ap is_eq tie)))))) ∙ e)
   where
-    by : (stays : Bool) → option_map_or (λ (p : Progress). p.caught) (cond stays (at link_cmp own.copies.progress id) None) false ≡ true → is_flagged own id ≡ true
+    by : (stays : Bool) → option_map_or (λ (p : Progress). p.caught) (cond stays (at link_cmp own.copies.progress id) None) false ≡ true
+        → is_flagged own id ≡ true
     by true f = f
     by false f = true_false f refl
 
@@ -131,7 +132,8 @@ ballot_unheld here own (Some (Caught of link holder inc other other_inc)) s cell
     by None is = refl
     by (Some row) is =
         ap (λ (p : Progress). p.caught)
-        (progress_beside own s.row (record (progress_on own s.row) { caught = true }) row (beside here own (record { map = of; link = link }) s cell op there row is))
+        (progress_beside own s.row (record (progress_on own s.row) { caught = true }) row
+        (beside here own (record { map = of; link = link }) s cell op there row is))
         ∙ sym (ap (λ o. option_map_or (λ (r : LinkRow). (progress_on own r).caught) o false) is) ∙ unheld
 ballot_unheld here own (Some _) s cell op there unheld = unheld
 ballot_unheld here own None s cell op there unheld = unheld

@@ -10,7 +10,8 @@ use Rattle.petal_msg.specs.declared.operation.Pending.{Pending}
 use Rattle.petal_rules.specs.Lists.{In}
 use Rattle.petal_rules.specs.Store.{cell_cmp, chain_in, version_of}
 use Rattle.petal_rules.specs.Server.{Here, Own, Post, Done}
-use Rattle.petal_rules.specs.Writes.{acts, gives_back, pending_on, with_pending, without_pending, with_reserved, with_paired, with_mark_at, marks, puts, unmarks}
+use Rattle.petal_rules.specs.Writes.{acts, gives_back, pending_on, with_pending, without_pending, with_reserved}
+use Rattle.petal_rules.specs.Writes.{with_paired, with_mark_at, marks, puts, unmarks}
 use Rattle.petal_rules.proofs.CellTables.{cell_same, cell_apart, cell_gone, cell_gone_apart}
 use Rattle.petal_rules.proofs.Tests.{by_test, none_some, same_some}
 use Rattle.law_steps.specs.DidLead.{Taken}

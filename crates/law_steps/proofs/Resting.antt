@@ -1,5 +1,6 @@
 -- What a server remembers of copies stays of links as they are in its own state: each job keeps it, and an entry drops what it touches.
-use Rattle.std.proofs.Common.{◌≡◌, ◌≤◌, ◌<◌, ◌+◌, ◌==◌, ◌&&◌, not, ℕ, Bool, true, false, cond, if◌then◌else◌, List, [], ◌∷◌, ◌++◌, Option, Some, None, ◌⊎◌, refl, sym, ap, ◌∙◌, subst, inl, inr, arith}
+use Rattle.std.proofs.Common.{◌≡◌, ◌≤◌, ◌<◌, ◌+◌, ◌==◌, ◌&&◌, not, ℕ, Bool, true, false, cond, if◌then◌else◌, List, [], ◌∷◌, ◌++◌, Option}
+use Rattle.std.proofs.Common.{Some, None, ◌⊎◌, refl, sym, ap, ◌∙◌, subst, inl, inr, arith}
 use Rattle.std.specs.Prelude.{◌||◌, filter, is_none, length, map, nat_lt, option_and_then, unwrap_or}
 use Rattle.std.specs.Option.{option_map_or}
 use Rattle.std.proofs.lemmas.Grind.{fold-append}
@@ -28,7 +29,8 @@ use Rattle.petal_state.specs.Place.{touches, touches_cell}
 use Rattle.petal_state.specs.State.{inc_of, is_up, start}
 use Rattle.petal_table.specs.Table.{Table, at}
 use Rattle.petal_table.proofs.Rows.{at-empty, at-where}
-use Rattle.petal_rules.specs.Copies.{begins_copy, blocks_left, cell_at, cell_holder, is_kept_on, is_link_under_way, least, marked_blocks, next_block, next_copy, stored_blocks, with_copied, with_page}
+use Rattle.petal_rules.specs.Copies.{begins_copy, blocks_left, cell_at, cell_holder, is_kept_on, is_link_under_way, least, marked_blocks}
+use Rattle.petal_rules.specs.Copies.{next_block, next_copy, stored_blocks, with_copied, with_page}
 use Rattle.petal_rules.specs.Crossing.{crossed, dies, ends_cell, ends_link, touches_link}
 use Rattle.petal_rules.specs.Lists.{In}
 use Rattle.petal_rules.specs.Progress.{copying_on, last_copy, no_progress, progress_on, with_copying, with_full, with_last_copy, with_progress, without_copying}
@@ -53,8 +55,10 @@ use Rattle.law_state.proofs.Stages.{stage_most}
 use Rattle.law_state.proofs.Steady.{log_below}
 use Rattle.law_state.proofs.Touching.{entry_stays}
 use Rattle.law_log.proofs.Flags.{progress_beside, progress_here, same_id}
-use Rattle.law_steps.specs.DidHolder.{DidHolder, CopyStep, Asks_to_trim, Sends, Unmarks_copied, Closes_copy, TakenCopy, Copy_as_is, Copy_trimmed, Copy_synced, Asks_page, Turns_page, Begins_copy, Goes_on_copying, Finds_it_full, Tidies, first_copy}
-use Rattle.law_steps.specs.DidOther.{DidOther, first_last, TrimStep, Is_trimmed, Drops_entry, Answers_page, Is_copied_to, Goes_on_trimming, Puts_entry, Has_entry, Has_no_slot}
+use Rattle.law_steps.specs.DidHolder.{DidHolder, CopyStep, Asks_to_trim, Sends, Unmarks_copied, Closes_copy, TakenCopy, Copy_as_is, Copy_trimmed, Copy_synced}
+use Rattle.law_steps.specs.DidHolder.{Asks_page, Turns_page, Begins_copy, Goes_on_copying, Finds_it_full, Tidies, first_copy}
+use Rattle.law_steps.specs.DidOther.{DidOther, first_last, TrimStep, Is_trimmed, Drops_entry, Answers_page, Is_copied_to}
+use Rattle.law_steps.specs.DidOther.{Goes_on_trimming, Puts_entry, Has_entry, Has_no_slot}
 use Rattle.law_steps.specs.DidFiller.{DidFiller, Is_filled, Is_out_of_slots}
 use Rattle.law_steps.specs.Did.{Did, Ignores, Refuses, By_read, By_lead, By_second, By_holder, By_other, By_filler, By_sweep}
 use Rattle.law_steps.specs.Resting.{AreResting, CopyRests, LastRests}
@@ -67,7 +71,8 @@ use Rattle.law_steps.proofs.Subjects.{of_filler, of_lead, of_read, of_second, of
 
 -- where neither copies nor last ones are added, and no link's pages are anew
 pub resting_same : (state : State) (me : ℕ) (own to : Own)
-    → ((cell : Cell) (copy : Copying) → copying_on to cell ≡ Some copy → (was : Copying) × (copying_on own cell ≡ Some was) × (copy.trimmed ≡ false → was.trimmed ≡ false)
+    → ((cell : Cell) (copy : Copying) → copying_on to cell ≡ Some copy → (was : Copying) × (copying_on own cell ≡ Some was)
+    × (copy.trimmed ≡ false → was.trimmed ≡ false)
     × (copy.trimmed ≡ false → copy.index ≡ was.index))
     → ((cell : Cell) (last : LastCopy) → last_copy to cell ≡ Some last → (was : LastCopy) × (last_copy own cell ≡ Some was))
     → ((row : LinkRow) → (progress_on own row).paged ≡ true → (progress_on to row).paged ≡ true)
@@ -168,12 +173,14 @@ on_row state id row named cell on = by (tuple_of state.maps cell.map) refl
         let map_is = same_numbers r.map cell.map (both_true (r.map == cell.map) _ found.2).0 in
         let one = found_itself state cell.map (link_of (length ids) cell.block) r there in
         let two = found_itself state id.map id.link row named in
-        let r_is : r ≡ row = same_some (sym one ∙ (λ i. link_at state.links (same_numbers r.map row.map same.0 i) (same_numbers r.link row.link same.1 i)) ∙ two) in
+        let r_is : r ≡ row =
+        same_some (sym one ∙ (λ i. link_at state.links (same_numbers r.map row.map same.0 i) (same_numbers r.link row.link same.1 i)) ∙ two) in
         (is ∙ there ∙ ap Some r_is, sym map_is ∙ same_numbers r.map row.map same.0)
 
     by : (o : Option (List ℕ)) → tuple_of state.maps cell.map ≡ o → (cell_link state cell ≡ Some row) × (cell.map ≡ row.map)
     by None none =
-        true_false on (ap (λ o. option_map_or (is_link row.map row.link) o false) (ap (option_and_then (λ ids. link_at state.links cell.map (link_of (length ids) cell.block))) none))
+        true_false on (ap (λ o. option_map_or (is_link row.map row.link) o false)
+        (ap (option_and_then (λ ids. link_at state.links cell.map (link_of (length ids) cell.block))) none))
     by (Some ids) is = at_row_of ids (ap (option_and_then (λ ids. link_at state.links cell.map (link_of (length ids) cell.block))) is) _ refl
 
 -- the cell whose copy begins next is live and lies on the link, whose pages are done
@@ -195,7 +202,8 @@ cell_left state id row own named block i =
     let same : on.0 ≡ cell_at row block = λ i. record { map = there.1 i; block = on.1 i } in
     (ap (cell_link state) (sym same) ∙ there.0, ap (live state) (sym same) ∙ kept.1)
   where
-    whole : In block (if is_whole row.state then filter (above (progress_on own row).copied) (stored_blocks state row own) else []) → In block (stored_blocks state row own)
+    whole : In block (if is_whole row.state then filter (above (progress_on own row).copied) (stored_blocks state row own) else [])
+        → In block (stored_blocks state row own)
     whole = by_test (λ (ys : List ℕ). In block ys → In block (stored_blocks state row own)) (is_whole row.state) _ _
         (λ t j. in_filter (above (progress_on own row).copied) block (stored_blocks state row own) j) (λ t j. in_none block j)
 
@@ -232,7 +240,8 @@ module _ (here : Here) (own : Own) (r : AreResting here.state here.me own) where
   copying_put cell copy new = record {
     copying = λ c other is. elim (same_cell_or_apart c cell) [
       | inl e ↦ (
-          let one : copy ≡ other = same_some (sym (cell_same own.copies.pending cell copy) ∙ subst (λ (q : Cell). copying_on (with_copying own cell copy) q ≡ Some other) e is) in
+          let one : copy ≡ other =
+          same_some (sym (cell_same own.copies.pending cell copy) ∙ subst (λ (q : Cell). copying_on (with_copying own cell copy) q ≡ Some other) e is) in
           moved c other (subst (λ (q : Cell). CopyRests here.state here.me own q other) (sym e) (subst (CopyRests here.state here.me own cell) one new)))
       | inr ne ↦ moved c other (r.copying c other (sym (cell_apart own.copies.pending cell copy c ne) ∙ is))
     ];
@@ -251,16 +260,20 @@ module _ (here : Here) (own : Own) (r : AreResting here.state here.me own) where
       (λ c last is. (last, is)) (λ row paged. paged) r
 
   full_put : (full : Bool) → AreResting here.state here.me (with_full own full)
-  full_put full = resting_same here.state here.me own (with_full own full) (λ c copy is. (copy, is, (λ f. f), (λ f. refl))) (λ c last is. (last, is)) (λ row paged. paged) r
+  full_put full = resting_same here.state here.me own (with_full own full) (λ c copy is. (copy, is, (λ f. f), (λ f. refl)))
+      (λ c last is. (last, is)) (λ row paged. paged) r
 
-  progress_put : (row : LinkRow) (new : Progress) → ((progress_on own row).paged ≡ true → new.paged ≡ true) → AreResting here.state here.me (with_progress own row new)
-  progress_put row new keeps = resting_same here.state here.me own (with_progress own row new) (λ c copy is. (copy, is, (λ f. f), (λ f. refl))) (λ c last is. (last, is))
+  progress_put : (row : LinkRow) (new : Progress) → ((progress_on own row).paged ≡ true → new.paged ≡ true)
+      → AreResting here.state here.me (with_progress own row new)
+  progress_put row new keeps =
+      resting_same here.state here.me own (with_progress own row new) (λ c copy is. (copy, is, (λ f. f), (λ f. refl))) (λ c last is. (last, is))
       (paged_put own row new keeps) r
 
   copied_put : (o : Option LinkRow) (block : ℕ) → AreResting here.state here.me (with_copied o own block)
   copied_put None block = r
   copied_put (Some row) block =
-      by_test (AreResting here.state here.me) (above (progress_on own row).copied block) (with_progress own row (record (progress_on own row) { copied = Some block })) own
+      by_test (AreResting here.state here.me) (above (progress_on own row).copied block)
+      (with_progress own row (record (progress_on own row) { copied = Some block })) own
       (λ t. progress_put row (record (progress_on own row) { copied = Some block }) (λ paged. paged)) (λ no. r)
 
   last_put : (cell : Cell) (last : LastCopy) (holder : ℕ) → cell_holder here cell ≡ Some holder → AreResting here.state here.me (with_last_copy own cell last)
@@ -342,7 +355,8 @@ pub did_rests : (heard : Body → Type 0) (here : Here) (own : Own) (done : Done
     → AreResting here.state here.me done.own
 did_rests heard here own _ r Ignores = r
 did_rests heard here own _ r (Refuses to said is busy held) = r
-did_rests heard here own done r (By_read _ d) = resting_equal here.state here.me own done.own (ap (λ (o : Own). o.copies) (of_read heard here own done d).same) r
+did_rests heard here own done r (By_read _ d) =
+    resting_equal here.state here.me own done.own (ap (λ (o : Own). o.copies) (of_read heard here own done d).same) r
 did_rests heard here own done r (By_lead _ d) = resting_equal here.state here.me own done.own (of_lead heard here own done d).copies r
 did_rests heard here own done r (By_second _ d) = resting_equal here.state here.me own done.own (of_second heard here own done d).copies r
 did_rests heard here own done r (By_holder _ d) = holder_rests heard here own done r d
@@ -357,7 +371,8 @@ did_rests heard here own done r (By_sweep _ d) = resting_equal here.state here.m
 
 -- ### A ballot
 
-pub ballot_rests : (here : Here) (own : Own) (o : Option Command) → AreResting here.state here.me own → AreResting here.state here.me (proposed here.state own o)
+pub ballot_rests : (here : Here) (own : Own) (o : Option Command) → AreResting here.state here.me own
+    → AreResting here.state here.me (proposed here.state own o)
 ballot_rests here own (Some (Caught of link holder inc other other_inc)) r = by (link_named here.state (record { map = of; link = link }))
   where
     by : (o : Option LinkRow) → AreResting here.state here.me (holds_link own o)
@@ -415,7 +430,8 @@ crossed_rests servers state plain entry plain_entry grows me own r = record {
       ] in
       let other = other_so state me o.row o.other o.other_is in
       let up = up_same state (after state entry) (other_of me o.row)
-      (by_test (λ n. inc_of (after state entry) n ≡ inc_of state n) (o.row.primary == me) o.row.secondary o.row.primary (λ t. so.secondary) (λ t. so.primary)) other.1 in
+      (by_test (λ n. inc_of (after state entry) n ≡ inc_of state n) (o.row.primary == me) o.row.secondary o.row.primary (λ t. so.secondary) (λ t. so.primary))
+      other.1 in
       record {
         row = o.row;
         is = so.same;

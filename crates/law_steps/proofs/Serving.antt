@@ -43,7 +43,8 @@ use Rattle.petal_rules.specs.State.{State, id_of, in_both, is_in, leads_link, li
 use Rattle.petal_rules.specs.Store.{Stored, cell_cmp, chain_in, epochs_of, mark_left}
 use Rattle.petal_state.specs.State.{inc_of}
 use Rattle.petal_rules.specs.Writes.{pending_on, both_action, alone_action, next_stage}
-use Rattle.petal_rules.specs.Jobs.{Acted, works, job_done, crossing, entered, worked, is_overfull, stops, glances, glance_sender, is_log_job, voter_of, tick_jobs, tick_posts, sent_anew, copies_anew, awaited, does, log_does, own_wants, wanted_by}
+use Rattle.petal_rules.specs.Jobs.{Acted, works, job_done, crossing, entered, worked, is_overfull, stops, glances, glance_sender, is_log_job, voter_of}
+use Rattle.petal_rules.specs.Jobs.{tick_jobs, tick_posts, sent_anew, copies_anew, awaited, does, log_does, own_wants, wanted_by}
 use Rattle.petal_rules.specs.World.{Setting, World, acts, server_state, server_step, chosen_log, MayServer}
 use Rattle.petal_rules.specs.declared.job.Job.{Job}
 use Rattle.petal_rules.specs.declared.job.Job.TheVariants as job
@@ -72,7 +73,8 @@ use Rattle.law_log.proofs.Servers.{join_only}
 use Rattle.law_steps.specs.Operations.{IsStaged, Waiting, Putting, Copying, Answering, waiting, putting, copying, answering}
 use Rattle.law_steps.specs.DidLead.{Asks, Asks_for, A_trim, A_copied_entry, A_page, An_entry_to_move, Of_the_log, other_on}
 use Rattle.law_steps.specs.Did.{Did, Ignores, By_lead}
-use Rattle.law_steps.specs.Happens.{IsIdle, IsSeated, LeavesAll, Handled, AreQueued, IsBallotFor, Starts, By_job, By_ballot, By_entry, Serving, Goes, Ends, Stays, Wakes, Fails, is_between, served_so, stopped_so, own_place}
+use Rattle.law_steps.specs.Happens.{IsIdle, IsSeated, LeavesAll, Handled, AreQueued, IsBallotFor, Starts, By_job, By_ballot, By_entry, Serving, Goes}
+use Rattle.law_steps.specs.Happens.{Ends, Stays, Wakes, Fails, is_between, served_so, stopped_so, own_place}
 use Rattle.law_steps.specs.Ready.{IsRising, Rests}
 use Rattle.law_steps.proofs.Tables.{at_row}
 use Rattle.law_steps.proofs.Inversion.{IsHeard, did}
@@ -120,7 +122,8 @@ unfolding In
 none_among letter h = h
 
 -- what follows an entry up
-no_crossing : (state : State) (me : ℕ) (entry : Command) (own : Own) (letter : Letter) → In (job.Letter letter) (stage_jobs state entry own ++ link_jobs state entry me) → ⊥
+no_crossing : (state : State) (me : ℕ) (entry : Command) (own : Own) (letter : Letter)
+    → In (job.Letter letter) (stage_jobs state entry own ++ link_jobs state entry me) → ⊥
 no_crossing state me entry own letter h = elim (in-append (job.Letter letter) (stage_jobs state entry own) (link_jobs state entry me) h) [
   | inl stage ↦ no_stage _ letter stage
   | inr mend ↦ no_mend _ letter mend
@@ -181,9 +184,11 @@ chosen_same setting w n stamp what acted same =
 -- what is wanted and no Caught of clients' or Leaves is of a link of the server's
 module _ (voter : Voter) (log : Log) (mine : List Command) where
   fold_leaves : (c : Command) → is_caught c ≡ true → ((c : Command) → In c log.leaves → is_caught c ≡ false)
-      → In c (fold with_leave (filter (is_due (state_in voter.servers log)) log.leaves) (own_leave voter.me voter.inc (inc_of (state_in voter.servers log) voter.me))) → ⊥
+      → In c (fold with_leave (filter (is_due (state_in voter.servers log)) log.leaves)
+      (own_leave voter.me voter.inc (inc_of (state_in voter.servers log) voter.me))) → ⊥
   fold_leaves c is leaves h =
-      elim (all_leaves (own_leave voter.me voter.inc (inc_of (state_in voter.servers log) voter.me)) (filter (is_due (state_in voter.servers log)) log.leaves) c h) [
+      elim (all_leaves (own_leave voter.me voter.inc (inc_of (state_in voter.servers log) voter.me))
+      (filter (is_due (state_in voter.servers log)) log.leaves) c h) [
         | inl due ↦ true_false is (leaves c (kept_among (is_due (state_in voter.servers log)) log.leaves c due))
         | inr own ↦ own_leaves voter.me voter.inc (inc_of (state_in voter.servers log) voter.me) c (λ earlier lt e. true_false is (ap is_caught e)) own
       ]
@@ -205,7 +210,8 @@ caught_returns here own c is h = elim (in-append c (returning here own ++ draini
   | inr moved ↦ true_false is (ap is_caught (move_among here own c moved).is)
 ]
 
-module _ (setting : Setting) (w : World) (rests : Rests setting w) (firm : Firm setting w) (n : ℕ) (steady : IsSteady (server_state setting w n)) (stamp : ℕ) where
+module _ (setting : Setting) (w : World) (rests : Rests setting w) (firm : Firm setting w) (n : ℕ)
+    (steady : IsSteady (server_state setting w n)) (stamp : ℕ) where
   abbrev here : Here
   here = own_place setting w n
 
@@ -464,7 +470,8 @@ module _ (setting : Setting) (w : World) (rests : Rests setting w) (firm : Firm 
       (queue_left what rest (does here own what).jobs e (λ letter i. absurd (no_letters hears_server here own (does here own what) d letter i)))
 
   queue_more : (queue jobs : List Job) → AreQueued w n queue → ((letter : Letter) → In (job.Letter letter) jobs → ⊥) → AreQueued w n (queue ++ jobs)
-  queue_more queue jobs queued none letter i = elim (in-append (job.Letter letter) queue jobs i) [ inl old ↦ queued letter old | inr new ↦ absurd (none letter new) ]
+  queue_more queue jobs queued none letter i =
+      elim (in-append (job.Letter letter) queue jobs i) [ inl old ↦ queued letter old | inr new ↦ absurd (none letter new) ]
 
   -- the job that applies the next entry
   applied_worked : (rest : List Job) → server.queue ≡ job.Apply ∷ rest → (o : Option Command) → known log (next_place log) ≡ o
@@ -512,7 +519,8 @@ module _ (setting : Setting) (w : World) (rests : Rests setting w) (firm : Firm 
       is_it (Block cell) e = true_false e refl
       is_it Wait e = true_false e refl
 
-      no_join : In (Caught of link holder inc other other_inc) (own_join here.state here.me here.inc own.store.fresh) → IsBallotFor here own (record { map = of; link = link })
+      no_join : In (Caught of link holder inc other other_inc) (own_join here.state here.me here.inc own.store.fresh)
+          → IsBallotFor here own (record { map = of; link = link })
       no_join i = join_only here.state here.me here.inc own.store.fresh _ (λ may e. let f : true ≡ false = ap is_caught e in absurd cc) i
 
   starts_for_it : (started : Option Command) → first_wanted log.phase (rev_of log) (wanted_by here server) ≡ started → Starts here own started
@@ -630,12 +638,14 @@ module _ (setting : Setting) (w : World) (rests : Rests setting w) (firm : Firm 
   server_serves (Call line) other may later = absurd may
   server_serves (Deliver letter) other may later =
       by_test (λ (x : Server). S (Deliver letter) (record { server = x; letters = [] })) server.life.running _ _
-      (λ runs. Goes log (silent own) _ runs (By_job log (silent own) refl Ignores (inr (leaves_silent own))) (queue_delivered letter may.comes.sent may.comes.own) (inr rests_idle))
+      (λ runs. Goes log (silent own) _ runs (By_job log (silent own) refl Ignores (inr (leaves_silent own)))
+      (queue_delivered letter may.comes.sent may.comes.own) (inr rests_idle))
       (λ rests. Stays (glance_sender here server) []
       (by_test (λ (who : Sender). who.from ≡ actor.Server n) server.life.running _ _ (λ t. refl) (λ t. refl)) (λ post i. absurd i))
   server_serves Tick other may later =
       let done : Done = record { own = own; posts = tick_posts here server; jobs = [] } in
-      Goes (asks_next (voter_of here) log) done _ may.runs (By_job (asks_next (voter_of here) log) done refl (By_lead _ (Asks_for _ tick_asks)) (tick_seated may.runs)) queue_started
+      Goes (asks_next (voter_of here) log) done _ may.runs
+      (By_job (asks_next (voter_of here) log) done refl (By_lead _ (Asks_for _ tick_asks)) (tick_seated may.runs)) queue_started
       (inr (record { same = refl; asks = tick_asks }))
   server_serves (Work work_end.Done) other may later = works_serve server.queue refl may.busy may.acts.runs later
   server_serves (Work (work_end.Fault Before)) other may later = stops_serve (Work (work_end.Fault Before)) may.acts.runs

@@ -20,7 +20,8 @@ use Rattle.petal_rules.proofs.CellTables.{cell_cmp_total, cell_same, cell_apart,
 use Rattle.law_state.specs.Homes.{stage_at}
 use Rattle.law_steps.specs.Operations.{A_fill, A_write, IsOpenedFor, IsStaged, AtRest, Waiting, Putting, Copying, Answering}
 use Rattle.law_state.proofs.Alone.{alone_not_both}
-use Rattle.law_steps.specs.DidLead.{DidLead, Asks_for, Repeats, Is_full, Opens, Marks, Puts, Gives_up, Unmarks, Closes, Opens_alone, Marks_alone, Puts_alone, Unmarks_alone, Closes_alone, Opens_fill, Opens_fill_alone, Has_fill, Has_no_room, Goes_on_dead, Taken}
+use Rattle.law_steps.specs.DidLead.{DidLead, Asks_for, Repeats, Is_full, Opens, Marks, Puts, Gives_up, Unmarks, Closes, Opens_alone, Marks_alone, Puts_alone}
+use Rattle.law_steps.specs.DidLead.{Unmarks_alone, Closes_alone, Opens_fill, Opens_fill_alone, Has_fill, Has_no_room, Goes_on_dead, Taken}
 use Rattle.law_steps.specs.Did.{Did, Ignores, Refuses, By_read, By_lead, By_second, By_holder, By_other, By_filler, By_sweep}
 use Rattle.law_steps.specs.Ready.{IsReady, IsRising}
 use Rattle.petal_rules.proofs.Tests.{by_test, same_or_apart, same_some, none_some, true_false}
@@ -86,11 +87,13 @@ module _ (heard : Body → Type 0) (here : Here) (own : Own) (ready : IsReady he
   -- the operation rests in its next stage, and nothing else is changed
   put_ready : (op new : Pending) → IsStaged here.state here.me (has_proposed here.state own) op.cell new → R (put cell_cmp t op.cell new)
   put_ready op new staged =
-      changed_ready here.state here.me (has_proposed here.state own) t (put cell_cmp t op.cell new) op.cell ready (put_rises cell_cmp_total t op.cell new ready.rising)
+      changed_ready here.state here.me (has_proposed here.state own) t (put cell_cmp t op.cell new) op.cell ready
+      (put_rises cell_cmp_total t op.cell new ready.rising)
       (λ q ne. cell_apart t op.cell new q ne)
       (λ o there. subst (IsStaged here.state here.me (has_proposed here.state own) op.cell) (same_some (sym (cell_same t op.cell new) ∙ there)) staged)
 
-  put_twice_ready : (op one new : Pending) → IsStaged here.state here.me (has_proposed here.state own) op.cell new → R (put cell_cmp (put cell_cmp t op.cell one) op.cell new)
+  put_twice_ready : (op one new : Pending) → IsStaged here.state here.me (has_proposed here.state own) op.cell new
+      → R (put cell_cmp (put cell_cmp t op.cell one) op.cell new)
   put_twice_ready op one new staged =
       let u = put cell_cmp t op.cell one in
       changed_ready here.state here.me (has_proposed here.state own) t (put cell_cmp u op.cell new) op.cell ready
@@ -145,7 +148,8 @@ module _ (heard : Body → Type 0) (here : Here) (own : Own) (ready : IsReady he
   taken_put now op new taken staged =
       let k = taking own now op taken in
       let u = now.pairs.pending in
-      changed_ready here.state here.me (has_proposed here.state own) t (put cell_cmp u op.cell new) op.cell ready (put_rises cell_cmp_total u op.cell new (k.rises ready.rising))
+      changed_ready here.state here.me (has_proposed here.state own) t (put cell_cmp u op.cell new) op.cell ready
+      (put_rises cell_cmp_total u op.cell new (k.rises ready.rising))
       (λ q ne. cell_apart u op.cell new q ne ∙ k.others q ne)
       (λ o there. subst (IsStaged here.state here.me (has_proposed here.state own) op.cell) (same_some (sym (cell_same u op.cell new) ∙ there)) staged)
 
@@ -158,7 +162,8 @@ module _ (heard : Body → Type 0) (here : Here) (own : Own) (ready : IsReady he
   taken_gone now op taken =
       let k = taking own now op taken in
       let u = now.pairs.pending in
-      changed_ready here.state here.me (has_proposed here.state own) t (without cell_cmp u op.cell) op.cell ready (without_rises cell_cmp u op.cell (k.rises ready.rising))
+      changed_ready here.state here.me (has_proposed here.state own) t (without cell_cmp u op.cell) op.cell ready
+      (without_rises cell_cmp u op.cell (k.rises ready.rising))
       (λ q ne. cell_gone_apart u op.cell q ne ∙ k.others q ne) (λ o there. none_some (cell_gone u op.cell) there)
 
   -- ### On a cell that is no longer live

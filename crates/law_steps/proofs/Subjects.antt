@@ -29,7 +29,8 @@ use Rattle.petal_rules.specs.Writes.{acts, ends, gives_back, next_stage, tells, 
 use Rattle.petal_rules.specs.declared.job.Job.{Job}
 use Rattle.petal_rules.specs.declared.job.Job.TheVariants as job
 use Rattle.law_steps.specs.DidRead.{DidRead, Not_here, Shows}
-use Rattle.law_steps.specs.DidLead.{DidLead, Asks_for, Repeats, Is_full, Opens, Marks, Puts, Gives_up, Unmarks, Closes, Opens_alone, Marks_alone, Puts_alone, Unmarks_alone, Closes_alone, Opens_fill, Opens_fill_alone, Has_fill, Has_no_room, Goes_on_dead}
+use Rattle.law_steps.specs.DidLead.{DidLead, Asks_for, Repeats, Is_full, Opens, Marks, Puts, Gives_up, Unmarks, Closes, Opens_alone, Marks_alone, Puts_alone}
+use Rattle.law_steps.specs.DidLead.{Unmarks_alone, Closes_alone, Opens_fill, Opens_fill_alone, Has_fill, Has_no_room, Goes_on_dead}
 use Rattle.law_steps.specs.DidSecond.{DidSecond, Sets_apart, Promises, Declines, Follows}
 use Rattle.law_steps.specs.DidFiller.{DidFiller, Is_filled, Is_out_of_slots}
 use Rattle.law_steps.specs.DidSweep.{DidSweep, Sweeps}
@@ -170,11 +171,23 @@ module _ (heard : Body → Type 0) (here : Here) (own : Own) where
       frame_on own (without_pending own op.cell) _ refl refl (ends_frame here (without_pending own op.cell) op op.kind Written)
   of_lead _ (Opens_alone want new alone) = record { last = refl; copies = refl; no_letters = λ letter i. elim i [ inl e ↦ cc | inr none ↦ none ] }
   of_lead _ (Marks_alone now op taken alone fresh) =
-      record { last = (taking own now op taken).last; copies = (taking own now op taken).copies; no_letters = λ letter i. elim i [ inl e ↦ cc | inr none ↦ none ] }
+      record {
+        last = (taking own now op taken).last;
+        copies = (taking own now op taken).copies;
+        no_letters = λ letter i. elim i [ inl e ↦ cc | inr none ↦ none ];
+      }
   of_lead _ (Puts_alone now op taken alone stale put) =
-      record { last = (taking own now op taken).last; copies = (taking own now op taken).copies; no_letters = λ letter i. elim i [ inl e ↦ cc | inr none ↦ none ] }
+      record {
+        last = (taking own now op taken).last;
+        copies = (taking own now op taken).copies;
+        no_letters = λ letter i. elim i [ inl e ↦ cc | inr none ↦ none ];
+      }
   of_lead _ (Unmarks_alone now op taken alone stale put busy) =
-      record { last = (taking own now op taken).last; copies = (taking own now op taken).copies; no_letters = λ letter i. elim i [ inl e ↦ cc | inr none ↦ none ] }
+      record {
+        last = (taking own now op taken).last;
+        copies = (taking own now op taken).copies;
+        no_letters = λ letter i. elim i [ inl e ↦ cc | inr none ↦ none ];
+      }
   of_lead _ (Closes_alone now op taken alone stale put free) =
       frame_on own (without_pending now op.cell) _ (taking own now op taken).last (taking own now op taken).copies
       (ends_frame here (without_pending now op.cell) op op.kind Written)

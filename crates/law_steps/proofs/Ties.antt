@@ -78,9 +78,11 @@ module _ (setting : Setting) (w : World) (firm : Firm setting w) (n : ℕ) (runs
             let one = front_long (w.servers n).log.applied front own in
             let two = front_long front c.until c.behind in
             let at : c.until ≡ front = one_front c.until front (chosen_log setting w) until_chosen front_chosen (omega arith) in
-            let own_at : front ≡ (w.servers n).log.applied = one_front front (w.servers n).log.applied (chosen_log setting w) front_chosen (firm.servers n) (omega arith) in
+            let own_at : front ≡ (w.servers n).log.applied =
+            one_front front (w.servers n).log.applied (chosen_log setting w) front_chosen (firm.servers n) (omega arith) in
             let there : cell_link (server_state setting w n) cell ≡ Some found =
-            ap (λ log. cell_link (state_after setting.servers log) cell) (sym own_at) ∙ ap (λ log. cell_link (state_after setting.servers log) cell) (sym at) ∙ c.was in
+            ap (λ log. cell_link (state_after setting.servers log) cell) (sym own_at)
+            ∙ ap (λ log. cell_link (state_after setting.servers log) cell) (sym at) ∙ c.was in
             record {
               whole = acts.whole;
               mine = acts.alone ∙ ap (λ k. Only k acts.whole) holder;

@@ -1,5 +1,6 @@
 -- Each step of a client is one of the kinds that the relation names.
-use Rattle.std.proofs.Common.{◌≡◌, ◌+◌, ◌++◌, ◌==◌, ◌&&◌, ℕ, Bool, true, false, List, [], ◌∷◌, Option, Some, None, length, refl, ◌∙◌, sym, ap, subst, inl, inr, append_assoc}
+use Rattle.std.proofs.Common.{◌≡◌, ◌+◌, ◌++◌, ◌==◌, ◌&&◌, ℕ, Bool, true, false, List, [], ◌∷◌, Option, Some, None, length}
+use Rattle.std.proofs.Common.{refl, ◌∙◌, sym, ap, subst, inl, inr, append_assoc}
 use Rattle.std.specs.Prelude.{is_some, map, nat_le, not, if◌then◌else◌}
 use Rattle.std.proofs.lemmas.Grind.{fold-append}
 use Rattle.petal_command.specs.declared.command.Command.{Command}
@@ -27,7 +28,11 @@ use Rattle.petal_rules.specs.Lists.{In}
 use Rattle.petal_state.specs.Settled.{is_settled}
 use Rattle.petal_rules.specs.State.{State, find, servers_of}
 use Rattle.petal_rules.specs.Server.{Post, post_to}
-use Rattle.petal_rules.specs.Clients.{Client, Asked, Reaction, Learning, rests, posts_for, write_posts, read_posts, read_posts_at, epoch_for, to_propose, way_now, goes_the_old_way, sends_or_proposes, goes_out, goes_out_where, post_in_turn, asking, asks_and_sends, called, replies, is_read, is_write, first_round, Sight, with_sight, stays_open, rounds, settles, sees_for, sees, sees_from, answers, hears, hears_of, heard, hears_any, command_of, refusal, verdict_for, answered_where, witnessed, is_witness, judged, judged_by, takes_entry, takes_all, then_goes_out, takes_entries, next_entries, ticked}
+use Rattle.petal_rules.specs.Clients.{Client, Asked, Reaction, Learning, rests, posts_for, write_posts, read_posts, read_posts_at, epoch_for, to_propose}
+use Rattle.petal_rules.specs.Clients.{way_now, goes_the_old_way, sends_or_proposes, goes_out, goes_out_where, post_in_turn, asking, asks_and_sends, called}
+use Rattle.petal_rules.specs.Clients.{replies, is_read, is_write, first_round, Sight, with_sight, stays_open, rounds, settles, sees_for, sees, sees_from}
+use Rattle.petal_rules.specs.Clients.{answers, hears, hears_of, heard, hears_any, command_of, refusal, verdict_for, answered_where, witnessed, is_witness}
+use Rattle.petal_rules.specs.Clients.{judged, judged_by, takes_entry, takes_all, then_goes_out, takes_entries, next_entries, ticked}
 use Rattle.petal_rules.specs.World.{Setting, World, MayClient, client_state, client_step, calls, line_in, next_line}
 use Rattle.petal_rules.specs.declared.step.Step.{Step}
 use Rattle.petal_rules.specs.declared.step.Step.TheVariants.{Call, Deliver, Tick, Work, StopIn, Stop, Blank, Boot, Arm, Glance}
@@ -35,7 +40,9 @@ use Rattle.petal_rules.proofs.ListLemmas.{in-append}
 use Rattle.petal_rules.proofs.Tests.{by_bool, by_test, both_true, same_numbers, only}
 use Rattle.law_state.proofs.Steady.{log_rev}
 use Rattle.law_steps.specs.Happens.{Heard}
-use Rattle.law_steps.specs.Turned.{Turned, Says, Of_the_log, A_write, A_read, OnlySays, IsSame, WasSent, As_it_was, Anew, StaysOpen, IsReason, By_verdict, By_witness, IsJudged, Stops_it, Starts_it, Blanks_it, Has_no_space, Is_settled, Goes_on, Is_told, Begins, Reads, Ends, Shown, Judges}
+use Rattle.law_steps.specs.Turned.{Turned, Says, Of_the_log, A_write, A_read, OnlySays, IsSame, WasSent, As_it_was, Anew, StaysOpen, IsReason}
+use Rattle.law_steps.specs.Turned.{By_verdict, By_witness, IsJudged, Stops_it, Starts_it, Blanks_it, Has_no_space, Is_settled, Goes_on, Is_told}
+use Rattle.law_steps.specs.Turned.{Begins, Reads, Ends, Shown, Judges}
 use Rattle.law_steps.proofs.Fronts.{front_itself, front_same, front_more, front_on}
 
 -- a client's step is made in a call, or else
@@ -126,7 +133,8 @@ module _ (state : State) (c : ℕ) where
 
   module _ (open_now : Option Asked) (asked : Asked) (is : open_now ≡ Some asked) where
     write_says : asked.rev ≡ state.rev → (name : List ℕ) (block : ℕ) (pattern : Pattern) → asked.request ≡ request.Write name block pattern
-        → (o : Option DiskView) → find state name ≡ o → (post : Post) → In post (write_posts state o c asked.seq block (pattern_block pattern)) → Says state c open_now post
+        → (o : Option DiskView) → find state name ≡ o → (post : Post) → In post (write_posts state o c asked.seq block (pattern_block pattern))
+        → Says state c open_now post
     unfolding In
     write_says rev name block pattern asks None found post h = absurd h
     write_says rev name block pattern asks (Some disk) found post h =
@@ -373,19 +381,23 @@ module _ (servers : ℕ) (lines : List Line) (w : World) (c : ℕ) where
         grows = front_same client.applied reacted.client.applied q.applied;
       }
 
-  hears_turns : (asked : Asked) (rev : ℕ) → client.asked ≡ Some asked → (said : Body) → Heard w (actor.Client c) rev said → T (hears state c client asked rev said)
+  hears_turns : (asked : Asked) (rev : ℕ) → client.asked ≡ Some asked → (said : Body) → Heard w (actor.Client c) rev said
+      → T (hears state c client asked rev said)
   hears_turns asked rev is (body.Data seq bytes) h = by_test T (replies asked rev (about (body.Data seq bytes)) && is_read asked.request) _ _
       (λ t. let tests = both_true (replies asked rev (about (body.Data seq bytes))) (is_read asked.request) t in
       let same = both_true (seq == asked.seq) (rev == asked.rev) tests.0 in
-      ends_turn refl (Reads asked bytes (heard_as (ap (λ k. body.Data k bytes) (same_numbers seq asked.seq same.0)) (same_numbers rev asked.rev same.1) h) is tests.1)) (λ t. rests_turns)
+      ends_turn refl (Reads asked bytes (heard_as (ap (λ k. body.Data k bytes) (same_numbers seq asked.seq same.0)) (same_numbers rev asked.rev same.1) h)
+      is tests.1)) (λ t. rests_turns)
   hears_turns asked rev is (body.Written seq) h = by_test T (replies asked rev (about (body.Written seq)) && is_write asked.request) _ _
       (λ t. let tests = both_true (replies asked rev (about (body.Written seq))) (is_write asked.request) t in
       let same = both_true (seq == asked.seq) (rev == asked.rev) tests.0 in
-      ends_turn refl (Ends asked ending.Written (heard_as (ap body.Written (same_numbers seq asked.seq same.0)) (same_numbers rev asked.rev same.1) h) is tests.1)) (λ t. rests_turns)
+      ends_turn refl (Ends asked ending.Written (heard_as (ap body.Written (same_numbers seq asked.seq same.0)) (same_numbers rev asked.rev same.1) h)
+      is tests.1)) (λ t. rests_turns)
   hears_turns asked rev is (body.Full seq) h = by_test T (replies asked rev (about (body.Full seq)) && is_write asked.request) _ _
       (λ t. let tests = both_true (replies asked rev (about (body.Full seq))) (is_write asked.request) t in
       let same = both_true (seq == asked.seq) (rev == asked.rev) tests.0 in
-      ends_turn refl (Ends asked ending.Full (heard_as (ap body.Full (same_numbers seq asked.seq same.0)) (same_numbers rev asked.rev same.1) h) is tests.1)) (λ t. rests_turns)
+      ends_turn refl (Ends asked ending.Full (heard_as (ap body.Full (same_numbers seq asked.seq same.0)) (same_numbers rev asked.rev same.1) h) is tests.1))
+      (λ t. rests_turns)
   hears_turns asked rev is (body.BlockBusy seq) h = by_test T (replies asked rev (about (body.BlockBusy seq))) _ _ (λ t. again asked is) (λ t. rests_turns)
   hears_turns asked rev is (body.Held seq) h = by_test T (replies asked rev (about (body.Held seq))) _ _ (λ t. again asked is) (λ t. rests_turns)
   hears_turns asked rev is (body.WrongRev seq) h = by_test T (replies asked rev (about (body.WrongRev seq))) _ _ (λ t. again asked is) (λ t. rests_turns)
@@ -486,7 +498,8 @@ module _ (servers : ℕ) (lines : List Line) (w : World) (c : ℕ) where
         leaves_open now entry l none (with_one now entry) refl refl refl refl (subst (StaysOpen rev client.asked) (sym e) stays) in
         let by_command : (command : Command) → command_of c asked.seq asked.request ≡ Some command → (o : Option Answer)
         → verdict_for asked.seq (latest (after now.state entry) c) ≡ o → Learnt rev (answered_where (with_one now entry) asked o) =
-        λ command own o so. elim o as (λ o. verdict_for asked.seq (latest (after now.state entry) c) ≡ o → Learnt rev (answered_where (with_one now entry) asked o)) [
+        λ command own o so. elim o
+        as (λ o. verdict_for asked.seq (latest (after now.state entry) c) ≡ o → Learnt rev (answered_where (with_one now entry) asked o)) [
           | None ↦ λ so. still
           | Some given ↦ λ so. gives now entry l old asked was.1 was.2 given (By_verdict command own so) _ refl refl refl refl refl
         ] so in
@@ -504,7 +517,8 @@ module _ (servers : ℕ) (lines : List Line) (w : World) (c : ℕ) where
               }))
           | Some given ↦ λ so. gives now entry l old asked was.1 was.2 given (By_witness own is so) _ refl refl refl refl refl
         ] so in
-        elim (command_of c asked.seq asked.request) as (λ o. command_of c asked.seq asked.request ≡ o → Learnt rev (judged_by c entry (with_one now entry) asked o)) [
+        elim (command_of c asked.seq asked.request)
+        as (λ o. command_of c asked.seq asked.request ≡ o → Learnt rev (judged_by c entry (with_one now entry) asked o)) [
           | Some command ↦ λ own. by_command command own _ refl
           | None ↦ λ own. by_test (Learnt rev) (is_witness c asked.seq entry) _ _ (λ is. by_state own is _ refl) (λ t. still)
         ] refl
@@ -541,7 +555,8 @@ module _ (servers : ℕ) (lines : List Line) (w : World) (c : ℕ) where
           subst (λ log. StaysOpen (length log) client.asked now.client.asked) (sym quiet.applied) stays in
           let reacted = then_goes_out c now in
           record {
-            turned = Goes_on reacted (quiet.seq ∙ l.seq) (stays_on rev client.asked now.client.asked out.client.asked before (stays_at now.client now.client.asked out quiet))
+            turned = Goes_on reacted (quiet.seq ∙ l.seq)
+                (stays_on rev client.asked now.client.asked out.client.asked before (stays_at now.client now.client.asked out quiet))
                 (record { says = (only_says now.client now.client.asked out quiet).says; unanswered = none });
             grows = front_on client.applied now.client.applied out.client.applied l.grows (front_same now.client.applied out.client.applied quiet.applied);
           }
@@ -563,7 +578,8 @@ module _ (servers : ℕ) (lines : List Line) (w : World) (c : ℕ) where
         far = Open_still refl (stays_itself rev client.asked);
       }))
 
-  heard_turns : (letter : Letter) → In letter w.sent → letter.to ≡ actor.Client c → (said : Body) → letter.body ≡ said → T (hears_any state c client letter said)
+  heard_turns : (letter : Letter) → In letter w.sent → letter.to ≡ actor.Client c → (said : Body) → letter.body ≡ said
+      → T (hears_any state c client letter said)
   heard_turns letter h own (body.News from commands) e = news_turns (next_entries client from commands)
   heard_turns letter h own (body.Seen line round running inc full) e =
       seen_from_turns letter.rev (record { server = 0; rev = letter.rev; line = line; round = round; running = running; inc = inc; full = full })

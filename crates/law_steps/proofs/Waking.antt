@@ -1,6 +1,7 @@
 -- A server that boots goes on from what it had applied: its device knew that, and no device knows more places than it has
 -- records. And it is not yet In as its next incarnation, of which no Join can be chosen before.
-use Rattle.std.proofs.Common.{◌≡◌, ◌≢◌, ◌⊎◌, inl, inr, ◌+◌, ◌==◌, ◌<◌, ◌≤◌, ◌++◌, ℕ, zero, suc, Bool, true, false, List, [], ◌∷◌, length, fold, Some, refl, sym, ap, ◌∙◌, subst, arith, append_assoc}
+use Rattle.std.proofs.Common.{◌≡◌, ◌≢◌, ◌⊎◌, inl, inr, ◌+◌, ◌==◌, ◌<◌, ◌≤◌, ◌++◌, ℕ, zero, suc, Bool, true, false, List, [], ◌∷◌, length}
+use Rattle.std.proofs.Common.{fold, Some, refl, sym, ap, ◌∙◌, subst, arith, append_assoc}
 use Rattle.std.specs.Prelude.{slice_get}
 use Rattle.script_lines.specs.declared.script.Script.{Script}
 use Rattle.petal_command.specs.declared.command.Command.{Command}
@@ -46,11 +47,14 @@ chosen_by : (place : ℕ) (row : Row) (entry : StateRecord) (c : Command) → (r
     → (row.chosen ≡ Some c) ⊎ (chooses place entry ≡ true)
 chosen_by place row (Inc inc) c e = inl e
 chosen_by place row (Promise p b) c e =
-    by_test (λ (r : Row). r.chosen ≡ Some c → (row.chosen ≡ Some c) ⊎ (false ≡ true)) (p == place) (promise_row row b) row (λ same f. inl f) (λ other f. inl f) e
+    by_test (λ (r : Row). r.chosen ≡ Some c → (row.chosen ≡ Some c) ⊎ (false ≡ true)) (p == place) (promise_row row b) row
+    (λ same f. inl f) (λ other f. inl f) e
 chosen_by place row (Accepted p b d) c e =
-    by_test (λ (r : Row). r.chosen ≡ Some c → (row.chosen ≡ Some c) ⊎ (false ≡ true)) (p == place) (accept_row row b d) row (λ same f. inl f) (λ other f. inl f) e
+    by_test (λ (r : Row). r.chosen ≡ Some c → (row.chosen ≡ Some c) ⊎ (false ≡ true)) (p == place) (accept_row row b d) row
+    (λ same f. inl f) (λ other f. inl f) e
 chosen_by place row (Chosen p d) c e =
-    by_test (λ (r : Row). r.chosen ≡ Some c → (row.chosen ≡ Some c) ⊎ ((p == place) ≡ true)) (p == place) (choose_row row d) row (λ same f. inr same) (λ other f. inl f) e
+    by_test (λ (r : Row). r.chosen ≡ Some c → (row.chosen ≡ Some c) ⊎ ((p == place) ≡ true)) (p == place) (choose_row row d) row
+    (λ same f. inr same) (λ other f. inl f) e
 
 told_by : (place : ℕ) (records : List StateRecord) (row : Row) (c : Command) → (fold (row_after place) row records).chosen ≡ Some c
     → (row.chosen ≡ Some c) ⊎ IsTold place records

@@ -21,7 +21,8 @@ use Rattle.petal_rules.specs.declared.job.Job.TheVariants as job
 pub data TrimStep (own : Own) (cell : Cell) (last : LastCopy) (holder : ℕ) : Done → Type 0 where
   Is_trimmed : epochs_beyond own cell last.epochs ≡ [] → TrimStep own cell last holder (says_to own (Some holder) (body.Trimmed last.op cell))
   Drops_entry : (epoch : ℕ) (epochs : List ℕ) → epochs_beyond own cell last.epochs ≡ epoch ∷ epochs
-      → TrimStep own cell last holder (record { own = record own { store = without_entry own.store (key_at cell epoch) }; posts = []; jobs = job.Stage cell ∷ [] })
+      → TrimStep own cell last holder
+      (record { own = record own { store = without_entry own.store (key_at cell epoch) }; posts = []; jobs = job.Stage cell ∷ [] })
 
 -- a copy as the other server first hears of it
 abbrev pub first_last : ℕ → List ℕ → LastCopy

@@ -148,7 +148,8 @@ pub data Serving (setting : Setting) (w : World) (n : ℕ) (what : Step) : Acted
       → Serving setting w n what (stopped_so setting w n log done)
   Stays : (who : Sender) (posts : List Post) → who.from ≡ actor.Server n → ((post : Post) → In post posts → subject_of post.body ≡ Glanced)
       → Serving setting w n what (shown_so w n who posts)
-  Wakes : what ≡ Boot work_end.Done → (w.servers n).life.running ≡ false → Serving setting w n what (wakes (own_place setting w n) (awake (raised (w.servers n))))
+  Wakes : what ≡ Boot work_end.Done → (w.servers n).life.running ≡ false
+      → Serving setting w n what (wakes (own_place setting w n) (awake (raised (w.servers n))))
   Fails : what ≡ Boot (work_end.Fault After) → (w.servers n).life.running ≡ false → Serving setting w n what (stays (raised (w.servers n)))
 
 -- ### Clients

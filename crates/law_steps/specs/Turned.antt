@@ -23,7 +23,8 @@ use Rattle.petal_state.specs.Settled.{is_settled}
 use Rattle.petal_rules.specs.State.{State, find, servers_of}
 use Rattle.petal_rules.specs.Server.{Post}
 use Rattle.petal_rules.specs.Writes.{ended}
-use Rattle.petal_rules.specs.Clients.{Client, Asked, Reaction, Sight, with_sight, answers, is_read, is_write, epoch_for, command_of, refusal, verdict_for, is_witness}
+use Rattle.petal_rules.specs.Clients.{Client, Asked, Reaction, Sight, with_sight, answers, is_read, is_write, epoch_for}
+use Rattle.petal_rules.specs.Clients.{command_of, refusal, verdict_for, is_witness}
 use Rattle.petal_rules.specs.World.{lines_of, next_line}
 
 -- the line of a client's request of this number. The first has number 1
@@ -134,7 +135,8 @@ pub data Turned (heard : ℕ → Body → Type 0) (servers : ℕ) (lines : List 
       → OnlySays servers c reacted
       → Turned heard servers lines c client false reacted
   Begins : (reacted : Reaction) (line : Line) (asked : Asked) → next_line lines c client ≡ Some line → client.asked ≡ None
-      → reacted.client.seq ≡ client.seq + 1 → reacted.client.asked ≡ Some asked → IsCalled line (client.seq + 1) (length client.applied) asked → OnlySays servers c reacted
+      → reacted.client.seq ≡ client.seq + 1 → reacted.client.asked ≡ Some asked → IsCalled line (client.seq + 1) (length client.applied) asked
+      → OnlySays servers c reacted
       → Turned heard servers lines c client true reacted
   Reads : (asked : Asked) (bytes : List ℕ) → heard asked.rev (body.Data asked.seq bytes) → client.asked ≡ Some asked → is_read asked.request ≡ true
       → Turned heard servers lines c client false (answers client asked (answer.Data bytes))

@@ -32,7 +32,8 @@ ghost use Rattle.law_steps.specs.Ties.{StaysAloneOrCaught, StaysInBoth};
 /// After every legal history, the state that is chosen is steady: each cell that has a link has two servers apart, and both
 /// serve it, or one of them alone.
 pub fn what_is_chosen_is_steady()
-    ensures { (script : Script) (records : List Record) → IsSound script → IsLegal script records → IsSteady (chosen_state (setting_of script) (world_after (setting_of script) (start (setting_of script)) records)) }
+    ensures { (script : Script) (records : List Record) → IsSound script → IsLegal script records
+        → IsSteady (chosen_state (setting_of script) (world_after (setting_of script) (start (setting_of script)) records)) }
 {}
 
 /// After every legal history, what waits in a queue was sent to its server, and a pending operation is of a client's write or an entry that
@@ -41,26 +42,49 @@ pub fn what_is_chosen_is_steady()
 /// chosen, too. A copy that is under way is of a live cell of a link that the server holds alone by its own state, and whose pages are
 /// done; and the last copy to a server is of a link that the other one holds, or of a dead cell.
 pub fn operations_rest_in_four_stages()
-    ensures chosen { (script : Script) (records : List Record) → IsSound script → IsLegal script records → (n : ℕ) → ((world_after (setting_of script) (start (setting_of script)) records).servers n).life.running ≡ true → IsReady (chosen_state (setting_of script) (world_after (setting_of script) (start (setting_of script)) records)) n (has_proposed (server_state (setting_of script) (world_after (setting_of script) (start (setting_of script)) records) n) ((world_after (setting_of script) (start (setting_of script)) records).servers n).own) ((world_after (setting_of script) (start (setting_of script)) records).servers n).own.pairs.pending }
-    ensures own { (script : Script) (records : List Record) → IsSound script → IsLegal script records → Rests (setting_of script) (world_after (setting_of script) (start (setting_of script)) records) }
+    ensures chosen { (script : Script) (records : List Record) → IsSound script
+        → IsLegal script records → (n : ℕ) → ((world_after (setting_of script) (start (setting_of script)) records).servers n).life.running ≡ true
+        → IsReady (chosen_state (setting_of script) (world_after (setting_of script) (start (setting_of script)) records)) n
+        (has_proposed (server_state (setting_of script) (world_after (setting_of script) (start (setting_of script)) records) n)
+        ((world_after (setting_of script) (start (setting_of script)) records).servers n).own)
+        ((world_after (setting_of script) (start (setting_of script)) records).servers n).own.pairs.pending }
+    ensures own { (script : Script) (records : List Record) → IsSound script → IsLegal script records
+        → Rests (setting_of script) (world_after (setting_of script) (start (setting_of script)) records) }
 {}
 
 /// After every legal history, each entry that was ever sent so that it moves is of a cell whose region was on its way at the letter's
 /// revision, and so is each operation that was opened for one, at the revision at which it was.
 pub fn entries_move_to_cells_on_their_way()
-    ensures { (script : Script) (records : List Record) → IsSound script → IsLegal script records → AreComing (setting_of script) (world_after (setting_of script) (start (setting_of script)) records) }
+    ensures { (script : Script) (records : List Record) → IsSound script → IsLegal script records
+        → AreComing (setting_of script) (world_after (setting_of script) (start (setting_of script)) records) }
 {}
 
 /// The step that each record of a legal history tells of is of one of the kinds that the relation names, at every state from
 /// what is then chosen on.
 pub fn each_step_is_of_a_kind()
-    ensures { (script : Script) (front : List Record) (own : Record) → IsSound script → IsLegal script (front ++ own ∷ []) → (state : State) → IsBelow (chosen_state (setting_of script) (world_after (setting_of script) (start (setting_of script)) (front ++ own ∷ []))) state → Happens (setting_of script) state (world_after (setting_of script) (start (setting_of script)) front) (world_after (setting_of script) (start (setting_of script)) (front ++ own ∷ [])) }
+    ensures { (script : Script) (front : List Record) (own : Record) → IsSound script → IsLegal script (front ++ own ∷ []) → (state : State)
+        → IsBelow (chosen_state (setting_of script) (world_after (setting_of script) (start (setting_of script)) (front ++ own ∷ []))) state
+        → Happens (setting_of script) state (world_after (setting_of script) (start (setting_of script)) front)
+        (world_after (setting_of script) (start (setting_of script)) (front ++ own ∷ [])) }
 {}
 
 /// While a server runs, and is In as itself, it is tied to what is chosen from its own entries on: a link that was in Both is so at the
 /// same place, or the server holds it alone; and one that it held alone it holds so still, or it is in Both by a Caught for which the
 /// server has started the ballot, right behind its own entries. This is said while the cell is not dead.
 pub fn a_running_server_is_tied_to_what_is_chosen()
-    ensures both { (script : Script) (records : List Record) → IsSound script → IsLegal script records → (n : ℕ) (front more : List Command) → ((world_after (setting_of script) (start (setting_of script)) records).servers n).life.running ≡ true → IsPrefix ((world_after (setting_of script) (start (setting_of script)) records).servers n).log.applied front → IsPrefix front more → IsPrefix more (chosen_log (setting_of script) (world_after (setting_of script) (start (setting_of script)) records)) → is_in (state_after script.servers front) n ((world_after (setting_of script) (start (setting_of script)) records).servers n).life.inc ≡ true → (cell : Cell) (row : LinkRow) → cell_link (state_after script.servers front) cell ≡ Some row → has_server n row ≡ true → stage_at (state_after script.servers more) cell < 4 → row.state ≡ Both → StaysInBoth (setting_of script) n front more cell row }
-    ensures alone { (script : Script) (records : List Record) → IsSound script → IsLegal script records → (n : ℕ) (front more : List Command) → ((world_after (setting_of script) (start (setting_of script)) records).servers n).life.running ≡ true → IsPrefix ((world_after (setting_of script) (start (setting_of script)) records).servers n).log.applied front → IsPrefix front more → IsPrefix more (chosen_log (setting_of script) (world_after (setting_of script) (start (setting_of script)) records)) → is_in (state_after script.servers front) n ((world_after (setting_of script) (start (setting_of script)) records).servers n).life.inc ≡ true → (cell : Cell) (row : LinkRow) → cell_link (state_after script.servers front) cell ≡ Some row → has_server n row ≡ true → stage_at (state_after script.servers more) cell < 4 → (whole : Bool) → row.state ≡ Only n whole → StaysAloneOrCaught (setting_of script) (world_after (setting_of script) (start (setting_of script)) records) n front more cell }
+    ensures both { (script : Script) (records : List Record) → IsSound script → IsLegal script records → (n : ℕ) (front more : List Command)
+        → ((world_after (setting_of script) (start (setting_of script)) records).servers n).life.running ≡ true
+        → IsPrefix ((world_after (setting_of script) (start (setting_of script)) records).servers n).log.applied front
+        → IsPrefix front more → IsPrefix more (chosen_log (setting_of script) (world_after (setting_of script) (start (setting_of script)) records))
+        → is_in (state_after script.servers front) n ((world_after (setting_of script) (start (setting_of script)) records).servers n).life.inc ≡ true
+        → (cell : Cell) (row : LinkRow) → cell_link (state_after script.servers front) cell ≡ Some row → has_server n row ≡ true
+        → stage_at (state_after script.servers more) cell < 4 → row.state ≡ Both → StaysInBoth (setting_of script) n front more cell row }
+    ensures alone { (script : Script) (records : List Record) → IsSound script → IsLegal script records
+        → (n : ℕ) (front more : List Command) → ((world_after (setting_of script) (start (setting_of script)) records).servers n).life.running ≡ true
+        → IsPrefix ((world_after (setting_of script) (start (setting_of script)) records).servers n).log.applied front
+        → IsPrefix front more → IsPrefix more (chosen_log (setting_of script) (world_after (setting_of script) (start (setting_of script)) records))
+        → is_in (state_after script.servers front) n ((world_after (setting_of script) (start (setting_of script)) records).servers n).life.inc ≡ true
+        → (cell : Cell) (row : LinkRow) → cell_link (state_after script.servers front) cell ≡ Some row
+        → has_server n row ≡ true → stage_at (state_after script.servers more) cell < 4 → (whole : Bool) → row.state ≡ Only n whole
+        → StaysAloneOrCaught (setting_of script) (world_after (setting_of script) (start (setting_of script)) records) n front more cell }
 {}

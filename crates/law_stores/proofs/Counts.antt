@@ -1,5 +1,6 @@
 -- Joins with an empty store between a front of the log and the whole of it.
-use Rattle.std.proofs.Common.{◌≡◌, ◌≢◌, ◌≤◌, ◌<◌, ◌++◌, ◌⊎◌, inl, inr, ℕ, Bool, true, List, [], ◌∷◌, length, length-append, refl, sym, ap, ◌∙◌, subst, append_assoc, arith}
+use Rattle.std.proofs.Common.{◌≡◌, ◌≢◌, ◌≤◌, ◌<◌, ◌++◌, ◌⊎◌, inl, inr, ℕ, Bool, true, List, [], ◌∷◌, length, length-append}
+use Rattle.std.proofs.Common.{refl, sym, ap, ◌∙◌, subst, append_assoc, arith}
 use Rattle.std.specs.Prelude.{drop, slice_get}
 use Rattle.std.proofs.lemmas.List.{append-nil}
 use Rattle.petal_command.specs.declared.command.Command.{Command}

@@ -17,7 +17,8 @@ use Rattle.petal_rules.specs.World.{Setting, World, blank_joins_in, chosen_log, 
 use Rattle.petal_rules.specs.declared.step.Step.{Step}
 use Rattle.petal_rules.proofs.ListLemmas.{put_apart, put_same}
 use Rattle.petal_rules.proofs.Tests.{all_put_apart, both_true, by_test, same_numbers, same_or_apart, true_false}
-use Rattle.law_steps.specs.Happens.{Happens, Serves, Blanks, Turns, Serving, Goes, Ends, Stays, Wakes, Fails, Worked, By_job, By_ballot, By_entry, own_place, served_so, stopped_so}
+use Rattle.law_steps.specs.Happens.{Happens, Serves, Blanks, Turns, Serving, Goes, Ends, Stays, Wakes, Fails, Worked, By_job}
+use Rattle.law_steps.specs.Happens.{By_ballot, By_entry, own_place, served_so, stopped_so}
 use Rattle.law_steps.specs.Waking.{AllMayWake}
 use Rattle.law_stores.proofs.Jobs.{ballot_store, did_waits}
 

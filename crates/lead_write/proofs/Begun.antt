@@ -19,10 +19,12 @@ module _ (here : Here) (own : Own) (op : Pending) where
       → is_kept_back here.state own want.cell ≡ false → is_under_way own want.cell ≡ false
       → begun here own op (nat_lt 0 (free_of own.store)) ≡ takes here own want Newer
   write_is want is pending kept busy =
-      ap (λ (o : Pending). begun here own o (nat_lt 0 (free_of own.store))) is ∙ write_begun want (nat_lt 0 (free_of own.store)) ∙ sym (rw (pending, kept, busy) refl)
+      ap (λ (o : Pending). begun here own o (nat_lt 0 (free_of own.store))) is ∙ write_begun want (nat_lt 0 (free_of own.store))
+      ∙ sym (rw (pending, kept, busy) refl)
 
   fill_begun : (moving : Moving) (room : Bool) → begun here own (fill_operation here own.pairs.next moving) room ≡ opens_fill here own moving room
-  fill_begun moving room = elim room as (λ b. begun here own (fill_operation here own.pairs.next moving) b ≡ opens_fill here own moving b) [ true ↦ refl | false ↦ refl ]
+  fill_begun moving room = elim room
+      as (λ b. begun here own (fill_operation here own.pairs.next moving) b ≡ opens_fill here own moving b) [ true ↦ refl | false ↦ refl ]
 
   pub fill_is : (moving : Moving) (cell : Cell) → cell ≡ cell_of moving.key → op ≡ fill_operation here own.pairs.next moving
       → is_lead here.state here.me cell ≡ true → is_under_way own cell ≡ false

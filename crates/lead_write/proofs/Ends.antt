@@ -15,7 +15,8 @@ abbrev pub own_with : Table Cell Pending → Store → Own → Own
 own_with t s own = record own { pairs = record own.pairs { pending = t }; store = s }
 
 -- what is pending and what the store has stays
-pub ends_pending : (here : Here) (own : Own) (op : Pending) (why : OpKind) (ending : Ending) → (ends here own op why ending).own.pairs.pending ≡ own.pairs.pending
+pub ends_pending : (here : Here) (own : Own) (op : Pending) (why : OpKind) (ending : Ending)
+    → (ends here own op why ending).own.pairs.pending ≡ own.pairs.pending
 ends_pending here own op kind.Write ending = refl
 ends_pending here own op kind.Fill ending = refl
 ends_pending here own op kind.Copy ending = refl

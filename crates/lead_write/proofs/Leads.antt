@@ -63,7 +63,8 @@ module _ {D : Type 0} (here : Here) (side after : Side) (store : Holdings D) (op
       → IsStrictlySortedBy cell_cmp (keys_of after.own) → at cell_cmp after.own op.cell ≡ Some slot → own ≡ without cell_cmp after.own op.cell
       → left ≡ record store { tickets = lists.without store.tickets slot }
       → IsSaid here side after store store (Ok done) (ends here (own_of side store) op op.kind Full)
-      → IsSaid here side (record after { pending = new; own = own }) store left (Ok done) (ends here (gives_back (without_pending (own_of side store) op.cell)) op op.kind Full)
+      → IsSaid here side (record after { pending = new; own = own }) store left (Ok done)
+      (ends here (gives_back (without_pending (own_of side store) op.cell)) op op.kind Full)
   full_is new own left slot table sorted has gone rest said =
       let out = tickets.own_out after.pending after.last after.own after.apart store.tickets said.keeps op.cell slot has in
       let given = tickets.given_is store (record store { tickets = lists.without store.tickets slot }) slot out refl in

@@ -69,7 +69,8 @@ module _ {D : Type 0} (here : Here) (side : Side) (store : Holdings D) (op : Pen
       → IsSaid here side (record after { pending = new }) store store (Ok done) (acts here (with_pending (own_of side store) op) op action.Answer)
   answers_is after new done used table said =
       let closed : Table Cell Pending = without cell_cmp (put cell_cmp side.pending op.cell op) op.cell in
-      let same : after.pending ≡ side.pending = ap (λ (own : Own). own.pairs.pending) said.done.own ∙ ends_pending here (own_of side store) op op.kind Written in
+      let same : after.pending ≡ side.pending = ap (λ (own : Own). own.pairs.pending) said.done.own
+      ∙ ends_pending here (own_of side store) op op.kind Written in
       let left : without cell_cmp after.pending op.cell ≡ closed = ap (λ (t : Table Cell Pending). without cell_cmp t op.cell) same ∙ sym closed_is in
       let with_closed = sym (ends_with here (own_of side store) op op.kind Written closed (store_of store)) in
       rw table (record {
@@ -108,7 +109,12 @@ module _ {D : Type 0} (here : Here) (side : Side) (store : Holdings D) (op : Pen
       let given = tickets.given_is store (record store { tickets = lists.without store.tickets slot }) slot out refl in
       rw (table, is, gone, rest) (record {
         done = record {
-          own = (λ i. record { pairs = record (own_of side store).pairs { pending = sym closed_is i }; copies = side.copies; filled = side.filled; store = given i })
+          own = (λ i. record {
+            pairs = record (own_of side store).pairs { pending = sym closed_is i };
+            copies = side.copies;
+            filled = side.filled;
+            store = given i;
+          })
               ∙ sym (ap (given_up (with_pending (own_of side store) op) op.cell) unused);
           letters = refl;
           jobs = refl;
@@ -123,7 +129,8 @@ module _ {D : Type 0} (here : Here) (side : Side) (store : Holdings D) (op : Pen
   put_at version = record op { version = version; stage = record op.stage { put = true } }
 
   put_is : (version : ℕ)
-      → versioned side.pending op.cell version (record op.stage { put = true }) (at cell_cmp side.pending op.cell) ≡ put cell_cmp side.pending op.cell (put_at version)
+      → versioned side.pending op.cell version (record op.stage { put = true }) (at cell_cmp side.pending op.cell)
+      ≡ put cell_cmp side.pending op.cell (put_at version)
   put_is version =
       ap (versioned side.pending op.cell version (record op.stage { put = true })) m.there
       ∙ ap (λ (o : Pending). put cell_cmp side.pending op.cell (at_version o version (record op.stage { put = true }))) m.moved
@@ -143,7 +150,8 @@ module _ {D : Type 0} (here : Here) (side : Side) (store : Holdings D) (op : Pen
       let entry_store = with_entry (store_of store) op.key (record { version = next; bytes = op.bytes }) in
       rw (table ∙ put_is version, is) (record {
         own = ap (put_own (put cell_cmp side.pending op.cell (put_at version))) kept
-            ∙ ap (λ (v : ℕ). put_own (put cell_cmp side.pending op.cell (put_at v)) (with_entry (store_of store) op.key (record { version = v; bytes = op.bytes }))) counted
+            ∙ ap (λ (v : ℕ). put_own (put cell_cmp side.pending op.cell (put_at v))
+            (with_entry (store_of store) op.key (record { version = v; bytes = op.bytes }))) counted
             ∙ ap (λ (t : Table Cell Pending). put_own t entry_store) (sym (put_over cell_cmp cell_cmp_total side.pending op.cell op (put_at next)));
         letters = refl;
         jobs = refl;
@@ -163,7 +171,8 @@ module _ {D : Type 0} (here : Here) (side : Side) (store : Holdings D) (op : Pen
   flag_put stage Stale is = refl
 
   flagged_is : (kind : MarkKind) (is : Bool)
-      → staged side.pending op.cell (with_flag op.stage kind is) (at cell_cmp side.pending op.cell) ≡ put cell_cmp side.pending op.cell (with_mark_at op kind is)
+      → staged side.pending op.cell (with_flag op.stage kind is) (at cell_cmp side.pending op.cell)
+      ≡ put cell_cmp side.pending op.cell (with_mark_at op kind is)
   flagged_is kind is =
       ap (staged side.pending op.cell (with_flag op.stage kind is)) m.there
       ∙ ap (λ (o : Pending). put cell_cmp side.pending op.cell (at_stage o (with_flag op.stage kind is))) m.moved
@@ -176,7 +185,8 @@ module _ {D : Type 0} (here : Here) (side : Side) (store : Holdings D) (op : Pen
     jobs = job.Stage op.cell ∷ [];
   }
 
-  pub flags_done : {T : Type 0} (device : Ghosts D) (kind : MarkKind) (is : Bool) (new : Table Cell Pending) (after : Holdings D) (kept : Store) (t : T) (done : Done)
+  pub flags_done : {T : Type 0} (device : Ghosts D) (kind : MarkKind) (is : Bool) (new : Table Cell Pending) (after : Holdings D)
+      (kept : Store) (t : T) (done : Done)
       → new ≡ staged side.pending op.cell (with_flag op.stage kind is) (at cell_cmp side.pending op.cell)
       → IsCommit device store after (Ok t) kept → done ≡ record { letters = []; follow = Some (follow.Stage op.cell) }
       → IsDone device here side (record side { pending = new }) store after (Ok done) (flagged kind is kept)
@@ -188,7 +198,8 @@ module _ {D : Type 0} (here : Here) (side : Side) (store : Holdings D) (op : Pen
       jobs = refl;
     };
     keeps = subst (HasTickets (put cell_cmp side.pending op.cell (with_mark_at op kind is)) side.last side.own side.apart) (sym commit.tickets)
-        (tickets.kept_moved side.pending side.last side.own side.apart store.tickets h op.cell (with_mark_at op kind is) (needs ∙ ap not (sym (flag_put op.stage kind is))));
+        (tickets.kept_moved side.pending side.last side.own side.apart store.tickets h op.cell (with_mark_at op kind is)
+        (needs ∙ ap not (sym (flag_put op.stage kind is))));
     holds = commit.holds;
     moments = commit.moments;
     still = λ no. absurd (cc);

@@ -57,7 +57,8 @@ module _ {D : Type 0} (op : Pending) (side : Side) (store : Holdings D) (h : Has
           let own = own_back opened_own (without cell_cmp opened_own op.cell) opened.slot refl refl in
           let pending = without_new cell_cmp cell_cmp_total side.pending op.cell op none in
           is
-          ∙ ap (λ (s : Side). record s { next = side.next; pending = without cell_cmp s.pending op.cell; own = without cell_cmp s.own op.cell }) (side_is ∙ opened.side)
+          ∙ ap (λ (s : Side). record s { next = side.next; pending = without cell_cmp s.pending op.cell; own = without cell_cmp s.own op.cell })
+          (side_is ∙ opened.side)
           ∙ (λ i. record side { pending = pending i; own = own i })
 
       pub store_back : (left : Holdings D)
@@ -71,7 +72,8 @@ module _ {D : Type 0} (op : Pending) (side : Side) (store : Holdings D) (h : Has
     opened_is : own_of new after ≡ with_opened (own_of side store) op
     opened_is =
         ap (λ (s : Side). record { pairs = pairs_of s; copies = s.copies; filled = s.filled; store = store_of after }) opened.side
-        ∙ ap (λ (s : Store). record { pairs = (with_opened (own_of side store) op).pairs; copies = side.copies; filled = side.filled; store = s }) (tickets.kept_is store after opened.slot opened.store)
+        ∙ ap (λ (s : Store). record { pairs = (with_opened (own_of side store) op).pairs; copies = side.copies; filled = side.filled; store = s })
+        (tickets.kept_is store after opened.slot opened.store)
 
     -- the journal had no room for the record of its first stage, and it is taken back
     pub full_back : (here : Here) (mid last : Side) (held left : Holdings D) (room : Bool) → room ≡ true

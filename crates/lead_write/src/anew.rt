@@ -46,7 +46,8 @@ fn with_awaited(
     nth: u32,
     op: &Pending,
 ) -> Result<(Sequence<Letter>, u32), NoMemory>
-    ensures { IfOk result (λ more. (own : Own) → (more.0 ≡ letters ++ letters_of (sender here.now) nth (sent_anew here.now own op.now)) × (more.1 ≡ nth + length (sent_anew here.now own op.now))) }
+    ensures { IfOk result (λ more. (own : Own) → (more.0 ≡ letters ++ letters_of (sender here.now) nth (sent_anew here.now own op.now))
+        × (more.1 ≡ nth + length (sent_anew here.now own op.now))) }
 {
     with_letter(here, letters, nth, awaited(here, op)?)
 }
@@ -56,7 +57,8 @@ fn all_after(
     locks: &PairLock,
     before: Sequence<Letter>,
 ) -> Result<Sequence<Letter>, NoMemory>
-    ensures { IfOk result (λ letters. (own : Own) → letters ≡ before ++ letters_of (sender here.now) (length before) (flat_map (λ row. sent_anew here.now own row.1) locks.now)) }
+    ensures { IfOk result (λ letters. (own : Own)
+        → letters ≡ before ++ letters_of (sender here.now) (length before) (flat_map (λ row. sent_anew here.now own row.1) locks.now)) }
 {
     let Ok(first) = u32::try_from(before.len()) else {
         return Err(NoMemory);
@@ -80,7 +82,8 @@ pub fn letters_after(
     side: &Side,
     before: Sequence<Letter>,
 ) -> Result<Sequence<Letter>, NoMemory>
-    ensures { IfOk result (λ letters. (own : Own) → letters ≡ before ++ letters_of (sender here.now) (length before) (flat_map (λ row. sent_anew here.now own row.1) side.now.pending)) }
+    ensures { IfOk result (λ letters. (own : Own)
+        → letters ≡ before ++ letters_of (sender here.now) (length before) (flat_map (λ row. sent_anew here.now own row.1) side.now.pending)) }
 {
     all_after(here, &side.locks, before)
 }

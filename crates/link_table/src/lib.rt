@@ -5,7 +5,8 @@
 #![tactic(auto)]
 
 ghost use Rattle.std.specs.Prelude.{◌≡◌, ◌≤◌, [], ◌++◌, IfOk, OnOk, OnErr, length, true, option_copied};
-ghost use Rattle.global_tables.specs.Link.{link_at, new_rows, new_row, new_state, is_up, left, row_left, left_state, joined, row_blanked, blanked_state, caught, row_caught, dropped, has_server, other_of, is_link, row_between};
+ghost use Rattle.global_tables.specs.Link.{link_at, new_rows, new_row, new_state, is_up, left, row_left, left_state, joined, row_blanked, blanked_state};
+ghost use Rattle.global_tables.specs.Link.{caught, row_caught, dropped, has_server, other_of, is_link, row_between};
 
 pub use global_tables::{LinkRow, LinkState};
 use petal_base::{MapId, NoMemory, ServerId, Tuple};

@@ -32,5 +32,6 @@ module _ (part : Part) (records : List StateRecord) (place round : ℕ) (want : 
 
   -- the records with its promise
   pub records_are : IsNext part records place round
-      → committed records (kind.Promise place (record { round = round; server = part.voter.me })) ≡ (starts_for part.voter (log_of part records) (Some want)).log.records
+      → committed records (kind.Promise place (record { round = round; server = part.voter.me }))
+      ≡ (starts_for part.voter (log_of part records) (Some want)).log.records
   records_are next = rw (next.round_is, next.place_is) refl

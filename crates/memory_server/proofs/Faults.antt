@@ -58,7 +58,8 @@ record Commits (server left : Server) : Type 0 where
   life : left.life ≡ server.life
 
 one_part : (here : Here) (server : Server) (first : Job) (rest : List Job) (of_log : Bool)
-    → Commits server (if of_log then entered here server rest (log_does (voter_of here) server.log first) else worked here server rest (does here server.own first)).server
+    → Commits server (if of_log then entered here server rest (log_does (voter_of here) server.log first)
+    else worked here server rest (does here server.own first)).server
 one_part here server first rest true = record { once = inr refl; life = refl }
 one_part here server first rest false = record { once = inl refl; life = refl }
 
@@ -122,7 +123,8 @@ fault_site old core store state end off voter shows few few_log =
     let server = server_of core (store_of store) state.records in
     let is_left : left_of server ≡ left_with core.log.voter.inc (store_of store) state.records
     = left_stopped core.log.voter.inc server.log server.own core.queue core.running off in
-    let left = fault_left (here_in old.core) (server_of old.core (store_of old.store) old.state.records) old.core.queue end (store_of store) state.records shows few few_log in
+    let left = fault_left (here_in old.core) (server_of old.core (store_of old.store) old.state.records) old.core.queue end
+    (store_of store) state.records shows few few_log in
     λ i. record {
       me = (voter i).me;
       servers = (voter i).servers;
@@ -135,7 +137,8 @@ faults_say : (here : Here) (server : Server) (queue : List Job) (end : CommitEnd
 faults_say here server queue Before = refl
 faults_say here server queue After = refl
 
-stops_say : (core : Core) (store : Store) (records : List StateRecord) → (stops (here_in core) (server_of core store records)).letters ≡ farewell_of core.log.voter
+stops_say : (core : Core) (store : Store) (records : List StateRecord)
+    → (stops (here_in core) (server_of core store records)).letters ≡ farewell_of core.log.voter
 stops_say core store records = sym (ap (λ (left : Acted). left.letters) (stopped_with core store records (farewell_of core.log.voter) refl))
 
 -- a server that stops says the same, whatever it has in memory
@@ -158,7 +161,8 @@ module _ {D : Type 0} {device : Ghosts D} {old : Mounted D} (stands : Stands dev
 -- ### Counts of faults
 
 -- a device failed in the job, and both were opened again
-pub has_failed : {D T : Type 0} (device : Ghosts D) (old : Mounted D) (store : Holdings D) (state : Keeping D) (core : Core) (again : Holdings D) (kept : Keeping D)
+pub has_failed : {D T : Type 0} (device : Ghosts D) (old : Mounted D) (store : Holdings D) (state : Keeping D) (core : Core)
+    (again : Holdings D) (kept : Keeping D)
     → HasFaults {T = T} (device.faults old.store.disk) (device.faults store.disk) (device.faults old.state.disk) (device.faults state.disk) (Err Failed)
     → (device.faults store.disk ≤ device.faults again.disk) × (device.faults state.disk ≤ device.faults kept.disk)
     → HasFailed device old (record { core = core; store = again; state = kept })

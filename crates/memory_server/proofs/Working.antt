@@ -21,13 +21,15 @@ use Rattle.memory_server.specs.Server.{Mounted, Stands, left_at, whole_after, wh
 module _ {D : Type 0} (device : Ghosts D) (told : device.told) (old : Mounted D) (stands : Stands device old) where
   -- what the rule leaves is what is there
   whole_is : (new : Mounted D) (letters : List Letter) → new.core.log.voter ≡ old.core.log.voter
-      → acted new.core (store_of new.store) new.state.records letters ≡ works (here_in old.core) (server_of old.core (store_of old.store) old.state.records) old.core.queue
+      → acted new.core (store_of new.store) new.state.records letters
+      ≡ works (here_in old.core) (server_of old.core (store_of old.store) old.state.records) old.core.queue
       → whole_of new ≡ whole_after (whole_of old) (Work Done)
   whole_is new letters voter is = λ i. record { me = (voter i).me; servers = (voter i).servers; server = (is i).server }
 
   -- the job was done
   pub work_done : (new : Mounted D) (letters : List Letter)
-      → acted new.core (store_of new.store) new.state.records letters ≡ works (here_in old.core) (server_of old.core (store_of old.store) old.state.records) old.core.queue
+      → acted new.core (store_of new.store) new.state.records letters
+      ≡ works (here_in old.core) (server_of old.core (store_of old.store) old.state.records) old.core.queue
       → new.core.log.voter ≡ old.core.log.voter → HasTicketsAt new.core.side new.store → HoldsAt device new.store → logs.HoldsAt device new.state
       → Worked device old new Done letters
   work_done new letters is voter keeps holds kept = record {
@@ -40,7 +42,8 @@ module _ {D : Type 0} (device : Ghosts D) (told : device.told) (old : Mounted D)
   -- there was none
   pub none_done : (new : Mounted D)
       → IsWork old.core (store_of old.store) old.state.records new.core (store_of new.store) new.state.records None
-      → acted new.core (store_of new.store) new.state.records [] ≡ works (here_in old.core) (server_of old.core (store_of old.store) old.state.records) old.core.queue
+      → acted new.core (store_of new.store) new.state.records []
+      ≡ works (here_in old.core) (server_of old.core (store_of old.store) old.state.records) old.core.queue
   none_done new is =
       (λ i. acted (is.1 i) (is.2 i) (is.3 i) [])
       ∙ sym (ap (works (here_in old.core) (server_of old.core (store_of old.store) old.state.records)) is.0)

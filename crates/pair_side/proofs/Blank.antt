@@ -10,4 +10,5 @@ no_tickets = record { out = λ slot. refl; owned = λ cell. refl; kept = λ cell
 
 pub blank : {D : Type 0} (side : Side) (store : Holdings D) → side ≡ new_side → store.tickets ≡ [] → HasTicketsAt side store
 blank side store new out =
-    subst (λ (s : Side). HasTickets s.pending s.last s.own s.apart store.tickets) (sym new) (subst (λ (ts : List ℕ). HasTickets [] [] [] [] ts) (sym out) no_tickets)
+    subst (λ (s : Side). HasTickets s.pending s.last s.own s.apart store.tickets) (sym new)
+    (subst (λ (ts : List ℕ). HasTickets [] [] [] [] ts) (sym out) no_tickets)

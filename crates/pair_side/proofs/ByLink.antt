@@ -33,8 +33,10 @@ unfolding put
 put_link [] id value = refl
 put_link (row ∷ rows) id value =
     let later = put_link rows id value in
-    elim (key_cmp (key_of id) row.0) as (λ o. by_link (match_ordering o ((key_of id, value) ∷ row ∷ rows) ((row.0, value) ∷ rows) (row ∷ insert_entry key_cmp rows (key_of id) value))
-    ≡ match_ordering o ((id, value) ∷ by_link (row ∷ rows)) ((id_of_key row.0, value) ∷ by_link rows) ((id_of_key row.0, row.1) ∷ insert_entry link_cmp (by_link rows) id value)) [
+    elim (key_cmp (key_of id) row.0)
+    as (λ o. by_link (match_ordering o ((key_of id, value) ∷ row ∷ rows) ((row.0, value) ∷ rows) (row ∷ insert_entry key_cmp rows (key_of id) value))
+    ≡ match_ordering o ((id, value) ∷ by_link (row ∷ rows)) ((id_of_key row.0, value) ∷ by_link rows)
+    ((id_of_key row.0, row.1) ∷ insert_entry link_cmp (by_link rows) id value)) [
       | Less ↦ refl
       | Equal ↦ refl
       | Greater ↦ ap (λ more. (id_of_key row.0, row.1) ∷ more) later
@@ -81,4 +83,5 @@ restored_is copies id progress (Some before) sorted is =
 -- and it stands there in between
 pub progress_there : (copies : Copies) (id : LinkId) (progress : Progress) → at link_cmp (with_progress copies id progress).progress id ≡ Some progress
 progress_there copies id progress =
-    at-put link_cmp_total copies.progress id progress id ∙ ap (λ r. cond (is_eq r) (Some progress) (at link_cmp copies.progress id)) (tied_itself link_cmp_total id)
+    at-put link_cmp_total copies.progress id progress id
+    ∙ ap (λ r. cond (is_eq r) (Some progress) (at link_cmp copies.progress id)) (tied_itself link_cmp_total id)

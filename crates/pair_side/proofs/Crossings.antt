@@ -1,5 +1,6 @@
 -- What an entry drops of a side's tables, and the tickets that are given back.
-use Rattle.std.proofs.Common.{◌≡◌, ℕ, ◌+◌, ◌-◌, ◌≤◌, ◌<◌, Bool, true, false, not, cond, T, ◌&&◌, List, [], ◌∷◌, length, map, filter, find, IsSome, Option, Some, None, is_some, refl, sym, subst, ap, ◌∙◌, arith}
+use Rattle.std.proofs.Common.{◌≡◌, ℕ, ◌+◌, ◌-◌, ◌≤◌, ◌<◌, Bool, true, false, not, cond, T, ◌&&◌, List, [], ◌∷◌, length, map, filter, find}
+use Rattle.std.proofs.Common.{IsSome, Option, Some, None, is_some, refl, sym, subst, ap, ◌∙◌, arith}
 use Rattle.std.specs.declared.cmp.Ordering.TheVariants.{Less}
 use Rattle.std.specs.Ordering.{is_eq}
 use Rattle.std.specs.Cmp.{tied_itself}
@@ -49,7 +50,8 @@ module _ {X : Type 0} (test : Cell → Bool) where
   left_but c [] is = refl
   left_but c (r ∷ rs) is =
       let rest = left_but c rs is in
-      elim (is_eq (cell_cmp c r.0)) as (λ e. is_eq (cell_cmp c r.0) ≡ e → left test (cond (not e) (r ∷ without cell_cmp rs c) (without cell_cmp rs c)) ≡ cond (not (test r.0)) (r ∷ left test rs) (left test rs)) [
+      elim (is_eq (cell_cmp c r.0)) as (λ e. is_eq (cell_cmp c r.0) ≡ e
+      → left test (cond (not e) (r ∷ without cell_cmp rs c) (without cell_cmp rs c)) ≡ cond (not (test r.0)) (r ∷ left test rs) (left test rs)) [
         | true ↦ λ tie. rest ∙ sym (ap (λ b. cond (not b) (r ∷ left test rs) (left test rs)) (ap test (sym (cell_cmp_same c r.0 (tied _ tie))) ∙ is))
         | false ↦ λ tie. ap (λ rows. cond (not (test r.0)) (r ∷ rows) rows) rest
       ] refl
@@ -70,10 +72,12 @@ module _ {X : Type 0} (test : Cell → Bool) where
   found_there [] c is = absurd (cc)
   found_there (r ∷ rs) c is =
       let rest = found_there rs c in
-      elim (test r.0) as (λ b. cond b (Some r.0) (find test (keys_of rs)) ≡ Some c → is_some (cond (is_eq (cell_cmp c r.0)) (Some r.1) (lookup (is_at (cell_cmp c)) rs)) ≡ true) [
+      elim (test r.0) as (λ b. cond b (Some r.0) (find test (keys_of rs)) ≡ Some c
+      → is_some (cond (is_eq (cell_cmp c r.0)) (Some r.1) (lookup (is_at (cell_cmp c)) rs)) ≡ true) [
         | true ↦ λ found.
             let same : r.0 ≡ c = cc in
-            ap (λ e. is_some (cond e (Some r.1) (lookup (is_at (cell_cmp c)) rs))) (ap (λ (k : Cell). is_eq (cell_cmp c k)) same ∙ ap is_eq (tied_itself cell_cmp_total c))
+            ap (λ e. is_some (cond e (Some r.1) (lookup (is_at (cell_cmp c)) rs)))
+            (ap (λ (k : Cell). is_eq (cell_cmp c k)) same ∙ ap is_eq (tied_itself cell_cmp_total c))
         | false ↦ λ found. elim (is_eq (cell_cmp c r.0)) as (λ e. is_some (cond e (Some r.1) (lookup (is_at (cell_cmp c)) rs)) ≡ true) [
           | true ↦ refl
           | false ↦ rest found
@@ -94,7 +98,8 @@ module _ {X : Type 0} (test : Cell → Bool) where
   number_taken [] = refl
   number_taken (r ∷ rs) =
       let rest = number_taken rs in
-      elim (test r.0) as (λ b. length (cond b (r ∷ taken test rs) (taken test rs)) ≡ length (cond b (r.0 ∷ filter test (keys_of rs)) (filter test (keys_of rs)))) [
+      elim (test r.0)
+      as (λ b. length (cond b (r ∷ taken test rs) (taken test rs)) ≡ length (cond b (r.0 ∷ filter test (keys_of rs)) (filter test (keys_of rs)))) [
         | true ↦ omega (arith, rest)
         | false ↦ rest
       ]
@@ -106,15 +111,18 @@ module _ {X : Type 0} (test : Cell → Bool) where
   number_both p [] = refl
   number_both p (r ∷ rs) =
       let rest = number_both p rs in
-      elim (p r.1) as (λ b. length (taken test (cond b (r ∷ filter (λ row. p row.1) rs) (filter (λ row. p row.1) rs))) ≡ length (cond (test r.0 && b) (r ∷ filter (λ row. test row.0 && p row.1) rs) (filter (λ row. test row.0 && p row.1) rs))) [
-        | true ↦ elim (test r.0) as (λ b. length (cond b (r ∷ taken test (filter (λ row. p row.1) rs)) (taken test (filter (λ row. p row.1) rs))) ≡ length (cond (b && true) (r ∷ filter (λ row. test row.0 && p row.1) rs) (filter (λ row. test row.0 && p row.1) rs))) [
-          | true ↦ omega (arith, rest)
-          | false ↦ rest
-        ]
-        | false ↦ elim (test r.0) as (λ b. length (taken test (filter (λ row. p row.1) rs)) ≡ length (cond (b && false) (r ∷ filter (λ row. test row.0 && p row.1) rs) (filter (λ row. test row.0 && p row.1) rs))) [
-          | true ↦ rest
-          | false ↦ rest
-        ]
+      elim (p r.1) as (λ b. length (taken test (cond b (r ∷ filter (λ row. p row.1) rs) (filter (λ row. p row.1) rs)))
+      ≡ length (cond (test r.0 && b) (r ∷ filter (λ row. test row.0 && p row.1) rs) (filter (λ row. test row.0 && p row.1) rs))) [
+        | true ↦ elim (test r.0) as (λ b. length (cond b (r ∷ taken test (filter (λ row. p row.1) rs)) (taken test (filter (λ row. p row.1) rs)))
+            ≡ length (cond (b && true) (r ∷ filter (λ row. test row.0 && p row.1) rs) (filter (λ row. test row.0 && p row.1) rs))) [
+              | true ↦ omega (arith, rest)
+              | false ↦ rest
+            ]
+        | false ↦ elim (test r.0) as (λ b. length (taken test (filter (λ row. p row.1) rs))
+            ≡ length (cond (b && false) (r ∷ filter (λ row. test row.0 && p row.1) rs) (filter (λ row. test row.0 && p row.1) rs))) [
+              | true ↦ rest
+              | false ↦ rest
+            ]
       ]
 
 -- one row less
@@ -152,7 +160,8 @@ module _ {X : Type 0} where
   marked [] c = refl
   marked (r ∷ rs) c =
       let rest = marked rs c in
-      elim (is_eq (cell_cmp c r.0)) as (λ e. cond e (Some tt) (lookup (is_at (cell_cmp c)) (marks_of (keys_of rs))) ≡ mark_if (is_some (cond e (Some r.1) (lookup (is_at (cell_cmp c)) rs)))) [
+      elim (is_eq (cell_cmp c r.0)) as (λ e. cond e (Some tt) (lookup (is_at (cell_cmp c)) (marks_of (keys_of rs)))
+      ≡ mark_if (is_some (cond e (Some r.1) (lookup (is_at (cell_cmp c)) rs)))) [
         | true ↦ refl
         | false ↦ rest
       ]
@@ -199,15 +208,19 @@ module _ {X : Type 0} where
   marked_some p (r ∷ rs) c sorted =
       let rest = marked_some p rs c sorted.1 in
       let there : List Cell = keys_of (filter (λ row. p row.1) rs) in
-      elim (is_eq (cell_cmp c r.0)) as (λ e. is_eq (cell_cmp c r.0) ≡ e → lookup (is_at (cell_cmp c)) (marks_of (keys_of (filter (λ row. p row.1) (r ∷ rs)))) ≡ mark_if (has_value p (cond e (Some r.1) (lookup (is_at (cell_cmp c)) rs)))) [
-        | true ↦ λ tie. elim (p r.1) as (λ b. lookup (is_at (cell_cmp c)) (marks_of (keys_of (cond b (r ∷ filter (λ row. p row.1) rs) (filter (λ row. p row.1) rs)))) ≡ mark_if b) [
-          | true ↦ ap (λ e. cond e (Some tt) (lookup (is_at (cell_cmp c)) (marks_of there))) tie
-          | false ↦ rest ∙ ap (λ found. mark_if (has_value p found)) (none_later c r rs sorted.0 tie)
-        ]
-        | false ↦ λ tie. elim (p r.1) as (λ b. lookup (is_at (cell_cmp c)) (marks_of (keys_of (cond b (r ∷ filter (λ row. p row.1) rs) (filter (λ row. p row.1) rs)))) ≡ mark_if (has_value p (lookup (is_at (cell_cmp c)) rs))) [
-          | true ↦ ap (λ e. cond e (Some tt) (lookup (is_at (cell_cmp c)) (marks_of there))) tie ∙ rest
-          | false ↦ rest
-        ]
+      elim (is_eq (cell_cmp c r.0)) as (λ e. is_eq (cell_cmp c r.0) ≡ e → lookup (is_at (cell_cmp c))
+      (marks_of (keys_of (filter (λ row. p row.1) (r ∷ rs)))) ≡ mark_if (has_value p (cond e (Some r.1) (lookup (is_at (cell_cmp c)) rs)))) [
+        | true ↦ λ tie. elim (p r.1)
+            as (λ b. lookup (is_at (cell_cmp c)) (marks_of (keys_of (cond b (r ∷ filter (λ row. p row.1) rs) (filter (λ row. p row.1) rs)))) ≡ mark_if b) [
+              | true ↦ ap (λ e. cond e (Some tt) (lookup (is_at (cell_cmp c)) (marks_of there))) tie
+              | false ↦ rest ∙ ap (λ found. mark_if (has_value p found)) (none_later c r rs sorted.0 tie)
+            ]
+        | false ↦ λ tie. elim (p r.1)
+            as (λ b. lookup (is_at (cell_cmp c)) (marks_of (keys_of (cond b (r ∷ filter (λ row. p row.1) rs) (filter (λ row. p row.1) rs))))
+            ≡ mark_if (has_value p (lookup (is_at (cell_cmp c)) rs))) [
+              | true ↦ ap (λ e. cond e (Some tt) (lookup (is_at (cell_cmp c)) (marks_of there))) tie ∙ rest
+              | false ↦ rest
+            ]
       ] refl
 
 -- rows that rise, as the test of them says
@@ -229,7 +242,8 @@ found_is c [] = refl
 found_is c (r ∷ rs) = ap (cond (is_eq (cell_cmp c r.0)) (Some r.1)) (found_is c rs)
 
 -- two tables have the same cells where one has a row exactly where the other has one that the test takes
-same_cells : {X Y : Type 0} (p : Y → Bool) (t : Table Cell X) (u : Table Cell Y) → IsStrictlySortedBy cell_cmp (keys_of t) → IsStrictlySortedBy cell_cmp (keys_of u)
+same_cells : {X Y : Type 0} (p : Y → Bool) (t : Table Cell X) (u : Table Cell Y) → IsStrictlySortedBy cell_cmp (keys_of t)
+    → IsStrictlySortedBy cell_cmp (keys_of u)
     → ((c : Cell) → is_some (at cell_cmp t c) ≡ has_value p (at cell_cmp u c)) → keys_of t ≡ keys_of (filter (λ row. p row.1) u)
 unfolding at
 same_cells p t u sorted other same =
@@ -244,7 +258,8 @@ same_cells p t u sorted other same =
 -- ### What is given back
 
 -- each slot of the second table is out
-pub apart_below : {D : Type 0} (side : Side) (held : Holdings D) → HasTicketsAt side held → (slot : ℕ) → times slot (values_of side.apart) ≤ times slot held.tickets
+pub apart_below : {D : Type 0} (side : Side) (held : Holdings D) → HasTicketsAt side held → (slot : ℕ)
+    → times slot (values_of side.apart) ≤ times slot held.tickets
 apart_below side held h slot = let all = h.out slot in omega (arith, all)
 
 abbrev has_slot_last : LastOp → Bool
@@ -302,7 +317,8 @@ module _ {D : Type 0} (test : Cell → Bool) where
         out = λ slot. let a = one_less slot in let b = one_back slot in let all = freed.out slot in omega (arith, a, b, all);
         number =
             let rows = rows_less in
-            let fewer : length kept.tickets + 1 ≡ length held.tickets = ap (λ (ts : List ℕ). length ts + 1) tickets_are ∙ length_less freed_slot.0 held.tickets out in
+            let fewer : length kept.tickets + 1 ≡ length held.tickets = ap (λ (ts : List ℕ). length ts + 1) tickets_are
+            ∙ length_less freed_slot.0 held.tickets out in
             let all = freed.number in
             omega (arith, rows, fewer, all);
       }
@@ -323,7 +339,8 @@ module _ (state next : State) (entry : Command) (made : next ≡ commands.after 
     lost_is : length (taken ending old.apart) ≡ length (filter (loses_slot state entry) old.last)
     lost_is =
         number_taken ending old.apart
-        ∙ ap (λ (cells : List Cell). length (filter ending cells)) (same_cells has_slot_last old.apart old.last sorted other (λ c. h.kept c ∙ needs_is (at cell_cmp old.last c)))
+        ∙ ap (λ (cells : List Cell). length (filter ending cells))
+        (same_cells has_slot_last old.apart old.last sorted other (λ c. h.kept c ∙ needs_is (at cell_cmp old.last c)))
         ∙ sym (number_taken ending (filter (λ row. has_slot_last row.1) old.last))
         ∙ number_both ending has_slot_last old.last
         ∙ ap (λ (test : Cell → Bool). length (filter (λ row. test row.0 && has_slot row.1.far) old.last)) ends_is

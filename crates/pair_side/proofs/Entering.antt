@@ -50,7 +50,8 @@ module _ {D : Type 0} (device : Ghosts D) (stays : (d : D) → device.came_to d 
   -- any other entry makes no call of the device
   module _ (other : is_blank_join entry here.me here.inc ≡ false) where
     plain : crossed here.state entry (own_of old before) ≡ rule
-    plain = sym (ap (λ (b : Bool). if b then settled_own (crossed here.state entry (own_of old before)) else crossed here.state entry (own_of old before)) other)
+    plain =
+        sym (ap (λ (b : Bool). if b then settled_own (crossed here.state entry (own_of old before)) else crossed here.state entry (own_of old before)) other)
 
     pub entered_plain : {T : Type 0} (done : T) → IsEntered device here (Some entry) old new before mid (Ok done)
     entered_plain done = record {
@@ -77,12 +78,14 @@ module _ {D : Type 0} (device : Ghosts D) (stays : (d : D) → device.came_to d 
     moments_of left =
         subst (λ (s : Store). LeavesOnly device.moment device.left_since before.disk after.disk (StandsAsEither (store_of before) s))
         (ap (λ (own : Own). own.store) ruled)
-        (subst (λ (m : Holdings D). LeavesOnly device.moment device.left_since m.disk after.disk (StandsAsEither (store_of m) (settled (store_of mid)))) cross.store left)
+        (subst (λ (m : Holdings D). LeavesOnly device.moment device.left_since m.disk after.disk (StandsAsEither (store_of m) (settled (store_of mid))))
+        cross.store left)
 
     keeps_of : {R : Type 0} {result : Result R StoreError} → IsCommit device mid after result (settled (store_of mid)) → HasTicketsAt new after
     keeps_of commit = rw commit.tickets cross.keeps
 
-    kept_of : {R : Type 0} {result : Result R StoreError} → IsCommit device mid after result (settled (store_of mid)) → device.told → after.entries ≡ before.entries
+    kept_of : {R : Type 0} {result : Result R StoreError} → IsCommit device mid after result (settled (store_of mid)) → device.told
+        → after.entries ≡ before.entries
     kept_of commit told = commit.kept told ∙ ap (λ (s : Holdings D). s.entries) cross.store
 
     run_of : {R : Type 0} {result : Result R StoreError} → IsCommit device mid after result (settled (store_of mid)) → device.came_to before.disk after.disk
@@ -97,7 +100,11 @@ module _ {D : Type 0} (device : Ghosts D) (stays : (d : D) → device.came_to d 
       moments = λ told holds. moments_of (commit.moments told (mid_holds holds));
       kept = kept_of commit;
       errors = tt;
-      cause = record { later = let same = ap device.faults same_disk in let later = commit.cause.later in omega (arith, same, later); failed = λ no. absurd (cc) };
+      cause = record {
+        later = let same = ap device.faults same_disk in let later = commit.cause.later in
+            omega (arith, same, later);
+        failed = λ no. absurd (cc);
+      };
       run = run_of commit;
     }
 

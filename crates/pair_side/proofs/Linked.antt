@@ -18,7 +18,8 @@ found_is test (r ∷ rs) row is = elim (cases_Bool (test r)) [
   | inr has ↦ found_is test rs row (rw has at is)
 ]
 
-row_of_map : (rows : List LinkRow) (of link : ℕ) (row found : LinkRow) → link_at rows of link ≡ Some found → is_link row.map row.link found ≡ true → of ≡ row.map
+row_of_map : (rows : List LinkRow) (of link : ℕ) (row found : LinkRow) → link_at rows of link ≡ Some found
+    → is_link row.map row.link found ≡ true → of ≡ row.map
 row_of_map rows of link row found is same =
     let own = found_is (is_link of link) rows found is in
     grind (arith, nat_tests, own, same)
@@ -30,7 +31,9 @@ linked state row cell link (Some other) found has = row_of_map state.links cell.
 
 -- a cell of the link is one of its map
 pub on_map : (state : State) (row : LinkRow) (cell : Cell) → is_on state row cell ≡ true → cell.map ≡ row.map
-on_map state row cell is = elim (tuple_of state.maps cell.map) as (λ o. option_map_or (is_link row.map row.link) (option_and_then (λ tuple. link_at state.links cell.map (link_of (length tuple) cell.block)) o) false ≡ true → cell.map ≡ row.map) [
-  | None ↦ λ no. absurd (cc)
-  | Some tuple ↦ λ has. linked state row cell (link_of (length tuple) cell.block) (link_at state.links cell.map (link_of (length tuple) cell.block)) refl has
-] is
+on_map state row cell is = elim (tuple_of state.maps cell.map) as (λ o. option_map_or (is_link row.map row.link)
+    (option_and_then (λ tuple. link_at state.links cell.map (link_of (length tuple) cell.block)) o) false ≡ true → cell.map ≡ row.map) [
+      | None ↦ λ no. absurd (cc)
+      | Some tuple ↦ λ has. linked state row cell (link_of (length tuple) cell.block)
+          (link_at state.links cell.map (link_of (length tuple) cell.block)) refl has
+    ] is

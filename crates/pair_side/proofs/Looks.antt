@@ -1,5 +1,6 @@
 -- Entries that are read one after the other, and the letters of a step.
-use Rattle.std.proofs.Common.{◌≡◌, ◌≤◌, ◌<◌, ◌+◌, ◌++◌, ◌∷◌, [], ℕ, suc, List, Result, length, length-append, append_assoc, get_or, take, refl, sym, ap, ◌∙◌, arith}
+use Rattle.std.proofs.Common.{◌≡◌, ◌≤◌, ◌<◌, ◌+◌, ◌++◌, ◌∷◌, [], ℕ, suc, List, Result, length, length-append}
+use Rattle.std.proofs.Common.{append_assoc, get_or, take, refl, sym, ap, ◌∙◌, arith}
 use Rattle.std.proofs.Math.Seq.{take-suc}
 use Rattle.std.proofs.lemmas.Grind.{flat_map-append}
 use Rattle.std.proofs.lemmas.List.{append-nil}
@@ -35,7 +36,8 @@ module _ {D : Type 0} (device : Ghosts D) (stays : (d : D) → device.came_to d 
     run = stays store.disk;
   }
 
-  module _ {T : Type 0} (before mid after : Holdings D) (result : Result T ReadError) (seen : IsSeen device before mid) (look : IsLook device mid after result) where
+  module _ {T : Type 0} (before mid after : Holdings D) (result : Result T ReadError) (seen : IsSeen device before mid)
+      (look : IsLook device mid after result) where
     pub seen_then : IsSeen device before after
     seen_then = record {
       same = look.same ∙ ap (λ (s : Holdings D). record s { disk = after.disk }) seen.same;
@@ -60,14 +62,16 @@ letters_two who before letters all ps qs first second =
     ∙ append_assoc before (letters_of who (length before) ps) (letters_of who (length before + length ps) qs)
     ∙ ap (λ (ls : List Letter). before ++ ls) (sym (letters_append who (length before) ps qs))
 
-module _ {X : Type 0} (who : Sender) (f : X → List Post) (before : List Letter) (n : ℕ) (xs : List X) (at later : ℕ) (x : X) (is : later ≡ suc at) (within : at < length xs) where
+module _ {X : Type 0} (who : Sender) (f : X → List Post) (before : List Letter) (n : ℕ) (xs : List X) (at later : ℕ) (x : X) (is : later ≡ suc at)
+    (within : at < length xs) where
   one_more : flat_map f (take later xs) ≡ flat_map f (take at xs) ++ f (get_or xs at x)
   one_more =
       ap (λ (k : ℕ). flat_map f (take k xs)) is ∙ ap (flat_map f) (take-suc xs at x within) ∙ flat_map-append f (take at xs) (get_or xs at x ∷ [])
       ∙ ap (λ (ps : List Post). flat_map f (take at xs) ++ ps) (flat_map-cons f (get_or xs at x) [] ∙ append-nil (f (get_or xs at x)))
 
   -- the letters of one more item
-  pub letters_more : (letters more : List Letter) (nth : ℕ) → letters ≡ before ++ letters_of who n (flat_map f (take at xs)) → nth ≡ n + length (flat_map f (take at xs))
+  pub letters_more : (letters more : List Letter) (nth : ℕ) → letters ≡ before ++ letters_of who n (flat_map f (take at xs))
+      → nth ≡ n + length (flat_map f (take at xs))
       → more ≡ letters ++ letters_of who nth (f (get_or xs at x)) → more ≡ before ++ letters_of who n (flat_map f (take later xs))
   letters_more letters more nth so_far count next =
       let old = flat_map f (take at xs) in
@@ -76,7 +80,8 @@ module _ {X : Type 0} (who : Sender) (f : X → List Post) (before : List Letter
       ∙ ap (λ (ls : List Letter). before ++ ls) (sym (letters_append who n old (f (get_or xs at x))))
       ∙ ap (λ (ps : List Post). before ++ letters_of who n ps) (sym one_more)
 
-  pub count_more : (nth next : ℕ) → nth ≡ n + length (flat_map f (take at xs)) → next ≡ nth + length (f (get_or xs at x)) → next ≡ n + length (flat_map f (take later xs))
+  pub count_more : (nth next : ℕ) → nth ≡ n + length (flat_map f (take at xs)) → next ≡ nth + length (f (get_or xs at x))
+      → next ≡ n + length (flat_map f (take later xs))
   count_more nth next count more =
       let total : length (flat_map f (take later xs)) ≡ length (flat_map f (take at xs)) + length (f (get_or xs at x)) =
       ap length one_more ∙ length-append (flat_map f (take at xs)) (f (get_or xs at x)) in

@@ -20,16 +20,19 @@ use Rattle.pair_side.specs.Slots.{with_new}
 use Rattle.pair_side.proofs.Tickets.{kept_is, spent_is, undone}
 
 -- what the store says of a put with a ticket
-pub record IsPut {D T : Type 0} (device : Ghosts D) (mid after : Holdings D) (result : Result T StoreError) (slot : ℕ) (key : Key) (version : ℕ) (bytes : List ℕ) : Type 0 where
+pub record IsPut {D T : Type 0} (device : Ghosts D) (mid after : Holdings D) (result : Result T StoreError) (slot : ℕ) (key : Key) (version : ℕ)
+    (bytes : List ℕ) : Type 0 where
   pub out : Contains mid.tickets slot
-  pub content : OnOk result (device.told → after.entries ≡ placed key_held mid.entries (record { entry = record { key = key; slot = slot; version = version }; content = bytes }))
+  pub content : OnOk result (device.told
+      → after.entries ≡ placed key_held mid.entries (record { entry = record { key = key; slot = slot; version = version }; content = bytes }))
   pub counted : OnOk result (length after.log.records ≡ length mid.log.records + 1)
   pub rest : after ≡ record mid { entries = after.entries; tickets = lists.without mid.tickets slot; log = after.log; disk = after.disk }
   pub kept : OnErr result (device.told → after.entries ≡ mid.entries)
   pub errors : IfErr result IsCommitError
   pub full : IsErrOf result JournalFull → mid.log.region.count ≡ 65536
   pub full_rest : IsErrOf result JournalFull → after ≡ record mid { tickets = lists.without mid.tickets slot }
-  pub holds : device.told → Holds mid (device.seen mid.disk) (device.may_leave mid.disk) → OnOk result (Holds after (device.seen after.disk) (device.may_leave after.disk))
+  pub holds : device.told → Holds mid (device.seen mid.disk) (device.may_leave mid.disk)
+      → OnOk result (Holds after (device.seen after.disk) (device.may_leave after.disk))
   pub moments : device.told → Holds mid (device.seen mid.disk) (device.may_leave mid.disk)
       → LeavesOnly device.moment device.left_since mid.disk after.disk
       (StandsAsEither (store_of mid) (with_entry (store_of mid) key (record { version = version; bytes = bytes })))
@@ -66,7 +69,8 @@ module _ {D T : Type 0} (device : Ghosts D) (before mid after : Holdings D) (slo
     done = on_ok result _ _ _
         (λ content counted told.
         spent_is (record before { tickets = before.tickets ++ slot ∷ [] }) after key version slot bytes at_slot.out (content told) at_slot.rest counted
-        ∙ ap (λ (s : Store). with_entry s key (record { version = version; bytes = bytes })) (kept_is before (record before { tickets = before.tickets ++ slot ∷ [] }) slot refl))
+        ∙ ap (λ (s : Store). with_entry s key (record { version = version; bytes = bytes }))
+        (kept_is before (record before { tickets = before.tickets ++ slot ∷ [] }) slot refl))
         at_slot.content at_slot.counted;
     holds = at_slot.holds;
     moments = at_slot.moments;

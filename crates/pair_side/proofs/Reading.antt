@@ -22,7 +22,8 @@ module _ {D : Type 0} (device : Ghosts D) (only_now : (d : D) (c : List ℕ) →
       → KeepsDevice device.size device.seen device.may_leave device.moment device.left_since old.disk new.disk → HoldsAt device old
       → LeavesOnly device.moment device.left_since old.disk new.disk (StandsAsEither (store_of old) rule)
   kept_moments old new rule keeps holds =
-      let stands : (c : List ℕ) → device.may_leave old.disk c → StandsAsEither (store_of old) rule c = λ c left. inl (stands_before c old (holds.left c left)) in
+      let stands : (c : List ℕ) → device.may_leave old.disk c
+      → StandsAsEither (store_of old) rule c = λ c left. inl (stands_before c old (holds.left c left)) in
       record {
         later = keeps.later;
         each = λ c left. elim (keeps.nothing_new (device.moment old.disk) c (omega arith) left) [

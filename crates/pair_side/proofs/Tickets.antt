@@ -1,5 +1,6 @@
 -- What changes of the tables do to the tickets.
-use Rattle.std.proofs.Common.{◌≡◌, inl, inr, ℕ, zero, suc, length-append, ◌==◌, ◌+◌, ◌-◌, ◌≤◌, Bool, true, false, not, cond, List, [], ◌∷◌, ◌++◌, length, Option, Some, None, is_some, refl, sym, subst, ap, ◌∙◌, arith}
+use Rattle.std.proofs.Common.{◌≡◌, inl, inr, ℕ, zero, suc, length-append, ◌==◌, ◌+◌, ◌-◌, ◌≤◌, Bool, true, false, not, cond, List, [], ◌∷◌, ◌++◌}
+use Rattle.std.proofs.Common.{length, Option, Some, None, is_some, refl, sym, subst, ap, ◌∙◌, arith}
 use Rattle.std.proofs.lemmas.Bool.{cases_Bool}
 use Rattle.std.proofs.lemmas.Bool.Decides.{nat_tests}
 use Rattle.std.specs.List.{Contains}
@@ -40,7 +41,9 @@ times_put : (n slot : ℕ) (cell : Cell) (t : Table Cell ℕ) → lookup (is_at 
 times_put n slot cell [] none = omega arith
 times_put n slot cell (r ∷ rs) none =
     let rest = times_put n slot cell rs in
-    elim (cell_cmp cell r.0) as (λ o. cond (is_eq o) (Some r.1) (lookup (is_at (cell_cmp cell)) rs) ≡ None → times n (values_of (match_ordering o ((cell, slot) ∷ r ∷ rs) ((r.0, slot) ∷ rs) (r ∷ insert_entry cell_cmp rs cell slot))) ≡ times n (r.1 ∷ values_of rs) + one_at n slot) [
+    elim (cell_cmp cell r.0) as (λ o. cond (is_eq o) (Some r.1) (lookup (is_at (cell_cmp cell)) rs) ≡ None
+    → times n (values_of (match_ordering o ((cell, slot) ∷ r ∷ rs) ((r.0, slot) ∷ rs) (r ∷ insert_entry cell_cmp rs cell slot)))
+    ≡ times n (r.1 ∷ values_of rs) + one_at n slot) [
       | Less ↦ λ e. omega arith
       | Equal ↦ λ e. absurd (cc)
       | Greater ↦ λ e. let more = rest e in omega (arith, more)
@@ -51,7 +54,8 @@ times_removed : (n slot : ℕ) (test : Cell → Bool) (t : Table Cell ℕ) → l
 times_removed n slot test [] is = absurd (cc)
 times_removed n slot test (r ∷ rs) is =
     let rest = times_removed n slot test rs in
-    elim (test r.0) as (λ b. cond b (Some r.1) (lookup test rs) ≡ Some slot → times n (values_of (cond b rs (r ∷ remove_entry test rs))) + one_at n slot ≡ times n (r.1 ∷ values_of rs)) [
+    elim (test r.0) as (λ b. cond b (Some r.1) (lookup test rs) ≡ Some slot
+    → times n (values_of (cond b rs (r ∷ remove_entry test rs))) + one_at n slot ≡ times n (r.1 ∷ values_of rs)) [
       | true ↦ λ e. let same : r.1 ≡ slot = cc in let one : one_at n r.1 ≡ one_at n slot = ap (one_at n) same in omega (arith, one)
       | false ↦ λ e. let more = rest e in omega (arith, more)
     ] is
@@ -60,7 +64,8 @@ pub times_without : (n slot : ℕ) (cell : Cell) (t : Table Cell ℕ) → IsStri
     → times n (values_of (without cell_cmp t cell)) + one_at n slot ≡ times n (values_of t)
 unfolding at
 times_without n slot cell t sorted is =
-    subst (λ (u : Table Cell ℕ). times n (values_of u) + one_at n slot ≡ times n (values_of t)) (remove_is_without cell_cmp_total t cell sorted) (times_removed n slot (is_at (cell_cmp cell)) t is)
+    subst (λ (u : Table Cell ℕ). times n (values_of u) + one_at n slot ≡ times n (values_of t)) (remove_is_without cell_cmp_total t cell sorted)
+    (times_removed n slot (is_at (cell_cmp cell)) t is)
 
 times_new : (n slot : ℕ) (cell : Cell) (t : Table Cell ℕ) → at cell_cmp t cell ≡ None
     → times n (values_of (put cell_cmp t cell slot)) ≡ times n (values_of t) + one_at n slot
@@ -128,7 +133,8 @@ counted_own cell slot own is = go own is
     go (r ∷ rs) is =
         let rest = go rs in
         elim (is_eq (cell_cmp cell r.0)) as (λ b. cond b (Some r.1) (lookup (is_at (cell_cmp cell)) rs) ≡ Some slot → 1 ≤ times slot (r.1 ∷ values_of rs)) [
-          | true ↦ λ e. let same : r.1 ≡ slot = cc in let one : one_at slot r.1 ≡ one_at slot slot = ap (one_at slot) same in omega (arith, one, one_itself slot)
+          | true ↦ λ e. let same : r.1 ≡ slot = cc in let one : one_at slot r.1 ≡ one_at slot slot = ap (one_at slot) same in
+              omega (arith, one, one_itself slot)
           | false ↦ λ e. let more = rest e in omega (arith, more)
         ] is
 
@@ -140,7 +146,8 @@ none_by : (o : Option ℕ) → is_some o ≡ false → o ≡ None
 none_by None is = refl
 none_by (Some n) is = absurd (cc)
 
-module _ (pending : Table Cell Pending) (last : Table Cell LastOp) (own apart : Table Cell ℕ) (tickets : List ℕ) (h : HasTickets pending last own apart tickets) where
+module _ (pending : Table Cell Pending) (last : Table Cell LastOp) (own apart : Table Cell ℕ) (tickets : List ℕ)
+    (h : HasTickets pending last own apart tickets) where
   own_counted : (cell : Cell) (slot : ℕ) → at cell_cmp own cell ≡ Some slot → 1 ≤ times slot tickets
   own_counted cell slot is = let counted = counted_own cell slot own is in let all = h.out slot in omega (arith, counted, all)
 
@@ -212,7 +219,8 @@ module _ (pending : Table Cell Pending) (last : Table Cell LastOp) (own apart : 
   kept_put cell op slot sorted is done = record {
     out = out_spent cell slot sorted is;
     owned = λ q. elim (cell_cases q cell) [
-      | inl same ↦ subst (λ (c : Cell). is_some (at cell_cmp (without cell_cmp own cell) c) ≡ needs_own (at cell_cmp (put cell_cmp pending cell op) c)) (sym same)
+      | inl same ↦
+          subst (λ (c : Cell). is_some (at cell_cmp (without cell_cmp own cell) c) ≡ needs_own (at cell_cmp (put cell_cmp pending cell op) c)) (sym same)
           (ap is_some (cell_gone own cell) ∙ sym (ap not done) ∙ sym (ap needs_own (cell_same pending cell op)))
       | inr ne ↦ ap is_some (cell_gone_apart own cell q ne) ∙ h.owned q ∙ sym (ap needs_own (cell_apart pending cell op q ne))
     ];
@@ -237,7 +245,8 @@ module _ (pending : Table Cell Pending) (last : Table Cell LastOp) (own apart : 
   kept_dropped cell slot sorted is = record {
     out = out_spent cell slot sorted is;
     owned = λ q. elim (cell_cases q cell) [
-      | inl same ↦ subst (λ (c : Cell). is_some (at cell_cmp (without cell_cmp own cell) c) ≡ needs_own (at cell_cmp (without cell_cmp pending cell) c)) (sym same)
+      | inl same ↦
+          subst (λ (c : Cell). is_some (at cell_cmp (without cell_cmp own cell) c) ≡ needs_own (at cell_cmp (without cell_cmp pending cell) c)) (sym same)
           (ap is_some (cell_gone own cell) ∙ sym (ap needs_own (cell_gone pending cell)))
       | inr ne ↦ ap is_some (cell_gone_apart own cell q ne) ∙ h.owned q ∙ sym (ap needs_own (cell_gone_apart pending cell q ne))
     ];
@@ -285,7 +294,8 @@ module _ (pending : Table Cell Pending) (last : Table Cell LastOp) (own apart : 
         omega (arith, all, less, gone);
     owned = h.owned;
     kept = λ q. elim (cell_cases q cell) [
-      | inl same ↦ subst (λ (c : Cell). is_some (at cell_cmp (without cell_cmp apart cell) c) ≡ needs_apart (at cell_cmp (put cell_cmp last cell op) c)) (sym same)
+      | inl same ↦
+          subst (λ (c : Cell). is_some (at cell_cmp (without cell_cmp apart cell) c) ≡ needs_apart (at cell_cmp (put cell_cmp last cell op) c)) (sym same)
           (ap is_some (cell_gone apart cell) ∙ sym used ∙ sym (ap needs_apart (cell_same last cell op)))
       | inr ne ↦ ap is_some (cell_gone_apart apart cell q ne) ∙ h.kept q ∙ sym (ap needs_apart (cell_apart last cell op q ne))
     ];

@@ -56,7 +56,8 @@ lacks_room me inc (Some entry) store = is_blank_join entry me inc && (store.fres
 module _ {D T : Type 0} where
   -- a server's own part is what the rule says of the entry, if there is one, where the device tells its bytes, and the tickets
   -- stand where they are needed. A crash at any moment leaves the store before, or the rule's after it
-  pub record IsEntered (device : Ghosts D) (here : Here) (entry : Option Command) (old new : Side) (before after : Holdings D) (result : Result T WorkError) : Type 0 where
+  pub record IsEntered (device : Ghosts D) (here : Here) (entry : Option Command) (old new : Side) (before after : Holdings D)
+      (result : Result T WorkError) : Type 0 where
     pub own : OnOk result (device.told → own_of new after ≡ crossed_by here entry (own_of old before))
     pub keeps : HasTicketsAt new after
     pub holds : device.told → HoldsAt device before → OnOk result (HoldsAt device after)

@@ -38,7 +38,16 @@ impl Model for Side {
 
     ghost Value = { sides.Side };
 
-    ghost view = { λ s. record { next = s.next; pending = s.locks; finished = s.finished; last = s.last; copies = s.copies; filled = s.filled; own = s.own; apart = s.apart } };
+    ghost view = { λ s. record {
+      next = s.next;
+      pending = s.locks;
+      finished = s.finished;
+      last = s.last;
+      copies = s.copies;
+      filled = s.filled;
+      own = s.own;
+      apart = s.apart;
+    } };
 }
 
 impl Side {

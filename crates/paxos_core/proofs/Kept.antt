@@ -41,19 +41,23 @@ open_promise row b is = rw is
 open_accept : (row : Row) (b : Ballot) (c : Command) → is_open (kept_in row) b ≡ true → kept_in (accept_row row b c) ≡ accept b c
 open_accept row b c is = rw is
 
-pub promised_rows : (old new : List StateRecord) (place : ℕ) (b : Ballot) → Commits old new (Promise place b) → is_open (acceptor_of old place) b ≡ true → (p : ℕ) → acceptor_of new p ≡ put (acceptor_of old) place (promise (acceptor_of old place) b) p
+pub promised_rows : (old new : List StateRecord) (place : ℕ) (b : Ballot) → Commits old new (Promise place b) → is_open (acceptor_of old place) b ≡ true
+    → (p : ℕ) → acceptor_of new p ≡ put (acceptor_of old) place (promise (acceptor_of old place) b) p
 promised_rows old new place b made is p =
     let rows : acceptor_of new p ≡ kept_in (row_after p (row_of old p) (Promise place b)) = ap kept_in (rows_after old new (Promise place b) made p) in
     elim (put_cases (acceptor_of old) place (promise (acceptor_of old place) b) p) [
-      | inl at ↦ rows ∙ ap kept_in (at_test place p (promise_row (row_of old p) b) (row_of old p) at.0 ∙ ap (λ k. promise_row (row_of old k) b) at.0) ∙ open_promise (row_of old place) b is ∙ sym at.1
+      | inl at ↦ rows ∙ ap kept_in (at_test place p (promise_row (row_of old p) b) (row_of old p) at.0 ∙ ap (λ k. promise_row (row_of old k) b) at.0)
+          ∙ open_promise (row_of old place) b is ∙ sym at.1
       | inr off ↦ rows ∙ ap kept_in (off_test place p (promise_row (row_of old p) b) (row_of old p) off.0) ∙ sym off.1
     ]
 
-pub accepted_rows : (old new : List StateRecord) (place : ℕ) (b : Ballot) (c : Command) → Commits old new (Accepted place b c) → is_open (acceptor_of old place) b ≡ true → (p : ℕ) → acceptor_of new p ≡ put (acceptor_of old) place (accept b c) p
+pub accepted_rows : (old new : List StateRecord) (place : ℕ) (b : Ballot) (c : Command) → Commits old new (Accepted place b c)
+    → is_open (acceptor_of old place) b ≡ true → (p : ℕ) → acceptor_of new p ≡ put (acceptor_of old) place (accept b c) p
 accepted_rows old new place b c made is p =
     let rows : acceptor_of new p ≡ kept_in (row_after p (row_of old p) (Accepted place b c)) = ap kept_in (rows_after old new (Accepted place b c) made p) in
     elim (put_cases (acceptor_of old) place (accept b c) p) [
-      | inl at ↦ rows ∙ ap kept_in (at_test place p (accept_row (row_of old p) b c) (row_of old p) at.0 ∙ ap (λ k. accept_row (row_of old k) b c) at.0) ∙ open_accept (row_of old place) b c is ∙ sym at.1
+      | inl at ↦ rows ∙ ap kept_in (at_test place p (accept_row (row_of old p) b c) (row_of old p) at.0 ∙ ap (λ k. accept_row (row_of old k) b c) at.0)
+          ∙ open_accept (row_of old place) b c is ∙ sym at.1
       | inr off ↦ rows ∙ ap kept_in (off_test place p (accept_row (row_of old p) b c) (row_of old p) off.0) ∙ sym off.1
     ]
 

@@ -27,8 +27,10 @@ pub fn on_prepare<D: Disk>(
     ballot: Ballot,
 ) -> Result<Pax, StateError>
     ensures reply { IfOk result (λ letter. letter ≡ prepare_reply place (acceptor_of store.old.records place) ballot) }
-    ensures kept { OnOk result ((p : ℕ) → acceptor_of store.new.records p ≡ put (acceptor_of store.old.records) place (on_prepare (acceptor_of store.old.records place) ballot) p) }
-    ensures records { OnOk result (store.new.records ≡ (if is_open (acceptor_of store.old.records place) ballot then committed store.old.records (kind.Promise place ballot) else store.old.records)) }
+    ensures kept { OnOk result ((p : ℕ)
+        → acceptor_of store.new.records p ≡ put (acceptor_of store.old.records) place (on_prepare (acceptor_of store.old.records place) ballot) p) }
+    ensures records { OnOk result (store.new.records
+        ≡ (if is_open (acceptor_of store.old.records place) ballot then committed store.old.records (kind.Promise place ballot) else store.old.records)) }
     ensures err { OnErr result (store.new.records ≡ store.old.records) }
     ensures holds { D.told → Holds store.old.region (D.seen store.old.disk) (D.may_leave store.old.disk) store.old.records
         → OnOk result (Holds store.new.region (D.seen store.new.disk) (D.may_leave store.new.disk) store.new.records) }
@@ -37,8 +39,10 @@ pub fn on_prepare<D: Disk>(
         (if is_open (acceptor_of store.old.records place) ballot then committed store.old.records (kind.Promise place ballot) else store.old.records)) }
     ensures either { D.told → Holds store.old.region (D.seen store.old.disk) (D.may_leave store.old.disk) store.old.records
         → WithOrWithout (D.seen store.new.disk) store.old.records (kind.Promise place ballot) }
-    ensures full { IsErrOf result error.JournalFull → (store.old.region.count ≡ 65536) × Needs store.old.records place ballot (kind.Promise place ballot) × (store.new ≡ store.old) }
-    ensures full_comes { store.old.region.count ≡ 65536 → Needs store.old.records place ballot (kind.Promise place ballot) → IsErrOf result error.JournalFull ⊎ IsErrOf result error.NoMemory }
+    ensures full { IsErrOf result error.JournalFull → (store.old.region.count ≡ 65536) × Needs store.old.records place ballot (kind.Promise place ballot)
+        × (store.new ≡ store.old) }
+    ensures full_comes { store.old.region.count ≡ 65536 → Needs store.old.records place ballot (kind.Promise place ballot)
+        → IsErrOf result error.JournalFull ⊎ IsErrOf result error.NoMemory }
     ensures memory { IsErrOf result error.NoMemory → store.new ≡ store.old }
     ensures only { IfErr result IsCommitError }
     ensures failed { IsErrOf result error.Failed → D.faults store.old.disk < D.faults store.new.disk }
@@ -74,18 +78,23 @@ pub fn on_accept<D: Disk>(
     command: &Command,
 ) -> Result<Pax, StateError>
     ensures reply { IfOk result (λ letter. letter ≡ accept_reply place (acceptor_of store.old.records place) ballot) }
-    ensures kept { OnOk result ((p : ℕ) → acceptor_of store.new.records p ≡ put (acceptor_of store.old.records) place (on_accept (acceptor_of store.old.records place) ballot command.now) p) }
-    ensures records { OnOk result (store.new.records ≡ (if is_open (acceptor_of store.old.records place) ballot then committed store.old.records (kind.Accepted place ballot command.now) else store.old.records)) }
+    ensures kept { OnOk result ((p : ℕ)
+        → acceptor_of store.new.records p ≡ put (acceptor_of store.old.records) place (on_accept (acceptor_of store.old.records place) ballot command.now) p) }
+    ensures records { OnOk result (store.new.records ≡ (if is_open (acceptor_of store.old.records place) ballot
+        then committed store.old.records (kind.Accepted place ballot command.now) else store.old.records)) }
     ensures err { OnErr result (store.new.records ≡ store.old.records) }
     ensures holds { D.told → Holds store.old.region (D.seen store.old.disk) (D.may_leave store.old.disk) store.old.records
         → OnOk result (Holds store.new.region (D.seen store.new.disk) (D.may_leave store.new.disk) store.new.records) }
     ensures any_moment { D.told → Holds store.old.region (D.seen store.old.disk) (D.may_leave store.old.disk) store.old.records
         → LeavesOnly D.moment D.left_since store.old.disk store.new.disk (StandsForEither store.old.records
-        (if is_open (acceptor_of store.old.records place) ballot then committed store.old.records (kind.Accepted place ballot command.now) else store.old.records)) }
+        (if is_open (acceptor_of store.old.records place) ballot then committed store.old.records (kind.Accepted place ballot command.now)
+        else store.old.records)) }
     ensures either { D.told → Holds store.old.region (D.seen store.old.disk) (D.may_leave store.old.disk) store.old.records
         → WithOrWithout (D.seen store.new.disk) store.old.records (kind.Accepted place ballot command.now) }
-    ensures full { IsErrOf result error.JournalFull → (store.old.region.count ≡ 65536) × Needs store.old.records place ballot (kind.Accepted place ballot command.now) × (store.new ≡ store.old) }
-    ensures full_comes { store.old.region.count ≡ 65536 → Needs store.old.records place ballot (kind.Accepted place ballot command.now) → IsErrOf result error.JournalFull ⊎ IsErrOf result error.NoMemory }
+    ensures full { IsErrOf result error.JournalFull
+        → (store.old.region.count ≡ 65536) × Needs store.old.records place ballot (kind.Accepted place ballot command.now) × (store.new ≡ store.old) }
+    ensures full_comes { store.old.region.count ≡ 65536 → Needs store.old.records place ballot (kind.Accepted place ballot command.now)
+        → IsErrOf result error.JournalFull ⊎ IsErrOf result error.NoMemory }
     ensures memory { IsErrOf result error.NoMemory → store.new ≡ store.old }
     ensures only { IfErr result IsCommitError }
     ensures failed { IsErrOf result error.Failed → D.faults store.old.disk < D.faults store.new.disk }

@@ -1,5 +1,6 @@
 -- What the bytes of a spelling tell: their number, the kind, and the fields with a length of their own.
-use Rattle.std.proofs.Common.{◌≡◌, ℕ, ◌≤◌, Bool, true, false, ◌&&◌, List, ◌++◌, length, drop, get_or, replicate, Option, Some, refl, ap, sym, ◌∙◌, append_assoc, arith, length-append}
+use Rattle.std.proofs.Common.{◌≡◌, ℕ, ◌≤◌, Bool, true, false, ◌&&◌, List, ◌++◌, length, drop, get_or, replicate, Option, Some}
+use Rattle.std.proofs.Common.{refl, ap, sym, ◌∙◌, append_assoc, arith, length-append}
 use Rattle.std.proofs.lemmas.Bool.Decides.{nat_tests}
 use Rattle.std.proofs.lemmas.List.{drop-drop, length-replicate}
 use Rattle.std.specs.Prelude.{nat_le, nat_lt, slice_index}
@@ -49,9 +50,33 @@ pub length-spelling : (command : Command) → HasSpelling command → length (sp
 length-spelling (Join server inc blank) fits = refl
 length-spelling (Leave server inc) fits = refl
 length-spelling (Caught map link holder holder_inc other other_inc) fits = refl
-length-spelling (MakeDisk client seq name tuple) fits = omega (arith, length-append (name_field name ++ tuple_field tuple) (replicate 32 0), length-append (name_field name) (tuple_field tuple), padded-total 16 name (name-short name fits.2), padded-total 8 tuple (tuple-short tuple fits.3), length-replicate {A = ℕ} 32 0)
-length-spelling (Snap client seq disk name) fits = omega (arith, length-append (name_field disk ++ name_field name) (replicate 24 0), length-append (name_field disk) (name_field name), padded-total 16 disk (name-short disk fits.2), padded-total 16 name (name-short name fits.3), length-replicate {A = ℕ} 24 0)
-length-spelling (StartMove client seq disk tuple) fits = omega (arith, length-append (name_field disk ++ tuple_field tuple) (replicate 32 0), length-append (name_field disk) (tuple_field tuple), padded-total 16 disk (name-short disk fits.2), padded-total 8 tuple (tuple-short tuple fits.3), length-replicate {A = ℕ} 32 0)
+length-spelling (MakeDisk client seq name tuple) fits =
+    omega (
+      arith,
+      length-append (name_field name ++ tuple_field tuple) (replicate 32 0),
+      length-append (name_field name) (tuple_field tuple),
+      padded-total 16 name (name-short name fits.2),
+      padded-total 8 tuple (tuple-short tuple fits.3),
+      length-replicate {A = ℕ} 32 0,
+    )
+length-spelling (Snap client seq disk name) fits =
+    omega (
+      arith,
+      length-append (name_field disk ++ name_field name) (replicate 24 0),
+      length-append (name_field disk) (name_field name),
+      padded-total 16 disk (name-short disk fits.2),
+      padded-total 16 name (name-short name fits.3),
+      length-replicate {A = ℕ} 24 0,
+    )
+length-spelling (StartMove client seq disk tuple) fits =
+    omega (
+      arith,
+      length-append (name_field disk ++ tuple_field tuple) (replicate 32 0),
+      length-append (name_field disk) (tuple_field tuple),
+      padded-total 16 disk (name-short disk fits.2),
+      padded-total 8 tuple (tuple-short tuple fits.3),
+      length-replicate {A = ℕ} 32 0,
+    )
 length-spelling (Drained server inc fence) fits = refl
 length-spelling (Moved map region link) fits = refl
 length-spelling (Witness client seq turn) fits = refl

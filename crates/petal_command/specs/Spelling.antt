@@ -16,7 +16,8 @@ tuple_field tuple = padded 8 tuple
 abbrev pub spelling : Command → List ℕ
 spelling (Join server inc blank) = byte 1 ++ byte server ++ word inc ++ flag blank ++ replicate 57 0
 spelling (Leave server inc) = byte 2 ++ byte server ++ word inc ++ replicate 58 0
-spelling (Caught map link holder holder_inc other other_inc) = byte 3 ++ word map ++ byte link ++ byte holder ++ word holder_inc ++ byte other ++ word other_inc ++ replicate 48 0
+spelling (Caught map link holder holder_inc other other_inc) =
+    byte 3 ++ word map ++ byte link ++ byte holder ++ word holder_inc ++ byte other ++ word other_inc ++ replicate 48 0
 spelling (MakeDisk client seq name tuple) = byte 4 ++ byte client ++ word seq ++ name_field name ++ tuple_field tuple ++ replicate 32 0
 spelling (Snap client seq disk name) = byte 5 ++ byte client ++ word seq ++ name_field disk ++ name_field name ++ replicate 24 0
 spelling (StartMove client seq disk tuple) = byte 6 ++ byte client ++ word seq ++ name_field disk ++ tuple_field tuple ++ replicate 32 0
@@ -46,7 +47,8 @@ IsTuple tuple = is_tuple 8 tuple ≡ true
 abbrev pub HasSpelling : Command → Type 0
 HasSpelling (Join server inc blank) = IsServer server × IsWord inc
 HasSpelling (Leave server inc) = IsServer server × IsWord inc
-HasSpelling (Caught map link holder holder_inc other other_inc) = IsWord map × IsLink link × IsServer holder × IsWord holder_inc × IsServer other × IsWord other_inc
+HasSpelling (Caught map link holder holder_inc other other_inc) = IsWord map × IsLink link × IsServer holder × IsWord holder_inc
+    × IsServer other × IsWord other_inc
 HasSpelling (MakeDisk client seq name tuple) = IsClient client × IsWord seq × IsName name × IsTuple tuple
 HasSpelling (Snap client seq disk name) = IsClient client × IsWord seq × IsName disk × IsName name
 HasSpelling (StartMove client seq disk tuple) = IsClient client × IsWord seq × IsName disk × IsTuple tuple

@@ -51,7 +51,8 @@ fn read(bytes: &[u8]) -> Option<Command>
 
 fn read_join(bytes: &[u8]) -> Command
     requires { length bytes.now ≡ 64 }
-    ensures { (server inc : ℕ) (blank : Bool) → HasSpelling (Join server inc blank) → bytes.now ≡ spelling (Join server inc blank) → result ≡ Join server inc blank }
+    ensures { (server inc : ℕ) (blank : Bool) → HasSpelling (Join server inc blank) → bytes.now ≡ spelling (Join server inc blank)
+        → result ≡ Join server inc blank }
 {
     Command::Join {
         server: small_at(bytes, 1),
@@ -72,7 +73,8 @@ fn read_leave(bytes: &[u8]) -> Command
 
 fn read_caught(bytes: &[u8]) -> Command
     requires { length bytes.now ≡ 64 }
-    ensures { (map link holder holder_inc other other_inc : ℕ) → HasSpelling (Caught map link holder holder_inc other other_inc) → bytes.now ≡ spelling (Caught map link holder holder_inc other other_inc) → result ≡ Caught map link holder holder_inc other other_inc }
+    ensures { (map link holder holder_inc other other_inc : ℕ) → HasSpelling (Caught map link holder holder_inc other other_inc)
+        → bytes.now ≡ spelling (Caught map link holder holder_inc other other_inc) → result ≡ Caught map link holder holder_inc other other_inc }
 {
     Command::Caught {
         map: word_at(bytes, 1),
@@ -86,7 +88,8 @@ fn read_caught(bytes: &[u8]) -> Command
 
 fn read_make_disk(bytes: &[u8]) -> Option<Command>
     requires { length bytes.now ≡ 64 }
-    ensures { (client seq : ℕ) (name tuple : List ℕ) → HasSpelling (MakeDisk client seq name tuple) → bytes.now ≡ spelling (MakeDisk client seq name tuple) → result ≡ Some (MakeDisk client seq name tuple) }
+    ensures { (client seq : ℕ) (name tuple : List ℕ) → HasSpelling (MakeDisk client seq name tuple) → bytes.now ≡ spelling (MakeDisk client seq name tuple)
+        → result ≡ Some (MakeDisk client seq name tuple) }
 {
     let (name, tuple) = name_and_tuple(bytes)?;
     Some(Command::MakeDisk {
@@ -99,7 +102,8 @@ fn read_make_disk(bytes: &[u8]) -> Option<Command>
 
 fn read_snap(bytes: &[u8]) -> Option<Command>
     requires { length bytes.now ≡ 64 }
-    ensures { (client seq : ℕ) (disk name : List ℕ) → HasSpelling (Snap client seq disk name) → bytes.now ≡ spelling (Snap client seq disk name) → result ≡ Some (Snap client seq disk name) }
+    ensures { (client seq : ℕ) (disk name : List ℕ) → HasSpelling (Snap client seq disk name) → bytes.now ≡ spelling (Snap client seq disk name)
+        → result ≡ Some (Snap client seq disk name) }
 {
     let (disk, name) = two_names(bytes)?;
     Some(Command::Snap {
@@ -112,7 +116,8 @@ fn read_snap(bytes: &[u8]) -> Option<Command>
 
 fn read_start_move(bytes: &[u8]) -> Option<Command>
     requires { length bytes.now ≡ 64 }
-    ensures { (client seq : ℕ) (disk tuple : List ℕ) → HasSpelling (StartMove client seq disk tuple) → bytes.now ≡ spelling (StartMove client seq disk tuple) → result ≡ Some (StartMove client seq disk tuple) }
+    ensures { (client seq : ℕ) (disk tuple : List ℕ) → HasSpelling (StartMove client seq disk tuple)
+        → bytes.now ≡ spelling (StartMove client seq disk tuple) → result ≡ Some (StartMove client seq disk tuple) }
 {
     let (disk, tuple) = name_and_tuple(bytes)?;
     Some(Command::StartMove {
@@ -125,7 +130,8 @@ fn read_start_move(bytes: &[u8]) -> Option<Command>
 
 fn read_drained(bytes: &[u8]) -> Command
     requires { length bytes.now ≡ 64 }
-    ensures { (server inc fence : ℕ) → HasSpelling (Drained server inc fence) → bytes.now ≡ spelling (Drained server inc fence) → result ≡ Drained server inc fence }
+    ensures { (server inc fence : ℕ) → HasSpelling (Drained server inc fence) → bytes.now ≡ spelling (Drained server inc fence)
+        → result ≡ Drained server inc fence }
 {
     Command::Drained {
         server: small_at(bytes, 1),
@@ -147,7 +153,8 @@ fn read_moved(bytes: &[u8]) -> Command
 
 fn read_witness(bytes: &[u8]) -> Command
     requires { length bytes.now ≡ 64 }
-    ensures { (client seq turn : ℕ) → HasSpelling (Witness client seq turn) → bytes.now ≡ spelling (Witness client seq turn) → result ≡ Witness client seq turn }
+    ensures { (client seq turn : ℕ) → HasSpelling (Witness client seq turn) → bytes.now ≡ spelling (Witness client seq turn)
+        → result ≡ Witness client seq turn }
 {
     Command::Witness {
         client: small_at(bytes, 1),
@@ -173,7 +180,8 @@ fn small_at<const LIMIT: u8>(bytes: &[u8], at: usize) -> Below<LIMIT>
 /// The fields from the third on of a command with a name and a tuple.
 fn name_and_tuple(bytes: &[u8]) -> Option<(Name, Tuple)>
     requires { length bytes.now ≡ 64 }
-    ensures { (name tuple rest : List ℕ) → is_name name ≡ true → is_tuple 8 tuple ≡ true → drop 6 bytes.now ≡ name_field name ++ tuple_field tuple ++ rest → result ≡ Some (name, tuple) }
+    ensures { (name tuple rest : List ℕ) → is_name name ≡ true → is_tuple 8 tuple ≡ true → drop 6 bytes.now ≡ name_field name ++ tuple_field tuple ++ rest
+        → result ≡ Some (name, tuple) }
 {
     let name = Name::read(padded_at(bytes, 6, NAME_BYTES))?;
     let tuple = Tuple::new(padded_at(bytes, 23, TUPLE_BYTES), MAX_SERVERS)?;
@@ -183,7 +191,8 @@ fn name_and_tuple(bytes: &[u8]) -> Option<(Name, Tuple)>
 /// The fields from the third on of a command with two names.
 fn two_names(bytes: &[u8]) -> Option<(Name, Name)>
     requires { length bytes.now ≡ 64 }
-    ensures { (disk name rest : List ℕ) → is_name disk ≡ true → is_name name ≡ true → drop 6 bytes.now ≡ name_field disk ++ name_field name ++ rest → result ≡ Some (disk, name) }
+    ensures { (disk name rest : List ℕ) → is_name disk ≡ true → is_name name ≡ true → drop 6 bytes.now ≡ name_field disk ++ name_field name ++ rest
+        → result ≡ Some (disk, name) }
 {
     let disk = Name::read(padded_at(bytes, 6, NAME_BYTES))?;
     let name = Name::read(padded_at(bytes, 23, NAME_BYTES))?;

@@ -1,5 +1,6 @@
 -- The front of a buffer as it fills, and the front of a piece as it is written.
-use Rattle.std.proofs.Common.{◌≡◌, ℕ, ◌+◌, ◌-◌, ◌≤◌, List, [], ◌++◌, length, take, drop, sym, ◌∙◌, ap, arith, append_assoc, append-nil, length-drop, take-append-drop}
+use Rattle.std.proofs.Common.{◌≡◌, ℕ, ◌+◌, ◌-◌, ◌≤◌, List, [], ◌++◌, length, take, drop, sym, ◌∙◌, ap, arith, append_assoc}
+use Rattle.std.proofs.Common.{append-nil, length-drop, take-append-drop}
 use Rattle.std.proofs.lemmas.List.{take_at, drop_at, take-take, drop-take, drop-drop, length-take-le, take_all, drop_all}
 use borrow.Rule.Slice.PartMut.{put_mid, post_of}
 use Rattle.petal_disk.specs.Streams.{Takes}
@@ -20,7 +21,8 @@ joined done count bytes =
 append_nil_then : {xs : List ℕ} (new : List ℕ) → new ≡ xs → new ++ [] ≡ xs
 append_nil_then new e = append-nil new ∙ e
 
-pub more_taken : (left rest rest' old into new : List ℕ) (done count k : ℕ) → done ≤ length into → k ≡ length into - done → TakenSoFar left rest old into done → Takes rest rest' (take k (drop done into)) new count
+pub more_taken : (left rest rest' old into new : List ℕ) (done count k : ℕ) → done ≤ length into → k ≡ length into - done
+    → TakenSoFar left rest old into done → Takes rest rest' (take k (drop done into)) new count
     → TakenSoFar left rest' old (put_mid done k into new) (done + count)
 more_taken left rest rest' old into new done count k within wide so_far takes =
     let long : length (take done left) ≡ done = length-take-le done left so_far.enough in
@@ -45,7 +47,8 @@ more_taken left rest rest' old into new done count k within wide so_far takes =
     }
 
 -- a piece behind what was written
-pub more_written : (old mid new bytes : List ℕ) (done count k : ℕ) → k ≡ length bytes - done → mid ≡ old ++ take done bytes → new ≡ mid ++ take count (take k (drop done bytes)) → new ≡ old ++ take (done + count) bytes
+pub more_written : (old mid new bytes : List ℕ) (done count k : ℕ) → k ≡ length bytes - done → mid ≡ old ++ take done bytes
+    → new ≡ mid ++ take count (take k (drop done bytes)) → new ≡ old ++ take (done + count) bytes
 more_written old mid new bytes done count k wide so_far is =
     is
     ∙ ap (λ (l : List ℕ). mid ++ take count l) (take_all k (drop done bytes) (omega (arith, length-drop done bytes)))

@@ -29,5 +29,6 @@ module _ {D : Type 0} (size : D → ℕ) (seen : D → List ℕ) (may_leave : D 
     same_seen = second.same_seen ∙ first.same_seen;
     crash = λ c left. first.crash c (second.crash c left);
     later = omega (arith, first.later, second.later);
-    nothing_new = λ t c le left. ⊎_elim (first.nothing_new t c le) (λ now. inr (first.crash c now)) (second.nothing_new t c (omega (arith, le, first.later)) left);
+    nothing_new =
+        λ t c le left. ⊎_elim (first.nothing_new t c le) (λ now. inr (first.crash c now)) (second.nothing_new t c (omega (arith, le, first.later)) left);
   }

@@ -13,12 +13,14 @@ same_all low high now kept le before behind =
     ∙ take-append-drop low now
 
 -- the range is copied
-pub copied : (low high : ℕ) (now kept mid new : List ℕ) → low ≤ high → high ≤ length now → mid ≡ take (high - low) (drop low now) → take low kept ≡ take low now → drop high kept ≡ drop high now → new ≡ written kept low mid → new ≡ now
+pub copied : (low high : ℕ) (now kept mid new : List ℕ) → low ≤ high → high ≤ length now → mid ≡ take (high - low) (drop low now)
+    → take low kept ≡ take low now → drop high kept ≡ drop high now → new ≡ written kept low mid → new ≡ now
 copied low high now kept mid new le fits is before behind done =
     let long : length mid ≡ high - low = ap length is ∙ length-take-le (high - low) (drop low now) (omega (arith, length-drop low now)) in
     let end : low + length mid ≡ high = omega (arith, long) in
     let rest : drop (low + length mid) kept ≡ drop (high - low) (drop low now) =
-    ap (λ (k : ℕ). drop k kept) end ∙ behind ∙ ap (λ (k : ℕ). drop k now) (let e : high ≡ low + (high - low) = omega arith in e) ∙ sym (drop-drop (high - low) low now) in
+    ap (λ (k : ℕ). drop k kept) end ∙ behind ∙ ap (λ (k : ℕ). drop k now) (let e : high ≡ low + (high - low) = omega arith in e)
+    ∙ sym (drop-drop (high - low) low now) in
     done
     ∙ append_assoc (take low kept) mid (drop (low + length mid) kept)
     ∙ ap (λ (l : List ℕ). l ++ (mid ++ drop (low + length mid) kept)) before
@@ -28,10 +30,14 @@ copied low high now kept mid new le fits is before behind done =
     ∙ take-append-drop low now
 
 -- the range grows with a write
-pub before_write : (k low at : ℕ) (bytes now kept new : List ℕ) → k ≤ low → k ≤ at → at + length bytes ≤ length now → take low kept ≡ take low now → new ≡ written now at bytes → take k kept ≡ take k new
+pub before_write : (k low at : ℕ) (bytes now kept new : List ℕ) → k ≤ low → k ≤ at → at + length bytes ≤ length now → take low kept ≡ take low now
+    → new ≡ written now at bytes → take k kept ≡ take k new
 before_write k low at bytes now kept new le le' fits same is =
-    take_less k low now kept le same ∙ sym (torn_front k at (length bytes) now (written now at bytes) le' (torn_written now at bytes fits)) ∙ ap (λ (l : List ℕ). take k l) (sym is)
+    take_less k low now kept le same ∙ sym (torn_front k at (length bytes) now (written now at bytes) le' (torn_written now at bytes fits))
+    ∙ ap (λ (l : List ℕ). take k l) (sym is)
 
-pub behind_write : (k high at : ℕ) (bytes now kept new : List ℕ) → high ≤ k → at + length bytes ≤ k → at + length bytes ≤ length now → drop high kept ≡ drop high now → new ≡ written now at bytes → drop k kept ≡ drop k new
+pub behind_write : (k high at : ℕ) (bytes now kept new : List ℕ) → high ≤ k → at + length bytes ≤ k → at + length bytes ≤ length now
+    → drop high kept ≡ drop high now → new ≡ written now at bytes → drop k kept ≡ drop k new
 behind_write k high at bytes now kept new le le' fits same is =
-    drop_further high k now kept le same ∙ sym (torn_rest k at (length bytes) now (written now at bytes) le' (torn_written now at bytes fits)) ∙ ap (λ (l : List ℕ). drop k l) (sym is)
+    drop_further high k now kept le same ∙ sym (torn_rest k at (length bytes) now (written now at bytes) le' (torn_written now at bytes fits))
+    ∙ ap (λ (l : List ℕ). drop k l) (sym is)

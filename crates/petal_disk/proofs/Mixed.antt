@@ -1,5 +1,6 @@
 -- What a crash of a disk in memory may leave, after each call.
-use Rattle.std.proofs.Common.{◌≡◌, inl, inr, ⊎_elim, ℕ, zero, suc, ◌+◌, ◌≤◌, List, [], ◌∷◌, ◌++◌, length, take, drop, refl, sym, ◌∙◌, ap, subst, arith, length-append, length-drop, append_assoc}
+use Rattle.std.proofs.Common.{◌≡◌, inl, inr, ⊎_elim, ℕ, zero, suc, ◌+◌, ◌≤◌, List, [], ◌∷◌, ◌++◌, length, take, drop, refl, sym, ◌∙◌, ap}
+use Rattle.std.proofs.Common.{subst, arith, length-append, length-drop, append_assoc}
 use Rattle.std.proofs.lemmas.List.{take_at, drop_at, length-take-le, drop-drop}
 use Rattle.petal_disk.specs.Disk.{written, Torn}
 use Rattle.petal_disk.specs.Mixes.{Mixes, length-Mixes}
@@ -25,7 +26,8 @@ mixes_kept (a ∷ now) (b ∷ kept) e = (inr refl, mixes_kept now kept (omega (a
 mixes_kept [] (b ∷ kept) e = absurd (omega (arith, e))
 mixes_kept (a ∷ now) [] e = absurd (omega (arith, e))
 
-over_start : (bytes now kept c : List ℕ) → length bytes ≤ length now → Mixes (bytes ++ drop (length bytes) now) kept c → Mixes now kept (take (length bytes) now ++ drop (length bytes) c)
+over_start : (bytes now kept c : List ℕ) → length bytes ≤ length now → Mixes (bytes ++ drop (length bytes) now) kept c
+    → Mixes now kept (take (length bytes) now ++ drop (length bytes) c)
 over_start [] now kept c l m = m
 over_start (y ∷ bytes) [] kept c l m = absurd (omega arith)
 over_start (y ∷ bytes) (a ∷ now) [] c l m = absurd m
@@ -36,7 +38,8 @@ over_start (y ∷ bytes) (a ∷ now) (b ∷ kept) (x ∷ c) l m = (inl refl, ove
 abbrev undone : List ℕ → ℕ → ℕ → List ℕ → List ℕ
 undone now at n c = take at c ++ (take n (drop at now) ++ drop n (drop at c))
 
-over_at : (at : ℕ) (bytes now kept c : List ℕ) → at + length bytes ≤ length now → Mixes (take at now ++ (bytes ++ drop (length bytes) (drop at now))) kept c → Mixes now kept (undone now at (length bytes) c)
+over_at : (at : ℕ) (bytes now kept c : List ℕ) → at + length bytes ≤ length now
+    → Mixes (take at now ++ (bytes ++ drop (length bytes) (drop at now))) kept c → Mixes now kept (undone now at (length bytes) c)
 over_at zero bytes now kept c l m = over_start bytes now kept c (omega arith) m
 over_at (suc at) bytes [] kept c l m = absurd (omega arith)
 over_at (suc at) bytes (a ∷ now) [] c l m = absurd m
@@ -51,18 +54,37 @@ torn_undone at n now c l e =
     let both : length (take at c ++ take n (drop at now)) ≡ at + n = omega (arith, length-append (take at c) (take n (drop at now))) in
     record {
       before = sym (take_at (take at c) (take n (drop at now) ++ drop n (drop at c)) at front);
-      after = sym (ap (λ (l : List ℕ). drop (at + n) l) (sym (append_assoc (take at c) (take n (drop at now)) (drop n (drop at c)))) ∙ drop_at (take at c ++ take n (drop at now)) (drop n (drop at c)) (at + n) both ∙ rest);
-      size = omega (arith, length-append (take at c) (take n (drop at now) ++ drop n (drop at c)), length-append (take n (drop at now)) (drop n (drop at c)), length-drop n (drop at c), length-drop at c);
+      after = sym (ap (λ (l : List ℕ). drop (at + n) l) (sym (append_assoc (take at c) (take n (drop at now)) (drop n (drop at c))))
+          ∙ drop_at (take at c ++ take n (drop at now)) (drop n (drop at c)) (at + n) both ∙ rest);
+      size = omega (
+        arith,
+        length-append (take at c) (take n (drop at now) ++ drop n (drop at c)),
+        length-append (take n (drop at now)) (drop n (drop at c)),
+        length-drop n (drop at c),
+        length-drop at c,
+      );
     }
 
 regroup : (at : ℕ) (bytes now : List ℕ) → written now at bytes ≡ take at now ++ (bytes ++ drop (length bytes) (drop at now))
-regroup at bytes now = append_assoc (take at now) bytes (drop (at + length bytes) now) ∙ ap (λ (l : List ℕ). take at now ++ (bytes ++ l)) (sym (drop-drop (length bytes) at now))
+regroup at bytes now = append_assoc (take at now) bytes (drop (at + length bytes) now)
+    ∙ ap (λ (l : List ℕ). take at now ++ (bytes ++ l)) (sym (drop-drop (length bytes) at now))
 
 length-regrouped : (at : ℕ) (bytes now : List ℕ) → at + length bytes ≤ length now → length (written now at bytes) ≡ length now
-length-regrouped at bytes now l = omega (arith, length-append (take at now ++ bytes) (drop (at + length bytes) now), length-append (take at now) bytes, length-take-le at now (omega arith), length-drop (at + length bytes) now)
+length-regrouped at bytes now l = omega (
+  arith,
+  length-append (take at now ++ bytes) (drop (at + length bytes) now),
+  length-append (take at now) bytes,
+  length-take-le at now (omega arith),
+  length-drop (at + length bytes) now,
+)
 
 -- an outcome after a write was one before it, but in the range
-pub written_follows : (at : ℕ) (bytes now kept after c : List ℕ) → at + length bytes ≤ length now → after ≡ written now at bytes → Mixes after kept c → (d : List ℕ) × Mixes now kept d × Torn at (length bytes) d c
+pub written_follows : (at : ℕ) (bytes now kept after c : List ℕ) → at + length bytes ≤ length now → after ≡ written now at bytes → Mixes after kept c
+    → (d : List ℕ) × Mixes now kept d × Torn at (length bytes) d c
 written_follows at bytes now kept after c l is m =
-    let m' = subst (λ (x : List ℕ). Mixes x kept c) is m in
-    (undone now at (length bytes) c, over_at at bytes now kept c l (subst (λ (x : List ℕ). Mixes x kept c) (regroup at bytes now) m'), torn_undone at (length bytes) now c l (length-Mixes (written now at bytes) kept c m' ∙ length-regrouped at bytes now l))
+    let m' = subst (λ (x : List ℕ). Mixes x kept c) is m in (
+      undone now at (length bytes) c,
+      over_at at bytes now kept c l (subst (λ (x : List ℕ). Mixes x kept c) (regroup at bytes now) m'),
+      torn_undone
+          at (length bytes) now c l (length-Mixes (written now at bytes) kept c m' ∙ length-regrouped at bytes now l),
+    )

@@ -8,7 +8,8 @@ module _ {D : Type 0} (moment : D → ℕ) (left_since : D → ℕ → List ℕ 
   started old P here = record { later = omega arith; each = here; before = λ t c le left. inl left }
 
   -- one call more, after which a crash leaves what has P
-  pub goes_on : (old mid new : D) (P may_leave : List ℕ → Type 0) → LeavesOnly moment left_since old mid P → Elapses (moment mid) (moment new) (left_since mid) (left_since new) may_leave
+  pub goes_on : (old mid new : D) (P may_leave : List ℕ → Type 0) → LeavesOnly moment left_since old mid P
+      → Elapses (moment mid) (moment new) (left_since mid) (left_since new) may_leave
       → ((c : List ℕ) → may_leave c → P c) → LeavesOnly moment left_since old new P
   goes_on old mid new P may_leave so_far time here = record {
     later = omega (arith, so_far.later, time.later);
@@ -17,7 +18,8 @@ module _ {D : Type 0} (moment : D → ℕ) (left_since : D → ℕ → List ℕ 
   }
 
   -- one run after another
-  pub joined : (old mid new : D) (P Q : List ℕ → Type 0) → LeavesOnly moment left_since old mid P → LeavesOnly moment left_since mid new Q → ((c : List ℕ) → Q c → P c) → LeavesOnly moment left_since old new P
+  pub joined : (old mid new : D) (P Q : List ℕ → Type 0) → LeavesOnly moment left_since old mid P → LeavesOnly moment left_since mid new Q
+      → ((c : List ℕ) → Q c → P c) → LeavesOnly moment left_since old new P
   joined old mid new P Q first second serves = record {
     later = omega (arith, first.later, second.later);
     each = λ c left. ⊎_elim (first.each c) (serves c) (second.before (moment old) c first.later left);
@@ -25,7 +27,8 @@ module _ {D : Type 0} (moment : D → ℕ) (left_since : D → ℕ → List ℕ 
   }
 
   -- what serves less serves more
-  pub weaker : (old new : D) (P Q : List ℕ → Type 0) → LeavesOnly moment left_since old new P → ((c : List ℕ) → P c → Q c) → LeavesOnly moment left_since old new Q
+  pub weaker : (old new : D) (P Q : List ℕ → Type 0) → LeavesOnly moment left_since old new P → ((c : List ℕ) → P c → Q c)
+      → LeavesOnly moment left_since old new Q
   weaker old new P Q run serves = record {
     later = run.later;
     each = λ c left. serves c (run.each c left);

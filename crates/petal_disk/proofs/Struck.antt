@@ -11,7 +11,8 @@ no_time now since may_leave = record { later = omega arith; nothing_else = λ t 
 pub torn_more : (at m n : ℕ) (old new : List ℕ) → m ≤ n → Torn at m old new → Torn at n old new
 torn_more at m n old new le torn =
     let same : at + n ≡ at + m + (n - m) = omega arith in
-    let split : (xs : List ℕ) → drop (at + n) xs ≡ drop (n - m) (drop (at + m) xs) = λ xs. ap (λ (k : ℕ). drop k xs) same ∙ sym (drop-drop (n - m) (at + m) xs) in
+    let split : (xs : List ℕ) → drop (at + n) xs ≡ drop (n - m) (drop (at + m) xs) = λ xs. ap (λ (k : ℕ). drop k xs) same
+    ∙ sym (drop-drop (n - m) (at + m) xs) in
     record {
       before = torn.before;
       after = split new ∙ ap (λ (l : List ℕ). drop (n - m) l) torn.after ∙ sym (split old);

@@ -5,7 +5,8 @@ use Rattle.petal_disk.specs.Disk.{Torn, written, part}
 
 pub drop_further : (a b : ℕ) (x y : List ℕ) → a ≤ b → drop a y ≡ drop a x → drop b y ≡ drop b x
 drop_further a b x y le same =
-    let split : (xs : List ℕ) → drop b xs ≡ drop (b - a) (drop a xs) = λ xs. ap (λ (k : ℕ). drop k xs) (let e : b ≡ a + (b - a) = omega arith in e) ∙ sym (drop-drop (b - a) a xs) in
+    let split : (xs : List ℕ) → drop b xs ≡ drop (b - a) (drop a xs) = λ xs. ap (λ (k : ℕ). drop k xs) (let e : b ≡ a + (b - a) = omega arith in e)
+    ∙ sym (drop-drop (b - a) a xs) in
     split y ∙ ap (λ (l : List ℕ). drop (b - a) l) same ∙ sym (split x)
 
 pub take_less : (a b : ℕ) (x y : List ℕ) → a ≤ b → take b y ≡ take b x → take a y ≡ take a x
@@ -30,7 +31,8 @@ torn_twice at n x y z first second = record {
 pub torn_behind : (a at n : ℕ) (x y : List ℕ) → Torn (a + at) n x y → Torn at n (drop a x) (drop a y)
 torn_behind a at n x y torn = record {
   before = sym (drop-take a at y) ∙ ap (λ (l : List ℕ). drop a l) torn.before ∙ drop-take a at x;
-  after = drop-drop (at + n) a y ∙ ap (λ (k : ℕ). drop k y) (let e : a + (at + n) ≡ a + at + n = omega arith in e) ∙ torn.after ∙ ap (λ (k : ℕ). drop k x) (let e : a + at + n ≡ a + (at + n) = omega arith in e) ∙ sym (drop-drop (at + n) a x);
+  after = drop-drop (at + n) a y ∙ ap (λ (k : ℕ). drop k y) (let e : a + (at + n) ≡ a + at + n = omega arith in e) ∙ torn.after
+      ∙ ap (λ (k : ℕ). drop k x) (let e : a + at + n ≡ a + (at + n) = omega arith in e) ∙ sym (drop-drop (at + n) a x);
   size = omega (arith, length-drop a x, length-drop a y, torn.size);
 }
 
@@ -48,7 +50,8 @@ torn_written file at bytes fits =
     let front : length (take at file) ≡ at = length-take-le at file (omega arith) in
     let both : length (take at file ++ bytes) ≡ at + length bytes = omega (arith, front, length-append (take at file) bytes) in
     record {
-      before = ap (λ (l : List ℕ). take at l) (append_assoc (take at file) bytes (drop (at + length bytes) file)) ∙ take_at (take at file) (bytes ++ drop (at + length bytes) file) at front;
+      before = ap (λ (l : List ℕ). take at l) (append_assoc (take at file) bytes (drop (at + length bytes) file))
+          ∙ take_at (take at file) (bytes ++ drop (at + length bytes) file) at front;
       after = drop_at (take at file ++ bytes) (drop (at + length bytes) file) (at + length bytes) both;
       size = omega (arith, both, length-append (take at file ++ bytes) (drop (at + length bytes) file), length-drop (at + length bytes) file);
     }

@@ -24,7 +24,8 @@ waits_later (Some p) b c e f =
 -- what the plan was at an earlier call
 met_before : (a b : Option Plan) (plan : Plan) → WaitsOn a b → b ≡ Some plan → (first : Plan) × (a ≡ Some first) × (plan.stop ≡ first.stop)
 met_before None b plan e is = absurd (let h : None ≡ Some plan = sym e ∙ is in cc)
-met_before (Some p) b plan e is = (p, refl, let h : Some (record p { at = e.0 }) ≡ Some plan = sym e.2 ∙ is in let k : record p { at = e.0 } ≡ plan = cc in ap (λ (q : Plan). q.stop) (sym k))
+met_before (Some p) b plan e is =
+    (p, refl, let h : Some (record p { at = e.0 }) ≡ Some plan = sym e.2 ∙ is in let k : record p { at = e.0 } ≡ plan = cc in ap (λ (q : Plan). q.stop) (sym k))
 
 still_none : (b c : Option Plan) → b ≡ None → WaitsOn b c → c ≡ None
 still_none None c e f = f

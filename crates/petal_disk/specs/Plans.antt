@@ -40,6 +40,11 @@ abbrev pub stops : Option Plan → Bool
 stops None = false
 stops (Some plan) = plan.stop
 
+-- whether a write or a sync does all of its work before it fails
+abbrev pub is_late : Option Plan → Bool
+is_late None = false
+is_late (Some plan) = plan.late
+
 -- 1 where it is so
 abbrev pub as_count : Bool → ℕ
 as_count true = 1

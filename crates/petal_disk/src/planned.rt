@@ -3,7 +3,7 @@
 ghost use Rattle.std.specs.Prelude.{◌≡◌, ◌≤◌, ◌<◌, ◌+◌, ◌/◌, ◌⊎◌, true, false, None, Some, IsErr, length, take, OnOk};
 ghost use Rattle.petal_disk.specs.Disk.{part, written, Torn, Follows, Within, Only, Elapses};
 ghost use Rattle.petal_disk.specs.Faults.{HasCause};
-ghost use Rattle.petal_disk.specs.Plans.{counts, fails, plan_after, stops, unplanned, after, watch_state, plan_state, beneath, CameTo};
+ghost use Rattle.petal_disk.specs.Plans.{counts, fails, plan_after, stops, is_late, unplanned, after, watch_state, plan_state, beneath, CameTo};
 ghost use Rattle.petal_disk.specs.declared.planned.CallKind.TheVariants as call;
 
 use crate::count::Count;
@@ -22,8 +22,9 @@ pub enum CallKind {
     Sync,
 }
 
-/// The call of this kind with the number `at` after arming, counted from 1, fails, once. With `stop`, a write that fails so
-/// writes the first half of its bytes before.
+/// The call of this kind with the number `at` after arming, counted from 1, fails, once. With `late`, a write or a sync that
+/// fails so does all of its work before; with `stop` alone, a write writes the first half of its bytes; else the call does
+/// nothing.
 #[derive(Clone, Copy, Debug, PartialEq, Eq)]
 pub struct Plan {
     /// Which calls count.
@@ -32,6 +33,8 @@ pub struct Plan {
     pub at: u32,
     /// Whether the server is to stop at it.
     pub stop: bool,
+    /// Whether a write or a sync that fails has done all of its work before.
+    pub late: bool,
 }
 
 // A plan and what became of it.
@@ -83,12 +86,22 @@ fn strikes(plan: &mut Option<Plan>, call: CallKind) -> bool
 }
 
 impl Watch {
-    // Whether a write that fails writes half of its bytes.
+    // Whether the server is to stop at the call that fails.
     fn stops(&self) -> bool
         ensures { result ≡ stops self.now.plan }
     {
         match self.plan {
             Some(plan) => plan.stop,
+            None => false,
+        }
+    }
+
+    // Whether a write or a sync that fails does all of its work before.
+    fn is_late(&self) -> bool
+        ensures { result ≡ is_late self.now.plan }
+    {
+        match self.plan {
+            Some(plan) => plan.late,
             None => false,
         }
     }
@@ -186,7 +199,8 @@ impl<D: Disk> Disk for Planned<D> {
 
     ghost stays = { λ p. (D.stays p.disk, CameTo-same (plan_state p)) };
 
-    ghost goes_on = { λ first mid last a b. (D.goes_on first.disk mid.disk last.disk a.0 b.0, CameTo-later (plan_state first) (plan_state mid) (plan_state last) a.1 b.1) };
+    ghost goes_on = { λ first mid last a b.
+        (D.goes_on first.disk mid.disk last.disk a.0 b.0, CameTo-later (plan_state first) (plan_state mid) (plan_state last) a.1 b.1) };
 
     fn len(&self) -> u64 {
         self.disk.len()
@@ -198,7 +212,8 @@ impl<D: Disk> Disk for Planned<D> {
         ensures size { D.size self.new.disk ≡ D.size self.old.disk }
         ensures seen { D.seen self.new.disk ≡ D.seen self.old.disk }
         ensures crash { Within (D.may_leave self.old.disk) (D.may_leave self.new.disk) }
-        ensures time { Elapses (D.moment self.old.disk) (D.moment self.new.disk) (D.left_since self.old.disk) (D.left_since self.new.disk) (D.may_leave self.new.disk) }
+        ensures time { Elapses (D.moment self.old.disk) (D.moment self.new.disk) (D.left_since self.old.disk) (D.left_since self.new.disk)
+            (D.may_leave self.new.disk) }
         ensures cause { HasCause (D.faults self.old.disk + self.old.watch.strikes.times) (D.faults self.new.disk + self.new.watch.strikes.times) result }
         ensures run { D.came_to self.old.disk self.new.disk × CameTo (plan_state self.old) (plan_state self.new) }
         ensures struck { fails (plan_state self.old).plan call.Read ≡ true → IsErr result × (self.new.disk ≡ self.old.disk) }
@@ -217,25 +232,34 @@ impl<D: Disk> Disk for Planned<D> {
         ensures torn { D.told → Torn at (length bytes.now) (D.seen self.old.disk) (D.seen self.new.disk) }
         ensures size { D.size self.new.disk ≡ D.size self.old.disk }
         ensures crash { Follows (Torn at (length bytes.now)) (D.may_leave self.old.disk) (D.may_leave self.new.disk) }
-        ensures time { Elapses (D.moment self.old.disk) (D.moment self.new.disk) (D.left_since self.old.disk) (D.left_since self.new.disk) (D.may_leave self.new.disk) }
+        ensures time { Elapses (D.moment self.old.disk) (D.moment self.new.disk) (D.left_since self.old.disk) (D.left_since self.new.disk)
+            (D.may_leave self.new.disk) }
         ensures cause { HasCause (D.faults self.old.disk + self.old.watch.strikes.times) (D.faults self.new.disk + self.new.watch.strikes.times) result }
         ensures run { D.came_to self.old.disk self.new.disk × CameTo (plan_state self.old) (plan_state self.new) }
         ensures struck { fails (plan_state self.old).plan call.Write ≡ true → IsErr result }
-        ensures halved { fails (plan_state self.old).plan call.Write ≡ true → stops (plan_state self.old).plan ≡ true
+        ensures late { fails (plan_state self.old).plan call.Write ≡ true → is_late (plan_state self.old).plan ≡ true
+            → (D.told → D.seen self.new.disk ≡ written (D.seen self.old.disk) at bytes.now)
+            ⊎ (D.faults self.old.disk < D.faults self.new.disk) }
+        ensures halved { fails (plan_state self.old).plan call.Write ≡ true → is_late (plan_state self.old).plan ≡ false
+            → stops (plan_state self.old).plan ≡ true
             → (D.told → D.seen self.new.disk ≡ written (D.seen self.old.disk) at (take (length bytes.now / 2) bytes.now))
             ⊎ (D.faults self.old.disk < D.faults self.new.disk) }
-        ensures unwritten { fails (plan_state self.old).plan call.Write ≡ true → stops (plan_state self.old).plan ≡ false → self.new.disk ≡ self.old.disk }
+        ensures unwritten { fails (plan_state self.old).plan call.Write ≡ true → is_late (plan_state self.old).plan ≡ false
+            → stops (plan_state self.old).plan ≡ false → self.new.disk ≡ self.old.disk }
         ensures spared { fails (plan_state self.old).plan call.Write ≡ false → HasCause (D.faults self.old.disk) (D.faults self.new.disk) result }
         ensures state { plan_state self.new ≡ after (plan_state self.old) call.Write }
     {
+        let late = self.watch.is_late();
         let stops = self.watch.stops();
-        if self.watch.fails_now(CallKind::Write) {
-            if stops {
-                let _ = self.disk.write_at(at, &bytes[..bytes.len() / 2]);
-            }
-            return Err(Failed);
+        if !self.watch.fails_now(CallKind::Write) {
+            return self.disk.write_at(at, bytes);
         }
-        self.disk.write_at(at, bytes)
+        if late {
+            let _ = self.disk.write_at(at, bytes);
+        } else if stops {
+            let _ = self.disk.write_at(at, &bytes[..bytes.len() / 2]);
+        }
+        Err(Failed)
     }
 
     fn sync(&mut self) -> Result<(), Failed>
@@ -243,17 +267,26 @@ impl<D: Disk> Disk for Planned<D> {
         ensures size { D.size self.new.disk ≡ D.size self.old.disk }
         ensures seen { D.seen self.new.disk ≡ D.seen self.old.disk }
         ensures crash { Within (D.may_leave self.old.disk) (D.may_leave self.new.disk) }
-        ensures time { Elapses (D.moment self.old.disk) (D.moment self.new.disk) (D.left_since self.old.disk) (D.left_since self.new.disk) (D.may_leave self.new.disk) }
+        ensures time { Elapses (D.moment self.old.disk) (D.moment self.new.disk) (D.left_since self.old.disk) (D.left_since self.new.disk)
+            (D.may_leave self.new.disk) }
         ensures cause { HasCause (D.faults self.old.disk + self.old.watch.strikes.times) (D.faults self.new.disk + self.new.watch.strikes.times) result }
         ensures run { D.came_to self.old.disk self.new.disk × CameTo (plan_state self.old) (plan_state self.new) }
-        ensures struck { fails (plan_state self.old).plan call.Sync ≡ true → IsErr result × (self.new.disk ≡ self.old.disk) }
+        ensures struck { fails (plan_state self.old).plan call.Sync ≡ true
+            → IsErr result × (is_late (plan_state self.old).plan ≡ false → self.new.disk ≡ self.old.disk) }
+        ensures late { fails (plan_state self.old).plan call.Sync ≡ true → is_late (plan_state self.old).plan ≡ true
+            → (D.told → Only (D.seen self.old.disk) (D.may_leave self.new.disk))
+            ⊎ (D.faults self.old.disk < D.faults self.new.disk) }
         ensures spared { fails (plan_state self.old).plan call.Sync ≡ false → HasCause (D.faults self.old.disk) (D.faults self.new.disk) result }
         ensures state { plan_state self.new ≡ after (plan_state self.old) call.Sync }
     {
-        if self.watch.fails_now(CallKind::Sync) {
-            return Err(Failed);
+        let late = self.watch.is_late();
+        if !self.watch.fails_now(CallKind::Sync) {
+            return self.disk.sync();
         }
-        self.disk.sync()
+        if late {
+            let _ = self.disk.sync();
+        }
+        Err(Failed)
     }
 
     fn crash(&mut self) {

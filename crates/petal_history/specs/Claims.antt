@@ -113,9 +113,11 @@ IsLateAt setting w letter client seq cell n =
 
 -- a request that its client has answered is pending at no running server, and its Write letters come too late, or are held, everywhere
 pub record Requests (setting : Setting) (w : World) : Type 0 where
-  pub pending : (n : ℕ) (cell : Cell) (op : Pending) → (w.servers n).life.running ≡ true → at cell_cmp (w.servers n).own.pairs.pending cell ≡ Some op → is_clients op.kind ≡ true
+  pub pending : (n : ℕ) (cell : Cell) (op : Pending) → (w.servers n).life.running ≡ true → at cell_cmp (w.servers n).own.pairs.pending cell ≡ Some op
+      → is_clients op.kind ≡ true
       → IsOver w op.client op.seq → ⊥
-  pub late : (letter : Letter) (client seq epoch : ℕ) (cell : Cell) (bytes : List ℕ) → In letter w.sent → letter.body ≡ body.Write client seq cell epoch bytes → IsOver w client seq
+  pub late : (letter : Letter) (client seq epoch : ℕ) (cell : Cell) (bytes : List ℕ) → In letter w.sent
+      → letter.body ≡ body.Write client seq cell epoch bytes → IsOver w client seq
       → (n : ℕ) → IsLateAt setting w letter client seq cell n
 
 -- these commands stand at the front of the log

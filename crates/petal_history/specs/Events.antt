@@ -1,5 +1,6 @@
 -- What of a history the plain machine is told.
-use Rattle.std.specs.Prelude.{ℕ, ◌==◌, ◌&&◌, ◌||◌, not, Bool, false, option_map, List, [], ◌∷◌, ◌++◌, map, filter, find, drop, length, if◌then◌else◌, Option, Some, None}
+use Rattle.std.specs.Prelude.{ℕ, ◌==◌, ◌&&◌, ◌||◌, not, Bool, false, option_map, List, [], ◌∷◌, ◌++◌, map, filter, find}
+use Rattle.std.specs.Prelude.{drop, length, if◌then◌else◌, Option, Some, None}
 use Rattle.std.specs.List.{flat_map, range_with_len, fold, filter_map}
 use Rattle.std.specs.Ordering.{nat_cmp}
 use Rattle.petal_table.specs.Table.{Table, put}
@@ -297,7 +298,8 @@ look_for_data lines (Some given) = look_for lines (Some given.0) given.1
 abbrev pub look_of : Setting → (w next : World) → Actor → List Record → Letter → Body → List Event
 look_of setting w next who later letter (body.Data seq bytes) =
     if reads_old setting w who then [] else look_for setting.lines (accepted later letter) bytes
-look_of setting w next who later letter (body.NotHere seq) = look_for_data setting.lines (old_data setting next later (record { letter = letter; seq = seq }) false)
+look_of setting w next who later letter (body.NotHere seq) =
+    look_for_data setting.lines (old_data setting next later (record { letter = letter; seq = seq }) false)
 look_of setting w next who later letter _ = []
 
 abbrev pub looks : Setting → (w next : World) → Record → List Record → List Event

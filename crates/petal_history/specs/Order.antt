@@ -1,11 +1,13 @@
 -- Which lines a history answers, and in which order.
-use Rattle.std.specs.Prelude.{◌≡◌, ◌<◌, ◌++◌, ℕ, Bool, true, false, List, [], ◌∷◌, is_some}
+use Rattle.std.specs.Prelude.{◌≡◌, ◌<◌, ◌++◌, ℕ, Bool, true, false, nat_lt, List, [], ◌∷◌, is_some}
 use Rattle.std.specs.List.{list_all}
 use Rattle.std.specs.Ordering.{nat_cmp}
 use Rattle.petal_table.specs.Table.{Table, at}
 use Rattle.script_lines.specs.declared.answer.Answer.{Answer}
 use Rattle.script_lines.specs.declared.request.Line.{Line}
+use Rattle.script_lines.specs.declared.script.Script.{Script}
 use Rattle.petal_rules.specs.Lists.{In}
+use Rattle.petal_history.specs.Legal.{IsLegal}
 use Rattle.petal_history.specs.Text.{answers_of}
 use Rattle.petal_history.specs.declared.record.Record.{Record}
 
@@ -27,6 +29,16 @@ abbrev pub AnsweredComeFirst : List Line → List Record → Type 0
 AnsweredComeFirst lines records =
     (one other : Line) → In one lines → In other lines → is_answered records one.number ≡ true → is_answered records other.number ≡ false
     → one.number < other.number
+
+-- the history answers each line of the first so many phases, and no line of a later one
+abbrev pub AnswersPhases : ℕ → List Line → List Record → Type 0
+AnswersPhases phases lines records = (line : Line) → In line lines → is_answered records line.number ≡ nat_lt line.phase phases
+
+-- where a front of a legal history answers the first lines, the answers of the rest come after its answers
+abbrev pub JoinsAnswers : Script → Type 0
+JoinsAnswers script =
+    (front back : List Record) → AreRising script.lines → IsLegal script (front ++ back) → AnsweredComeFirst script.lines front
+    → answers_of (front ++ back) ≡ answers_of front ++ answers_of back
 
 -- this is the number of a line, which the history does not answer
 pub record IsOpenLine (lines : List Line) (records : List Record) (number : ℕ) : Type 0 where

@@ -8,7 +8,10 @@ ghost use Rattle.petal_machine.specs.declared.event.Event.TheVariants.{Make};
 ghost use Rattle.petal_rules.specs.Store.{free_of};
 ghost use Rattle.petal_rules.specs.World.{chosen_log, server_state};
 ghost use Rattle.petal_history.specs.Contents.{content_at};
-ghost use Rattle.petal_history.specs.Examples.{after_clash_moves, again_moves, cell_at, chain_at, clash_moves, crowd_after, crowd_disk, crowded, declined_moves, early, early_moves, fill_moves, forgetful, freed_moves, late_moves, make_moves, marks_at, mindful, one_entry, pair_disk, put_moves, read_moves, refused_moves, rival_disk, rivals, sevens, stray_moves, strays, told_of, twin_moves, twins, vol, world_of, write_moves};
+ghost use Rattle.petal_history.specs.Examples.{after_clash_moves, again_moves, cell_at, chain_at, clash_moves, crowd_after, crowd_disk, crowded};
+ghost use Rattle.petal_history.specs.Examples.{declined_moves, early, early_moves, fill_moves, forgetful, freed_moves, late_moves, make_moves, marks_at};
+ghost use Rattle.petal_history.specs.Examples.{mindful, one_entry, pair_disk, put_moves, read_moves, refused_moves, rival_disk, rivals, sevens, stray_moves};
+ghost use Rattle.petal_history.specs.Examples.{strays, told_of, twin_moves, twins, vol, world_of, write_moves};
 
 /// A client's disk is chosen by two servers and applied by both, and its client hears of it.
 pub fn a_disk_is_made()
@@ -21,7 +24,8 @@ pub fn a_disk_is_made()
 /// Then it writes a block of sevens and reads it back: the answers, the newest first, the two copies of the block, and what
 /// the disk holds.
 pub fn a_write_is_read_back()
-    ensures answers { (world_of sevens (make_moves ++ write_moves ++ read_moves)).answers ≡ (3, answer.Data (fill_block 7)) ∷ (2, answer.Ok) ∷ (1, answer.Ok) ∷ [] }
+    ensures answers { (world_of sevens (make_moves ++ write_moves ++ read_moves)).answers
+        ≡ (3, answer.Data (fill_block 7)) ∷ (2, answer.Ok) ∷ (1, answer.Ok) ∷ [] }
     ensures primary { chain_at (world_of sevens (make_moves ++ write_moves ++ read_moves)) 1 5 ≡ one_entry 1 (fill_block 7) }
     ensures secondary { chain_at (world_of sevens (make_moves ++ write_moves ++ read_moves)) 0 5 ≡ one_entry 1 (fill_block 7) }
     ensures content { content_at sevens (world_of sevens (make_moves ++ write_moves)) 0 0 5 ≡ fill_block 7 }
@@ -93,6 +97,8 @@ pub fn a_write_finds_no_slot()
 pub fn a_full_write_is_remembered()
     ensures answers { (crowd_after (fill_moves ++ declined_moves ++ freed_moves)).answers ≡ (4, answer.NoSpace) ∷ (2, answer.Ok) ∷ [] }
     ensures free { free_of ((crowd_after (fill_moves ++ declined_moves ++ freed_moves)).servers 2).own.store ≡ 1 }
-    ensures remembered { (mindful (server_state crowded (crowd_after []) 2) 2 ((crowd_after (fill_moves ++ declined_moves ++ freed_moves ++ late_moves)).servers 2)).server.own.pairs.pending ≡ [] }
-    ensures forgotten { length (forgetful (server_state crowded (crowd_after []) 2) 2 ((crowd_after (fill_moves ++ declined_moves ++ freed_moves ++ late_moves)).servers 2)).server.own.pairs.pending ≡ 1 }
+    ensures remembered { (mindful (server_state crowded (crowd_after []) 2) 2
+        ((crowd_after (fill_moves ++ declined_moves ++ freed_moves ++ late_moves)).servers 2)).server.own.pairs.pending ≡ [] }
+    ensures forgotten { length (forgetful (server_state crowded (crowd_after []) 2) 2
+        ((crowd_after (fill_moves ++ declined_moves ++ freed_moves ++ late_moves)).servers 2)).server.own.pairs.pending ≡ 1 }
 {}

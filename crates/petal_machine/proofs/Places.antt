@@ -1,5 +1,6 @@
 -- The first of a list that passes a test, by its place.
-use Rattle.std.proofs.Common.{◌≡◌, ℕ, ◌+◌, ◌<◌, List, [], ◌∷◌, Bool, true, false, not, cond, Some, None, zero, suc, length, get_or, inl, inr, refl, sym, ap, subst, ◌∙◌, arith}
+use Rattle.std.proofs.Common.{◌≡◌, ℕ, ◌+◌, ◌<◌, List, [], ◌∷◌, Bool, true, false, not, cond, Some, None, zero, suc, length}
+use Rattle.std.proofs.Common.{get_or, inl, inr, refl, sym, ap, subst, ◌∙◌, arith}
 use Rattle.std.specs.Prelude.{nat_lt, unwrap_or, slice_get, slice_set, position, find, Result, Ok, Err, OnOk, MatchBool}
 use Rattle.std.specs.List.{position_or_len}
 use Rattle.std.proofs.lemmas.Bool.{ltb-true}
@@ -37,7 +38,8 @@ not_found p xs e =
     find_at p xs ∙ slice_get_past xs (position_or_len p xs) (omega arith)
 
 -- the disk of this name is changed at its place
-pub with_disk-set : (name : List ℕ) (change : Disk → Disk) (disks : List Disk) (i : ℕ) (d : Disk) → i ≡ position_or_len (is_named name) disks → i < length disks → with_disk disks name change ≡ slice_set disks i (change (get_or disks i d))
+pub with_disk-set : (name : List ℕ) (change : Disk → Disk) (disks : List Disk) (i : ℕ) (d : Disk) → i ≡ position_or_len (is_named name) disks
+    → i < length disks → with_disk disks name change ≡ slice_set disks i (change (get_or disks i d))
 with_disk-set name change [] i d e h = absurd (omega arith)
 with_disk-set name change (x ∷ xs) zero d e h = by (is_named name x) e
   where
@@ -46,12 +48,14 @@ with_disk-set name change (x ∷ xs) zero d e h = by (is_named name x) e
     by false e = absurd (omega arith)
 with_disk-set name change (x ∷ xs) (suc i) d e h = by (is_named name x) e (λ k. with_disk-set name change xs i d k (omega arith))
   where
-    by : (b : Bool) → suc i ≡ cond (not b) (1 + position_or_len (is_named name) xs) 0 → (i ≡ position_or_len (is_named name) xs → with_disk xs name change ≡ slice_set xs i (change (get_or xs i d)))
+    by : (b : Bool) → suc i ≡ cond (not b) (1 + position_or_len (is_named name) xs) 0
+        → (i ≡ position_or_len (is_named name) xs → with_disk xs name change ≡ slice_set xs i (change (get_or xs i d)))
         → cond b (change x ∷ xs) (x ∷ with_disk xs name change) ≡ x ∷ slice_set xs i (change (get_or xs i d))
     by true e later = absurd (omega arith)
     by false e later = ap (λ more. x ∷ more) (later (omega arith))
 
-pub changed_at : (name : List ℕ) (change : Disk → Disk) (disks : List Disk) (i : ℕ) (d : Disk) → Some i ≡ position (is_named name) disks → with_disk disks name change ≡ slice_set disks i (change (get_or disks i d))
+pub changed_at : (name : List ℕ) (change : Disk → Disk) (disks : List Disk) (i : ℕ) (d : Disk) → Some i ≡ position (is_named name) disks
+    → with_disk disks name change ≡ slice_set disks i (change (get_or disks i d))
 changed_at name change disks i d e =
     let at = placed (nat_lt (position_or_len (is_named name) disks) (length disks)) (position_or_len (is_named name) disks) i e in
     with_disk-set name change disks i d at.1 (found_within (is_named name) disks i e)

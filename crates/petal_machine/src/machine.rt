@@ -1,11 +1,13 @@
 //! The plain slow program.
 
-ghost use Rattle.std.specs.Prelude.{◌≡◌, ◌≢◌, ℕ, List, [], ◌∷◌, ◌++◌, map, find, position, Some, None, true, false, OnOk, OnErr, IfOk, IfSome, IfNone, MatchBool};
+ghost use Rattle.std.specs.Prelude.{◌≡◌, ◌≢◌, ℕ, List, [], ◌∷◌, ◌++◌, map, find, position, Some, None, true, false, OnOk};
+ghost use Rattle.std.specs.Prelude.{OnErr, IfOk, IfSome, IfNone, MatchBool};
 ghost use Rattle.std.specs.Option.{option_copied};
 ghost use Rattle.std.specs.Ordering.{nat_cmp};
 ghost use Rattle.petal_base.specs.Block.{zero_block};
 ghost use Rattle.petal_table.specs.Table.{put};
-ghost use Rattle.petal_machine.specs.Machine.{blank, blocks_of, but_of, content, disk_of, is_named, is_of, is_snap_named, open_of, plain, remembers, snap_of, stands, with_disk};
+ghost use Rattle.petal_machine.specs.Machine.{blank, blocks_of, but_of, content, disk_of, is_named, is_of, is_snap_named, open_of};
+ghost use Rattle.petal_machine.specs.Machine.{plain, remembers, snap_of, stands, with_disk};
 ghost use Rattle.petal_machine.specs.Run.{after, changed, remembered, frozen, written, HasDisk, IsOpen, May, MayEnd, MayFreeze, MayLook};
 
 use crate::{Disk, Event, Open, Snapshot, Write, WriteEnd};
@@ -81,7 +83,8 @@ fn change(
     zero: &SharedBlock,
 ) -> Result<(), EventError>
     requires { zero.now ≡ zero_block }
-    ensures ok { OnOk result (May (plain disks.old.items opened.old.items) event × (plain disks.new.items opened.new.items ≡ changed (plain disks.old.items opened.old.items) event)) }
+    ensures ok { OnOk result (May (plain disks.old.items opened.old.items) event
+        × (plain disks.new.items opened.new.items ≡ changed (plain disks.old.items opened.old.items) event)) }
     ensures not_allowed { result ≡ Err EventError.NotAllowed → May (plain disks.old.items opened.old.items) event → ⊥ }
     ensures err { OnErr result (plain disks.new.items opened.new.items ≡ plain disks.old.items opened.old.items) }
 {
@@ -187,7 +190,8 @@ fn remember(disks: &[Disk], opened: &mut [Open], zero: &SharedBlock)
 }
 
 fn make(alloc: Global, disks: &mut Vec<Disk>, name: Name) -> Result<(), EventError>
-    ensures ok { OnOk result ((disk_of disks.old.items name ≡ None) × (disks.new.items ≡ disks.old.items ++ record { name = name; now = []; snaps = [] } ∷ [])) }
+    ensures ok { OnOk result
+        ((disk_of disks.old.items name ≡ None) × (disks.new.items ≡ disks.old.items ++ record { name = name; now = []; snaps = [] } ∷ [])) }
     ensures not_allowed { result ≡ Err EventError.NotAllowed → disk_of disks.old.items name ≢ None }
     ensures err { OnErr result (disks.new.items ≡ disks.old.items) }
 {
@@ -239,7 +243,8 @@ fn freeze(disks: &mut [Disk], name: &Name, snap: Name) -> Result<(), EventError>
 }
 
 fn begin(opened: &mut Vec<Open>, write: Write) -> Result<(), EventError>
-    ensures ok { OnOk result ((open_of opened.old.items write.client ≡ None) × (opened.new.items ≡ opened.old.items ++ record { write = write; held = false } ∷ [])) }
+    ensures ok { OnOk result
+        ((open_of opened.old.items write.client ≡ None) × (opened.new.items ≡ opened.old.items ++ record { write = write; held = false } ∷ [])) }
     ensures not_allowed { result ≡ Err EventError.NotAllowed → open_of opened.old.items write.client ≢ None }
     ensures err { OnErr result (opened.new.items ≡ opened.old.items) }
 {

@@ -1,5 +1,6 @@
 -- What a list of records stands for after a commit: which records it has, and what is kept for each place.
-use Rattle.std.proofs.Common.{◌≡◌, ◌≢◌, ◌⊎◌, inl, inr, ℕ, Bool, true, false, if◌then◌else◌, ◌==◌, ◌&&◌, List, [], ◌∷◌, ◌++◌, fold, Option, Some, None, is_some, unwrap_or, refl, sym, ap, subst, ◌∙◌, arith}
+use Rattle.std.proofs.Common.{◌≡◌, ◌≢◌, ◌⊎◌, inl, inr, ℕ, Bool, true, false, if◌then◌else◌, ◌==◌, ◌&&◌, List, [], ◌∷◌, ◌++◌, fold, Option}
+use Rattle.std.proofs.Common.{Some, None, is_some, unwrap_or, refl, sym, ap, subst, ◌∙◌, arith}
 use Rattle.std.proofs.lemmas.Bool.Decides.{nat_tests}
 use Rattle.petal_command.specs.declared.ballot.Ballot.{Ballot}
 use Rattle.petal_command.specs.declared.command.Command.{Command}
@@ -11,7 +12,8 @@ use Rattle.petal_paxos.specs.Acceptor.{Acceptor, is_open, promise, accept}
 use Rattle.petal_paxos.specs.declared.record.StateRecord.{StateRecord}
 use Rattle.petal_paxos.specs.declared.record.StateRecord.TheVariants.{Inc, Promise, Accepted, Chosen}
 use Rattle.petal_paxos.specs.declared.record.Row.{Row}
-use Rattle.petal_paxos.specs.Kept.{row_after, inc_after, row_of, inc_of, acceptor_of, known_at, empty_row, promise_row, accept_row, choose_row, AddsNothing, Commits, same_promise, same_acceptance, same_accepted, same_chosen, same_row, adds_nothing, committed}
+use Rattle.petal_paxos.specs.Kept.{row_after, inc_after, row_of, inc_of, acceptor_of, known_at, empty_row, promise_row, accept_row, choose_row, AddsNothing}
+use Rattle.petal_paxos.specs.Kept.{Commits, same_promise, same_acceptance, same_accepted, same_chosen, same_row, adds_nothing, committed}
 
 -- ### Equal rows
 

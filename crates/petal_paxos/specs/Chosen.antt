@@ -1,5 +1,6 @@
 -- Which commands are chosen, as the records on all state devices tell it. A record that accepts is a vote, and stays.
-use Rattle.std.specs.Prelude.{ℕ, zero, suc, ◌+◌, ◌/◌, ◌≡◌, ◌==◌, max, Bool, true, if◌then◌else◌, nat_le, List, [], ◌∷◌, map, find, fold, Option, Some, None, option_map}
+use Rattle.std.specs.Prelude.{ℕ, zero, suc, ◌+◌, ◌/◌, ◌≡◌, ◌==◌, max, Bool, true, if◌then◌else◌, nat_le, List, [], ◌∷◌, map}
+use Rattle.std.specs.Prelude.{find, fold, Option, Some, None, option_map}
 use Rattle.std.specs.List.{flat_map, filter_map, list_any, range_with_len}
 use Rattle.petal_command.specs.declared.ballot.Ballot.{Ballot}
 use Rattle.petal_command.specs.declared.command.Command.{Command}

@@ -19,6 +19,8 @@ pub fn commit_is_told()
 pub fn commit_keeps()
     ensures records { (r : StateRecord) (records : List StateRecord) (entry : StateRecord) → In r records → In r (committed records entry) }
     ensures votes { (records : List StateRecord) (place : ℕ) (b : Ballot) (c : Command) → In (Accepted place b c) (committed records (Accepted place b c)) }
-    ensures known { (records : List StateRecord) (entry : StateRecord) (q : ℕ) → is_some (known_at records q) ≡ true → is_some (known_at (committed records entry) q) ≡ true }
-    ensures from { (records : List StateRecord) (entry : StateRecord) (q : ℕ) (c : Command) → known_at (committed records entry) q ≡ Some c → (known_at records q ≡ Some c) ⊎ (entry ≡ Chosen q c) }
+    ensures known { (records : List StateRecord) (entry : StateRecord) (q : ℕ) → is_some (known_at records q) ≡ true
+        → is_some (known_at (committed records entry) q) ≡ true }
+    ensures from { (records : List StateRecord) (entry : StateRecord) (q : ℕ) (c : Command) → known_at (committed records entry) q ≡ Some c
+        → (known_at records q ≡ Some c) ⊎ (entry ≡ Chosen q c) }
 {}

@@ -1,5 +1,6 @@
 -- What applying entries keeps of a state: how many servers there are, and that the revision counts them.
-use Rattle.std.proofs.Common.{◌≡◌, ℕ, ◌+◌, ◌++◌, ◌==◌, zero, suc, Bool, true, false, cond, if◌then◌else◌, List, [], ◌∷◌, length, fold, Option, Some, None, Result, Ok, Err, refl, sym, ◌∙◌, ap, arith, not}
+use Rattle.std.proofs.Common.{◌≡◌, ℕ, ◌+◌, ◌++◌, ◌==◌, zero, suc, Bool, true, false, cond, if◌then◌else◌, List, [], ◌∷◌, length, fold, Option}
+use Rattle.std.proofs.Common.{Some, None, Result, Ok, Err, refl, sym, ◌∙◌, ap, arith, not}
 use Rattle.std.proofs.lemmas.List.{length-set}
 use Rattle.std.proofs.lemmas.List.Sums.{fold-append}
 use Rattle.std.specs.Option.{option_map_or}
@@ -16,7 +17,8 @@ use Rattle.petal_command.specs.declared.command.Command.{Command}
 use Rattle.petal_command.specs.declared.command.Command.TheVariants.{Join, Leave, Caught, MakeDisk, Snap, StartMove, Drained, Moved, Witness}
 use Rattle.petal_state.specs.State.{State, start, latest, told, links_of}
 use Rattle.petal_state.specs.Fence.{confirmed, effect, let_through}
-use Rattle.petal_state.specs.Command.{act, after, state_after, is_new, snap_target, snapped, move_target, move_begun, note, moved_by, mover_in, after_region, with_disk, with_fence, move_of}
+use Rattle.petal_state.specs.Command.{act, after, state_after, is_new, snap_target, snapped, move_target, move_begun, note, moved_by}
+use Rattle.petal_state.specs.Command.{mover_in, after_region, with_disk, with_fence, move_of}
 use Rattle.petal_rules.specs.State.{servers_of}
 
 -- whichever of two states it is

@@ -1,6 +1,7 @@
 -- Ballots at a server: what it wants chosen, the ballots that it starts, and those that it takes part in ("Paxos Made
 -- Simple", 2001).
-use Rattle.std.specs.Prelude.{ℕ, ◌+◌, ◌-◌, ◌%◌, ◌==◌, ◌&&◌, ◌||◌, not, max, Bool, false, nat_lt, List, [], ◌∷◌, ◌++◌, map, filter, fold, if◌then◌else◌, Option, Some, None}
+use Rattle.std.specs.Prelude.{ℕ, ◌+◌, ◌-◌, ◌%◌, ◌==◌, ◌&&◌, ◌||◌, not, max, Bool, false, nat_lt, List, [], ◌∷◌, ◌++◌, map}
+use Rattle.std.specs.Prelude.{filter, fold, if◌then◌else◌, Option, Some, None}
 use Rattle.std.specs.List.{range_with_len}
 use Rattle.petal_command.specs.Same.{has_command, same_command}
 use Rattle.petal_command.specs.declared.ballot.Ballot.{Ballot}

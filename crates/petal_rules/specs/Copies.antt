@@ -1,7 +1,8 @@
 -- Copies: how the server that holds a link alone brings the other one up to date, which is In again. It asks for the pages of the
 -- other's marks and makes them its own; it copies each block that is marked, and all blocks where the other came back with
 -- nothing; and when nothing is left it wants the link's Caught ("Petal: Distributed Virtual Disks", 1996, 3.2).
-use Rattle.std.specs.Prelude.{ℕ, ◌+◌, ◌==◌, ◌&&◌, ◌||◌, not, Bool, true, false, nat_eq, nat_lt, List, [], ◌∷◌, ◌++◌, length, map, filter, slice_get, if◌then◌else◌, Option, Some, None, is_some, option_and_then}
+use Rattle.std.specs.Prelude.{ℕ, ◌+◌, ◌==◌, ◌&&◌, ◌||◌, not, Bool, true, false, nat_eq, nat_lt, List, [], ◌∷◌, ◌++◌, length, map, filter}
+use Rattle.std.specs.Prelude.{slice_get, if◌then◌else◌, Option, Some, None, is_some, option_and_then}
 use Rattle.std.specs.List.{flat_map, list_any}
 use Rattle.std.specs.Option.{option_map_or}
 use Rattle.busy_marks.specs.Marks.{above, lesser}
@@ -27,7 +28,8 @@ use Rattle.petal_state.specs.CellState.{cell_link}
 use Rattle.petal_rules.specs.Progress.{progress_on, with_progress, copying_on, with_copying, without_copying, last_copy, with_last_copy, with_full}
 use Rattle.petal_rules.specs.Server.{Own, Here, Done, Post, post_to, silent, says_to}
 use Rattle.petal_rules.specs.State.{State, id_of, link_named, is_on, live, other_in, holder_of, is_whole}
-use Rattle.petal_rules.specs.Store.{Store, Stored, chain_in, free_of, with_ticket, with_entry, without_entry, epochs_of, mark_left, with_mark_on, without_mark_on}
+use Rattle.petal_rules.specs.Store.{Store, Stored, chain_in, free_of, with_ticket, with_entry, without_entry, epochs_of}
+use Rattle.petal_rules.specs.Store.{mark_left, with_mark_on, without_mark_on}
 use Rattle.petal_rules.specs.Writes.{is_under_way}
 use Rattle.petal_rules.specs.declared.job.Job.{Job}
 use Rattle.petal_rules.specs.declared.job.Job.TheVariants as job

@@ -2,7 +2,8 @@
 -- link of the old map goes through its blocks of the region, and of each block through its epochs from the greatest down; the new lead puts
 -- an entry as it puts a write, where its chain has nothing of that epoch. So of what the new map has of a block, nothing that is older
 -- comes before something newer.
-use Rattle.std.specs.Prelude.{ℕ, ◌==◌, ◌&&◌, ◌||◌, not, Bool, true, false, nat_lt, List, [], ◌∷◌, map, filter, if◌then◌else◌, Option, Some, None, is_some, option_and_then}
+use Rattle.std.specs.Prelude.{ℕ, ◌==◌, ◌&&◌, ◌||◌, not, Bool, true, false, nat_lt, List, [], ◌∷◌, map, filter, if◌then◌else◌}
+use Rattle.std.specs.Prelude.{Option, Some, None, is_some, option_and_then}
 use Rattle.std.specs.List.{flat_map}
 use Rattle.std.specs.Ordering.{nat_cmp}
 use Rattle.global_tables.specs.Region.{region_of}

@@ -1,5 +1,6 @@
 -- What a server does: with the first job of its queue, with a letter that is delivered, and at a tick.
-use Rattle.std.specs.Prelude.{ℕ, ◌==◌, ◌||◌, not, nat_lt, length, map, filter, Bool, true, false, List, [], ◌∷◌, ◌++◌, if◌then◌else◌, Option, Some, None, is_some}
+use Rattle.std.specs.Prelude.{ℕ, ◌==◌, ◌||◌, not, nat_lt, length, map, filter, Bool, true, false, List, [], ◌∷◌, ◌++◌}
+use Rattle.std.specs.Prelude.{if◌then◌else◌, Option, Some, None, is_some}
 use Rattle.std.specs.List.{flat_map, range_with_len}
 pub use Rattle.petal_msg.specs.Kinds.{asked_by}
 use Rattle.petal_msg.specs.Kinds.{is_logged, subject_of}
@@ -20,7 +21,8 @@ use Rattle.petal_rules.specs.State.{State, is_in, servers_of}
 use Rattle.petal_rules.specs.Server.{Server, Own, Here, Post, Sender, Done, silent, says, sender, stopped, letters_of}
 use Rattle.petal_rules.specs.Writes.{next_stage, acts, goes_on, pending_on, on_write, on_reserve, on_reserved, on_pair_full, on_replicate, on_replicated}
 use Rattle.petal_rules.specs.Reads.{on_read}
-use Rattle.petal_rules.specs.Copies.{copies_on, mends, trims_on, on_hello_ask, on_hello, on_trim, on_trimmed, on_sync, on_synced, on_sync_full, copy_posts, page_posts, mend_jobs}
+use Rattle.petal_rules.specs.Copies.{copies_on, mends, trims_on, on_hello_ask, on_hello, on_trim, on_trimmed, on_sync, on_synced}
+use Rattle.petal_rules.specs.Copies.{on_sync_full, copy_posts, page_posts, mend_jobs}
 use Rattle.petal_rules.specs.Crossing.{crossed_by, jobs_by}
 use Rattle.petal_rules.specs.Progress.{copying_on}
 use Rattle.petal_rules.specs.Returns.{returning, proposed}

@@ -25,7 +25,8 @@ read-rest limit n left rest old new is takes = rw (takes.rest_is, is) (drop_min 
 -- the front of a vector into which a slice of its length was written back
 pub vec-front : (m n : ℕ) (xs ys : List ℕ) → n ≤ length xs → length xs ≡ m → take n (take m (xs ++ drop (length xs) ys)) ≡ take n xs
 vec-front m n xs ys le is =
-    let whole : take m (xs ++ drop (length xs) ys) ≡ xs = subst (λ (k : ℕ). take k (xs ++ drop (length xs) ys) ≡ xs) is (take-append_seam xs (drop (length xs) ys)) in
+    let whole : take m (xs ++ drop (length xs) ys) ≡ xs =
+    subst (λ (k : ℕ). take k (xs ++ drop (length xs) ys) ≡ xs) is (take-append_seam xs (drop (length xs) ys)) in
     rw whole
 
 -- where fewer bytes came than were asked for, none is left

@@ -1,5 +1,6 @@
 -- In every script that is read, lines rise, and phases rise with the numbers of lines.
-use Rattle.std.proofs.Common.{◌≡◌, ℕ, ◌+◌, ◌-◌, ◌≤◌, ◌<◌, Bool, true, false, not, ◌&&◌, ◌==◌, List, [], ◌∷◌, ◌++◌, length, refl, sym, ap, subst, cond, codes, arith, Some, None, is_some, Result, Ok, Err, ◌⊎◌, inl, inr}
+use Rattle.std.proofs.Common.{◌≡◌, ℕ, ◌+◌, ◌-◌, ◌≤◌, ◌<◌, Bool, true, false, not, ◌&&◌, ◌==◌, List, [], ◌∷◌, ◌++◌, length, refl, sym, ap, subst}
+use Rattle.std.proofs.Common.{cond, codes, arith, Some, None, is_some, Result, Ok, Err, ◌⊎◌, inl, inr}
 use Rattle.script_words.specs.Text.{pieces, without_end, words_of}
 use Rattle.script_words.specs.Words.{Word, ◌>>=◌, is_word, two_words, three_words}
 use Rattle.script_words.specs.Fields.{in_limits}
@@ -27,10 +28,12 @@ unfolding In
 none_read n = record { begun = omega arith; below = λ line h. absurd h; within = λ line h. absurd h; rise = λ one other h. absurd h; rising = tt }
 
 later : (phases : ℕ) (lines : List Line) (n : ℕ) → Read phases lines n → Read phases lines (n + 1)
-later phases lines n r = record { begun = r.begun; below = (λ line h. let f = r.below line h in omega arith); within = r.within; rise = r.rise; rising = r.rising }
+later phases lines n r =
+    record { begun = r.begun; below = (λ line h. let f = r.below line h in omega arith); within = r.within; rise = r.rise; rising = r.rising }
 
 waited : (phases : ℕ) (lines : List Line) (n : ℕ) → Read phases lines n → Read (phases + 1) lines n
-waited phases lines n r = record { begun = omega arith; below = r.below; within = (λ line h. let f = r.within line h in omega arith); rise = r.rise; rising = r.rising }
+waited phases lines n r =
+    record { begun = omega arith; below = r.below; within = (λ line h. let f = r.within line h in omega arith); rise = r.rise; rising = r.rising }
 
 only : (line other : Line) → In line (other ∷ []) → line ≡ other
 unfolding In
@@ -50,7 +53,8 @@ rising_more (first ∷ lines) new rising below = (
 )
 
 -- one line more, of the next number and the last phase
-read_more : (phases : ℕ) (lines : List Line) (n : ℕ) (new : Line) → new.number ≡ n + 1 → new.phase ≡ phases - 1 → Read phases lines n → Read phases (lines ++ new ∷ []) (n + 1)
+read_more : (phases : ℕ) (lines : List Line) (n : ℕ) (new : Line) → new.number ≡ n + 1 → new.phase ≡ phases - 1 → Read phases lines n
+    → Read phases (lines ++ new ∷ []) (n + 1)
 read_more phases lines n new number phase r = record {
   begun = r.begun;
   below = λ line h. elim (in-append line lines (new ∷ []) h) [
@@ -68,7 +72,8 @@ read_more phases lines n new number phase r = record {
     ]
     | inr first ↦ elim (in-append other lines (new ∷ []) k) [
       | inl old ↦ (let f = r.below other old in let e : one.number ≡ new.number = ap (λ l. l.number) (only one new first) in absurd (omega arith))
-      | inr last ↦ (let e : one.phase ≡ new.phase = ap (λ l. l.phase) (only one new first) in let d : other.phase ≡ new.phase = ap (λ l. l.phase) (only other new last) in omega arith)
+      | inr last ↦ (let e : one.phase ≡ new.phase = ap (λ l. l.phase) (only one new first) in
+          let d : other.phase ≡ new.phase = ap (λ l. l.phase) (only other new last) in omega arith)
     ]
   ];
   rising = rising_more lines new r.rising (λ line h. let f = r.below line h in omega arith);
@@ -139,7 +144,8 @@ record Numbered (lines : List TextLine) : Type 0 where
   are : lines ≡ lines_behind number reach text
 
 -- what follows a line of a text are lines of it too
-behind_numbered : (front : List TextLine) (line : TextLine) (behind : List TextLine) (number reach : ℕ) (text : List (List ℕ)) → lines_behind number reach text ≡ front ++ line ∷ behind → Numbered behind
+behind_numbered : (front : List TextLine) (line : TextLine) (behind : List TextLine) (number reach : ℕ) (text : List (List ℕ))
+    → lines_behind number reach text ≡ front ++ line ∷ behind → Numbered behind
 unfolding lines_behind
 behind_numbered [] line behind number reach [] is = absurd (cc)
 behind_numbered [] line behind number reach (piece ∷ more) is =
@@ -154,7 +160,8 @@ record ReadUpTo (s : Script) : Type 0 where
   number : ℕ
   read : Read s.phases s.lines number
 
-follows_read : (text : List (List ℕ)) (number reach : ℕ) (s t : Script) → Read s.phases s.lines number → Follows s (lines_behind number reach text) t → ReadUpTo t
+follows_read : (text : List (List ℕ)) (number reach : ℕ) (s t : Script) → Read s.phases s.lines number
+    → Follows s (lines_behind number reach text) t → ReadUpTo t
 unfolding lines_behind
 follows_read [] number reach s t r same = record { number = number; read = rw same r }
 follows_read (piece ∷ more) number reach s t r goes =

@@ -6,8 +6,7 @@ use Rattle.petal_history.specs.declared.record.Record.{Record}
 use Rattle.petal_history.specs.Claims.{Keeps}
 use Rattle.petal_history.specs.Legal.{IsLegal}
 use Rattle.petal_history.specs.Text.{answers_of, text_of}
-use Rattle.petal_history.specs.Order.{IsFront, all_answered}
-use Rattle.plain_schedule.specs.Phases.{AnswersPhases}
+use Rattle.petal_history.specs.Order.{AnswersPhases, IsFront, all_answered}
 use Rattle.petal_run.specs.Asked.{Asked, Refuse, Play}
 
 -- a whole run of a script: each record is a real step of its servers and clients, each line is answered, and what the plain

@@ -111,9 +111,12 @@ fn play_and_tell<R: Wait, W: Sink>(
     ensures known { IfSome result (λ status. (status ≡ 0) ⊎ (status ≡ 3) ⊎ (status ≡ 5)) }
     ensures since { (result ≡ Some 3 → ⊥) → playing.new.since ≡ [] }
     ensures whole { result ≡ Some 0 → all_answered (answers_of playing.new.ended) playing.new.script.lines ≡ true }
-    ensures goes_on { W.told → (base : List ℕ) → result ≡ None → Wrote base playing.old.ended (W.taken sink.old) → Wrote base playing.new.ended (W.taken sink.new) }
-    ensures all { W.told → (base : List ℕ) → result ≡ Some 0 → Wrote base playing.old.ended (W.taken sink.old) → Wrote base playing.new.ended (W.taken sink.new) }
-    ensures phases { W.told → (base : List ℕ) → result ≡ Some 3 → Wrote base playing.old.ended (W.taken sink.old) → WrotePhases playing.new.script (records_of playing.new) base (W.taken sink.new) }
+    ensures goes_on { W.told → (base : List ℕ) → result ≡ None → Wrote base playing.old.ended (W.taken sink.old)
+        → Wrote base playing.new.ended (W.taken sink.new) }
+    ensures all { W.told → (base : List ℕ) → result ≡ Some 0 → Wrote base playing.old.ended (W.taken sink.old)
+        → Wrote base playing.new.ended (W.taken sink.new) }
+    ensures phases { W.told → (base : List ℕ) → result ≡ Some 3 → Wrote base playing.old.ended (W.taken sink.old)
+        → WrotePhases playing.new.script (records_of playing.new) base (W.taken sink.new) }
     ensures last { W.told → (base : List ℕ) → result ≡ Some 5 → Wrote base playing.old.ended (W.taken sink.old)
         → WroteInPhase playing.new.script (records_of playing.new) base (W.taken sink.new) }
     ensures failed { result ≡ Some 5 → W.faults sink.old < W.faults sink.new }
@@ -165,7 +168,8 @@ fn play<R: Wait, W: Sink>(rt: &R, alloc: Global, script: Script, sink: &mut W) -
     requires rising { AreRising script.lines }
     ensures known { (result.status ≡ 0) ⊎ (result.status ≡ 3) ⊎ (result.status ≡ 5) }
     ensures done { W.told → result.status ≡ 0 → Done (Play script) result.status result.history.records [] (W.taken sink.old) (W.taken sink.new) }
-    ensures in_part { W.told → (result.status ≡ 3) ⊎ (result.status ≡ 5) → DoneInPart (Play script) result.history.records (W.taken sink.old) (W.taken sink.new) }
+    ensures in_part { W.told → (result.status ≡ 3) ⊎ (result.status ≡ 5)
+        → DoneInPart (Play script) result.history.records (W.taken sink.old) (W.taken sink.new) }
     ensures whole_phase { result.status ≡ 5 → EndsWithPhase (Play script) result.history.records }
     ensures by_phases { W.told → result.status ≡ 3 → WrotePhases script result.history.records (W.taken sink.old) (W.taken sink.new) }
     ensures last_phase { W.told → result.status ≡ 5 → WroteInPhase script result.history.records (W.taken sink.old) (W.taken sink.new) }

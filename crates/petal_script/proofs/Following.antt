@@ -12,17 +12,25 @@ left n total rest = lines_behind n (total - length rest) (pieces rest)
 abbrev pub line_there : ℕ → ℕ → List ℕ → List ℕ → TextLine
 line_there n total piece after = record { number = n + 1; text = without_end piece; reach = total - length after }
 
-pub next_line : (n total : ℕ) (rest piece after : List ℕ) (draft : Option Script) → pieces rest ≡ piece ∷ pieces after → length piece + length after ≡ length rest → length rest ≤ total → script_from (left n total rest) draft ≡ goes_on (script_from (left (n + 1) total after)) (n + 1) (line_verdict draft (line_there n total piece after))
+pub next_line : (n total : ℕ) (rest piece after : List ℕ) (draft : Option Script) → pieces rest ≡ piece ∷ pieces after
+    → length piece + length after ≡ length rest → length rest ≤ total
+    → script_from (left n total rest) draft ≡ goes_on (script_from (left (n + 1) total after)) (n + 1) (line_verdict draft (line_there n total piece after))
 unfolding lines_behind script_from
 next_line n total rest piece after draft is parts room =
     let reach : total - length rest + length piece ≡ total - length after = omega arith in
     rw (is, reach) refl
 
-pub taken : (n total : ℕ) (rest piece after : List ℕ) (draft later : Option Script) → pieces rest ≡ piece ∷ pieces after → length piece + length after ≡ length rest → length rest ≤ total → line_verdict draft (line_there n total piece after) ≡ Ok later → script_from (left n total rest) draft ≡ script_from (left (n + 1) total after) later
-taken n total rest piece after draft later is parts room verdict = next_line n total rest piece after draft is parts room ∙ ap (goes_on (script_from (left (n + 1) total after)) (n + 1)) verdict
+pub taken : (n total : ℕ) (rest piece after : List ℕ) (draft later : Option Script) → pieces rest ≡ piece ∷ pieces after
+    → length piece + length after ≡ length rest → length rest ≤ total → line_verdict draft (line_there n total piece after) ≡ Ok later
+    → script_from (left n total rest) draft ≡ script_from (left (n + 1) total after) later
+taken n total rest piece after draft later is parts room verdict = next_line n total rest piece after draft is parts room
+    ∙ ap (goes_on (script_from (left (n + 1) total after)) (n + 1)) verdict
 
-pub refused : (n total : ℕ) (rest piece after : List ℕ) (draft : Option Script) (cause : Cause) → pieces rest ≡ piece ∷ pieces after → length piece + length after ≡ length rest → length rest ≤ total → line_verdict draft (line_there n total piece after) ≡ Err cause → script_from (left n total rest) draft ≡ Err (record { line = n + 1; cause = cause })
-refused n total rest piece after draft cause is parts room verdict = next_line n total rest piece after draft is parts room ∙ ap (goes_on (script_from (left (n + 1) total after)) (n + 1)) verdict
+pub refused : (n total : ℕ) (rest piece after : List ℕ) (draft : Option Script) (cause : Cause) → pieces rest ≡ piece ∷ pieces after
+    → length piece + length after ≡ length rest → length rest ≤ total → line_verdict draft (line_there n total piece after) ≡ Err cause
+    → script_from (left n total rest) draft ≡ Err (record { line = n + 1; cause = cause })
+refused n total rest piece after draft cause is parts room verdict = next_line n total rest piece after draft is parts room
+    ∙ ap (goes_on (script_from (left (n + 1) total after)) (n + 1)) verdict
 
 pub at_end : (n total : ℕ) (rest : List ℕ) (draft : Option Script) → length rest ≡ 0 → script_from (left n total rest) draft ≡ ended draft
 unfolding lines_behind script_from
@@ -38,4 +46,5 @@ pub record IsReading (bytes rest : List ℕ) (number : ℕ) (draft : Option Scri
 
 pub begins : (bytes : List ℕ) → IsReading bytes bytes 0 None
 unfolding script_of
-begins bytes = record { same = (let e : length bytes - length bytes ≡ 0 = omega arith in rw e refl); room = omega arith; few = omega arith; reach = omega arith }
+begins bytes =
+    record { same = (let e : length bytes - length bytes ≡ 0 = omega arith in rw e refl); room = omega arith; few = omega arith; reach = omega arith }

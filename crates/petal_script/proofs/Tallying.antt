@@ -1,5 +1,6 @@
 -- The tally agrees with the lines.
-use Rattle.std.proofs.Common.{◌≡◌, ◌≢◌, ℕ, zero, suc, ◌+◌, ◌-◌, Ok, ◌<◌, ◌≤◌, ◌/◌, Bool, true, false, not, nat_lt, List, [], ◌∷◌, ◌++◌, length, get_or, take, set, ◌==◌, ◌||◌, ◌&&◌, inl, inr, refl, ap, sym, subst, ◌∙◌, arith, cond}
+use Rattle.std.proofs.Common.{◌≡◌, ◌≢◌, ℕ, zero, suc, ◌+◌, ◌-◌, Ok, ◌<◌, ◌≤◌, ◌/◌, Bool, true, false, not, nat_lt, List, [], ◌∷◌, ◌++◌, length, get_or}
+use Rattle.std.proofs.Common.{take, set, ◌==◌, ◌||◌, ◌&&◌, inl, inr, refl, ap, sym, subst, ◌∙◌, arith, cond}
 use Rattle.std.proofs.lemmas.Grind.{common_steps}
 use Rattle.std.proofs.lemmas.Bool.{cases_eq, eq-eqb, ne_eqb}
 use Rattle.std.proofs.lemmas.List.{get_or-set_same, get_or-set_other}
@@ -15,7 +16,8 @@ use Rattle.script_lines.specs.declared.request.Line.{Line}
 use Rattle.script_lines.specs.declared.request.Request.{Request}
 use Rattle.script_lines.specs.declared.request.Request.TheVariants.{Stop, StopAt, Fault, Start, Blank}
 
-count_from : (g : ℕ → Bool) (n i a : ℕ) (ys : List Bool) → n ≤ length ys → ((k : ℕ) → k < n → not (get_or ys k false) ≡ g (i + k)) → fold (λ m x. m + cond (not x) 1 0) a (take n ys) ≡ fold (λ m x. m + cond (g x) 1 0) a (range_with_len i n)
+count_from : (g : ℕ → Bool) (n i a : ℕ) (ys : List Bool) → n ≤ length ys → ((k : ℕ) → k < n → not (get_or ys k false) ≡ g (i + k))
+    → fold (λ m x. m + cond (not x) 1 0) a (take n ys) ≡ fold (λ m x. m + cond (g x) 1 0) a (range_with_len i n)
 count_from g zero i a ys room same = refl
 count_from g (suc n) i a [] room same = absurd (omega arith)
 count_from g (suc n) i a (y ∷ ys) room same =
@@ -23,10 +25,12 @@ count_from g (suc n) i a (y ∷ ys) room same =
     count_from g n (i + 1) (a + cond (not y) 1 0) ys (omega arith) (λ k below. same (suc k) (omega arith) ∙ ap g (omega arith))
     ∙ ap (λ b. fold (λ m x. m + cond (g x) 1 0) (a + cond b 1 0) (range_with_len (i + 1) n)) first
 
-pub same_majority : (servers : ℕ) (lines : List Line) (t : Tally) → Tallies lines t → length t.down ≡ 8 → servers ≤ 8 → no_majority servers lines ≡ nat_lt (count_by not (take servers t.down)) (servers / 2 + 1)
+pub same_majority : (servers : ℕ) (lines : List Line) (t : Tally) → Tallies lines t → length t.down ≡ 8 → servers ≤ 8
+    → no_majority servers lines ≡ nat_lt (count_by not (take servers t.down)) (servers / 2 + 1)
 unfolding no_majority
 same_majority servers lines t tallies eight room =
-    ap (λ n. nat_lt n (servers / 2 + 1)) (sym (count_from (λ s. not (is_down lines s)) servers 0 0 t.down (omega arith) (λ k below. ap not (tallies.down k (omega arith)) ∙ ap (λ s. not (is_down lines s)) (sym (zero-add k)))))
+    ap (λ n. nat_lt n (servers / 2 + 1)) (sym (count_from (λ s. not (is_down lines s)) servers 0 0 t.down (omega arith)
+    (λ k below. ap not (tallies.down k (omega arith)) ∙ ap (λ s. not (is_down lines s)) (sym (zero-add k)))))
 
 -- what one request more does to the counts
 record More (old new : List Line) (r : Request) : Type 0 where
@@ -52,7 +56,8 @@ and_false false = refl
 
 at_set : (ds : List Bool) (server s : ℕ) (b : Bool) → length ds ≡ 8 → s < 8 → get_or (set ds server b) s false ≡ cond (server == s) b (get_or ds s false)
 at_set ds server s b eight below = elim (cases_eq s server) [
-  | inl same ↦ (let room : server < length ds = omega arith in let P : ℕ → Type 0 = λ k. get_or (set ds server b) k false ≡ cond (server == k) b (get_or ds k false) in subst P (sym same) (rw (eq-eqb server server refl) (get_or-set_same ds server b false room)))
+  | inl same ↦ (let room : server < length ds = omega arith in let P : ℕ → Type 0 = λ k. get_or (set ds server b) k false
+      ≡ cond (server == k) b (get_or ds k false) in subst P (sym same) (rw (eq-eqb server server refl) (get_or-set_same ds server b false room)))
   | inr other ↦ (let apart : server ≢ s = (λ e. other (sym e)) in rw (ne_eqb server s apart) (get_or-set_other ds server s b false other))
 ]
 
@@ -64,17 +69,20 @@ up_if : (b was : Bool) → cond b false was ≡ (was && not b)
 up_if true was = sym (and_false was)
 up_if false was = sym (and_true was)
 
-goes_down : (ds : List Bool) (server s : ℕ) (was now : Bool) → length ds ≡ 8 → s < 8 → get_or ds s false ≡ was → now ≡ (was || server == s) → get_or (set ds server true) s false ≡ now
+goes_down : (ds : List Bool) (server s : ℕ) (was now : Bool) → length ds ≡ 8 → s < 8 → get_or ds s false ≡ was → now ≡ (was || server == s)
+    → get_or (set ds server true) s false ≡ now
 goes_down ds server s was now eight below is e = at_set ds server s true eight below ∙ ap (cond (server == s) true) is ∙ down_if (server == s) was ∙ sym e
 
-comes_up : (ds : List Bool) (server s : ℕ) (was now : Bool) → length ds ≡ 8 → s < 8 → get_or ds s false ≡ was → now ≡ (was && not (server == s)) → get_or (set ds server false) s false ≡ now
+comes_up : (ds : List Bool) (server s : ℕ) (was now : Bool) → length ds ≡ 8 → s < 8 → get_or ds s false ≡ was → now ≡ (was && not (server == s))
+    → get_or (set ds server false) s false ≡ now
 comes_up ds server s was now eight below is e = at_set ds server s false eight below ∙ ap (cond (server == s) false) is ∙ up_if (server == s) was ∙ sym e
 
 counts_more : (is : Bool) (n old new : ℕ) → n ≡ old → new ≡ old + cond is 1 0 → one_more n is ≡ new
 counts_more true n old new told e = omega (arith, told, e)
 counts_more false n old new told e = omega (arith, told, e)
 
-marks_more : (r : Request) (ds : List Bool) (s : ℕ) (was now : Bool) → length ds ≡ 8 → s < 8 → get_or ds s false ≡ was → now ≡ down_after s was r → get_or (down_with ds r) s false ≡ now
+marks_more : (r : Request) (ds : List Bool) (s : ℕ) (was now : Bool) → length ds ≡ 8 → s < 8 → get_or ds s false ≡ was → now ≡ down_after s was r
+    → get_or (down_with ds r) s false ≡ now
 marks_more (Stop server) ds s was now eight below is e = goes_down ds server s was now eight below is e
 marks_more (StopAt server at) ds s was now eight below is e = goes_down ds server s was now eight below is e
 marks_more (Fault server which kind at) ds s was now eight below is e = goes_down ds server s was now eight below is e
@@ -99,12 +107,15 @@ is_more lines line = record {
   downs = λ s. fold-append (λ down l. down_after s down l.request) false lines (line ∷ []);
 }
 
-pub tallies_more : (lines : List Line) (line : Line) (t : Tally) → length t.down ≡ 8 → Tallies lines t → Tallies (lines ++ line ∷ []) (tally_with t line.request)
+pub tallies_more : (lines : List Line) (line : Line) (t : Tally) → length t.down ≡ 8 → Tallies lines t
+    → Tallies (lines ++ line ∷ []) (tally_with t line.request)
 tallies_more lines line t eight tallies = more lines (lines ++ line ∷ []) line.request t eight tallies (is_more lines line)
 
 abbrev pub line_at : Script → ℕ → ℕ → Request → Line
 line_at s number client request = record { number = number; phase = s.phases - 1; client = client; request = request }
 
-pub added : (s : Script) (number client : ℕ) (request : Request) → too_many (s.lines ++ line_at s number client request ∷ []) ≡ false → no_majority s.servers (s.lines ++ line_at s number client request ∷ []) ≡ false → adds s number client request ≡ Ok (record s { lines = s.lines ++ line_at s number client request ∷ [] })
+pub added : (s : Script) (number client : ℕ) (request : Request)
+    → too_many (s.lines ++ line_at s number client request ∷ []) ≡ false → no_majority s.servers (s.lines ++ line_at s number client request ∷ []) ≡ false
+    → adds s number client request ≡ Ok (record s { lines = s.lines ++ line_at s number client request ∷ [] })
 unfolding adds
 added s number client request few many = rw (few, many) refl

@@ -1,5 +1,6 @@
 -- The script that a text is, or the first of its lines that is refused.
-use Rattle.std.specs.Prelude.{ℕ, ◌+◌, ◌-◌, ◌/◌, Bool, true, false, not, ◌||◌, ◌&&◌, ◌==◌, nat_lt, nat_le, List, [], ◌∷◌, ◌++◌, length, slice_index, if◌then◌else◌, codes, Option, Some, None, is_some, Result, Ok, Err}
+use Rattle.std.specs.Prelude.{ℕ, ◌+◌, ◌-◌, ◌/◌, Bool, true, false, not, ◌||◌, ◌&&◌, ◌==◌, nat_lt, nat_le, List, [], ◌∷◌, ◌++◌, length, slice_index}
+use Rattle.std.specs.Prelude.{if◌then◌else◌, codes, Option, Some, None, is_some, Result, Ok, Err}
 use Rattle.std.specs.List.{list_all, count_by, fold, range_with_len}
 use Rattle.std.specs.Char.{is_ascii}
 use Rattle.script_lines.specs.Requests.{is_disk, is_snap, is_move, is_boot}
@@ -21,7 +22,8 @@ abbrev pub count : (Request → Bool) → List Line → ℕ
 count test lines = count_by (λ line. test line.request) lines
 
 unfoldable pub too_many : List Line → Bool
-too_many lines = nat_lt 1024 (length lines) || nat_lt 16 (count is_disk lines) || nat_lt 64 (count is_snap lines) || nat_lt 8 (count is_move lines) || nat_lt 64 (count is_boot lines)
+too_many lines = nat_lt 1024 (length lines) || nat_lt 16 (count is_disk lines) || nat_lt 64 (count is_snap lines) || nat_lt 8 (count is_move lines)
+    || nat_lt 64 (count is_boot lines)
 
 -- ### A majority
 

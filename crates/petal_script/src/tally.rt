@@ -1,6 +1,7 @@
 //! How many requests there are of each kind, and which servers are possibly down.
 
-ghost use Rattle.std.specs.Prelude.{◌≡◌, ◌+◌, ◌≤◌, ◌<◌, ◌-◌, ◌^◌, ◌++◌, [], ◌∷◌, ℕ, List, IsTrue, ◌/◌, slice_set, take, not, length, IsFalse, get_or, false, if◌then◌else◌};
+ghost use Rattle.std.specs.Prelude.{◌≡◌, ◌+◌, ◌≤◌, ◌<◌, ◌-◌, ◌^◌, ◌++◌, [], ◌∷◌, ℕ, List, IsTrue, ◌/◌, slice_set, take, not};
+ghost use Rattle.std.specs.Prelude.{length, IsFalse, get_or, false, if◌then◌else◌};
 ghost use Rattle.std.specs.List.{count_by};
 ghost use Rattle.script_lines.specs.Requests.{is_disk, is_snap, is_move, is_boot};
 ghost use Rattle.petal_script.specs.Script.{too_many, no_majority};

@@ -12,7 +12,8 @@ use Rattle.petal_state.specs.Fence.{confirmed, effect, let_through, settled}
 -- what is told leaves the queue alone
 view_of-confirmed : (s : State) (client seq : ℕ) (last : Option Latest) → (confirmed s client seq last).view ≡ s.view
 view_of-confirmed s client seq None = refl
-view_of-confirmed s client seq (Some last) = elim (last.seq == seq) as (λ b. (cond b (told s client seq Rattle.global_tables.specs.declared.disk.Verdict.TheVariants.Ok) s).view ≡ s.view) [ true ↦ refl | false ↦ refl ]
+view_of-confirmed s client seq (Some last) = elim (last.seq == seq)
+    as (λ b. (cond b (told s client seq Rattle.global_tables.specs.declared.disk.Verdict.TheVariants.Ok) s).view ≡ s.view) [ true ↦ refl | false ↦ refl ]
 
 -- an effect leaves the queue alone
 pub view-effect : (kind : FenceKind) (s : State) → (effect kind s).view ≡ s.view
@@ -28,7 +29,8 @@ pub length-behind : (servers : List ℕ) (queue : List Fence) (fence : Fence) �
 length-behind servers [] fence is = cc
 length-behind servers (first ∷ fences) fence is = ap suc (sym (length-awaiting servers fences))
 
-one_through : (n : ℕ) (s : State) (fence : Fence) → ready s.view.queue ≡ Some fence → let_through (suc n) s ≡ let_through n (effect fence.kind (record s { view = passed s.view }))
+one_through : (n : ℕ) (s : State) (fence : Fence) → ready s.view.queue ≡ Some fence
+    → let_through (suc n) s ≡ let_through n (effect fence.kind (record s { view = passed s.view }))
 one_through n s fence is = ap (λ o. option_map_or (λ (f : Fence). let_through n (effect f.kind (record s { view = passed s.view }))) o s) is
 
 none_through : (n : ℕ) (s : State) → ready s.view.queue ≡ None → let_through n s ≡ s

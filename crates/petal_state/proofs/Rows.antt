@@ -119,7 +119,8 @@ fences region = Drained 0 1 (region + 1) ∷ Drained 1 1 (region + 1) ∷ []
 abbrev passes : ℕ → List Command
 passes region = fences region ++ Moved 0 region 0 ∷ Moved 0 region 1 ∷ []
 
-pub second_move_refused : latest (state_after 2 (moving ++ StartMove 0 3 (codes "vol") (0 ∷ 1 ∷ []) ∷ [])) 0 ≡ Some (record { seq = 3; verdict = Verdict.Moving })
+pub second_move_refused : latest (state_after 2 (moving ++ StartMove 0 3 (codes "vol") (0 ∷ 1 ∷ []) ∷ [])) 0
+    ≡ Some (record { seq = 3; verdict = Verdict.Moving })
 second_move_refused = refl
 
 pub refused_without_a_map : length (state_after 2 (moving ++ StartMove 0 3 (codes "vol") (0 ∷ 1 ∷ []) ∷ [])).maps ≡ 2
@@ -130,7 +131,8 @@ pub old_region : (region_of moving 0 ≡ Old) × (leads moving 0 0 ≡ Some 0) �
 old_region = (refl, refl, refl)
 
 -- then under both, and the new map's lead alone takes writes
-pub fenced_region : (region_of (moving ++ fences 0) 0 ≡ Fenced) × (lives (moving ++ fences 0) 0 0 ≡ true) × (leads (moving ++ fences 0) 0 0 ≡ None) × (leads (moving ++ fences 0) 1 0 ≡ Some 1)
+pub fenced_region : (region_of (moving ++ fences 0) 0 ≡ Fenced) × (lives (moving ++ fences 0) 0 0 ≡ true) × (leads (moving ++ fences 0) 0 0 ≡ None)
+    × (leads (moving ++ fences 0) 1 0 ≡ Some 1)
 fenced_region = (refl, refl, refl, refl)
 
 -- one old link is not enough
@@ -154,5 +156,6 @@ pub no_fence_left : (state_after 5 (snapping ++ reports 1)).view.queue ≡ []
 no_fence_left = refl
 
 -- so does the sixth report
-pub sixth_report_alone : after (state_after 5 (snapping ++ reports 1)) (Drained 4 1 1) ≡ record (state_after 5 (snapping ++ reports 1)) { rev = (state_after 5 (snapping ++ reports 1)).rev + 1 }
+pub sixth_report_alone : after (state_after 5 (snapping ++ reports 1)) (Drained 4 1 1)
+    ≡ record (state_after 5 (snapping ++ reports 1)) { rev = (state_after 5 (snapping ++ reports 1)).rev + 1 }
 sixth_report_alone = idle_report (state_after 5 (snapping ++ reports 1)) 4 1 1 no_fence_left

@@ -1,5 +1,6 @@
 -- The global state, and its parts as commands name them.
-use Rattle.std.specs.Prelude.{ℕ, Bool, false, ◌==◌, List, [], Option, Some, None, length, map, find, replicate, slice_get, slice_set, unwrap_or, option_and_then}
+use Rattle.std.specs.Prelude.{ℕ, Bool, false, ◌==◌, List, [], Option, Some, None, length, map, find, replicate}
+use Rattle.std.specs.Prelude.{slice_get, slice_set, unwrap_or, option_and_then}
 use Rattle.std.specs.Option.{option_map_or}
 use Rattle.global_tables.specs.declared.map.MapRow.{MapRow}
 use Rattle.global_tables.specs.declared.link.LinkRow.{LinkRow}

@@ -17,7 +17,8 @@ insert_is_put : {K X : Type 0} (R : K → K → Ordering) (t : Table K X) (k : K
 insert_is_put R [] k x = refl
 insert_is_put R (e ∷ es) k x =
     let later = insert_is_put R es k x in
-    elim (R k e.0) as (λ o. match_ordering o ((k, x) ∷ e ∷ es) ((e.0, x) ∷ es) (e ∷ insert_entry R es k x) ≡ rows.by_order o ((k, x) ∷ e ∷ es) ((e.0, x) ∷ es) (e ∷ rows.put R k x es)) [
+    elim (R k e.0) as (λ o. match_ordering o ((k, x) ∷ e ∷ es) ((e.0, x) ∷ es) (e ∷ insert_entry R es k x)
+    ≡ rows.by_order o ((k, x) ∷ e ∷ es) ((e.0, x) ∷ es) (e ∷ rows.put R k x es)) [
       | Less ↦ refl
       | Equal ↦ refl
       | Greater ↦ ap (λ more. e ∷ more) later
@@ -32,7 +33,8 @@ turned true x y = refl
 turned false x y = refl
 
 -- what stands at a key after a put
-pub at-put : {K X : Type 0} {R : K → K → Ordering} → IsTotalOrder R → (t : Table K X) (k : K) (x : X) (q : K) → at R (put R t k x) q ≡ cond (eq_by_cmp R q k) (Some x) (at R t q)
+pub at-put : {K X : Type 0} {R : K → K → Ordering} → IsTotalOrder R → (t : Table K X) (k : K) (x : X) (q : K)
+    → at R (put R t k x) q ≡ cond (eq_by_cmp R q k) (Some x) (at R t q)
 unfolding at put
 at-put {R = R} o t k x q =
     ap (lookup (is_at (R q))) (insert_is_put R t k x) ∙ lookup_is_find R q (rows.put R k x t) ∙ rows.find-put R o q k x t
@@ -45,7 +47,8 @@ pub at_apart : {X : Type 0} (t : Table ℕ X) (k : ℕ) (x : X) (q : ℕ) → q 
 at_apart t k x q ne = let e = at-put nat_cmp_total t k x q in grind (arith, nat_tests, e)
 
 -- the rows above a key's own are not at that key
-none_above : {K X : Type 0} {R : K → K → Ordering} → IsTotalOrder R → (k e : K) → R k e ≡ Equal → (es : Table K X) → AllByRecursion (λ y. R e y ≡ Less) (keys_of es) → filter (λ row. not (is_at (R k) row.0)) es ≡ es
+none_above : {K X : Type 0} {R : K → K → Ordering} → IsTotalOrder R → (k e : K) → R k e ≡ Equal → (es : Table K X)
+    → AllByRecursion (λ y. R e y ≡ Less) (keys_of es) → filter (λ row. not (is_at (R k) row.0)) es ≡ es
 none_above o k e tie [] h = refl
 none_above {R = R} o k e tie (d ∷ es) h =
     let less : R k d.0 ≡ Less = o.congr k e d.0 tie ∙ h.0 in
@@ -58,12 +61,14 @@ tied Equal e = refl
 tied Greater e = cc
 
 -- to remove a row of a table is to leave out what is at its key
-pub remove_is_without : {K X : Type 0} {R : K → K → Ordering} → IsTotalOrder R → (t : Table K X) (k : K) → IsStrictlySortedBy R (keys_of t) → remove_entry (is_at (R k)) t ≡ without R t k
+pub remove_is_without : {K X : Type 0} {R : K → K → Ordering} → IsTotalOrder R → (t : Table K X) (k : K) → IsStrictlySortedBy R (keys_of t)
+    → remove_entry (is_at (R k)) t ≡ without R t k
 unfolding without IsStrictlySortedBy
 remove_is_without o [] k h = refl
 remove_is_without {R = R} o (e ∷ es) k h =
     let rest = remove_is_without o es k h.1 in
-    elim (is_eq (R k e.0)) as (λ b. is_eq (R k e.0) ≡ b → cond b es (e ∷ remove_entry (is_at (R k)) es) ≡ cond (not b) (e ∷ filter (λ row. not (is_at (R k) row.0)) es) (filter (λ row. not (is_at (R k) row.0)) es)) [
+    elim (is_eq (R k e.0)) as (λ b. is_eq (R k e.0) ≡ b → cond b es (e ∷ remove_entry (is_at (R k)) es)
+    ≡ cond (not b) (e ∷ filter (λ row. not (is_at (R k) row.0)) es) (filter (λ row. not (is_at (R k) row.0)) es)) [
       | true ↦ λ is. sym (none_above o k e.0 (tied _ is) es h.0)
       | false ↦ λ is. ap (λ more. e ∷ more) rest
     ] refl
@@ -76,7 +81,8 @@ at-where R t test q same =
     lookup_is_find R q _ ∙ rows.find-where_key R test q same t ∙ ap (λ found. cond (test q) found None) (sym (lookup_is_find R q t))
 
 -- what stands at a key after a removal
-pub at-without : {K X : Type 0} {R : K → K → Ordering} → IsTotalOrder R → (t : Table K X) (k q : K) → at R (without R t k) q ≡ cond (eq_by_cmp R k q) None (at R t q)
+pub at-without : {K X : Type 0} {R : K → K → Ordering} → IsTotalOrder R → (t : Table K X) (k q : K)
+    → at R (without R t k) q ≡ cond (eq_by_cmp R k q) None (at R t q)
 unfolding at without
 at-without {R = R} o t k q =
     lookup_is_find R q _ ∙ rows.find-where_key R (λ x. not (is_eq (R k x))) q (λ x tie. ap (λ r. not (is_eq r)) (sym (alike_right o q x k tie))) t

@@ -54,7 +54,8 @@ module _ (setting : Setting) (w : World) (actors : Actors) (h : Shows setting w 
   serves_so : (n : ℕ) → MayStep setting w (actor.Server n) what → clock_of w (actor.Server n) < stamp
       → ServedAt actors n what stamp new told → Leaves setting w (actor.Server n) what stamp new told
   serves_so n may less told_so =
-      let at : slice_get actors.desks n ≡ Some (desk_of setting w n) = ap (λ desks. slice_get desks n) h.desks ∙ get_range (desk_of setting w) setting.servers n may.may.0 in
+      let at : slice_get actors.desks n ≡ Some (desk_of setting w n) = ap (λ desks. slice_get desks n) h.desks
+      ∙ get_range (desk_of setting w) setting.servers n may.may.0 in
       let own = told_so (desk_of setting w n) at in
       let gives = server_gives setting w actors h n what stamp may.may.1 in (
         subst (λ (k : Actors). Shows setting (step (actor.Server n) what setting w stamp).world k) (sym own.1)
@@ -69,13 +70,15 @@ module _ (setting : Setting) (w : World) (actors : Actors) (h : Shows setting w 
       let own = told_so (seat_of setting w c) at in
       let gives = client_gives setting w actors h c what stamp in
       let done = client_done what setting w c may.may.1 in (
-        subst (λ (k : Actors). Shows setting (step (actor.Client c) what setting w stamp).world k) (sym own.1) (client_shows setting w actors h c what stamp may.may.0 less),
+        subst (λ (k : Actors). Shows setting (step (actor.Client c) what setting w stamp).world k) (sym own.1)
+            (client_shows setting w actors h c what stamp may.may.0 less),
         own.0 ∙ (λ i. record { letters = sym gives.0 i; answer = sym gives.1 i; end = done i }),
       )
 
   pub serves : (who : Actor) (n : ℕ) → who ≡ actor.Server n → ServedAt actors n what stamp new told
       → MayStep setting w who what → clock_of w who < stamp → Leaves setting w who what stamp new told
-  serves who n is told_so = subst (λ (a : Actor). MayStep setting w a what → clock_of w a < stamp → Leaves setting w a what stamp new told) (sym is) (λ may less. serves_so n may less told_so)
+  serves who n is told_so = subst (λ (a : Actor). MayStep setting w a what → clock_of w a < stamp → Leaves setting w a what stamp new told) (sym is)
+      (λ may less. serves_so n may less told_so)
 
   -- a client has no job that could end otherwise
   reacts_at : (c : ℕ) (end : StepEnd) → ReactedSo actors c what stamp new told

@@ -25,7 +25,8 @@ same_some : {X : Type 0} (o : Option X) (x y : X) → o ≡ Some x → o ≡ Som
 same_some o x y a b = cc
 
 -- a client calls its next line where it is free and no line of an earlier phase waits
-pub call_exact : (setting : Setting) (w : World) (actors : Actors) (c line : ℕ) (seat : Seat) (next : Line) (b : Bool) → AreOrdered setting.lines → Shows setting w actors → seat ≡ seat_of setting w c
+pub call_exact : (setting : Setting) (w : World) (actors : Actors) (c line : ℕ) (seat : Seat) (next : Line) (b : Bool) → AreOrdered setting.lines
+    → Shows setting w actors → seat ≡ seat_of setting w c
     → slice_get seat.lines seat.core.client.seq ≡ Some next → seat.core.client.asked ≡ None → next.number ≡ line
     → (AreRising actors.waiting → IsTrue b ↔ AreBehind actors.waiting next.phase) → IsTrue b ↔ MayCall setting w c line
 call_exact setting w actors c line seat next b ordered h is at free number test =
@@ -42,7 +43,8 @@ call_exact setting w actors c line seat next b ordered h is at free number test 
       (λ may.
           let same : may.line ≡ next = same_some _ may.line next may.next own in
           let phases : may.line.phase ≡ next.phase = ap (λ (l : Line). l.phase) same in
-          behind.1 (behind_from_before setting.lines w.answers actors.waiting h.waiting next.phase (λ other m less. may.before other m (subst (λ p. other.phase < p) (sym phases) less)))),
+          behind.1 (behind_from_before setting.lines w.answers actors.waiting h.waiting next.phase
+          (λ other m less. may.before other m (subst (λ p. other.phase < p) (sym phases) less)))),
     )
 
 -- a test that fails where the step is hindered
@@ -52,18 +54,21 @@ hindered never_so = ((λ f. absurd (let k : ⊥ = cc in k)), (λ p. absurd (neve
 clash : (b : Bool) → b ≡ false → b ≡ true → ⊥
 clash b down up = cc
 
-pub no_client : (setting : Setting) (w : World) (actors : Actors) (c : ℕ) (what : Step) → Shows setting w actors → slice_get actors.seats c ≡ None → MayStep setting w (actor.Client c) what → ⊥
+pub no_client : (setting : Setting) (w : World) (actors : Actors) (c : ℕ) (what : Step) → Shows setting w actors → slice_get actors.seats c ≡ None
+    → MayStep setting w (actor.Client c) what → ⊥
 no_client setting w actors c what h none step =
     never _ _ (ap (λ seats. slice_get seats c) (sym h.seats) ∙ none) (get_range (seat_of setting w) 9 c step.may.0)
 
-pub no_server : (setting : Setting) (w : World) (actors : Actors) (n : ℕ) (what : Step) → Shows setting w actors → slice_get actors.desks n ≡ None → MayStep setting w (actor.Server n) what → ⊥
+pub no_server : (setting : Setting) (w : World) (actors : Actors) (n : ℕ) (what : Step) → Shows setting w actors → slice_get actors.desks n ≡ None
+    → MayStep setting w (actor.Server n) what → ⊥
 no_server setting w actors n what h none step =
     never _ _ (ap (λ desks. slice_get desks n) (sym h.desks) ∙ none) (get_range (desk_of setting w) setting.servers n step.may.0)
 
 pub late_letter : (setting : Setting) (w : World) (who : Actor) (what : Step) → greatest_u64 ≤ received what → MayStep setting w who what → ⊥
 late_letter setting w who what late step = let less = step.receives in omega arith
 
-module _ (setting : Setting) (w : World) (actors : Actors) (c : ℕ) (what : Step) (seat : Seat) (h : Shows setting w actors) (at : slice_get actors.seats c ≡ Some seat) where
+module _ (setting : Setting) (w : World) (actors : Actors) (c : ℕ) (what : Step) (seat : Seat) (h : Shows setting w actors)
+    (at : slice_get actors.seats c ≡ Some seat) where
   own : IsAt (seat_of setting w) 9 c seat
   own = at_range (seat_of setting w) 9 c seat (ap (λ seats. slice_get seats c) (sym h.seats) ∙ at)
 
@@ -71,7 +76,8 @@ module _ (setting : Setting) (w : World) (actors : Actors) (c : ℕ) (what : Ste
   seat_is = own.value
 
   -- a client may take a step exactly where it is not spent and nothing else hinders it
-  pub client_exact : (b : Bool) → seat.clock < greatest_u64 → received what < greatest_u64 → client.is_spent seat.core.client ≡ false → (IsTrue b ↔ MayClient what setting w c) → IsTrue b ↔ MayStep setting w (actor.Client c) what
+  pub client_exact : (b : Bool) → seat.clock < greatest_u64 → received what < greatest_u64 → client.is_spent seat.core.client ≡ false
+      → (IsTrue b ↔ MayClient what setting w c) → IsTrue b ↔ MayStep setting w (actor.Client c) what
   client_exact b clock receives goes_on may =
       let less : w.client_clocks c < greatest_u64 = subst (λ (s : Seat). s.clock < greatest_u64) own.value clock in
       let fresh = subst (λ (s : Seat). client.is_spent s.core.client ≡ false) own.value goes_on in
@@ -86,7 +92,8 @@ module _ (setting : Setting) (w : World) (actors : Actors) (c : ℕ) (what : Ste
       let same : w.client_clocks c ≡ seat.clock = ap (λ (s : Seat). s.clock) (sym own.value) in
       omega arith
 
-module _ (setting : Setting) (w : World) (actors : Actors) (n : ℕ) (what : Step) (desk : Desk) (h : Shows setting w actors) (at : slice_get actors.desks n ≡ Some desk) where
+module _ (setting : Setting) (w : World) (actors : Actors) (n : ℕ) (what : Step) (desk : Desk) (h : Shows setting w actors)
+    (at : slice_get actors.desks n ≡ Some desk) where
   held : IsAt (desk_of setting w) setting.servers n desk
   held = at_range (desk_of setting w) setting.servers n desk (ap (λ desks. slice_get desks n) (sym h.desks) ∙ at)
 
@@ -94,7 +101,8 @@ module _ (setting : Setting) (w : World) (actors : Actors) (n : ℕ) (what : Ste
   desk_is = held.value
 
   -- a server likewise
-  pub server_exact : (b : Bool) → desk.clock < greatest_u64 → received what < greatest_u64 → server.is_spent_server desk.site.server ≡ false → (IsTrue b ↔ MayServer what w n) → IsTrue b ↔ MayStep setting w (actor.Server n) what
+  pub server_exact : (b : Bool) → desk.clock < greatest_u64 → received what < greatest_u64 → server.is_spent_server desk.site.server ≡ false
+      → (IsTrue b ↔ MayServer what w n) → IsTrue b ↔ MayStep setting w (actor.Server n) what
   server_exact b clock receives goes_on may =
       let less : w.server_clocks n < greatest_u64 = subst (λ (d : Desk). d.clock < greatest_u64) held.value clock in
       let fresh = sym (left_spent (w.servers n)) ∙ subst (λ (d : Desk). server.is_spent_server d.site.server ≡ false) held.value goes_on in

@@ -35,7 +35,8 @@ can_take setting w c (Boot end) may = tt
 can_take setting w c (Arm which plan) may = tt
 can_take setting w c (Glance line round) may = tt
 
-pub can : (setting : Setting) (w : World) (actors : Actors) (who : Actor) (what : Step) → Shows setting w actors → MayStep setting w who what → Can actors who what
+pub can : (setting : Setting) (w : World) (actors : Actors) (who : Actor) (what : Step) → Shows setting w actors
+    → MayStep setting w who what → Can actors who what
 can setting w actors (actor.Server n) what h may =
     let long : length actors.desks ≡ setting.servers = ap length h.desks ∙ length-map-range_with_len (desk_of setting w) 0 setting.servers in
     let within = may.may.0 in
@@ -52,11 +53,13 @@ can setting w actors (actor.Client c) what h may =
 
 -- ### One record more
 
-pub legal_more : (setting : Setting) (records : List Record) (w : World) (own : Record) → IsLegalFrom setting w records → Follows setting (world_after setting w records) own → IsLegalFrom setting w (records ++ own ∷ [])
+pub legal_more : (setting : Setting) (records : List Record) (w : World) (own : Record) → IsLegalFrom setting w records
+    → Follows setting (world_after setting w records) own → IsLegalFrom setting w (records ++ own ∷ [])
 legal_more setting [] w own legal follows = (follows, tt)
 legal_more setting (first ∷ records) w own legal follows = (legal.0, legal_more setting records (stepped setting w first).world own legal.1 follows)
 
-pub after_more : (setting : Setting) (records : List Record) (w : World) (own : Record) → world_after setting w (records ++ own ∷ []) ≡ (stepped setting (world_after setting w records) own).world
+pub after_more : (setting : Setting) (records : List Record) (w : World) (own : Record)
+    → world_after setting w (records ++ own ∷ []) ≡ (stepped setting (world_after setting w records) own).world
 after_more setting [] w own = refl
 after_more setting (first ∷ records) w own = after_more setting records (stepped setting w first).world own
 
@@ -85,7 +88,8 @@ calls_in (Boot end) who setting w phase = tt
 calls_in (Arm which plan) who setting w phase = tt
 calls_in (Glance line round) who setting w phase = tt
 
-follows : (play : Play) (who : Actor) (what : Step) → MayStep (setting_of play.script) (world_of play) who what → Follows (setting_of play.script) (world_of play) (record_of play who what)
+follows : (play : Play) (who : Actor) (what : Step) → MayStep (setting_of play.script) (world_of play) who what
+    → Follows (setting_of play.script) (world_of play) (record_of play who what)
 follows play who what may = record {
   may = may;
   stamp = stamp_next play.floor (world_of play) who what;
@@ -94,8 +98,10 @@ follows play who what may = record {
   answer = refl;
 }
 
-module _ (play : Play) (actors new : Actors) (who : Actor) (what : Step) (stamp phase : ℕ) (told : Stepped) (h : IsKept play actors) (going : play.over ≡ false) (may : MayStep (setting_of play.script) (world_of play) who what)
-    (at : stamp ≡ stamp_of play.floor (world_of play) who what) (during : phase ≡ phase_for what who (setting_of play.script) (world_of play) play.phase) (left : LeavesIn actors who what stamp new told) where
+module _ (play : Play) (actors new : Actors) (who : Actor) (what : Step) (stamp phase : ℕ) (told : Stepped) (h : IsKept play actors)
+    (going : play.over ≡ false) (may : MayStep (setting_of play.script) (world_of play) who what)
+    (at : stamp ≡ stamp_of play.floor (world_of play) who what) (during : phase ≡ phase_for what who (setting_of play.script) (world_of play) play.phase)
+    (left : LeavesIn actors who what stamp new told) where
   leaves : LeavesIn actors who what (stamp_of play.floor (world_of play) who what) new told
   leaves = subst (λ s. LeavesIn actors who what s new told) at left
 
@@ -107,7 +113,9 @@ module _ (play : Play) (actors new : Actors) (who : Actor) (what : Step) (stamp 
   record_so = λ i. record { actor = who; stamp = at i; phase = during i; step = what; sent = (told_so i).letters; answer = (told_so i).answer }
 
   -- and the world with it is kept
-  pub kept_next : (records : List Record) → records ≡ play.records ++ record { actor = who; stamp = stamp; phase = phase; step = what; sent = told.letters; answer = told.answer } ∷ [] → IsKept (record play { records = records }) new
+  pub kept_next : (records : List Record)
+      → records ≡ play.records ++ record { actor = who; stamp = stamp; phase = phase; step = what; sent = told.letters; answer = told.answer } ∷ []
+      → IsKept (record play { records = records }) new
   kept_next records are =
       let same : records ≡ (played play who what).records = are ∙ ap (λ (own : Record). play.records ++ own ∷ []) record_so in
       let shown : Shows (setting_of play.script) (world_of (played play who what)) new =

@@ -26,12 +26,15 @@ use Rattle.world_desks.proofs.Ranges.{get_range, at_range}
 
 -- ### The start
 
-nothing_past : (script : Script) (letter : Letter) → In letter (start (setting_of script)).sent → letter.stamp ≤ clock_of (start (setting_of script)) letter.from
+nothing_past : (script : Script) (letter : Letter) → In letter (start (setting_of script)).sent
+    → letter.stamp ≤ clock_of (start (setting_of script)) letter.from
 unfolding In
 nothing_past script letter m = absurd m
 
-pub start_kept : {H : Type 0} (seen : H → Site) (hosts : List H) (script : Script) (actors : Actors) → AreOrdered script.lines → map seen hosts ≡ first_sites script
-    → actors.seats ≡ seats_of (setting_of script) (start (setting_of script)) → actors.desks ≡ map (λ host. first_desk (seen host)) hosts → actors.sent ≡ [] → Await script.lines [] actors.waiting → actors.control ≡ record { hand = None; glanced = None }
+pub start_kept : {H : Type 0} (seen : H → Site) (hosts : List H) (script : Script) (actors : Actors) → AreOrdered script.lines
+    → map seen hosts ≡ first_sites script
+    → actors.seats ≡ seats_of (setting_of script) (start (setting_of script)) → actors.desks ≡ map (λ host. first_desk (seen host)) hosts
+    → actors.sent ≡ [] → Await script.lines [] actors.waiting → actors.control ≡ record { hand = None; glanced = None }
     → IsKept (record { script = script; records = []; phase = 0; floor = 0; over = false }) actors
 start_kept seen hosts script actors ordered sites seats desks sent waiting control =
     let all : map (λ host. first_desk (seen host)) hosts ≡ desks_of (setting_of script) (start (setting_of script)) =
@@ -52,9 +55,11 @@ start_kept seen hosts script actors ordered sites seats desks sent waiting contr
 
 -- ### A phase that begins
 
-pub greatest_so : (setting : Setting) (w : World) (actors : Actors) → Shows setting w actors → fold max 0 (map (λ (seat : Seat). seat.clock) actors.seats) ≡ fold max 0 (map w.client_clocks (range_with_len 0 9))
+pub greatest_so : (setting : Setting) (w : World) (actors : Actors) → Shows setting w actors
+    → fold max 0 (map (λ (seat : Seat). seat.clock) actors.seats) ≡ fold max 0 (map w.client_clocks (range_with_len 0 9))
 greatest_so setting w actors h =
-    ap (λ clocks. fold max 0 clocks) (ap (λ (seats : List Seat). map (λ (seat : Seat). seat.clock) seats) h.seats ∙ map-map (λ (seat : Seat). seat.clock) (seat_of setting w) (range_with_len 0 9))
+    ap (λ clocks. fold max 0 clocks) (ap (λ (seats : List Seat). map (λ (seat : Seat). seat.clock) seats) h.seats
+    ∙ map-map (λ (seat : Seat). seat.clock) (seat_of setting w) (range_with_len 0 9))
 
 -- ### Revisions
 
@@ -68,7 +73,8 @@ never : {P : Type 0} {X : Type 0} (o : Option X) (x : X) → o ≡ None → o �
 never o x none some = absurd (let h : ⊥ = cc in h)
 
 module _ (setting : Setting) (w : World) (actors : Actors) (who : Actor) (h : Shows setting w actors) where
-  pub server_rev : (n : ℕ) (desk : Desk) → who ≡ actor.Server n → slice_get actors.desks n ≡ Some desk → (if desk.site.server.life.running then Some (rev_in desk.site.server.log) else None) ≡ rev_of setting w who
+  pub server_rev : (n : ℕ) (desk : Desk) → who ≡ actor.Server n → slice_get actors.desks n ≡ Some desk
+      → (if desk.site.server.life.running then Some (rev_in desk.site.server.log) else None) ≡ rev_of setting w who
   server_rev n desk is at =
       let own = at_range (desk_of setting w) setting.servers n desk (ap (λ desks. slice_get desks n) (sym h.desks) ∙ at) in
       ap (λ (d : Desk). if d.site.server.life.running then Some (rev_in d.site.server.log) else None) own.value ∙ left_rev (w.servers n)
@@ -78,10 +84,12 @@ module _ (setting : Setting) (w : World) (actors : Actors) (who : Actor) (h : Sh
   pub server_no_rev : (n : ℕ) → who ≡ actor.Server n → slice_get actors.desks n ≡ None → None ≡ rev_of setting w who
   server_no_rev n is none = elim (cases_lt n setting.servers) [
     | inl less ↦ never _ _ (ap (λ desks. slice_get desks n) (sym h.desks) ∙ none) (get_range (desk_of setting w) setting.servers n less)
-    | inr le ↦ ap (λ b. if b && (w.servers n).life.running then Some (rev_in (w.servers n).log) else None) (sym (above n setting.servers le)) ∙ ap (λ a. rev_of setting w a) (sym is)
+    | inr le ↦ ap (λ b. if b && (w.servers n).life.running then Some (rev_in (w.servers n).log) else None) (sym (above n setting.servers le))
+        ∙ ap (λ a. rev_of setting w a) (sym is)
   ]
 
-  pub client_rev : (c : ℕ) (seat : Seat) → who ≡ actor.Client c → slice_get actors.seats c ≡ Some seat → Some (length seat.core.client.applied) ≡ rev_of setting w who
+  pub client_rev : (c : ℕ) (seat : Seat) → who ≡ actor.Client c → slice_get actors.seats c ≡ Some seat
+      → Some (length seat.core.client.applied) ≡ rev_of setting w who
   client_rev c seat is at =
       let own = at_range (seat_of setting w) 9 c seat (ap (λ seats. slice_get seats c) (sym h.seats) ∙ at) in
       ap (λ (s : Seat). Some (length s.core.client.applied)) own.value

@@ -15,9 +15,11 @@ use Rattle.petal_rules.specs.Server.{Done, Here, Post, Sender, Server, letters_o
 use Rattle.petal_rules.specs.Ballots.{starts}
 use Rattle.petal_rules.specs.Boots.{awake, boots, raised, stays, wakes}
 use Rattle.petal_rules.specs.Entries.{applies}
-use Rattle.petal_rules.specs.Jobs.{Acted, does, down_posts, entered, faults, glance_sender, glances, here_of, operator, shown, is_log_job, is_overfull, job_done, log_does, stops, voter_of, wanted_by, worked, works}
+use Rattle.petal_rules.specs.Jobs.{Acted, does, down_posts, entered, faults, glance_sender, glances, here_of, operator, shown, is_log_job}
+use Rattle.petal_rules.specs.Jobs.{is_overfull, job_done, log_does, stops, voter_of, wanted_by, worked, works}
 use Rattle.petal_rules.specs.Clients.{Reaction, client_sender}
-use Rattle.petal_rules.specs.World.{Setting, World, Control, Stepped, MayServer, controls, step, stamped, clock_of, with_answer, client_step, server_step, next_line, lines_of, client_state, server_state}
+use Rattle.petal_rules.specs.World.{Setting, World, Control, Stepped, MayServer, controls, step, stamped, clock_of, with_answer, client_step}
+use Rattle.petal_rules.specs.World.{server_step, next_line, lines_of, client_state, server_state}
 use Rattle.petal_rules.specs.declared.job.Job.{Job}
 use Rattle.petal_rules.specs.declared.job.Job.TheVariants as job
 use Rattle.petal_rules.specs.declared.step.CommitEnd.{CommitEnd}
@@ -40,7 +42,8 @@ use Rattle.world_desks.proofs.Letters.{IsPast, lists_all, step_letters_new, of_s
 use Rattle.world_desks.proofs.Awaiting.{one_answered}
 
 -- an answer ends its line's waiting
-pub answer_kept : (lines : List Line) (given : List (ℕ × Answer)) (rows : Table ℕ ℕ) (answer : Option (ℕ × Answer)) → Await lines given rows → Await lines (with_answer answer given) (without_answered rows answer)
+pub answer_kept : (lines : List Line) (given : List (ℕ × Answer)) (rows : Table ℕ ℕ) (answer : Option (ℕ × Answer)) → Await lines given rows
+    → Await lines (with_answer answer given) (without_answered rows answer)
 answer_kept lines given rows None h = h
 answer_kept lines given rows (Some answer) h = one_answered lines given rows h answer.0 answer.1
 
@@ -63,13 +66,16 @@ past_of w who from stamp is past less other m e =
     let le = past other m in
     inl (omega arith)
 
-pub posted_kept : (w : World) (who : Actor) (stamp : ℕ) (rows : Table LetterName Letter) (letters : List Letter) → ArePosted who stamp letters → ArePast w → clock_of w who < stamp → Lists rows w.sent
+pub posted_kept : (w : World) (who : Actor) (stamp : ℕ) (rows : Table LetterName Letter) (letters : List Letter) → ArePosted who stamp letters → ArePast w
+    → clock_of w who < stamp → Lists rows w.sent
     → Lists (with_letters rows letters) (letters ++ w.sent)
 posted_kept w who stamp rows letters posted past less h =
     let new = step_letters_new posted.sender stamp 0 posted.posts w.sent (past_of w who posted.sender.from stamp posted.from past less) in
-    subst (λ (ls : List Letter). Lists (with_letters rows ls) (ls ++ w.sent)) (sym posted.are) (lists_all (stamped stamp (letters_of posted.sender 0 posted.posts)) rows w.sent h new)
+    subst (λ (ls : List Letter). Lists (with_letters rows ls) (ls ++ w.sent)) (sym posted.are)
+    (lists_all (stamped stamp (letters_of posted.sender 0 posted.posts)) rows w.sent h new)
 
-pub posted_past : (w later : World) (who : Actor) (stamp : ℕ) (letters : List Letter) → ArePosted who stamp letters → later.sent ≡ letters ++ w.sent → clock_of later who ≡ stamp → ((a : Actor) → clock_of w a ≤ clock_of later a) → ArePast w → ArePast later
+pub posted_past : (w later : World) (who : Actor) (stamp : ℕ) (letters : List Letter) → ArePosted who stamp letters → later.sent ≡ letters ++ w.sent
+    → clock_of later who ≡ stamp → ((a : Actor) → clock_of w a ≤ clock_of later a) → ArePast w → ArePast later
 posted_past w later who stamp letters posted sent clock grows past letter m =
     elim (in-append letter letters w.sent (subst (λ (ls : List Letter). In letter ls) sent m)) [
       | inl new ↦
@@ -151,7 +157,8 @@ module _ (setting : Setting) (w : World) (actors : Actors) (h : Shows setting w 
         (posted_kept w (actor.Client c) stamp actors.sent (client_letters seat what stamp) client_posts h.past less h.sent);
     waiting = client_waits;
     control = client_controls;
-    past = posted_past w by_client.world (actor.Client c) stamp (client_letters seat what stamp) client_posts client_sent client_clock (client_grows less) h.past;
+    past = posted_past w by_client.world (actor.Client c) stamp (client_letters seat what stamp) client_posts client_sent client_clock
+        (client_grows less) h.past;
   }
 
   pub client_gives : (by_client.letters ≡ client_letters seat what stamp) × (by_client.answer ≡ (reacted_at seat what).1.answer)
@@ -165,10 +172,12 @@ by_kind : (b : Bool) (here : Here) (server : Server) (rest : List Job) (log : Lo
 by_kind true here server rest log done stamp = record { sender = sender here; posts = log.posts; from = refl; are = refl }
 by_kind false here server rest log done stamp = record { sender = sender here; posts = done.posts; from = refl; are = refl }
 
-done_posts : (first : Job) (here : Here) (server : Server) (rest : List Job) (stamp : ℕ) → ArePosted (actor.Server here.me) stamp (stamped stamp (job_done here server first rest).letters)
+done_posts : (first : Job) (here : Here) (server : Server) (rest : List Job) (stamp : ℕ)
+    → ArePosted (actor.Server here.me) stamp (stamped stamp (job_done here server first rest).letters)
 done_posts job.Apply here server rest stamp = record { sender = sender here; posts = (applies server.log).posts; from = refl; are = refl }
 done_posts (job.Letter letter) here server rest stamp =
-    by_kind (is_log_job (job.Letter letter)) here server rest (log_does (voter_of here) server.log (job.Letter letter)) (does here server.own (job.Letter letter)) stamp
+    by_kind (is_log_job (job.Letter letter)) here server rest (log_does (voter_of here) server.log (job.Letter letter))
+    (does here server.own (job.Letter letter)) stamp
 done_posts (job.Stage cell) here server rest stamp =
     by_kind (is_log_job (job.Stage cell)) here server rest (log_does (voter_of here) server.log (job.Stage cell)) (does here server.own (job.Stage cell)) stamp
 done_posts (job.Mend link) here server rest stamp =
@@ -188,7 +197,8 @@ room_posts : (full : Bool) (here : Here) (server : Server) (acted : Acted) (stam
 room_posts true here server acted stamp posted = stop_posts here server stamp
 room_posts false here server acted stamp posted = posted
 
-fault_posts : (end : CommitEnd) (here : Here) (server : Server) (queue : List Job) (stamp : ℕ) → ArePosted (actor.Server here.me) stamp (stamped stamp (faults here server queue end).letters)
+fault_posts : (end : CommitEnd) (here : Here) (server : Server) (queue : List Job) (stamp : ℕ)
+    → ArePosted (actor.Server here.me) stamp (stamped stamp (faults here server queue end).letters)
 fault_posts Before here server queue stamp = stop_posts here server stamp
 fault_posts After here server queue stamp = stop_posts here (works here server queue).server stamp
 
@@ -203,25 +213,36 @@ woken_posts false here server stamp = record {
   are = refl;
 }
 
-boot_posts : (end : WorkEnd) (here : Here) (server : Server) (stamp : ℕ) → ArePosted (actor.Server here.me) stamp (stamped stamp (boots here server end).letters)
+boot_posts : (end : WorkEnd) (here : Here) (server : Server) (stamp : ℕ)
+    → ArePosted (actor.Server here.me) stamp (stamped stamp (boots here server end).letters)
 boot_posts work_end.Done here server stamp = woken_posts (is_overfull (raised server)) here server stamp
 boot_posts (work_end.Fault Before) here server stamp = record { sender = sender here; posts = []; from = refl; are = refl }
 boot_posts (work_end.Fault After) here server stamp = record { sender = sender here; posts = []; from = refl; are = refl }
 
-glance_from : (running : Bool) (here : Here) → (if running then sender here else record { from = actor.Server here.me; inc = 0; rev = 0 }).from ≡ actor.Server here.me
+glance_from : (running : Bool) (here : Here)
+    → (if running then sender here else record { from = actor.Server here.me; inc = 0; rev = 0 }).from ≡ actor.Server here.me
 glance_from true here = refl
 glance_from false here = refl
 
-glance_posts : (line round : ℕ) (here : Here) (server : Server) (stamp : ℕ) → ArePosted (actor.Server here.me) stamp (stamped stamp (glances here line round server).letters)
-glance_posts line round here server stamp = record { sender = glance_sender here server; posts = record { to = actor.Client operator; body = shown line round server } ∷ []; from = glance_from server.life.running here; are = refl }
+glance_posts : (line round : ℕ) (here : Here) (server : Server) (stamp : ℕ)
+    → ArePosted (actor.Server here.me) stamp (stamped stamp (glances here line round server).letters)
+glance_posts line round here server stamp = record {
+  sender = glance_sender here server;
+  posts = record { to = actor.Client operator; body = shown line round server } ∷ [];
+  from = glance_from server.life.running here;
+  are = refl;
+}
 
-work_posts : (queue : List Job) (state : State) (n stamp : ℕ) (server : Server) → ArePosted (actor.Server n) stamp (stamped stamp (works (here_of state n server) server queue).letters)
+work_posts : (queue : List Job) (state : State) (n stamp : ℕ) (server : Server)
+    → ArePosted (actor.Server n) stamp (stamped stamp (works (here_of state n server) server queue).letters)
 work_posts [] state n stamp server = record { sender = sender (here_of state n server); posts = []; from = refl; are = refl }
 work_posts (first ∷ rest) state n stamp server =
     let here = here_of state n server in
-    room_posts (is_overfull (job_done here server first rest).server) here server (job_done here server first rest) stamp (done_posts first here server rest stamp)
+    room_posts (is_overfull (job_done here server first rest).server) here server (job_done here server first rest) stamp
+    (done_posts first here server rest stamp)
 
-server_posts : (what : Step) (state : State) (n stamp : ℕ) (server : Server) → ArePosted (actor.Server n) stamp (stamped stamp (server_step what state n server).letters)
+server_posts : (what : Step) (state : State) (n stamp : ℕ) (server : Server)
+    → ArePosted (actor.Server n) stamp (stamped stamp (server_step what state n server).letters)
 server_posts (Call line) state n stamp server = record { sender = sender (here_of state n server); posts = []; from = refl; are = refl }
 server_posts (Deliver letter) state n stamp server = record { sender = sender (here_of state n server); posts = []; from = refl; are = refl }
 server_posts Tick state n stamp server = record { sender = sender (here_of state n server); posts = _; from = refl; are = refl }

@@ -1,5 +1,6 @@
 -- A world as its users see it.
-use Rattle.std.specs.Prelude.{◌≡◌, ℕ, ◌+◌, ◌<◌, max, min, ◌&&◌, nat_lt, if◌then◌else◌, Bool, false, List, [], ◌∷◌, ◌++◌, map, length, slice_get, IfSome, Option, Some, None}
+use Rattle.std.specs.Prelude.{◌≡◌, ℕ, ◌+◌, ◌<◌, max, min, ◌&&◌, nat_lt, if◌then◌else◌, Bool, false, List, [], ◌∷◌, ◌++◌, map}
+use Rattle.std.specs.Prelude.{length, slice_get, IfSome, Option, Some, None}
 use Rattle.std.specs.List.{range_with_len, fold}
 use Rattle.petal_msg.specs.declared.letter.Actor.{Actor}
 use Rattle.petal_msg.specs.declared.letter.Actor.TheVariants as actor
@@ -111,4 +112,5 @@ Leaves setting w who what stamp new told =
     × (told ≡ record { letters = (step who what setting w stamp).letters; answer = (step who what setting w stamp).answer; end = end_in what })
 
 abbrev pub LeavesIn : Actors → Actor → Step → ℕ → Actors → Stepped → Type 0
-LeavesIn actors who what stamp new told = (setting : Setting) (w : World) → Shows setting w actors → MayStep setting w who what → clock_of w who < stamp → Leaves setting w who what stamp new told
+LeavesIn actors who what stamp new told = (setting : Setting) (w : World) → Shows setting w actors → MayStep setting w who what → clock_of w who < stamp
+    → Leaves setting w who what stamp new told

@@ -4,10 +4,12 @@ ghost use Rattle.std.specs.Prelude.{◌≡◌, ◌↔◌, ℕ, Some, IsTrue, sli
 ghost use Rattle.petal_msg.specs.declared.letter.Actor.TheVariants as actor;
 ghost use Rattle.client_core.specs.Open.{settle_of};
 ghost use Rattle.petal_rules.specs.Jobs.{operator};
-ghost use Rattle.petal_rules.specs.World.{Setting, World, MayAct, MayBlank, MayBoot, MayCall, MayClient, MayGlance, MayReceive, MayServer, MayStep, MayStop, MayWork, received};
+ghost use Rattle.petal_rules.specs.World.{Setting, World, MayAct, MayBlank, MayBoot, MayCall, MayClient, MayGlance, MayReceive};
+ghost use Rattle.petal_rules.specs.World.{MayServer, MayStep, MayStop, MayWork, received};
 ghost use Rattle.petal_table.specs.Table.{at};
 ghost use Rattle.world_desks.specs.Playable.{AreOrdered};
-ghost use Rattle.petal_world.specs.Lines.{HasBlanked, HasStarted, HasStopped, IsBlankedBy, IsSettling, IsStartedBy, IsStoppedBy, IsToBlank, IsToStart, IsToStop};
+ghost use Rattle.petal_world.specs.Lines.{HasBlanked, HasStarted, HasStopped, IsBlankedBy, IsSettling, IsStartedBy};
+ghost use Rattle.petal_world.specs.Lines.{IsStoppedBy, IsToBlank, IsToStart, IsToStop};
 ghost use Rattle.petal_world.specs.Seats.{seat_of};
 ghost use Rattle.world_desks.specs.Desks.{desk_of};
 ghost use Rattle.world_desks.specs.Sent.{name_of, name_cmp};
@@ -361,7 +363,8 @@ impl<H: Host> Actors<H> {
     }
 
     fn may_client(&self, client: ClientId, step: &Step) -> bool
-        ensures { (setting : Setting) (w : World) → AreOrdered setting.lines → Shows setting w self.now → IsTrue result ↔ MayStep setting w (actor.Client client) step.now }
+        ensures { (setting : Setting) (w : World) → AreOrdered setting.lines → Shows setting w self.now
+            → IsTrue result ↔ MayStep setting w (actor.Client client) step.now }
     {
         let Some(seat) = self.seats.get(client) else {
             return false;

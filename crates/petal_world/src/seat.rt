@@ -33,7 +33,8 @@ impl Seat {
         requires free { self.old.core.client.asked ≡ None }
         requires goes_on { is_spent self.old.core.client ≡ false }
         ensures ok { IfOk result (λ reaction. (self.new.core, reaction)
-            ≡ at_core self.old.core (calls (state_of self.old.core) self.old.core.me self.old.core.client (slice_get self.old.lines self.old.core.client.seq))) }
+            ≡ at_core self.old.core
+            (calls (state_of self.old.core) self.old.core.me self.old.core.client (slice_get self.old.lines self.old.core.client.seq))) }
         ensures rest { self.new ≡ record self.old { core = self.new.core } }
         ensures err { OnErr result (self.new ≡ self.old) }
     {

@@ -98,7 +98,8 @@ impl Seats {
         requires can { IfSome (slice_get self.old client) (λ seat. CanTake step.now seat.core.client) }
         requires goes_on { IfSome (slice_get self.old client) (λ seat. is_spent seat.core.client ≡ false) }
         ensures { IfOk result (λ reaction. (seat : Seat) → slice_get self.old client ≡ Some seat
-            → (reaction ≡ (reacted_at seat step.now).1) × (self.new ≡ slice_set self.old client (record seat { core = (reacted_at seat step.now).0; clock = stamp }))) }
+            → (reaction ≡ (reacted_at seat step.now).1)
+            × (self.new ≡ slice_set self.old client (record seat { core = (reacted_at seat step.now).0; clock = stamp }))) }
     {
         let seat = &mut self.seats[client as usize];
         let reaction = seat.step(alloc, step)?;

@@ -76,7 +76,8 @@ impl<H: Host> Actors<H> {
 
     /// The phase of the line that a client calls next, or else this one.
     fn line_phase(&self, client: ClientId, phase: u32) -> u32
-        ensures { (setting : Setting) (w : World) → Shows setting w self.now → client < 9 → result ≡ phase_of (next_line setting.lines client (w.clients client)) phase }
+        ensures { (setting : Setting) (w : World) → Shows setting w self.now → client < 9
+            → result ≡ phase_of (next_line setting.lines client (w.clients client)) phase }
     {
         let Some(seat) = self.seats.get(client) else {
             return phase;
@@ -89,7 +90,8 @@ impl<H: Host> Actors<H> {
 
     /// The phase of the record of a step that is taken in this phase.
     pub fn phase_for(&self, phase: u32, actor: Actor, step: &Step) -> u32
-        ensures { (setting : Setting) (w : World) → Shows setting w self.now → MayStep setting w actor step.now → result ≡ phase_for step.now actor setting w phase }
+        ensures { (setting : Setting) (w : World) → Shows setting w self.now → MayStep setting w actor step.now
+            → result ≡ phase_for step.now actor setting w phase }
     {
         match (step, actor) {
             (Step::Call { line: _ }, Actor::Client(client)) => self.line_phase(client, phase),

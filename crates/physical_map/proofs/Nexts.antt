@@ -1,5 +1,6 @@
 -- The next block of a map, and the next map, stand behind all entries that do not count.
-use Rattle.std.proofs.Common.{◌≡◌, ℕ, suc, ◌+◌, ◌≤◌, ◌<◌, ◌==◌, ◌&&◌, true, false, not, nat_lt, List, [], ◌∷◌, length, get_or, drop, Option, None, Some, if◌then◌else◌, refl, sym, ◌∙◌, ap, subst, arith, inl, inr}
+use Rattle.std.proofs.Common.{◌≡◌, ℕ, suc, ◌+◌, ◌≤◌, ◌<◌, ◌==◌, ◌&&◌, true, false, not, nat_lt, List, [], ◌∷◌, length, get_or, drop, Option, None}
+use Rattle.std.proofs.Common.{Some, if◌then◌else◌, refl, sym, ◌∙◌, ap, subst, arith, inl, inr}
 use Rattle.std.proofs.lemmas.Bool.{cases_Bool, cases_eq}
 use Rattle.std.proofs.lemmas.Bool.Decides.{nat_tests}
 use Rattle.std.proofs.Math.ListN.{drop_of_length-le}
@@ -54,7 +55,8 @@ no-block map after k (x ∷ xs) behind rest =
     let other : (x.key.map == map) ≡ false = grind (arith, nat_tests) in
     rw other (no-block map after k xs behind rest.1)
 
-pub next-block : (map : ℕ) (after : Option ℕ) (es : List Entry) → IsInOrder key_of es → next_block_of map after es ≡ first_block map (drop (prefix_len (λ e. before_blocks map after e.key) es) es)
+pub next-block : (map : ℕ) (after : Option ℕ) (es : List Entry) → IsInOrder key_of es
+    → next_block_of map after es ≡ first_block map (drop (prefix_len (λ e. before_blocks map after e.key) es) es)
 next-block map after [] order = refl
 next-block map after (x ∷ xs) order = elim (cases_Bool (before_blocks map after x.key)) [
   | inl before ↦
@@ -66,7 +68,8 @@ next-block map after (x ∷ xs) order = elim (cases_Bool (before_blocks map afte
     | inl here ↦
         let same : x.key.map ≡ map = grind (arith, nat_tests) in
         let counts : above after x.key.block ≡ true = grind (arith, nat_tests) in
-        rw (behind, here, counts) (subst (λ (m : ℕ). lesser (Some x.key.block) (next_block_of m after xs) ≡ Some x.key.block) same (least-block after x.key xs order.0))
+        rw (behind, here, counts)
+        (subst (λ (m : ℕ). lesser (Some x.key.block) (next_block_of m after xs) ≡ Some x.key.block) same (least-block after x.key xs order.0))
     | inr other ↦
         let past : nat_lt map x.key.map ≡ true = grind (arith, nat_tests) in
         rw (behind, other) (no-block map after x.key xs past order.0)
@@ -74,11 +77,14 @@ next-block map after (x ∷ xs) order = elim (cases_Bool (before_blocks map afte
 ]
 
 -- the same by the place `at` that a search gave
-pub next-block_at : (map : ℕ) (after : Option ℕ) (es : List Entry) (d : Entry) (at : ℕ) → IsInOrder key_of es → at ≡ prefix_len (λ e. before_blocks map after e.key) es → at < length es → next_block_of map after es ≡ (if (get_or es at d).key.map == map then Some (get_or es at d).key.block else None)
+pub next-block_at : (map : ℕ) (after : Option ℕ) (es : List Entry) (d : Entry) (at : ℕ) → IsInOrder key_of es
+    → at ≡ prefix_len (λ e. before_blocks map after e.key) es → at < length es
+    → next_block_of map after es ≡ (if (get_or es at d).key.map == map then Some (get_or es at d).key.block else None)
 next-block_at map after es d at order is within =
     next-block map after es order ∙ ap (λ (n : ℕ). first_block map (drop n es)) (sym is) ∙ ap (first_block map) (drop-cons es at d within)
 
-pub next-block_none : (map : ℕ) (after : Option ℕ) (es : List Entry) (at : ℕ) → IsInOrder key_of es → at ≡ prefix_len (λ e. before_blocks map after e.key) es → length es ≤ at → next_block_of map after es ≡ None
+pub next-block_none : (map : ℕ) (after : Option ℕ) (es : List Entry) (at : ℕ) → IsInOrder key_of es
+    → at ≡ prefix_len (λ e. before_blocks map after e.key) es → length es ≤ at → next_block_of map after es ≡ None
 next-block_none map after es at order is past =
     next-block map after es order ∙ ap (λ (n : ℕ). first_block map (drop n es)) (sym is) ∙ ap (first_block map) (drop_of_length-le es past)
 
@@ -108,7 +114,8 @@ least-map after k (x ∷ xs) rest = elim (cases_Bool (above after x.key.map)) [
   | inr out ↦ rw out (least-map after k xs rest.1)
 ]
 
-pub next-map : (after : Option ℕ) (es : List Entry) → IsInOrder key_of es → next_map_of after es ≡ first_map (drop (prefix_len (λ e. not (above after e.key.map)) es) es)
+pub next-map : (after : Option ℕ) (es : List Entry) → IsInOrder key_of es
+    → next_map_of after es ≡ first_map (drop (prefix_len (λ e. not (above after e.key.map)) es) es)
 next-map after [] order = refl
 next-map after (x ∷ xs) order = elim (cases_Bool (above after x.key.map)) [
   | inl counts ↦ rw counts (least-map after x.key xs order.0)
@@ -118,10 +125,12 @@ next-map after (x ∷ xs) order = elim (cases_Bool (above after x.key.map)) [
       rw (out, one) (next-map after xs order.1)
 ]
 
-pub next-map_at : (after : Option ℕ) (es : List Entry) (d : Entry) (at : ℕ) → IsInOrder key_of es → at ≡ prefix_len (λ e. not (above after e.key.map)) es → at < length es → next_map_of after es ≡ Some (get_or es at d).key.map
+pub next-map_at : (after : Option ℕ) (es : List Entry) (d : Entry) (at : ℕ) → IsInOrder key_of es → at ≡ prefix_len (λ e. not (above after e.key.map)) es
+    → at < length es → next_map_of after es ≡ Some (get_or es at d).key.map
 next-map_at after es d at order is within =
     next-map after es order ∙ ap (λ (n : ℕ). first_map (drop n es)) (sym is) ∙ ap first_map (drop-cons es at d within)
 
-pub next-map_none : (after : Option ℕ) (es : List Entry) (at : ℕ) → IsInOrder key_of es → at ≡ prefix_len (λ e. not (above after e.key.map)) es → length es ≤ at → next_map_of after es ≡ None
+pub next-map_none : (after : Option ℕ) (es : List Entry) (at : ℕ) → IsInOrder key_of es → at ≡ prefix_len (λ e. not (above after e.key.map)) es
+    → length es ≤ at → next_map_of after es ≡ None
 next-map_none after es at order is past =
     next-map after es order ∙ ap (λ (n : ℕ). first_map (drop n es)) (sym is) ∙ ap first_map (drop_of_length-le es past)

@@ -15,11 +15,13 @@ use Rattle.physical_map.proofs.Orders.{below-other, above-other, beyond, below-t
 abbrev pub rank : List Entry → Key → ℕ
 rank es key = prefix_len (λ e. key_below e.key key) es
 
-placed-over : (es : List Entry) (e d : Entry) → rank es e.key < length es → same_key (get_or es (rank es e.key) d).key e.key ≡ true → placed key_of es e ≡ set es (rank es e.key) e
+placed-over : (es : List Entry) (e d : Entry) → rank es e.key < length es → same_key (get_or es (rank es e.key) d).key e.key ≡ true
+    → placed key_of es e ≡ set es (rank es e.key) e
 placed-over [] e d within same = absurd (omega arith)
 placed-over (x ∷ xs) e d within same = grind (arith, nat_tests, placed-over xs e d)
 
-placed-between : (es : List Entry) (e d : Entry) → (rank es e.key < length es → same_key (get_or es (rank es e.key) d).key e.key ≡ false) → placed key_of es e ≡ insert es (rank es e.key) e
+placed-between : (es : List Entry) (e d : Entry) → (rank es e.key < length es → same_key (get_or es (rank es e.key) d).key e.key ≡ false)
+    → placed key_of es e ≡ insert es (rank es e.key) e
 placed-between [] e d other = refl
 placed-between (x ∷ xs) e d other = grind (arith, nat_tests, placed-between xs e d)
 
@@ -30,11 +32,13 @@ slot-of_entry (x ∷ xs) key = elim (cases_Bool (same_key x.key key)) [
   | inr other ↦ rw other (slot-of_entry xs key)
 ]
 
-entry-over : (es : List Entry) (key : Key) (d : Entry) → rank es key < length es → same_key (get_or es (rank es key) d).key key ≡ true → entry_of es key ≡ Some (get_or es (rank es key) d)
+entry-over : (es : List Entry) (key : Key) (d : Entry) → rank es key < length es → same_key (get_or es (rank es key) d).key key ≡ true
+    → entry_of es key ≡ Some (get_or es (rank es key) d)
 entry-over [] key d within same = absurd (omega arith)
 entry-over (x ∷ xs) key d within same = grind (arith, nat_tests, below-other x.key key, entry-over xs key d)
 
-without-over : (es : List Entry) (key : Key) (d : Entry) → rank es key < length es → same_key (get_or es (rank es key) d).key key ≡ true → without_key es key ≡ remove es (rank es key)
+without-over : (es : List Entry) (key : Key) (d : Entry) → rank es key < length es → same_key (get_or es (rank es key) d).key key ≡ true
+    → without_key es key ≡ remove es (rank es key)
 without-over [] key d within same = absurd (omega arith)
 without-over (x ∷ xs) key d within same = elim (cases_Bool (key_below x.key key)) [
   | inl before ↦
@@ -73,7 +77,8 @@ missing-rest x xs key d before missing within =
     let there : same_key (get_or (x ∷ xs) (rank (x ∷ xs) key) d).key key ≡ false = missing (rw before (omega arith)) in
     rw (before, one) at there
 
-missing-above : (x : Entry) (xs : List Entry) (key : Key) (d : Entry) → key_below x.key key ≡ false → IsInOrder key_of (x ∷ xs) → Missing (x ∷ xs) key d → IsAbove key_of key (x ∷ xs)
+missing-above : (x : Entry) (xs : List Entry) (key : Key) (d : Entry) → key_below x.key key ≡ false → IsInOrder key_of (x ∷ xs) → Missing (x ∷ xs) key d
+    → IsAbove key_of key (x ∷ xs)
 missing-above x xs key d before order missing =
     let here : same_key (get_or (x ∷ xs) (rank (x ∷ xs) key) d).key key ≡ false = missing (rw before (omega arith)) in
     let other : same_key x.key key ≡ false = rw before at here in

@@ -1,5 +1,6 @@
 -- What a binary search in entries in order finds.
-use Rattle.std.proofs.Common.{◌≡◌, ℕ, zero, suc, ◌+◌, true, false, not, nat_lt, max, List, [], ◌∷◌, get_or, drop, Option, None, Some, if◌then◌else◌, refl, ap, arith, inl, inr}
+use Rattle.std.proofs.Common.{◌≡◌, ℕ, zero, suc, ◌+◌, true, false, not, nat_lt, max, List, [], ◌∷◌, get_or, drop, Option, None}
+use Rattle.std.proofs.Common.{Some, if◌then◌else◌, refl, ap, arith, inl, inr}
 use Rattle.std.proofs.lemmas.Bool.{cases_Bool}
 use Rattle.std.proofs.lemmas.Bool.Decides.{nat_tests}
 use Rattle.std.proofs.lemmas.List.Sums.{prefix_len-le-length, prefix_len_passes, take_while-cons}
@@ -34,7 +35,8 @@ later-epoch : (at x e : Key) → key_below x e ≡ true → not (key_below at e)
 later-epoch at x e rises within seen = grind (arith, nat_tests)
 
 -- of the entries at a key and before it, a read sees the last or none
-pub newest-last : (es : List Entry) (at : Key) (n : ℕ) (d : Entry) → IsInOrder key_of es → n + 1 ≡ behind at es → newest key_of at es ≡ seen_in at (get_or es n d)
+pub newest-last : (es : List Entry) (at : Key) (n : ℕ) (d : Entry) → IsInOrder key_of es → n + 1 ≡ behind at es
+    → newest key_of at es ≡ seen_in at (get_or es n d)
 newest-last [] at n d order is = absurd (omega arith)
 newest-last (x ∷ xs) at zero d order is = elim (cases_Bool (key_below at x.key)) [
   | inl above ↦ let none : 0 + 1 ≡ 0 = rw above at is in absurd (omega arith)
@@ -71,11 +73,13 @@ no-more cell k l before out rises = grind (arith, nat_tests)
 not-before : (cell : Cell) (k l : Key) → key_below k (first_of cell) ≡ false → key_below k l ≡ true → key_below l (first_of cell) ≡ false
 not-before cell k l before rises = grind (arith, nat_tests)
 
-none-above : (cell : Cell) (k : Key) (es : List Entry) → key_below k (first_of cell) ≡ false → in_cell cell k ≡ false → IsAbove key_of k es → chain_of cell es ≡ []
+none-above : (cell : Cell) (k : Key) (es : List Entry) → key_below k (first_of cell) ≡ false → in_cell cell k ≡ false
+    → IsAbove key_of k es → chain_of cell es ≡ []
 none-above cell k [] before out above = refl
 none-above cell k (x ∷ xs) before out above = rw (no-more cell k x.key before out above.0) (none-above cell k xs before out above.1)
 
-chain-from : (cell : Cell) (x : Entry) (xs : List Entry) → key_below x.key (first_of cell) ≡ false → IsInOrder key_of (x ∷ xs) → chain_of cell (x ∷ xs) ≡ take_while (λ e. in_cell cell e.key) (x ∷ xs)
+chain-from : (cell : Cell) (x : Entry) (xs : List Entry) → key_below x.key (first_of cell) ≡ false → IsInOrder key_of (x ∷ xs)
+    → chain_of cell (x ∷ xs) ≡ take_while (λ e. in_cell cell e.key) (x ∷ xs)
 chain-from cell x [] before order = elim (cases_Bool (in_cell cell x.key)) [
   | inl here ↦ rw (take_while-cons (λ (e : Entry). in_cell cell e.key) x [], here) refl
   | inr out ↦ rw (take_while-cons (λ (e : Entry). in_cell cell e.key) x [], out) refl
@@ -87,7 +91,8 @@ chain-from cell x (y ∷ ys) before order = elim (cases_Bool (in_cell cell x.key
   | inr out ↦ rw (take_while-cons (λ (e : Entry). in_cell cell e.key) x (y ∷ ys), out) (none-above cell x.key (y ∷ ys) before out order.0)
 ]
 
-pub chain-part : (cell : Cell) (es : List Entry) → IsInOrder key_of es → chain_of cell es ≡ take_while (λ e. in_cell cell e.key) (drop (prefix_len (λ e. key_below e.key (first_of cell)) es) es)
+pub chain-part : (cell : Cell) (es : List Entry) → IsInOrder key_of es
+    → chain_of cell es ≡ take_while (λ e. in_cell cell e.key) (drop (prefix_len (λ e. key_below e.key (first_of cell)) es) es)
 chain-part cell [] order = refl
 chain-part cell (x ∷ xs) order = elim (cases_Bool (key_below x.key (first_of cell))) [
   | inl before ↦

@@ -1,5 +1,6 @@
 -- What holds of phases that have ended: they answer exactly the first lines.
-use Rattle.std.proofs.Common.{◌≡◌, ◌≤◌, ◌<◌, ℕ, zero, suc, ◌+◌, true, false, cond, List, [], ◌∷◌, ◌++◌, length, take, drop, Some, is_some, refl, sym, ap, ◌∙◌, subst, ◌⊎◌, inl, inr, arith, length-drop}
+use Rattle.std.proofs.Common.{◌≡◌, ◌≤◌, ◌<◌, ℕ, zero, suc, ◌+◌, true, false, cond, List, [], ◌∷◌, ◌++◌, length, take, drop, Some, is_some}
+use Rattle.std.proofs.Common.{refl, sym, ap, ◌∙◌, subst, ◌⊎◌, inl, inr, arith, length-drop}
 use Rattle.std.proofs.lemmas.List.{take-append-drop, map-append, drop_all, drop-drop}
 use Rattle.std.proofs.lemmas.Bool.Decides.{nat_tests}
 use Rattle.std.proofs.Math.Seq.{take-length, take-add}
@@ -19,8 +20,8 @@ use Rattle.petal_history.specs.Text.{answers_of}
 use Rattle.petal_history.specs.declared.record.Record.{Record}
 use Rattle.petal_rules.proofs.Tests.{by_bool, same_numbers}
 use Rattle.world_desks.specs.Playable.{AreOrdered}
-use Rattle.petal_history.specs.Order.{AreRising, AnsweredComeFirst, IsFront, all_answered, is_answered}
-use Rattle.plain_schedule.specs.Phases.{Progress, GoesByPhases, AnswersPhases, Ends, records_of}
+use Rattle.petal_history.specs.Order.{AreRising, AnsweredComeFirst, AnswersPhases, IsFront, JoinsAnswers, all_answered, is_answered}
+use Rattle.plain_schedule.specs.Phases.{Progress, GoesByPhases, Ends, records_of}
 use Rattle.plain_schedule.specs.Places.{numbers, phase_run, progress_of, KeepsPlaces, GoesOn}
 use Rattle.plain_schedule.proofs.Fronts.{still, goes_front}
 
@@ -43,7 +44,8 @@ found_key : (table : Table ℕ Answer) (number : ℕ) → is_some (at nat_cmp ta
 unfolding In at
 found_key [] number h = let f : false ≡ true = h in absurd (cc)
 found_key (row ∷ rows) number h =
-    elim (is_eq (nat_cmp number row.0)) as (λ b. is_eq (nat_cmp number row.0) ≡ b → is_some (cond b (Some row.1) (lookup (is_at (nat_cmp number)) rows)) ≡ true → In number (row.0 ∷ keys_of rows)) [
+    elim (is_eq (nat_cmp number row.0)) as (λ b. is_eq (nat_cmp number row.0) ≡ b
+    → is_some (cond b (Some row.1) (lookup (is_at (nat_cmp number)) rows)) ≡ true → In number (row.0 ∷ keys_of rows)) [
       | true ↦ λ is some. inl (tied_same number row.0 is)
       | false ↦ λ is some. inr (found_key rows number some)
     ] refl h
@@ -77,14 +79,17 @@ front_below (first ∷ front) back rising one other (inl e) k =
 front_below (first ∷ front) back rising one other (inr i) k = front_below front back rising.1 one other i k
 
 -- what exactly the first lines answer comes first
-first_lines : (lines : List Line) (records : List Record) (place : ℕ) → AreRising lines → keys_of (answers_of records) ≡ numbers (take place lines) → AnsweredComeFirst lines records
+first_lines : (lines : List Line) (records : List Record) (place : ℕ) → AreRising lines → keys_of (answers_of records) ≡ numbers (take place lines)
+    → AnsweredComeFirst lines records
 first_lines lines records place rising is one other h k given none =
     let split : take place lines ++ drop place lines ≡ lines = take-append-drop place lines in
     let own = in_numbers (take place lines) one.number (subst (In one.number) is (found_key (answers_of records) one.number given)) in
-    let lies : In other (take place lines) ⊎ In other (drop place lines) = in-append other (take place lines) (drop place lines) (subst (In other) (sym split) k) in
+    let lies : In other (take place lines) ⊎ In other (drop place lines) =
+    in-append other (take place lines) (drop place lines) (subst (In other) (sym split) k) in
     elim lies [
       | inl early ↦ (
-          let found : is_answered records other.number ≡ true = key_found (answers_of records) other.number (subst (In other.number) (sym is) (number_in (take place lines) other early)) in
+          let found : is_answered records other.number ≡ true =
+          key_found (answers_of records) other.number (subst (In other.number) (sym is) (number_in (take place lines) other early)) in
           let clash : true ≡ false = sym found ∙ none in
           absurd (cc))
       | inr late ↦ (
@@ -115,12 +120,14 @@ above a b ne le = grind (arith, nat_tests)
 
 -- what answers exactly the first lines answers exactly the phases of these
 answers_phases : (lines : List Line) (records : List Record) (place phases : ℕ) → AreRising lines → keys_of (answers_of records) ≡ numbers (take place lines)
-    → ((line : Line) → In line (take place lines) → line.phase < phases) → ((line : Line) → In line (drop place lines) → phases ≤ line.phase) → AnswersPhases phases lines records
+    → ((line : Line) → In line (take place lines) → line.phase < phases) → ((line : Line) → In line (drop place lines) → phases ≤ line.phase)
+    → AnswersPhases phases lines records
 answers_phases lines records place phases rising is played to_play line h =
     let split : take place lines ++ drop place lines ≡ lines = take-append-drop place lines in
     elim (in-append line (take place lines) (drop place lines) (subst (In line) (sym split) h)) [
       | inl early ↦ (
-          let found : is_answered records line.number ≡ true = key_found (answers_of records) line.number (subst (In line.number) (sym is) (number_in (take place lines) line early)) in
+          let found : is_answered records line.number ≡ true =
+          key_found (answers_of records) line.number (subst (In line.number) (sym is) (number_in (take place lines) line early)) in
           found ∙ sym (lt_true line.phase phases (played line early)))
       | inr late ↦ by_bool (is_answered records line.number)
           (λ yes.
@@ -144,7 +151,8 @@ run_phase : (phase : ℕ) (lines : List Line) (line : Line) → In line (take (p
 unfolding In
 run_phase phase [] line h = absurd h
 run_phase phase (first ∷ lines) line h =
-    elim (first.phase == phase) as (λ b. (first.phase == phase) ≡ b → In line (take (cond b (suc (phase_run phase lines)) 0) (first ∷ lines)) → line.phase ≡ phase) [
+    elim (first.phase == phase)
+    as (λ b. (first.phase == phase) ≡ b → In line (take (cond b (suc (phase_run phase lines)) 0) (first ∷ lines)) → line.phase ≡ phase) [
       | true ↦ λ is i. elim i [
         | inl e ↦ ap (λ (l : Line). l.phase) e ∙ same_numbers first.phase phase is
         | inr j ↦ run_phase phase lines line j
@@ -153,11 +161,13 @@ run_phase phase (first ∷ lines) line h =
     ] refl h
 
 -- the lines after those of a phase are of later phases
-run_behind : (phase : ℕ) (lines : List Line) → AreRising lines → AreOrdered lines → ((line : Line) → In line lines → phase ≤ line.phase) → (line : Line) → In line (drop (phase_run phase lines) lines) → phase < line.phase
+run_behind : (phase : ℕ) (lines : List Line) → AreRising lines → AreOrdered lines → ((line : Line) → In line lines → phase ≤ line.phase) → (line : Line)
+    → In line (drop (phase_run phase lines) lines) → phase < line.phase
 unfolding In
 run_behind phase [] rising ordered from line h = absurd h
 run_behind phase (first ∷ lines) rising ordered from line h =
-    elim (first.phase == phase) as (λ b. (first.phase == phase) ≡ b → In line (drop (cond b (suc (phase_run phase lines)) 0) (first ∷ lines)) → phase < line.phase) [
+    elim (first.phase == phase)
+    as (λ b. (first.phase == phase) ≡ b → In line (drop (cond b (suc (phase_run phase lines)) 0) (first ∷ lines)) → phase < line.phase) [
       | true ↦ λ is i. run_behind phase lines rising.1 (λ one other j k. ordered one other (inr j) (inr k)) (λ other j. from other (inr j)) line i
       | false ↦ λ is i.
           let lt : phase < first.phase = above first.phase phase is (from first (inl refl)) in
@@ -181,7 +191,8 @@ in_rest (first ∷ lines) zero line is = inl (cc)
 in_rest (first ∷ lines) (suc place) line is = in_rest lines place line is
 
 -- the line that is played next is of no earlier phase
-pub line_to_play : (script : Script) (records : List Record) (told place phases : ℕ) → KeepsPlaces script records told place phases → (line : Line) → slice_get script.lines place ≡ Some line → phases ≤ line.phase
+pub line_to_play : (script : Script) (records : List Record) (told place phases : ℕ) → KeepsPlaces script records told place phases → (line : Line)
+    → slice_get script.lines place ≡ Some line → phases ≤ line.phase
 line_to_play script records told place phases k line is = k.to_play line (in_rest script.lines place line is)
 
 -- the phase that is played next
@@ -189,7 +200,8 @@ record PlaysNext (lines : List Line) (place phases count : ℕ) : Type 0 where
   played : (line : Line) → In line (take (place + count) lines) → line.phase < phases + 1
   to_play : (line : Line) → In line (drop (place + count) lines) → phases + 1 ≤ line.phase
 
-plays_next : (lines : List Line) (place phases : ℕ) → AreRising lines → AreOrdered lines → ((line : Line) → In line (take place lines) → line.phase < phases) → ((line : Line) → In line (drop place lines) → phases ≤ line.phase)
+plays_next : (lines : List Line) (place phases : ℕ) → AreRising lines → AreOrdered lines
+    → ((line : Line) → In line (take place lines) → line.phase < phases) → ((line : Line) → In line (drop place lines) → phases ≤ line.phase)
     → PlaysNext lines place phases (phase_run phases (drop place lines))
 plays_next lines place phases rising ordered played to_play =
     let back = drop place lines in
@@ -203,32 +215,38 @@ plays_next lines place phases rising ordered played to_play =
         | inr now ↦ (let e = run_phase phases back line now in omega arith)
       ];
       to_play = λ line h.
-          let lt = run_behind phases back rises (λ one other j k. ordered one other (lies one j) (lies other k)) to_play line (subst (In line) (sym (drop-drop count place lines)) h) in
+          let lt = run_behind phases back rises (λ one other j k. ordered one other (lies one j) (lies other k)) to_play line
+          (subst (In line) (sym (drop-drop count place lines)) h) in
           omega arith;
     }
 
-pub all_lines : (script : Script) (records : List Record) (told place phases : ℕ) → KeepsPlaces script records told place phases → length script.lines ≤ place → all_answered (answers_of (take told records)) script.lines ≡ true
+pub all_lines : (script : Script) (records : List Record) (told place phases : ℕ) → KeepsPlaces script records told place phases
+    → length script.lines ≤ place → all_answered (answers_of (take told records)) script.lines ≡ true
 all_lines script records told place phases k le =
     let within = k.place_is in
     let same : place ≡ length script.lines = omega arith in
     let whole : take place script.lines ≡ script.lines = ap (λ n. take n script.lines) same ∙ take-length script.lines in
-    all_found (answers_of (take told records)) script.lines (λ line i. subst (In line.number) (sym (k.answered ∙ ap numbers whole)) (number_in script.lines line i))
+    all_found (answers_of (take told records)) script.lines
+    (λ line i. subst (In line.number) (sym (k.answered ∙ ap numbers whole)) (number_in script.lines line i))
 
 -- ### Progress
 
-pub goes_by_phases : (script : Script) (records : List Record) (told place phases : ℕ) → KeepsPlaces script records told place phases → GoesByPhases (progress_of script records told phases)
+pub goes_by_phases : (script : Script) (records : List Record) (told place phases : ℕ) → KeepsPlaces script records told place phases
+    → GoesByPhases (progress_of script records told phases)
 goes_by_phases script records told place phases k = record {
   legal = subst (IsLegal script) (sym (take-append-drop told records)) k.legal;
   exactly = answers_phases script.lines (take told records) place phases k.rising k.answered k.played k.to_play;
   first = first_lines script.lines (take told records) place k.rising k.answered;
 }
 
-pub start_places : (script after : Script) (records : List Record) → after ≡ script → records ≡ [] → AreRising script.lines → AreOrdered script.lines → KeepsPlaces after records 0 0 0
+pub start_places : (script after : Script) (records : List Record) → after ≡ script → records ≡ [] → AreRising script.lines → AreOrdered script.lines
+    → JoinsAnswers script → KeepsPlaces after records 0 0 0
 unfolding In
-start_places script after records same none rising ordered = rw (same, none) (record {
+start_places script after records same none rising ordered joins = rw (same, none) (record {
   legal = tt;
   rising = rising;
   ordered = ordered;
+  joins = joins;
   told_is = omega arith;
   place_is = omega arith;
   answered = refl;
@@ -238,13 +256,15 @@ start_places script after records same none rising ordered = rw (same, none) (re
 })
 
 -- records more change nothing of the phases that have ended
-places_still : (script : Script) (old new : List Record) (told place phases : ℕ) → KeepsPlaces script old told place phases → GoesOn old new → IsLegal script new → KeepsPlaces script new told place phases
+places_still : (script : Script) (old new : List Record) (told place phases : ℕ) → KeepsPlaces script old told place phases → GoesOn old new
+    → IsLegal script new → KeepsPlaces script new told place phases
 places_still script old new told place phases k on legal =
     let s = still told old new k.told_is on in
     record {
       legal = legal;
       rising = k.rising;
       ordered = k.ordered;
+      joins = k.joins;
       told_is = s.within;
       place_is = k.place_is;
       answered = ap (λ r. keys_of (answers_of r)) s.same ∙ k.answered;
@@ -253,37 +273,43 @@ places_still script old new told place phases k on legal =
       small = k.small;
     }
 
-grown : (script after : Script) (old new : List Record) (told more n m : ℕ) → GoesOn old new → IsFront (records_of (progress_of script old told n)) (records_of (progress_of after new more m))
+grown : (script after : Script) (old new : List Record) (told more n m : ℕ) → GoesOn old new
+    → IsFront (records_of (progress_of script old told n)) (records_of (progress_of after new more m))
 grown script after old new told more n m on =
     let f = goes_front old new on in
     record { behind = f.behind; is = take-append-drop more new ∙ f.is ∙ ap (λ r. r ++ f.behind) (sym (take-append-drop told old)) }
 
-abbrev pub JoinsAnswers : Script → Type 0
-JoinsAnswers script = (front back : List Record) → AreRising script.lines → IsLegal script (front ++ back) → AnsweredComeFirst script.lines front → answers_of (front ++ back) ≡ answers_of front ++ answers_of back
-
 -- the phase that ends answers the next lines
-places_more : (script : Script) (old new : List Record) (told place phases count : ℕ) → JoinsAnswers script → KeepsPlaces script old told place phases → GoesOn old new → IsLegal script new
-    → phases < 4294967296 → count ≡ phase_run phases (drop place script.lines) → keys_of (answers_of (drop told new)) ≡ numbers (take count (drop place script.lines)) → KeepsPlaces script new (length new) (place + count) (phases + 1)
-places_more script old new told place phases count joins k on legal room run exactly =
+places_more : (script : Script) (old new : List Record) (told place phases count : ℕ) → KeepsPlaces script old told place phases
+    → GoesOn old new → IsLegal script new
+    → phases < 4294967296 → count ≡ phase_run phases (drop place script.lines)
+    → keys_of (answers_of (drop told new)) ≡ numbers (take count (drop place script.lines)) → KeepsPlaces script new (length new) (place + count) (phases + 1)
+places_more script old new told place phases count k on legal room run exactly =
     let now = places_still script old new told place phases k on legal in
     let g = goes_by_phases script new told place phases now in
-    let next : PlaysNext script.lines place phases count = subst (PlaysNext script.lines place phases) (sym run) (plays_next script.lines place phases k.rising k.ordered k.played k.to_play) in
+    let next : PlaysNext script.lines place phases count =
+    subst (PlaysNext script.lines place phases) (sym run) (plays_next script.lines place phases k.rising k.ordered k.played k.to_play) in
     let split : new ≡ take told new ++ drop told new = sym (take-append-drop told new) in
-    let joined : answers_of new ≡ answers_of (take told new) ++ answers_of (drop told new) = ap answers_of split ∙ joins (take told new) (drop told new) now.rising g.legal g.first in
+    let joined : answers_of new ≡ answers_of (take told new) ++ answers_of (drop told new) = ap answers_of split
+    ∙ now.joins (take told new) (drop told new) now.rising g.legal g.first in
     record {
       legal = legal;
       rising = now.rising;
       ordered = now.ordered;
+      joins = now.joins;
       told_is = omega arith;
       place_is = omega (arith, k.place_is, run, run_within phases (drop place script.lines), length-drop place script.lines);
-      answered = ap (λ r. keys_of (answers_of r)) (take-length new) ∙ ap keys_of joined ∙ map-append (λ (row : ℕ × Answer). row.0) (answers_of (take told new)) (answers_of (drop told new))
-          ∙ (rw (now.answered, exactly) (sym (ap numbers (take-add place count script.lines) ∙ map-append (λ (line : Line). line.number) (take place script.lines) (take count (drop place script.lines)))));
+      answered = ap (λ r. keys_of (answers_of r)) (take-length new) ∙ ap keys_of joined
+          ∙ map-append (λ (row : ℕ × Answer). row.0) (answers_of (take told new)) (answers_of (drop told new))
+          ∙ (rw (now.answered, exactly) (sym (ap numbers (take-add place count script.lines)
+          ∙ map-append (λ (line : Line). line.number) (take place script.lines) (take count (drop place script.lines)))));
       played = next.played;
       to_play = next.to_play;
       small = omega (arith, room);
     }
 
-ends : (script after : Script) (old new : List Record) (told phases : ℕ) (answers : Table ℕ Answer) → told ≤ length old → GoesOn old new → answers ≡ answers_of (drop told new) → Ends (progress_of script old told phases) (progress_of after new (length new) (phases + 1)) answers
+ends : (script after : Script) (old new : List Record) (told phases : ℕ) (answers : Table ℕ Answer) → told ≤ length old → GoesOn old new
+    → answers ≡ answers_of (drop told new) → Ends (progress_of script old told phases) (progress_of after new (length new) (phases + 1)) answers
 ends script after old new told phases answers le on gave =
     let s = still told old new le on in
     record {
@@ -302,23 +328,28 @@ pub record WentOn (script after : Script) (old new : List Record) : Type 0 where
   pub on : GoesOn old new
   pub legal : IsLegal after new
 
-pub went_on : (script between after : Script) (old mid new : List Record) → between ≡ script → mid ≡ old → after ≡ between → GoesOn mid new → IsLegal after new → WentOn script after old new
-went_on script between after old mid new same stood kept on legal = record { same = kept ∙ same; on = subst (λ (r : List Record). GoesOn r new) stood on; legal = legal }
+pub went_on : (script between after : Script) (old mid new : List Record) → between ≡ script → mid ≡ old → after ≡ between → GoesOn mid new
+    → IsLegal after new → WentOn script after old new
+went_on script between after old mid new same stood kept on legal =
+    record { same = kept ∙ same; on = subst (λ (r : List Record). GoesOn r new) stood on; legal = legal }
 
 pub stood_still : (script after : Script) (old new : List Record) → after ≡ script → new ≡ old → IsLegal script old → WentOn script after old new
 stood_still script after old new same stood legal = rw (same, stood) (record { same = refl; on = λ front f. f; legal = legal })
 
-module _ (script after : Script) (old new : List Record) (told place phases : ℕ) (k : KeepsPlaces script old told place phases) (w : WentOn script after old new) where
+module _ (script after : Script) (old new : List Record) (told place phases : ℕ) (k : KeepsPlaces script old told place phases)
+    (w : WentOn script after old new) where
   still_legal : IsLegal script new
   still_legal = subst (λ (s : Script). IsLegal s new) w.same w.legal
 
   pub kept : KeepsPlaces after new told place phases
   kept = subst (λ (s : Script). KeepsPlaces s new told place phases) (sym w.same) (places_still script old new told place phases k w.on still_legal)
 
-  pub kept_next : (n count : ℕ) → n ≡ length new → JoinsAnswers script → phases < 4294967296 → count ≡ phase_run phases (drop place script.lines) → keys_of (answers_of (drop told new)) ≡ numbers (take count (drop place script.lines)) → KeepsPlaces after new n (place + count) (phases + 1)
-  kept_next n count all joins room run exactly =
+  pub kept_next : (n count : ℕ) → n ≡ length new → phases < 4294967296 → count ≡ phase_run phases (drop place script.lines)
+      → keys_of (answers_of (drop told new)) ≡ numbers (take count (drop place script.lines)) → KeepsPlaces after new n (place + count) (phases + 1)
+  kept_next n count all room run exactly =
       subst (λ (s : Script). KeepsPlaces s new n (place + count) (phases + 1)) (sym w.same)
-      (subst (λ (m : ℕ). KeepsPlaces script new m (place + count) (phases + 1)) (sym all) (places_more script old new told place phases count joins k w.on still_legal room run exactly))
+      (subst (λ (m : ℕ). KeepsPlaces script new m (place + count) (phases + 1)) (sym all)
+      (places_more script old new told place phases count k w.on still_legal room run exactly))
 
   module _ (before : Progress) (view : progress_of script old told phases ≡ before) where
     pub grows : (n m : ℕ) → IsFront (records_of before) (records_of (progress_of after new n m))
@@ -327,7 +358,9 @@ module _ (script after : Script) (old new : List Record) (told place phases : �
     pub told_stays : take told new ≡ before.ended
     told_stays = (still told old new k.told_is w.on).same ∙ ap (λ (p : Progress). p.ended) view
 
-    pub ends_next : (n : ℕ) (answers : Table ℕ Answer) → n ≡ length new → answers ≡ answers_of (drop told new) → Ends before (progress_of after new n (phases + 1)) answers
+    pub ends_next : (n : ℕ) (answers : Table ℕ Answer) → n ≡ length new → answers ≡ answers_of (drop told new)
+        → Ends before (progress_of after new n (phases + 1)) answers
     ends_next n answers all gave =
         subst (λ (p : Progress). Ends p (progress_of after new n (phases + 1)) answers) view
-        (subst (λ (m : ℕ). Ends (progress_of script old told phases) (progress_of after new m (phases + 1)) answers) (sym all) (ends script after old new told phases answers k.told_is w.on gave))
+        (subst (λ (m : ℕ). Ends (progress_of script old told phases) (progress_of after new m (phases + 1)) answers) (sym all)
+        (ends script after old new told phases answers k.told_is w.on gave))

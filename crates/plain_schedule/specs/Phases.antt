@@ -1,18 +1,12 @@
 -- A script that is played phase by phase.
-use Rattle.std.specs.Prelude.{◌≡◌, ℕ, ◌+◌, nat_lt, List, [], ◌++◌}
+use Rattle.std.specs.Prelude.{◌≡◌, ℕ, ◌+◌, List, [], ◌++◌}
 use Rattle.petal_table.specs.Table.{Table}
 use Rattle.script_lines.specs.declared.answer.Answer.{Answer}
-use Rattle.script_lines.specs.declared.request.Line.{Line}
 use Rattle.script_lines.specs.declared.script.Script.{Script}
-use Rattle.petal_rules.specs.Lists.{In}
 use Rattle.petal_history.specs.Legal.{IsLegal}
 use Rattle.petal_history.specs.Text.{answers_of}
 use Rattle.petal_history.specs.declared.record.Record.{Record}
-use Rattle.petal_history.specs.Order.{AnsweredComeFirst, is_answered}
-
--- the records answer each line of the first so many phases, and no line of a later one
-abbrev pub AnswersPhases : ℕ → List Line → List Record → Type 0
-AnswersPhases phases lines records = (line : Line) → In line lines → is_answered records line.number ≡ nat_lt line.phase phases
+use Rattle.petal_history.specs.Order.{AnsweredComeFirst, AnswersPhases}
 
 -- the script, how many of its phases have ended, their records, and the records since
 pub record Progress : Type 0 where

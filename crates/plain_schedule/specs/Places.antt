@@ -8,7 +8,7 @@ use Rattle.petal_history.specs.Text.{answers_of}
 use Rattle.petal_history.specs.declared.record.Record.{Record}
 use Rattle.petal_rules.specs.Lists.{In}
 use Rattle.world_desks.specs.Playable.{AreOrdered}
-use Rattle.petal_history.specs.Order.{AreRising, IsFront}
+use Rattle.petal_history.specs.Order.{AreRising, IsFront, JoinsAnswers}
 use Rattle.plain_schedule.specs.Phases.{Progress}
 
 abbrev pub numbers : List Line → List ℕ
@@ -29,6 +29,7 @@ pub record KeepsPlaces (script : Script) (records : List Record) (told place pha
   pub legal : IsLegal script records
   pub rising : AreRising script.lines
   pub ordered : AreOrdered script.lines
+  pub joins : JoinsAnswers script
   pub told_is : told ≤ length records
   pub place_is : place ≤ length script.lines
   pub answered : keys_of (answers_of (take told records)) ≡ numbers (take place script.lines)

@@ -3,7 +3,7 @@
 ghost use Rattle.std.specs.Prelude.{◌≡◌, ◌+◌, ◌≤◌, ◌<◌, [], true, false, length, take, drop, IfOk, OnErr, IfSome, IfNone};
 ghost use Rattle.std.specs.Map.{keys_of};
 ghost use Rattle.petal_history.specs.Legal.{IsLegal};
-ghost use Rattle.petal_history.specs.Order.{AreRising, IsFront, all_answered};
+ghost use Rattle.petal_history.specs.Order.{AreRising, IsFront, JoinsAnswers, all_answered};
 ghost use Rattle.petal_history.specs.Sound.{IsSound};
 ghost use Rattle.petal_history.specs.Text.{answers_of};
 ghost use Rattle.world_desks.specs.Playable.{AreOrdered};
@@ -12,7 +12,6 @@ ghost use Rattle.plain_schedule.specs.Places.{GoesOn, numbers, phase_run, progre
 
 use crate::answers::Answers;
 use crate::schedule::Schedule;
-use law_answers::phases_come_one_after_the_other;
 use petal_base::NoMemory;
 use petal_history::History;
 use script_lines::{Line, Script};
@@ -124,6 +123,7 @@ impl Playing {
         requires sound { IsSound script }
         requires ordered { AreOrdered script.lines }
         requires rising { AreRising script.lines }
+        requires joins { JoinsAnswers script }
         ensures start { IfOk result (λ playing. playing ≡ record { script = script; phases = 0; ended = []; since = [] }) }
         ensures by_phases { IfOk result (λ playing. GoesByPhases playing) }
     {
@@ -160,7 +160,6 @@ impl Playing {
         ensures ends { IfOk result (λ answers. Ends self.old self.new answers) }
         ensures no_memory { OnErr result (self.new.ended ≡ self.old.ended) }
     {
-        phases_come_one_after_the_other();
         let lines = self.schedule.world.script().lines.as_slice();
         let count = lines_of_phase(&lines[self.place..], self.phase);
         self.schedule.begin(self.phase as u32, count)?;

@@ -1,5 +1,6 @@
 -- Lists with their length before them and zeros behind them.
-use Rattle.std.proofs.Common.{◌≡◌, ℕ, ◌+◌, ◌-◌, ◌≤◌, List, [], ◌∷◌, ◌++◌, length, take, drop, replicate, get_or, refl, ap, sym, ◌∙◌, append_assoc, arith, add-zero, length-append}
+use Rattle.std.proofs.Common.{◌≡◌, ℕ, ◌+◌, ◌-◌, ◌≤◌, List, [], ◌∷◌, ◌++◌, length, take, drop, replicate, get_or, refl, ap, sym}
+use Rattle.std.proofs.Common.{◌∙◌, append_assoc, arith, add-zero, length-append}
 use Rattle.std.proofs.lemmas.List.{take_at, drop_at, drop-drop, get_or-drop, length-replicate}
 use Rattle.record_fields.specs.Fields.{padded}
 
@@ -12,7 +13,8 @@ pub padded-length : (room : ℕ) (xs rest : List ℕ) (bytes : List ℕ) (at : �
 unfolding padded
 padded-length room xs rest bytes at is = ap (λ n. get_or bytes n 0) (sym (add-zero at)) ∙ sym (get_or-drop at bytes 0 0) ∙ ap (λ (l : List ℕ). get_or l 0 0) is
 
-pub padded-items : (room : ℕ) (xs rest : List ℕ) (bytes : List ℕ) (at : ℕ) → drop at bytes ≡ padded room xs ++ rest → take (length xs) (drop (at + 1) bytes) ≡ xs
+pub padded-items : (room : ℕ) (xs rest : List ℕ) (bytes : List ℕ) (at : ℕ) → drop at bytes ≡ padded room xs ++ rest
+    → take (length xs) (drop (at + 1) bytes) ≡ xs
 unfolding padded
 padded-items room xs rest bytes at is =
     ap (take (length xs)) (sym (drop-drop 1 at bytes) ∙ ap (λ (l : List ℕ). drop 1 l) is ∙ append_assoc xs (replicate (room - length xs) 0) rest)
@@ -21,7 +23,8 @@ padded-items room xs rest bytes at is =
 -- what follows a padded list
 pub padded-behind : (room : ℕ) (xs rest : List ℕ) → length xs ≤ room → drop (room + 1) (padded room xs ++ rest) ≡ rest
 unfolding padded
-padded-behind room xs rest fits = drop_at (padded room xs) rest (room + 1) (omega (arith, length-append xs (replicate (room - length xs) 0), length-replicate {A = ℕ} (room - length xs) 0))
+padded-behind room xs rest fits =
+    drop_at (padded room xs) rest (room + 1) (omega (arith, length-append xs (replicate (room - length xs) 0), length-replicate {A = ℕ} (room - length xs) 0))
 
 pub padded-total : (room : ℕ) (xs : List ℕ) → length xs ≤ room → length (padded room xs) ≡ room + 1
 unfolding padded

@@ -1,5 +1,6 @@
 -- The first key that is left, by block and of one block by falling epoch, is found among the entries in their order.
-use Rattle.std.proofs.Common.{◌≡◌, ◌⊎◌, inl, inr, ℕ, ◌<◌, ◌-◌, ◌==◌, ◌&&◌, Bool, true, false, cond, List, [], ◌∷◌, filter, map, find, option_map, Option, Some, None, refl, sym, subst, ap, ◌∙◌, arith}
+use Rattle.std.proofs.Common.{◌≡◌, ◌⊎◌, inl, inr, ℕ, ◌<◌, ◌-◌, ◌==◌, ◌&&◌, Bool, true, false, cond, List, [], ◌∷◌, filter, map, find}
+use Rattle.std.proofs.Common.{option_map, Option, Some, None, refl, sym, subst, ap, ◌∙◌, arith}
 use Rattle.std.proofs.lemmas.Bool.{cases_Bool}
 use Rattle.std.proofs.lemmas.Bool.Decides.{nat_tests}
 use Rattle.std.specs.Prelude.{if◌then◌else◌}
@@ -132,14 +133,16 @@ module _ (state : State) (row : LinkRow) (region : ℕ) (last : Option Key) wher
   no_more : (cell : Cell) (k l : Key) → key_below k (first_of cell) ≡ false → in_cell cell k ≡ false → key_below k l ≡ true → in_cell cell l ≡ false
   no_more cell k l from out rises = grind (arith, nat_tests)
 
-  none_later : (cell : Cell) (k : Key) (ks : List Key) → key_below k (first_of cell) ≡ false → in_cell cell k ≡ false → IsAbove own k ks → last_in cell ks ≡ None
+  none_later : (cell : Cell) (k : Key) (ks : List Key) → key_below k (first_of cell) ≡ false → in_cell cell k ≡ false
+      → IsAbove own k ks → last_in cell ks ≡ None
   none_later cell k [] from out above = refl
   none_later cell k (x ∷ xs) from out above = last_other cell x xs (no_more cell k x from out above.0) ∙ none_later cell k xs from out above.1
 
   past_block : (cell : Cell) (k : Key) → key_below k (first_of cell) ≡ false → in_cell cell k ≡ false → k.map ≡ cell.map → cell.block < k.block
   past_block cell k from out same = grind (arith, nat_tests, same)
 
-  past_later : (cell : Cell) (k l : Key) → key_below k (first_of cell) ≡ false → in_cell cell k ≡ false → key_below k l ≡ true → l.map ≡ cell.map → cell.block < l.block
+  past_later : (cell : Cell) (k l : Key) → key_below k (first_of cell) ≡ false → in_cell cell k ≡ false → key_below k l ≡ true
+      → l.map ≡ cell.map → cell.block < l.block
   past_later cell k l from out rises same = grind (arith, nat_tests, same)
 
   left_map : (cell : Cell) (k : Key) → keep cell ≡ true → left k ≡ true → k.map ≡ cell.map
@@ -203,7 +206,8 @@ module _ (state : State) (row : LinkRow) (region : ℕ) (last : Option Key) wher
             )
       ]
 
-  split_same : (cell : Cell) (x : Key) (xs : List Key) → last_in cell (x ∷ xs) ≡ last_in cell xs → ruled (x ∷ xs) ≡ ruled xs → Split cell xs → Split cell (x ∷ xs)
+  split_same : (cell : Cell) (x : Key) (xs : List Key) → last_in cell (x ∷ xs) ≡ last_in cell xs → ruled (x ∷ xs) ≡ ruled xs
+      → Split cell xs → Split cell (x ∷ xs)
   split_same cell x xs lasts rules rest = elim rest [
     | inl none ↦ inl ((lasts ∙ none.0), λ j is. none.1 j (sym rules ∙ is))
     | inr some ↦ inr (some.0, (lasts ∙ some.1), (rules ∙ some.2))
@@ -263,7 +267,8 @@ module _ (state : State) (row : LinkRow) (region : ℕ) (last : Option Key) wher
   found_more x xs None lacks is = refl
   found_more x xs (Some f) lacks is = more x f xs lacks (found_has xs f is)
 
-  first_split : (x : Key) (xs : List Key) → left x ≡ true → Split (cell_of x) (x ∷ xs) → in_cell (cell_of x) x ≡ true → ruled (x ∷ xs) ≡ last_in (cell_of x) (x ∷ xs)
+  first_split : (x : Key) (xs : List Key) → left x ≡ true → Split (cell_of x) (x ∷ xs) → in_cell (cell_of x) x ≡ true
+      → ruled (x ∷ xs) ≡ last_in (cell_of x) (x ∷ xs)
   first_split x xs has parts here =
       let next = both_second (keep (cell_of x)) (comes_next region last x) has in
       let lasts : last_in (cell_of x) (x ∷ xs) ≡ or_key (last_in (cell_of x) xs) true x =

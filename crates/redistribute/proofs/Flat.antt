@@ -1,5 +1,6 @@
 -- The keys of chains, and the first that is dead, as those of the entries in their order.
-use Rattle.std.proofs.Common.{◌≡◌, ℕ, Bool, true, false, not, cond, List, [], ◌∷◌, ◌++◌, filter, map, find, Option, Some, None, refl, sym, ap, ◌∙◌, inl, inr}
+use Rattle.std.proofs.Common.{◌≡◌, ℕ, Bool, true, false, not, cond, List, [], ◌∷◌, ◌++◌, filter, map, find, Option, Some}
+use Rattle.std.proofs.Common.{None, refl, sym, ap, ◌∙◌, inl, inr}
 use Rattle.std.proofs.lemmas.Bool.{cases_Bool}
 use Rattle.std.proofs.lemmas.List.Concat.{flat_map-cons}
 use Rattle.std.specs.Prelude.{if◌then◌else◌}
@@ -42,7 +43,8 @@ module _ (keep : Cell → Bool) where
   flat_front [] c row = elim (keep c) as (λ b. cond b ((key_at c row.0 ∷ []) ++ []) [] ≡ cond b (key_at c row.0 ∷ []) []) [ true ↦ refl | false ↦ refl ]
   flat_front (r ∷ rs) c row =
       elim (cell_cmp c r.0) as (λ o. cell_cmp c r.0 ≡ o
-      → flat (match_ordering o ((c, row ∷ []) ∷ r ∷ rs) ((r.0, row ∷ r.1) ∷ rs) ((c, row ∷ []) ∷ r ∷ rs)) ≡ (if keep c then key_at c row.0 ∷ flat (r ∷ rs) else flat (r ∷ rs))) [
+      → flat (match_ordering o ((c, row ∷ []) ∷ r ∷ rs) ((r.0, row ∷ r.1) ∷ rs) ((c, row ∷ []) ∷ r ∷ rs))
+      ≡ (if keep c then key_at c row.0 ∷ flat (r ∷ rs) else flat (r ∷ rs))) [
         | Less ↦ λ _. refl
         | Equal ↦ λ tie.
             more_if (keep r.0) (key_at r.0 row.0) (keys_of r) (flat rs)

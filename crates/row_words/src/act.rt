@@ -153,6 +153,7 @@ fn armed<'a>(who: &str, which: &str, kind: &str, at: &str, stop: bool) -> Result
         kind: calls(kind, 4)?,
         at: number(at, 5)?,
         stop,
+        late: false,
     };
     Ok(Act::Arm(server(who, 1)?, device(which, 3)?, Some(plan)))
 }

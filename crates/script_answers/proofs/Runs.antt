@@ -1,5 +1,6 @@
 -- The first of the runs of some bytes.
-use Rattle.std.proofs.Common.{◌≡◌, ◌≢◌, ℕ, zero, suc, ◌+◌, ◌<◌, ◌==◌, false, List, [], ◌∷◌, length, drop, get_or, refl, ap, sym, subst, ◌∙◌, arith, inl, inr, replicate, ◌++◌}
+use Rattle.std.proofs.Common.{◌≡◌, ◌≢◌, ℕ, zero, suc, ◌+◌, ◌<◌, ◌==◌, false, List, [], ◌∷◌, length, drop, get_or, refl, ap}
+use Rattle.std.proofs.Common.{sym, subst, ◌∙◌, arith, inl, inr, replicate, ◌++◌}
 use Rattle.std.proofs.lemmas.Bool.{cases_eq, eq-eqb, ne_eqb}
 use Rattle.std.specs.List.{prefix_len, flat_map}
 use Rattle.script_lines.specs.Contents.{runs, onto_run, run_bytes, AreLongest}
@@ -37,14 +38,16 @@ lengthens b n rs = rw (eq-eqb b b refl) refl
 begins : (b c n : ℕ) (rs : List Run) → c ≢ b → onto_run b (run_of c n ∷ rs) ≡ run_of b 1 ∷ run_of c n ∷ rs
 begins b c n rs ne = rw (ne_eqb c b ne) refl
 
-runs_same : (b : ℕ) (cs : List ℕ) → runs (b ∷ cs) ≡ front_run b (b ∷ cs) ∷ later_runs b (b ∷ cs) → runs (b ∷ b ∷ cs) ≡ front_run b (b ∷ b ∷ cs) ∷ later_runs b (b ∷ b ∷ cs)
+runs_same : (b : ℕ) (cs : List ℕ) → runs (b ∷ cs) ≡ front_run b (b ∷ cs) ∷ later_runs b (b ∷ cs)
+    → runs (b ∷ b ∷ cs) ≡ front_run b (b ∷ b ∷ cs) ∷ later_runs b (b ∷ b ∷ cs)
 runs_same b cs rest =
     runs-cons b (b ∷ cs)
     ∙ ap (onto_run b) rest
     ∙ lengthens b (prefix_len (λ x. x == b) (b ∷ cs)) (later_runs b (b ∷ cs))
     ∙ joins b (prefix_len (λ x. x == b) (b ∷ cs)) (prefix_len (λ x. x == b) (b ∷ b ∷ cs)) (b ∷ cs) (prefix_yes b (b ∷ cs))
 
-runs_apart : (b c : ℕ) (cs : List ℕ) → c ≢ b → runs (c ∷ cs) ≡ front_run c (c ∷ cs) ∷ later_runs c (c ∷ cs) → runs (b ∷ c ∷ cs) ≡ front_run b (b ∷ c ∷ cs) ∷ later_runs b (b ∷ c ∷ cs)
+runs_apart : (b c : ℕ) (cs : List ℕ) → c ≢ b → runs (c ∷ cs) ≡ front_run c (c ∷ cs) ∷ later_runs c (c ∷ cs)
+    → runs (b ∷ c ∷ cs) ≡ front_run b (b ∷ c ∷ cs) ∷ later_runs b (b ∷ c ∷ cs)
 runs_apart b c cs ne rest =
     let one : prefix_len (λ x. x == b) (b ∷ c ∷ cs) ≡ 1 = prefix_yes b (c ∷ cs) ∙ ap suc (prefix_no b c cs ne) in
     let P : ℕ → Type 0 = λ k. runs (b ∷ c ∷ cs) ≡ run_of b k ∷ runs (drop k (b ∷ c ∷ cs)) in
@@ -62,7 +65,8 @@ runs_one b = rw (eq-eqb b b refl) refl
 runs_from : (b : ℕ) (bs : List ℕ) → runs (b ∷ bs) ≡ front_run b (b ∷ bs) ∷ later_runs b (b ∷ bs)
 runs_from b [] = runs_one b
 runs_from b (c ∷ cs) = elim (cases_eq c b) [
-  | inl e ↦ (let P : ℕ → Type 0 = λ d. runs (b ∷ d ∷ cs) ≡ front_run b (b ∷ d ∷ cs) ∷ later_runs b (b ∷ d ∷ cs) in subst P (sym e) (runs_same b cs (runs_from b cs)))
+  | inl e ↦ (let P : ℕ → Type 0 = λ d. runs (b ∷ d ∷ cs) ≡ front_run b (b ∷ d ∷ cs) ∷ later_runs b (b ∷ d ∷ cs) in
+      subst P (sym e) (runs_same b cs (runs_from b cs)))
   | inr ne ↦ runs_apart b c cs ne (runs_from c cs)
 ]
 

@@ -4,7 +4,8 @@ use Rattle.std.proofs.lemmas.Bool.{cases_eq, eq-eqb, ne_eqb}
 use Rattle.std.specs.List.{concat, onto_first}
 use Rattle.script_words.specs.Text.{pieces}
 
-pub pieces_at : (i : ℕ) (text : List ℕ) → ((k : ℕ) → k < i → get_or text k 0 ≢ 10) → i < length text → get_or text i 0 ≡ 10 → pieces text ≡ take (suc i) text ∷ pieces (drop (suc i) text)
+pub pieces_at : (i : ℕ) (text : List ℕ) → ((k : ℕ) → k < i → get_or text k 0 ≢ 10) → i < length text → get_or text i 0 ≡ 10
+    → pieces text ≡ take (suc i) text ∷ pieces (drop (suc i) text)
 pieces_at i [] none room is = absurd (omega arith)
 pieces_at zero (b ∷ bs) none room is = rw is refl
 pieces_at (suc i) (b ∷ bs) none room is =

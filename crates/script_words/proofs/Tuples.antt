@@ -1,5 +1,6 @@
 -- A tuple is read word by word: what is known of the numbers so far, and what it comes to at the end.
-use Rattle.std.proofs.Common.{◌≡◌, ℕ, ◌<◌, ◌≤◌, Bool, true, false, ◌&&◌, nat_lt, nat_le, List, [], ◌∷◌, ◌++◌, length, refl, ap, sym, subst, ◌∙◌, arith, append_assoc, Option, Some, None, ◌⊎◌, inl, inr, length-append}
+use Rattle.std.proofs.Common.{◌≡◌, ℕ, ◌<◌, ◌≤◌, Bool, true, false, ◌&&◌, nat_lt, nat_le, List, [], ◌∷◌, ◌++◌, length, refl, ap, sym, subst, ◌∙◌}
+use Rattle.std.proofs.Common.{arith, append_assoc, Option, Some, None, ◌⊎◌, inl, inr, length-append}
 use Rattle.std.proofs.lemmas.List.Folds.{list_all-append}
 use Rattle.std.specs.List.{list_all}
 use Rattle.petal_base.specs.Tuple.{is_tuple, distinct}
@@ -64,13 +65,15 @@ too_long servers n ns more much =
     ap (λ b. ((nat_le 2 (length (ns ++ n ∷ more)) && b) && list_all (λ m. nat_lt m servers && nat_lt m 8) (ns ++ n ∷ more)) && distinct (ns ++ n ∷ more)) above
     ∙ and_long (nat_le 2 (length (ns ++ n ∷ more))) (list_all (λ m. nat_lt m servers && nat_lt m 8) (ns ++ n ∷ more)) (distinct (ns ++ n ∷ more))
 
-read_on : (ns : List ℕ) (n : ℕ) (word : Word) (all rest : List Word) → numbers_of all ≡ glue ns (numbers_of (word ∷ rest)) → number_of word ≡ Some n → numbers_of all ≡ glue (ns ++ n ∷ []) (numbers_of rest)
+read_on : (ns : List ℕ) (n : ℕ) (word : Word) (all rest : List Word) → numbers_of all ≡ glue ns (numbers_of (word ∷ rest)) → number_of word ≡ Some n
+    → numbers_of all ≡ glue (ns ++ n ∷ []) (numbers_of rest)
 read_on ns n word all rest read is = read ∙ ap (λ o. glue ns (cons_number o (numbers_of rest))) is ∙ glue_more ns n (numbers_of rest)
 
 regrouped : (servers n : ℕ) (ns more : List ℕ) → is_tuple servers (ns ++ n ∷ more) ≡ false → is_tuple servers ((ns ++ n ∷ []) ++ more) ≡ false
 regrouped servers n ns more is = let P : List ℕ → Type 0 = λ ms. is_tuple servers ms ≡ false in subst P (sym (append_assoc ns (n ∷ []) more)) is
 
-pub goes_right : (servers : ℕ) (all rest : List Word) (ids : List ℕ) (fits : Bool) (word : Word) (n : ℕ) → SoFar servers all (word ∷ rest) ids fits → number_of word ≡ Some n → SoFar servers all rest (ids ++ n ∷ []) fits
+pub goes_right : (servers : ℕ) (all rest : List Word) (ids : List ℕ) (fits : Bool) (word : Word) (n : ℕ) → SoFar servers all (word ∷ rest) ids fits
+    → number_of word ≡ Some n → SoFar servers all rest (ids ++ n ∷ []) fits
 goes_right servers all rest ids fits word n so is = record {
   ns = so.ns ++ n ∷ [];
   read = read_on so.ns n word all rest so.read is;
@@ -78,12 +81,15 @@ goes_right servers all rest ids fits word n so is = record {
   unfit = λ e more. regrouped servers n so.ns more (so.unfit e (n ∷ more));
 }
 
-unfit_by : (servers n : ℕ) (ns ids more : List ℕ) (fits : Bool) → (fits ≡ true → ids ≡ ns) → (fits ≡ false → (others : List ℕ) → is_tuple servers (ns ++ others) ≡ false) → Unfit n ids → is_tuple servers (ns ++ n ∷ more) ≡ false
+unfit_by : (servers n : ℕ) (ns ids more : List ℕ) (fits : Bool) → (fits ≡ true → ids ≡ ns)
+    → (fits ≡ false → (others : List ℕ) → is_tuple servers (ns ++ others) ≡ false) → Unfit n ids → is_tuple servers (ns ++ n ∷ more) ≡ false
 unfit_by servers n ns ids more false same unfit why = unfit refl (n ∷ more)
 unfit_by servers n ns ids more true same unfit (inl much) = too_great servers n ns more much
-unfit_by servers n ns ids more true same unfit (inr much) = let P : List ℕ → Type 0 = λ ms. 8 ≤ length ms in too_long servers n ns more (subst P (same refl) much)
+unfit_by servers n ns ids more true same unfit (inr much) = let P : List ℕ → Type 0 = λ ms. 8 ≤ length ms in
+    too_long servers n ns more (subst P (same refl) much)
 
-pub goes_wrong : (servers : ℕ) (all rest : List Word) (ids : List ℕ) (fits : Bool) (word : Word) (n : ℕ) → SoFar servers all (word ∷ rest) ids fits → number_of word ≡ Some n → Unfit n ids → SoFar servers all rest ids false
+pub goes_wrong : (servers : ℕ) (all rest : List Word) (ids : List ℕ) (fits : Bool) (word : Word) (n : ℕ) → SoFar servers all (word ∷ rest) ids fits
+    → number_of word ≡ Some n → Unfit n ids → SoFar servers all rest ids false
 goes_wrong servers all rest ids fits word n so is why = record {
   ns = so.ns ++ n ∷ [];
   read = read_on so.ns n word all rest so.read is;

@@ -43,7 +43,8 @@ later_parts p (b ∷ bs) =
 keeps_first : (word : List ℕ) (words : List (List ℕ)) → 0 < length word → filter has_bytes (word ∷ words) ≡ word ∷ filter has_bytes words
 keeps_first word words some = let other : length word ≢ 0 = omega arith in rw (ne_eqb (length word) 0 other) refl
 
-pub first_of_words : (p : ℕ → Bool) (line : List ℕ) → prefix_len p line ≡ 0 → 0 < length line → words_by p line ≡ take (position_or_len p line) line ∷ words_by p (drop (position_or_len p line) line)
+pub first_of_words : (p : ℕ → Bool) (line : List ℕ) → prefix_len p line ≡ 0 → 0 < length line
+    → words_by p line ≡ take (position_or_len p line) line ∷ words_by p (drop (position_or_len p line) line)
 first_of_words p [] none some = absurd (omega arith)
 first_of_words p (b ∷ bs) none some =
     let n : ℕ = position_or_len p (b ∷ bs) in
@@ -56,7 +57,10 @@ first_of_words p (b ∷ bs) none some =
 pub length-words : (p : ℕ → Bool) (line : List ℕ) → prefix_len p line ≡ 0 → (length (words_by p line) == 0) ≡ (length line == 0)
 length-words p [] none = refl
 length-words p (b ∷ bs) none =
-    let first : words_by p (b ∷ bs) ≡ take (position_or_len p (b ∷ bs)) (b ∷ bs) ∷ words_by p (drop (position_or_len p (b ∷ bs)) (b ∷ bs)) = first_of_words p (b ∷ bs) none (omega arith) in
-    let some : length (words_by p (b ∷ bs)) ≢ 0 = (λ e. let f : length (take (position_or_len p (b ∷ bs)) (b ∷ bs) ∷ words_by p (drop (position_or_len p (b ∷ bs)) (b ∷ bs))) ≡ 0 = sym (ap length first) ∙ e in omega arith) in
+    let first : words_by p (b ∷ bs) ≡ take (position_or_len p (b ∷ bs)) (b ∷ bs) ∷ words_by p (drop (position_or_len p (b ∷ bs)) (b ∷ bs)) =
+    first_of_words p (b ∷ bs) none (omega arith) in
+    let some : length (words_by p (b ∷ bs)) ≢ 0 =
+    (λ e. let f : length (take (position_or_len p (b ∷ bs)) (b ∷ bs) ∷ words_by p (drop (position_or_len p (b ∷ bs)) (b ∷ bs))) ≡ 0 =
+    sym (ap length first) ∙ e in omega arith) in
     let more : length (b ∷ bs) ≢ 0 = omega arith in
     ne_eqb (length (words_by p (b ∷ bs))) 0 some ∙ sym (ne_eqb (length (b ∷ bs)) 0 more)

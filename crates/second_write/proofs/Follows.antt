@@ -35,14 +35,16 @@ replicated number = record { op = number; far = far.Replicated }
 abbrev pub follows_in : Here → Own → ℕ → Key → List ℕ → Cell → Done
 follows_in here own number key bytes cell =
     says_to
-    (with_last (record own { store = with_entry own.store key (record { version = version_of (chain_in own.store.chains cell) + 1; bytes = bytes }) }) cell number far.Replicated)
+    (with_last (record own { store = with_entry own.store key (record { version = version_of (chain_in own.store.chains cell) + 1; bytes = bytes }) })
+    cell number far.Replicated)
     (first here.state cell) (body.Replicated number cell)
 
 module _ {D : Type 0} (here : Here) (side : Side) (store : Holdings D) (cell : Cell) (number : ℕ) (h : HasTicketsAt side store) where
   pub again_is : (last : Table Cell LastOp) (done : Left) → needs_apart (at cell_cmp side.last cell) ≡ true
       → last ≡ put cell_cmp side.last cell (reserved number)
       → IsSaid here side side store store (Ok done) (tells here (own_of side store) cell number far.Reserved)
-      → IsSaid here side (record side { last = last }) store store (Ok done) (tells here (with_last (own_of side store) cell number far.Reserved) cell number far.Reserved)
+      → IsSaid here side (record side { last = last }) store store (Ok done)
+      (tells here (with_last (own_of side store) cell number far.Reserved) cell number far.Reserved)
   again_is last done has table said =
       rw table (record {
         done = record { own = refl; letters = said.done.letters; jobs = said.done.jobs };
@@ -65,7 +67,12 @@ module _ {D : Type 0} (here : Here) (side : Side) (store : Holdings D) (cell : C
   anew_is last apart after letters room has free kept table said =
       rw (free, table, said, kept.table, kept.store) (record {
         done = record {
-          own = ap (λ (s : Store). record { pairs = pairs_of (record side { last = put cell_cmp side.last cell (reserved number) }); copies = side.copies; filled = side.filled; store = s })
+          own = ap (λ (s : Store). record {
+            pairs = pairs_of (record side { last = put cell_cmp side.last cell (reserved number) });
+            copies = side.copies;
+            filled = side.filled;
+            store = s;
+          })
               (tickets.kept_is store _ kept.slot refl);
           letters = refl;
           jobs = refl;
@@ -88,7 +95,12 @@ module _ {D : Type 0} (here : Here) (side : Side) (store : Holdings D) (cell : C
       → IsBy here (own_of (record side { last = last; apart = apart }) after) done (follows_in here (own_of side store) number key bytes cell)
   follows_done key bytes last apart after version done table counted kept said =
       rw (table, said) (record {
-        own = ap (λ (s : Store). record { pairs = pairs_of (record side { last = put cell_cmp side.last cell (replicated number) }); copies = side.copies; filled = side.filled; store = s })
+        own = ap (λ (s : Store). record {
+          pairs = pairs_of (record side { last = put cell_cmp side.last cell (replicated number) });
+          copies = side.copies;
+          filled = side.filled;
+          store = s;
+        })
             (kept ∙ ap (λ (v : ℕ). with_entry (store_of store) key (record { version = v; bytes = bytes })) counted);
         letters = refl;
         jobs = refl;

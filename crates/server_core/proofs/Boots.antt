@@ -1,5 +1,6 @@
 -- A boot is the rule's.
-use Rattle.std.proofs.Common.{◌≡◌, ◌⊎◌, ◌≤◌, ◌<◌, ◌==◌, nat_lt, Ok, ℕ, ◌+◌, Bool, false, List, [], ◌∷◌, length, length-append, if◌then◌else◌, inl, inr, refl, sym, ap, subst, ◌∙◌, arith}
+use Rattle.std.proofs.Common.{◌≡◌, ◌⊎◌, ◌≤◌, ◌<◌, ◌==◌, nat_lt, Ok, ℕ, ◌+◌, Bool, false, List, [], ◌∷◌, length, length-append}
+use Rattle.std.proofs.Common.{if◌then◌else◌, inl, inr, refl, sym, ap, subst, ◌∙◌, arith}
 use Rattle.std.proofs.lemmas.Bool.Decides.{nat_tests}
 use Rattle.log_side.proofs.States.{rev_counts}
 use Rattle.log_side.specs.Done.{HoldsAt}

@@ -27,6 +27,7 @@ no_value (Ok x) value is e = absurd (cc)
 no_value (Err x) value is e = absurd (cc)
 
 -- the same of what holds for each value of a variable
-pub of_all : {A E X : Type 0} (Q : X → A → Type 0) (P : A → Type 0) → ((a : A) → ((x : X) → Q x a) → P a) → (result : Result A E) → ((x : X) → IfOk result (Q x)) → IfOk result P
+pub of_all : {A E X : Type 0} (Q : X → A → Type 0) (P : A → Type 0) → ((a : A) → ((x : X) → Q x a) → P a) → (result : Result A E)
+    → ((x : X) → IfOk result (Q x)) → IfOk result P
 of_all Q P each (Ok a) holds = each a holds
 of_all Q P each (Err e) holds = tt

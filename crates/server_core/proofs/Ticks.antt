@@ -39,7 +39,8 @@ tick_sent who b p k a ballot pending copies all first second third last =
 -- all letters of a tick
 pub tick_all : (core : Core) (store : Store) (records : List StateRecord) (ballot pending copies all : List Letter)
     → ballot ≡ letters_of (sender_of core.log) 0 (ballot_posts core.log.voter core.log.phase)
-    → ((own : Own) → pending ≡ ballot ++ letters_of (sender (here_in core)) (length ballot) (flat_map (λ row. sent_anew (here_in core) own row.1) core.side.pending))
+    → ((own : Own)
+    → pending ≡ ballot ++ letters_of (sender (here_in core)) (length ballot) (flat_map (λ row. sent_anew (here_in core) own row.1) core.side.pending))
     → copies ≡ pending ++ letters_of (sender (here_in core)) (length pending) (copies_anew (here_in core) (own_in core.side store))
     → all ≡ copies ++ letters_of (sender_of core.log) (length copies) (ask_posts core.log.voter (log_of core.log records))
     → all ≡ letters_of (sender (here_in core)) 0 (tick_posts (here_in core) (server_of core store records))

@@ -1,5 +1,6 @@
 -- The first job of a queue, by which part of a server does it.
-use Rattle.std.proofs.Common.{◌≡◌, ◌≤◌, ◌||◌, nat_lt, ℕ, ◌+◌, Bool, true, false, List, [], ◌∷◌, ◌++◌, drop, length, Option, Some, if◌then◌else◌, refl, sym, ap, ◌∙◌, arith}
+use Rattle.std.proofs.Common.{◌≡◌, ◌≤◌, ◌||◌, nat_lt, ℕ, ◌+◌, Bool, true, false, List, [], ◌∷◌, ◌++◌, drop, length, Option}
+use Rattle.std.proofs.Common.{Some, if◌then◌else◌, refl, sym, ap, ◌∙◌, arith}
 use Rattle.std.proofs.lemmas.Bool.Decides.{nat_tests}
 use Rattle.std.specs.Prelude.{slice_get, slice_index_or, IsSomeAnd}
 use Rattle.petal_rules.proofs.Applied.{servers_after}
@@ -213,7 +214,8 @@ log_worked old new store before after first done there kind by left running vote
     let records : length rule.log.records ≤ journal_records =
     (let same : length after ≡ length rule.log.records = ap (λ (log : Log). length log.records) by.log in omega (arith, same)) in
     let stored : (own_left old.log old.side store before first old.log.voter).store.records ≤ journal_records =
-    (let same : store.records ≡ (own_left old.log old.side store before first old.log.voter).store.records = ap (λ (o : Own). o.store.records) own in omega (arith, same)) in
+    (let same : store.records ≡ (own_left old.log old.side store before first old.log.voter).store.records = ap (λ (o : Own). o.store.records) own in
+    omega (arith, same)) in
     (λ i. made (running i) (inc i) (by.log i) (own i) (jobs i) (by.letters i))
     ∙ sym (log_works old store before first there kind stored records)
 

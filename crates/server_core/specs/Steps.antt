@@ -70,7 +70,8 @@ module _ {D : Type 0} where
 
   -- the first job, of the pairs or that applies an entry, is done as the rule says at these records of the state device, where
   -- the data device tells its bytes and shows the store; the rest is as of each job of the pairs. The state device is not called
-  pub record IsStoreWork (device : Ghosts D) (records : List StateRecord) (old new : Core) (before after : Holdings D) (result : Result (List Letter) WorkError) : Type 0 where
+  pub record IsStoreWork (device : Ghosts D) (records : List StateRecord) (old new : Core) (before after : Holdings D)
+      (result : Result (List Letter) WorkError) : Type 0 where
     pub work : IfOk result (λ letters. device.told → HoldsAt device before → length records ≤ journal_records
         → acted new (store_of after) records letters ≡ works (here_in old) (server_of old (store_of before) records) old.queue)
     pub life : (new.running ≡ old.running) × (new.log.voter ≡ old.log.voter)

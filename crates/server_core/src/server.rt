@@ -289,7 +289,8 @@ impl ServerCore {
     /// Links of which something waits are to be mended, and what is left of cells that are live no longer is to be dropped.
     fn link_jobs<D: Disk>(&self, alloc: Global, store: &Store<D>) -> Result<Vec<Job>, NoMemory>
         ensures { IfOk result (λ jobs. jobs.items ≡ (if is_in (state_of self.now.log) self.now.log.voter.me self.now.log.voter.inc
-            then mend_jobs (here_in self.now) (own_in self.now.side (store_of store.now)) ++ sweep_jobs (here_in self.now) (own_in self.now.side (store_of store.now)) else [])) }
+            then mend_jobs (here_in self.now) (own_in self.now.side (store_of store.now))
+            ++ sweep_jobs (here_in self.now) (own_in self.now.side (store_of store.now)) else [])) }
     {
         if !is_in(self.log.state(), self.log.me(), self.log.inc()) {
             return Ok(Vec::new(alloc));

@@ -1,6 +1,7 @@
 //! One job of a server.
 
-ghost use Rattle.std.specs.Prelude.{◌≡◌, ◌<◌, ◌-◌, ◌^◌, ◌↔◌, ◌≢◌, ℕ, List, [], false, length, slice_get, IsSomeAnd, IfSome, option_map, IfOk, OnOk, OnErr, None, Ok, Err};
+ghost use Rattle.std.specs.Prelude.{◌≡◌, ◌<◌, ◌-◌, ◌^◌, ◌↔◌, ◌≢◌, ℕ, List, [], false, length, slice_get, IsSomeAnd, IfSome};
+ghost use Rattle.std.specs.Prelude.{option_map, IfOk, OnOk, OnErr, None, Ok, Err};
 ghost use Rattle.log_side.specs.Done as logs;
 ghost use Rattle.log_side.specs.Entered.{entry_in, entry_of};
 ghost use Rattle.log_side.specs.Part.{Part, state_of};

@@ -32,7 +32,8 @@ same_in kept x y torn = ap (λ (hs : List Held). record { entries = hs; marks = 
 abbrev pub ShowsChange : List ℕ → Kept → StoreRecord → List ℕ → Type 0
 ShowsChange file kept r content = picture_in file (kept_after kept r) ≡ picture_after (picture_in file kept) r content
 
-pub shows-put : (file : List ℕ) (kept : Kept) (e : Entry) (content : List ℕ) → slot_bytes file e.slot ≡ content → ShowsChange file kept (kind.Put e.key e.version e.slot) content
+pub shows-put : (file : List ℕ) (kept : Kept) (e : Entry) (content : List ℕ) → slot_bytes file e.slot ≡ content
+    → ShowsChange file kept (kind.Put e.key e.version e.slot) content
 shows-put file kept e content is =
     ap (λ (hs : List Held). record { entries = hs; marks = kept.marks; fresh = kept.fresh })
     (map-placed file kept.entries e ∙ ap (λ (c : List ℕ). placed_held (map (held_in file) kept.entries) c) is) where
@@ -41,37 +42,49 @@ shows-put file kept e content is =
 
 pub shows-other : (file : List ℕ) (kept : Kept) (r : StoreRecord) → PutsNothing r → ShowsChange file kept r []
 shows-other file kept (kind.Put key version slot) other = absurd other
-shows-other file kept (kind.Drop key) other = ap (λ (hs : List Held). record { entries = hs; marks = kept.marks; fresh = kept.fresh }) (map-without file kept.entries key)
+shows-other file kept (kind.Drop key) other =
+    ap (λ (hs : List Held). record { entries = hs; marks = kept.marks; fresh = kept.fresh }) (map-without file kept.entries key)
 shows-other file kept (kind.Mark k cell) other = refl
 shows-other file kept (kind.Unmark k cell) other = refl
 shows-other file kept kind.Settled other = refl
 
 -- What a commit leaves of the device.
 
-pub before_still : (slots : ℕ) (fresh : Bool) (records : List StoreRecord) (picture : Picture) (d c : List ℕ) → Shows d slots fresh records picture → Torn 4096 4194304 d c → StandsFor c slots fresh records → Shows c slots fresh records picture
+pub before_still : (slots : ℕ) (fresh : Bool) (records : List StoreRecord) (picture : Picture) (d c : List ℕ) → Shows d slots fresh records picture
+    → Torn 4096 4194304 d c → StandsFor c slots fresh records → Shows c slots fresh records picture
 before_still slots fresh records picture d c shows torn stands = record { stands = stands; shown = same_in (kept_of fresh records) d c torn ∙ shows.shown }
 
-pub after_now : (slots : ℕ) (fresh : Bool) (records : List StoreRecord) (picture : Picture) (r : StoreRecord) (content d c : List ℕ) → Shows d slots fresh records picture → Torn 4096 4194304 d c → ShowsChange d (kept_of fresh records) r content → StandsFor c slots fresh (records ++ r ∷ [])
+pub after_now : (slots : ℕ) (fresh : Bool) (records : List StoreRecord) (picture : Picture) (r : StoreRecord) (content d c : List ℕ)
+    → Shows d slots fresh records picture → Torn 4096 4194304 d c → ShowsChange d (kept_of fresh records) r content
+    → StandsFor c slots fresh (records ++ r ∷ [])
     → Shows c slots fresh (records ++ r ∷ []) (picture_after picture r content)
 after_now slots fresh records picture r content d c shows torn change stands = record {
   stands = stands;
-  shown = ap (picture_in c) (kept_more fresh records r) ∙ same_in (kept_after (kept_of fresh records) r) d c torn ∙ change ∙ ap (λ p. picture_after p r content) shows.shown;
+  shown = ap (picture_in c) (kept_more fresh records r) ∙ same_in (kept_after (kept_of fresh records) r) d c torn ∙ change
+      ∙ ap (λ p. picture_after p r content) shows.shown;
 }
 
-pub committed : (slots : ℕ) (log : Log) (picture : Picture) (r : StoreRecord) (content d c : List ℕ) → Shows d slots log.fresh log.records picture → Torn 4096 4194304 d c → ShowsChange d (kept_of log.fresh log.records) r content
+pub committed : (slots : ℕ) (log : Log) (picture : Picture) (r : StoreRecord) (content d c : List ℕ) → Shows d slots log.fresh log.records picture
+    → Torn 4096 4194304 d c → ShowsChange d (kept_of log.fresh log.records) r content
     → WithOrWithout c slots log r → ShowsEither c slots log picture r content
 committed slots log picture r content d c shows torn change (inl without) = inl (before_still slots log.fresh log.records picture d c shows torn without)
-committed slots log picture r content d c shows torn change (inr with) = inr (after_now slots log.fresh log.records picture r content d c shows torn change with)
+committed slots log picture r content d c shows torn change (inr with) =
+    inr (after_now slots log.fresh log.records picture r content d c shows torn change with)
 
-pub logs_of : (slots : ℕ) (log : Log) (picture : Picture) (seen : List ℕ) (leave : List ℕ → Type 0) → Keeps slots log picture seen leave → Logs slots log seen leave
+pub logs_of : (slots : ℕ) (log : Log) (picture : Picture) (seen : List ℕ) (leave : List ℕ → Type 0) → Keeps slots log picture seen leave
+    → Logs slots log seen leave
 logs_of slots log picture seen leave h = record { count = h.count; now = h.now.stands; left = λ c i. (h.left c i).stands }
 
 -- what is kept after a commit that succeeded
-pub keeps_after : (slots : ℕ) (log log' : Log) (picture : Picture) (r : StoreRecord) (content seen seen' : List ℕ) (leave leave' : List ℕ → Type 0) → Keeps slots log picture seen leave
-    → ShowsChange seen (kept_of log.fresh log.records) r content → ((d : List ℕ) → leave d → ShowsChange d (kept_of log.fresh log.records) r content) → Torn 4096 4194304 seen seen' → Follows (Torn 4096 4194304) leave leave'
-    → log'.fresh ≡ log.fresh → log'.records ≡ log.records ++ r ∷ [] → Logs slots log' seen' leave' → Keeps slots log' (picture_after picture r content) seen' leave'
+pub keeps_after : (slots : ℕ) (log log' : Log) (picture : Picture) (r : StoreRecord) (content seen seen' : List ℕ) (leave leave' : List ℕ → Type 0)
+    → Keeps slots log picture seen leave
+    → ShowsChange seen (kept_of log.fresh log.records) r content → ((d : List ℕ) → leave d → ShowsChange d (kept_of log.fresh log.records) r content)
+    → Torn 4096 4194304 seen seen' → Follows (Torn 4096 4194304) leave leave'
+    → log'.fresh ≡ log.fresh → log'.records ≡ log.records ++ r ∷ [] → Logs slots log' seen' leave'
+    → Keeps slots log' (picture_after picture r content) seen' leave'
 keeps_after slots log log' picture r content seen seen' leave leave' h change changes torn follows fresh records logs =
-    let shows : (d c : List ℕ) → Shows d slots log.fresh log.records picture → ShowsChange d (kept_of log.fresh log.records) r content → Torn 4096 4194304 d c → StandsFor c slots log'.fresh log'.records → Shows c slots log'.fresh log'.records (picture_after picture r content) = λ d c was ch t st.
+    let shows : (d c : List ℕ) → Shows d slots log.fresh log.records picture → ShowsChange d (kept_of log.fresh log.records) r content → Torn 4096 4194304 d c
+    → StandsFor c slots log'.fresh log'.records → Shows c slots log'.fresh log'.records (picture_after picture r content) = λ d c was ch t st.
     rw (fresh, records) (after_now slots log.fresh log.records picture r content d c was t ch (rw (fresh, records) at st)) in
     record {
       count = logs.count;
@@ -84,7 +97,8 @@ keeps_after slots log log' picture r content seen seen' leave leave' h change ch
 abbrev pub Free : Kept → ℕ → Type 0
 Free kept slot = All (λ e. e.slot ≢ slot) kept.entries
 
-stands-still : (slots : ℕ) (fresh : Bool) (records : List StoreRecord) (slot : ℕ) (d c : List ℕ) → Torn (slot_start slot) 65536 d c → StandsFor d slots fresh records → StandsFor c slots fresh records
+stands-still : (slots : ℕ) (fresh : Bool) (records : List StoreRecord) (slot : ℕ) (d c : List ℕ) → Torn (slot_start slot) 65536 d c
+    → StandsFor d slots fresh records → StandsFor c slots fresh records
 stands-still slots fresh records slot d c torn s = record {
   headed = torn_front 64 (slot_start slot) 65536 d c (omega arith) torn ∙ s.headed;
   spelled = s.spelled;
@@ -92,13 +106,17 @@ stands-still slots fresh records slot d c torn s = record {
   stands = stands_outside 64 4096 65536 (slot_start slot) 65536 d c _ (omega arith) (inl (omega arith)) torn s.stands;
 }
 
-pub shows-still : (slots : ℕ) (fresh : Bool) (records : List StoreRecord) (picture : Picture) (slot : ℕ) (d c : List ℕ) → Free (kept_of fresh records) slot → Torn (slot_start slot) 65536 d c → Shows d slots fresh records picture → Shows c slots fresh records picture
+pub shows-still : (slots : ℕ) (fresh : Bool) (records : List StoreRecord) (picture : Picture) (slot : ℕ) (d c : List ℕ) → Free (kept_of fresh records) slot
+    → Torn (slot_start slot) 65536 d c → Shows d slots fresh records picture → Shows c slots fresh records picture
 shows-still slots fresh records picture slot d c free torn s = record {
   stands = stands-still slots fresh records slot d c torn s.stands;
-  shown = ap (λ (hs : List Held). record { entries = hs; marks = (kept_of fresh records).marks; fresh = (kept_of fresh records).fresh }) (held-apart (kept_of fresh records).entries slot d c free torn) ∙ s.shown;
+  shown = ap (λ (hs : List Held). record { entries = hs; marks = (kept_of fresh records).marks; fresh = (kept_of fresh records).fresh })
+      (held-apart (kept_of fresh records).entries slot d c free torn) ∙ s.shown;
 }
 
-pub keeps-still : (slots : ℕ) (log : Log) (picture : Picture) (slot : ℕ) (x y : List ℕ) (leave leave' : List ℕ → Type 0) → Free (kept_of log.fresh log.records) slot → Torn (slot_start slot) 65536 x y → Follows (Torn (slot_start slot) 65536) leave leave' → Keeps slots log picture x leave
+pub keeps-still : (slots : ℕ) (log : Log) (picture : Picture) (slot : ℕ) (x y : List ℕ) (leave leave' : List ℕ → Type 0)
+    → Free (kept_of log.fresh log.records) slot → Torn (slot_start slot) 65536 x y → Follows (Torn (slot_start slot) 65536) leave leave'
+    → Keeps slots log picture x leave
     → Keeps slots log picture y leave'
 keeps-still slots log picture slot x y leave leave' free torn follows h = record {
   count = h.count;

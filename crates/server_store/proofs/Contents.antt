@@ -1,5 +1,6 @@
 -- What a write into one slot leaves of the others.
-use Rattle.std.proofs.Common.{◌≡◌, ◌≢◌, ℕ, suc, ◌+◌, ◌<◌, ◌≤◌, List, [], ◌∷◌, length, take, drop, map, refl, sym, ◌∙◌, ap, arith, inl, inr, Option, None, Some, option_map, nat_lt}
+use Rattle.std.proofs.Common.{◌≡◌, ◌≢◌, ℕ, suc, ◌+◌, ◌<◌, ◌≤◌, List, [], ◌∷◌, length, take, drop, map, refl, sym, ◌∙◌, ap, arith}
+use Rattle.std.proofs.Common.{inl, inr, Option, None, Some, option_map, nat_lt}
 use Rattle.std.proofs.lemmas.Bool.{cases_Bool, cases_lt}
 use Rattle.std.proofs.lemmas.List.{drop-take}
 use Rattle.std.specs.List.{All}
@@ -27,14 +28,16 @@ slot-apart slot other x y apart torn = elim (cases_lt other slot) [
 ]
 
 -- contents stay where no entry has the slot
-pub held-apart : (es : List Entry) (slot : ℕ) (x y : List ℕ) → All (λ e. e.slot ≢ slot) es → Torn (slot_start slot) 65536 x y → map (held_in y) es ≡ map (held_in x) es
+pub held-apart : (es : List Entry) (slot : ℕ) (x y : List ℕ) → All (λ e. e.slot ≢ slot) es → Torn (slot_start slot) 65536 x y
+    → map (held_in y) es ≡ map (held_in x) es
 held-apart [] slot x y apart torn = refl
 held-apart (e ∷ es) slot x y apart torn =
     let here : slot_bytes y e.slot ≡ slot_bytes x e.slot = slot-apart slot e.slot x y (apart 0 e (omega arith)) torn in
     let rest = held-apart es slot x y (λ k d within. apart (suc k) d (omega arith)) torn in
     rw (here, rest) refl
 
-pub map-placed : (file : List ℕ) (es : List Entry) (e : Entry) → map (held_in file) (placed key_of es e) ≡ placed key_held (map (held_in file) es) (held_in file e)
+pub map-placed : (file : List ℕ) (es : List Entry) (e : Entry)
+    → map (held_in file) (placed key_of es e) ≡ placed key_held (map (held_in file) es) (held_in file e)
 map-placed file [] e = refl
 map-placed file (x ∷ xs) e = elim (cases_Bool (key_below x.key e.key)) [
   | inl below ↦ rw (below, map-placed file xs e) refl
@@ -48,7 +51,8 @@ pub listed-held : (file : List ℕ) (es : List Entry) → listed (map (held_in f
 listed-held file [] = refl
 listed-held file (e ∷ es) = ap (λ (l : List Entry). e ∷ l) (listed-held file es)
 
-later-held : (file : List ℕ) (a b : Option Entry) → later key_held (option_map (held_in file) a) (option_map (held_in file) b) ≡ option_map (held_in file) (later key_of a b)
+later-held : (file : List ℕ) (a b : Option Entry)
+    → later key_held (option_map (held_in file) a) (option_map (held_in file) b) ≡ option_map (held_in file) (later key_of a b)
 later-held file None b = refl
 later-held file (Some x) None = refl
 later-held file (Some x) (Some y) = elim (cases_Bool (nat_lt x.key.epoch y.key.epoch)) [
@@ -64,15 +68,19 @@ newest-held file at (x ∷ xs) = elim (cases_Bool (sees at x.key)) [
 ]
 
 -- a slot has what was written into it
-pub slot-written : (slot : ℕ) (file block : List ℕ) → length block ≡ 65536 → slot_start slot + 65536 ≤ length file → slot_bytes (written file (slot_start slot) block) slot ≡ block
+pub slot-written : (slot : ℕ) (file block : List ℕ) → length block ≡ 65536 → slot_start slot + 65536 ≤ length file
+    → slot_bytes (written file (slot_start slot) block) slot ≡ block
 slot-written slot file block whole fits =
-    ap (λ (n : ℕ). part (written file (slot_start slot) block) (slot_start slot) n) (sym whole) ∙ part_written file (slot_start slot) block (omega (arith, whole))
+    ap (λ (n : ℕ). part (written file (slot_start slot) block) (slot_start slot) n) (sym whole)
+    ∙ part_written file (slot_start slot) block (omega (arith, whole))
 
 -- what is found among the entries is what is found among what is held
-pub found-listed : (file : List ℕ) (at : Key) (es : List Entry) (found : Option Entry) → found ≡ newest key_of at es → found ≡ newest key_of at (listed (map (held_in file) es))
+pub found-listed : (file : List ℕ) (at : Key) (es : List Entry) (found : Option Entry) → found ≡ newest key_of at es
+    → found ≡ newest key_of at (listed (map (held_in file) es))
 found-listed file at es found is = is ∙ ap (λ (l : List Entry). newest key_of at l) (sym (listed-held file es))
 
-pub found-content : (file : List ℕ) (at : Key) (es : List Entry) (found : Option Entry) → found ≡ newest key_of at es → content_of (option_map (held_in file) found) ≡ content_of (newest key_held at (map (held_in file) es))
+pub found-content : (file : List ℕ) (at : Key) (es : List Entry) (found : Option Entry) → found ≡ newest key_of at es
+    → content_of (option_map (held_in file) found) ≡ content_of (newest key_held at (map (held_in file) es))
 found-content file at es found is =
     ap (λ (f : Option Entry). content_of (option_map (held_in file) f)) is ∙ ap content_of (sym (newest-held file at es))
 

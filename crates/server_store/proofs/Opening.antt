@@ -30,7 +30,8 @@ pub reopened : {D : Type 0} (before seen : List ℕ) (may_leave : List ℕ → T
     → Shows before slots fresh recorded picture → Reopened slots fresh recorded picture (store_in seen found disk) seen may_leave
 reopened before seen may_leave found disk slots fresh recorded picture is kept_seen only same shows =
     let logs = same.3 in
-    let kept : kept_of found.log.fresh found.log.records ≡ kept_of fresh recorded = ap (λ (b : Bool). kept_of b found.log.records) same.1 ∙ ap (λ (rs : List StoreRecord). kept_of fresh rs) same.2 in
+    let kept : kept_of found.log.fresh found.log.records ≡ kept_of fresh recorded = ap (λ (b : Bool). kept_of b found.log.records) same.1
+    ∙ ap (λ (rs : List StoreRecord). kept_of fresh rs) same.2 in
     let shown = ap (λ (k : Kept). picture_in seen k) is.kept in
     record {
       slots_are = same.0;
@@ -40,6 +41,7 @@ reopened before seen may_leave found disk slots fresh recorded picture is kept_s
       holds = rw same.0 (record {
         count = logs.count;
         now = record { stands = logs.now; shown = shown };
-        left = λ x i. record { stands = logs.left x i; shown = ap (λ (f : List ℕ). picture_in f (kept_of found.log.fresh found.log.records)) (only x i) ∙ shown };
+        left = λ x i.
+            record { stands = logs.left x i; shown = ap (λ (f : List ℕ). picture_in f (kept_of found.log.fresh found.log.records)) (only x i) ∙ shown };
       });
     }

@@ -22,7 +22,8 @@ IsStore (Store store) P = P store
 IsStore (Blank disk) P = ⊥
 
 -- the store that its device showed
-pub record Reopened (slots : ℕ) (fresh : Bool) (records : List StoreRecord) (picture : Picture) {D : Type 0} (store : Holdings D) (seen : List ℕ) (may_leave : List ℕ → Type 0) : Type 0 where
+pub record Reopened (slots : ℕ) (fresh : Bool) (records : List StoreRecord) (picture : Picture) {D : Type 0} (store : Holdings D) (seen : List ℕ)
+    (may_leave : List ℕ → Type 0) : Type 0 where
   pub slots_are : store.slots ≡ slots
   pub fresh_is : store.log.fresh ≡ fresh
   pub records_are : store.log.records ≡ records

@@ -1,7 +1,9 @@
 //! The store of one server, over its device.
 
-ghost use Rattle.std.specs.Prelude.{◌==◌, ◌≡◌, ℕ, ◌⊎◌, ◌≤◌, ◌<◌, ◌+◌, ◌^◌, ◌++◌, ◌∷◌, ◌↔◌, [], Bool, List, length, slice_get, take, Contains, Err, IfOk, OnOk, IfErr, OnErr, IsErrOf, IfNone, true, false, not, is_some, if◌then◌else◌, Some, None};
-ghost use Rattle.busy_marks.specs.Marks.{has_mark, with_mark, without_mark, next_marked};
+ghost use Rattle.std.specs.Prelude.{◌==◌, ◌≡◌, ℕ, ◌⊎◌, ◌≤◌, ◌<◌, ◌+◌, ◌^◌, ◌++◌, ◌∷◌, ◌↔◌, [], Bool, List, length, slice_get, take, Contains, Err, IfOk, OnOk};
+ghost use Rattle.std.specs.Prelude.{IfErr, OnErr, IsErrOf, IfNone, true, false, not, is_some, if◌then◌else◌, Some, None};
+ghost use Rattle.std.specs.List.Sorted.{IsStrictlySortedBy};
+ghost use Rattle.busy_marks.specs.Marks.{mark_cmp, has_mark, with_mark, without_mark, next_marked, next_marked_map};
 ghost use Rattle.block_journal.specs.Records.{Counts};
 ghost use Rattle.petal_base.specs.Block.{zero_block};
 ghost use Rattle.petal_disk.specs.Disk.{LeavesOnly};
@@ -25,7 +27,7 @@ ghost use Rattle.store_record.specs.declared.record.StoreRecord.TheVariants as r
 
 use crate::Opened;
 use crate::commit::{commit, commit_put};
-use busy_marks::{Mark, MarkKind, Marks};
+use busy_marks::{MarkKind, Marks};
 use data_device::{Header, RecordLog, StoreError, read_device, write_format};
 use petal_base::{Block, BlockNo, Cell, Epoch, Key, MapId, NoMemory, Sequence, Version};
 use petal_disk::{Disk, Failed, Plan, Planned};
@@ -65,7 +67,8 @@ impl<D: Disk> Model for Store<D> {
       disk = s.disk;
     } };
 
-    ghost invariant = { λ s. (slot_start s.ledger.slots ≤ D.size s.disk) × (kept_of s.log.fresh s.log.records ≡ record { entries = s.ledger.entries; marks = s.marks; fresh = s.fresh }) };
+    ghost invariant = { λ s. (slot_start s.ledger.slots ≤ D.size s.disk)
+        × (kept_of s.log.fresh s.log.records ≡ record { entries = s.ledger.entries; marks = s.marks; fresh = s.fresh }) };
 }
 
 impl<D: Disk> Store<D> {
@@ -82,13 +85,23 @@ impl<D: Disk> Store<D> {
         fresh: bool,
     ) -> Result<Store<D>, (D, StoreError)>
         requires { slot_start slots ≤ D.size disk }
-        ensures ok { IfOk result (λ store. store ≡ record { entries = []; tickets = []; marks = []; slots = slots; fresh = fresh; log = record { fresh = fresh; records = []; region = store.log.region }; disk = store.disk }) }
+        ensures ok { IfOk result (λ store. store ≡ record {
+          entries = [];
+          tickets = [];
+          marks = [];
+          slots = slots;
+          fresh = fresh;
+          log = record { fresh = fresh; records = []; region = store.log.region };
+          disk = store.disk;
+        }) }
         ensures holds { IfOk result (λ store. D.told → Holds store (D.seen store.disk) (D.may_leave store.disk)) }
         ensures size { IfOk result (λ store. D.size store.disk ≡ D.size disk) }
         ensures errors { IfErr result (λ e. IsFormatError e.1) }
         ensures failed { IfErr result (λ e. e.1 ≡ StoreError.Failed → D.faults disk < D.faults e.0) }
-        ensures any_moment { IfOk result (λ store. D.told → LeavesOnly D.moment D.left_since disk store.disk (LeftByFormat (D.may_leave disk) (D.size disk) slots fresh)) }
-        ensures err_any_moment { IfErr result (λ e. D.told → LeavesOnly D.moment D.left_since disk e.0 (LeftByFormat (D.may_leave disk) (D.size disk) slots fresh)) }
+        ensures any_moment { IfOk result
+            (λ store. D.told → LeavesOnly D.moment D.left_since disk store.disk (LeftByFormat (D.may_leave disk) (D.size disk) slots fresh)) }
+        ensures err_any_moment { IfErr result
+            (λ e. D.told → LeavesOnly D.moment D.left_since disk e.0 (LeftByFormat (D.may_leave disk) (D.size disk) slots fresh)) }
         ensures err_either { IfErr result (λ e. D.told → LeftByFormat (λ file. file ≡ D.seen disk) (D.size disk) slots fresh (D.seen e.0)) }
         ensures err_size { IfErr result (λ e. D.size e.0 ≡ D.size disk) }
         ensures memory { IfErr result (λ e. e.1 ≡ StoreError.NoMemory → e.0 ≡ disk) }
@@ -118,15 +131,19 @@ impl<D: Disk> Store<D> {
     pub fn open(alloc: Global, disk: D) -> Result<Opened<D>, (D, StoreError)>
         ensures headed { IfOk result (λ o. IfStore o (λ store. D.told → take 64 (D.seen disk) ≡ header store.slots store.log.fresh)) }
         ensures counts { IfOk result (λ o. IfStore o (λ store. D.told → Counts 64 4096 65536 (D.seen disk) (bodies_of store.log.records))) }
-        ensures spelled { IfOk result (λ o. IfStore o (λ store. AreSpelled store.log.records × AllFit store.slots (formatted store.log.fresh) store.log.records)) }
+        ensures spelled { IfOk result
+            (λ o. IfStore o (λ store. AreSpelled store.log.records × AllFit store.slots (formatted store.log.fresh) store.log.records)) }
         ensures shown { IfOk result (λ o. IfStore o (λ store. picture_of store ≡ picture_in (D.seen disk) (kept_of store.log.fresh store.log.records))) }
         ensures no_tickets { IfOk result (λ o. IfStore o (λ store. store.tickets ≡ [])) }
-        ensures same { (slots : ℕ) (fresh : Bool) (recorded : List StoreRecord) (picture : Picture) → IfOk result (λ o. D.told → slots < 2 ^ 32 → slot_start slots ≤ D.size disk → Shows (D.seen disk) slots fresh recorded picture
+        ensures same { (slots : ℕ) (fresh : Bool) (recorded : List StoreRecord) (picture : Picture)
+            → IfOk result (λ o. D.told → slots < 2 ^ 32 → slot_start slots ≤ D.size disk → Shows (D.seen disk) slots fresh recorded picture
             → IsStore o (λ store. Reopened slots fresh recorded picture store (D.seen store.disk) (D.may_leave store.disk))) }
         ensures blank { IfOk result (λ o. IfBlank o (λ _. D.told → IsBlank (D.seen disk) (D.size disk))) }
-        ensures bad { (index slots : ℕ) (fresh : Bool) → IfErr result (λ e. e.1 ≡ StoreError.BadRecord index → D.told → slots < 2 ^ 32 → take 64 (D.seen disk) ≡ header slots fresh → IsBadOn (D.seen disk) slots fresh index) }
+        ensures bad { (index slots : ℕ) (fresh : Bool) → IfErr result (λ e. e.1 ≡ StoreError.BadRecord index → D.told → slots < 2 ^ 32
+            → take 64 (D.seen disk) ≡ header slots fresh → IsBadOn (D.seen disk) slots fresh index) }
         ensures bad_headed { (index : ℕ) → IfErr result (λ e. e.1 ≡ StoreError.BadRecord index → D.told → ¬ IsBlank (D.seen disk) (D.size disk)) }
-        ensures good { (slots : ℕ) (fresh : Bool) (recorded : List StoreRecord) → IfErr result (λ e. D.told → slots < 2 ^ 32 → StandsFor (D.seen disk) slots fresh recorded → IsGoodError e.1) }
+        ensures good { (slots : ℕ) (fresh : Bool) (recorded : List StoreRecord)
+            → IfErr result (λ e. D.told → slots < 2 ^ 32 → StandsFor (D.seen disk) slots fresh recorded → IsGoodError e.1) }
         ensures errors { IfErr result (λ e. IsOpenError e.1) }
         ensures failed { IfErr result (λ e. e.1 ≡ StoreError.Failed → D.faults disk < D.faults e.0) }
         ensures later { IfOk result (λ o. IfStore o (λ store. D.faults disk ≤ D.faults store.disk)) }
@@ -158,7 +175,8 @@ impl<D: Disk> Store<D> {
     /// `BadRecord`, `Failed` and `NoMemory`, as of `open`: what is held is not to be used.
     pub fn reopen(&mut self, alloc: Global) -> Result<bool, StoreError>
         ensures left { D.told → D.may_leave self.old.disk (D.seen self.new.disk) }
-        ensures same { (slots : ℕ) (fresh : Bool) (recorded : List StoreRecord) (picture : Picture) → IfOk result (λ found. found ≡ true → D.told → slots < 2 ^ 32 → Shows (D.seen self.new.disk) slots fresh recorded picture
+        ensures same { (slots : ℕ) (fresh : Bool) (recorded : List StoreRecord) (picture : Picture)
+            → IfOk result (λ found. found ≡ true → D.told → slots < 2 ^ 32 → Shows (D.seen self.new.disk) slots fresh recorded picture
             → Reopened slots fresh recorded picture self.new (D.seen self.new.disk) (D.may_leave self.new.disk)) }
         ensures no_tickets { IfOk result (λ found. found ≡ true → self.new.tickets ≡ []) }
         ensures errors { IfErr result IsOpenError }
@@ -229,7 +247,8 @@ impl<D: Disk> Store<D> {
         ensures any_moment { D.told → Holds self.old (D.seen self.old.disk) (D.may_leave self.old.disk)
             → LeavesOnly D.moment D.left_since self.old.disk self.new.disk (λ c. BeforeOrAfter c self.old (records.Put key version ticket) block.now) }
 
-        ensures rest { self.new ≡ record self.old { entries = self.new.entries; tickets = without self.old.tickets ticket; log = self.new.log; disk = self.new.disk } }
+        ensures rest { self.new
+            ≡ record self.old { entries = self.new.entries; tickets = without self.old.tickets ticket; log = self.new.log; disk = self.new.disk } }
         ensures cause { HasFault (D.faults self.old.disk) (D.faults self.new.disk) result }
         ensures run { D.came_to self.old.disk self.new.disk }
     {
@@ -278,12 +297,15 @@ impl<D: Disk> Store<D> {
         ensures listed { listed self.new.entries ≡ listed self.old.entries }
         ensures kept { D.told → self.new.entries ≡ self.old.entries }
         ensures errors { IfErr result IsMarkError }
-        ensures full { IsErrOf result StoreError.JournalFull → (self.old.log.region.count ≡ 65536) × (not (has_mark (record { kind = kind; cell = cell }) self.old.marks) ≡ true) × (self.new ≡ self.old) }
-        ensures full_comes { self.old.log.region.count ≡ 65536 → not (has_mark (record { kind = kind; cell = cell }) self.old.marks) ≡ true → IsErrOf result StoreError.JournalFull ⊎ IsErrOf result StoreError.NoMemory }
+        ensures full { IsErrOf result StoreError.JournalFull
+            → (self.old.log.region.count ≡ 65536) × (not (has_mark (record { kind = kind; cell = cell }) self.old.marks) ≡ true) × (self.new ≡ self.old) }
+        ensures full_comes { self.old.log.region.count ≡ 65536 → not (has_mark (record { kind = kind; cell = cell }) self.old.marks) ≡ true
+            → IsErrOf result StoreError.JournalFull ⊎ IsErrOf result StoreError.NoMemory }
         ensures memory { IsErrOf result StoreError.NoMemory → self.new ≡ self.old }
         ensures idle { has_mark (record { kind = kind; cell = cell }) self.old.marks ≡ true → self.new ≡ self.old }
 
-        ensures records { OnOk result (self.new.log.records ≡ (if not (has_mark (record { kind = kind; cell = cell }) self.old.marks) then self.old.log.records ++ records.Mark kind cell ∷ [] else self.old.log.records)) }
+        ensures records { OnOk result (self.new.log.records ≡ (if not (has_mark (record { kind = kind; cell = cell }) self.old.marks)
+            then self.old.log.records ++ records.Mark kind cell ∷ [] else self.old.log.records)) }
         ensures unrecorded { OnErr result (self.new.log.records ≡ self.old.log.records) }
         ensures holds { D.told → Holds self.old (D.seen self.old.disk) (D.may_leave self.old.disk)
             → OnOk result (Holds self.new (D.seen self.new.disk) (D.may_leave self.new.disk)) }
@@ -320,11 +342,13 @@ impl<D: Disk> Store<D> {
         ensures listed { listed self.new.entries ≡ listed self.old.entries }
         ensures kept { D.told → self.new.entries ≡ self.old.entries }
         ensures errors { IfErr result IsCommitError }
-        ensures full { IsErrOf result StoreError.JournalFull ↔ (self.old.log.region.count ≡ 65536) × (has_mark (record { kind = kind; cell = cell }) self.old.marks ≡ true) }
+        ensures full { IsErrOf result StoreError.JournalFull ↔ (self.old.log.region.count ≡ 65536)
+            × (has_mark (record { kind = kind; cell = cell }) self.old.marks ≡ true) }
         ensures full_rest { IsErrOf result StoreError.JournalFull → self.new ≡ self.old }
         ensures idle { has_mark (record { kind = kind; cell = cell }) self.old.marks ≡ false → self.new ≡ self.old }
 
-        ensures records { OnOk result (self.new.log.records ≡ (if has_mark (record { kind = kind; cell = cell }) self.old.marks then self.old.log.records ++ records.Unmark kind cell ∷ [] else self.old.log.records)) }
+        ensures records { OnOk result (self.new.log.records ≡ (if has_mark (record { kind = kind; cell = cell }) self.old.marks
+            then self.old.log.records ++ records.Unmark kind cell ∷ [] else self.old.log.records)) }
         ensures unrecorded { OnErr result (self.new.log.records ≡ self.old.log.records) }
         ensures holds { D.told → Holds self.old (D.seen self.old.disk) (D.may_leave self.old.disk)
             → OnOk result (Holds self.new (D.seen self.new.disk) (D.may_leave self.new.disk)) }
@@ -359,7 +383,8 @@ impl<D: Disk> Store<D> {
         ensures full { IsErrOf result StoreError.JournalFull ↔ (self.old.log.region.count ≡ 65536) × (is_some (slot_of (listed self.old.entries) key) ≡ true) }
         ensures full_rest { IsErrOf result StoreError.JournalFull → self.new ≡ self.old }
 
-        ensures records { OnOk result (self.new.log.records ≡ (if is_some (slot_of (listed self.old.entries) key) then self.old.log.records ++ records.Drop key ∷ [] else self.old.log.records)) }
+        ensures records { OnOk result (self.new.log.records
+            ≡ (if is_some (slot_of (listed self.old.entries) key) then self.old.log.records ++ records.Drop key ∷ [] else self.old.log.records)) }
         ensures unrecorded { OnErr result (self.new.log.records ≡ self.old.log.records) }
         ensures holds { D.told → Holds self.old (D.seen self.old.disk) (D.may_leave self.old.disk)
             → OnOk result (Holds self.new (D.seen self.new.disk) (D.may_leave self.new.disk)) }
@@ -437,7 +462,8 @@ impl<D: Disk> Store<D> {
         ensures zeros { IfOk result (λ found. IfNone found (into.new ≡ zero_block)) }
         ensures same { self.new ≡ record self.old { disk = self.new.disk } }
         ensures device { KeepsDevice D.size D.seen D.may_leave D.moment D.left_since self.old.disk self.new.disk }
-        ensures holds { D.told → Holds self.old (D.seen self.old.disk) (D.may_leave self.old.disk) → Holds self.new (D.seen self.new.disk) (D.may_leave self.new.disk) }
+        ensures holds { D.told → Holds self.old (D.seen self.old.disk) (D.may_leave self.old.disk)
+            → Holds self.new (D.seen self.new.disk) (D.may_leave self.new.disk) }
         ensures cause { HasCause (D.faults self.old.disk) (D.faults self.new.disk) result }
         ensures run { D.came_to self.old.disk self.new.disk }
     {
@@ -484,13 +510,6 @@ impl<D: Disk> Store<D> {
         self.ledger.map().of_map(map, after)
     }
 
-    /// The marks in the order in which they were set.
-    pub fn marks(&self) -> &[Mark]
-        ensures { result.now ≡ self.now.marks }
-    {
-        self.marks.as_slice()
-    }
-
     /// The entry of a cell at this place of its chain, counted from 0.
     pub fn nth(&self, cell: Cell, place: usize) -> Option<Entry>
         ensures { result ≡ slice_get (chain_of cell (listed self.now.entries)) place }
@@ -528,9 +547,17 @@ impl<D: Disk> Store<D> {
 
     /// The least block of the map above `after` with a mark of either kind.
     pub fn next_mark(&self, map: MapId, after: Option<BlockNo>) -> Option<BlockNo>
-        ensures { result ≡ next_marked map after self.now.marks }
+        ensures least { result ≡ next_marked map after self.now.marks }
+        ensures sorted { IsStrictlySortedBy mark_cmp self.now.marks }
     {
         self.marks.next(map, after)
+    }
+
+    /// The least map above `after` with a mark.
+    pub fn next_marked_map(&self, after: Option<MapId>) -> Option<MapId>
+        ensures { result ≡ next_marked_map after self.now.marks }
+    {
+        self.marks.next_map(after)
     }
 
     /// The least map above `after` with an entry or a mark.

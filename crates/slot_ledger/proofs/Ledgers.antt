@@ -1,5 +1,6 @@
 -- The moves of slots between entries, tickets and what is free.
-use Rattle.std.proofs.Common.{◌≡◌, ◌≢◌, ℕ, zero, suc, ◌+◌, ◌<◌, ◌≤◌, Bool, true, false, ◌==◌, nat_lt, ◌^◌, List, [], ◌∷◌, ◌++◌, length, get_or, replicate, slice_get, slice_set, Option, None, Some, is_some, if◌then◌else◌, refl, sym, ap, subst, arith, inl, inr}
+use Rattle.std.proofs.Common.{◌≡◌, ◌≢◌, ℕ, zero, suc, ◌+◌, ◌<◌, ◌≤◌, Bool, true, false, ◌==◌, nat_lt, ◌^◌, List, [], ◌∷◌, ◌++◌, length, get_or, replicate}
+use Rattle.std.proofs.Common.{slice_get, slice_set, Option, None, Some, is_some, if◌then◌else◌, refl, sym, ap, subst, arith, inl, inr}
 use Rattle.std.proofs.lemmas.Bool.{cases_Bool}
 use Rattle.std.proofs.lemmas.Bool.Decides.{nat_tests}
 use Rattle.std.proofs.lemmas.List.{length-append, length-replicate}
@@ -148,12 +149,14 @@ length-without_key (x ∷ xs) key = elim (cases_Bool (same_key x.key key)) [
 ]
 
 -- no entry has a key that stands before the first
-none-before : (x : Entry) (xs : List Entry) (key : Key) → key_below x.key key ≡ false → same_key x.key key ≡ false → IsInOrder key_of (x ∷ xs) → slot_of (x ∷ xs) key ≡ None
+none-before : (x : Entry) (xs : List Entry) (key : Key) → key_below x.key key ≡ false → same_key x.key key ≡ false → IsInOrder key_of (x ∷ xs)
+    → slot_of (x ∷ xs) key ≡ None
 none-before x xs key before same order =
     let next : key_below key x.key ≡ true = beyond x.key key before same in
     slot-above (x ∷ xs) key (next, further-above xs key x.key next order.0)
 
-holders-placed : (slot : ℕ) (es : List Entry) (e : Entry) → IsInOrder key_of es → holders slot (placed key_of es e) + went slot (slot_of es e.key) ≡ holders slot es + as_count (e.slot == slot)
+holders-placed : (slot : ℕ) (es : List Entry) (e : Entry) → IsInOrder key_of es
+    → holders slot (placed key_of es e) + went slot (slot_of es e.key) ≡ holders slot es + as_count (e.slot == slot)
 holders-placed slot [] e order = omega arith
 holders-placed slot (x ∷ xs) e order = elim (cases_Bool (key_below x.key e.key)) [
   | inl before ↦ rw (before, below-other x.key e.key before) (omega (arith, holders-placed slot xs e order.1))
@@ -185,17 +188,20 @@ accounts-new slots = record {
 pub used-ticket : (es : List Entry) (ts : List ℕ) (used : List Bool) (slot : ℕ) → Accounts es ts used → Contains ts slot → slice_get used slot ≡ Some true
 used-ticket es ts used slot a has = in_use-is used slot (omega (arith, a.each_once slot, times-contains ts slot has))
 
-pub used-entry : (es : List Entry) (ts : List ℕ) (used : List Bool) (key : Key) (slot : Option ℕ) → Accounts es ts used → slot ≡ slot_of es key → WasUsed used slot
+pub used-entry : (es : List Entry) (ts : List ℕ) (used : List Bool) (key : Key) (slot : Option ℕ) → Accounts es ts used
+    → slot ≡ slot_of es key → WasUsed used slot
 used-entry es ts used key None a is = tt
 used-entry es ts used key (Some slot) a is = in_use-is used slot (omega (arith, a.each_once slot, holders-slot_of es key slot (sym is)))
 
-accounts-reserve : (es : List Entry) (ts : List ℕ) (used : List Bool) (slot : ℕ) → slice_get used slot ≡ Some false → Accounts es ts used → Accounts es (ts ++ slot ∷ []) (slice_set used slot true)
+accounts-reserve : (es : List Entry) (ts : List ℕ) (used : List Bool) (slot : ℕ) → slice_get used slot ≡ Some false → Accounts es ts used
+    → Accounts es (ts ++ slot ∷ []) (slice_set used slot true)
 accounts-reserve es ts used slot free a = record {
   each_once = λ s. omega (arith, a.each_once s, times-push s ts slot, in_use-take used slot s free);
   all = omega (arith, a.all, length-append ts (slot ∷ []), free_in-take used slot free, length-set used slot true);
 }
 
-accounts-give_back : (es : List Entry) (ts : List ℕ) (used : List Bool) (slot : ℕ) → Contains ts slot → Accounts es ts used → Accounts es (without ts slot) (slice_set used slot false)
+accounts-give_back : (es : List Entry) (ts : List ℕ) (used : List Bool) (slot : ℕ) → Contains ts slot → Accounts es ts used
+    → Accounts es (without ts slot) (slice_set used slot false)
 accounts-give_back es ts used slot has a =
     let there = times-contains ts slot has in
     let taken = used-ticket es ts used slot a has in
@@ -215,7 +221,8 @@ accounts-settle es ts used e has order a =
       all = omega (arith, a.all, length-without e.slot ts there, length-placed es e order, given-free used old was, given-length used old);
     }
 
-accounts-drop : (es : List Entry) (ts : List ℕ) (used : List Bool) (key : Key) → Accounts es ts used → Accounts (without_key es key) ts (given used (slot_of es key))
+accounts-drop : (es : List Entry) (ts : List ℕ) (used : List Bool) (key : Key) → Accounts es ts used
+    → Accounts (without_key es key) ts (given used (slot_of es key))
 accounts-drop es ts used key a =
     let old = slot_of es key in
     let was = used-entry es ts used key old a refl in
@@ -226,7 +233,8 @@ accounts-drop es ts used key a =
 
 -- With the order of entries, and room.
 
-pub sound-new : (slots spare : ℕ) (used : List Bool) (ts : List ℕ) (es : List Entry) → used ≡ replicate slots false → ts ≡ [] → es ≡ [] → slots < 2 ^ 32 → Sound es ts used spare 0
+pub sound-new : (slots spare : ℕ) (used : List Bool) (ts : List ℕ) (es : List Entry) → used ≡ replicate slots false → ts ≡ [] → es ≡ []
+    → slots < 2 ^ 32 → Sound es ts used spare 0
 sound-new slots spare used ts es us none empty few = rw (us, none, empty) (record {
   accounts = accounts-new slots;
   order = tt;
@@ -235,7 +243,8 @@ sound-new slots spare used ts es us none empty few = rw (us, none, empty) (recor
   few = omega (arith, length-replicate slots false);
 })
 
-pub sound-reserve : (es : List Entry) (ts : List ℕ) (used : List Bool) (slot spare more out : ℕ) → slice_get used slot ≡ Some false → out + 1 ≤ more → Sound es ts used spare out
+pub sound-reserve : (es : List Entry) (ts : List ℕ) (used : List Bool) (slot spare more out : ℕ) → slice_get used slot ≡ Some false → out + 1 ≤ more
+    → Sound es ts used spare out
     → Sound es (ts ++ slot ∷ []) (slice_set used slot true) more (out + 1)
 sound-reserve es ts used slot spare more out free room s = record {
   accounts = accounts-reserve es ts used slot free s.accounts;
@@ -245,7 +254,8 @@ sound-reserve es ts used slot spare more out free room s = record {
   few = omega (arith, s.few, length-set used slot true);
 }
 
-pub sound-give_back : (es : List Entry) (ts : List ℕ) (used : List Bool) (slot spare out less : ℕ) → Contains ts slot → less + 1 ≡ out → Sound es ts used spare out
+pub sound-give_back : (es : List Entry) (ts : List ℕ) (used : List Bool) (slot spare out less : ℕ) → Contains ts slot → less + 1 ≡ out
+    → Sound es ts used spare out
     → Sound es (without ts slot) (slice_set used slot false) spare less
 sound-give_back es ts used slot spare out less has one s =
     let shorter = length-without slot ts (times-contains ts slot has) in
@@ -257,7 +267,8 @@ sound-give_back es ts used slot spare out less has one s =
       few = omega (arith, s.few, length-set used slot false);
     }
 
-pub sound-settle : (es : List Entry) (ts : List ℕ) (used : List Bool) (e : Entry) (spare left out less : ℕ) → Contains ts e.slot → left + (if is_some (slot_of es e.key) then 0 else 1) ≡ spare → less + 1 ≡ out → Sound es ts used spare out
+pub sound-settle : (es : List Entry) (ts : List ℕ) (used : List Bool) (e : Entry) (spare left out less : ℕ) → Contains ts e.slot
+    → left + (if is_some (slot_of es e.key) then 0 else 1) ≡ spare → less + 1 ≡ out → Sound es ts used spare out
     → Sound (placed key_of es e) (without ts e.slot) (given used (slot_of es e.key)) left less
 sound-settle es ts used e spare left out less has room one s =
     let shorter = length-without e.slot ts (times-contains ts e.slot has) in
@@ -322,12 +333,14 @@ newest-holder at (x ∷ xs) e is =
     elim (cases_Bool (sees at x.key)) [
       | inl seen ↦
           let two : later key_of (Some x) (newest key_of at xs) ≡ Some e = rw seen at is in
-          let here : Some x ≡ Some e → 0 < holders e.slot (x ∷ xs) = λ same. let one : x ≡ e = cc in subst (λ (y : Entry). 0 < holders y.slot (x ∷ xs)) one (holder (x ∷ xs) 0 x (omega arith)) in
+          let here : Some x ≡ Some e → 0 < holders e.slot (x ∷ xs) = λ same. let one : x ≡ e = cc in
+          subst (λ (y : Entry). 0 < holders y.slot (x ∷ xs)) one (holder (x ∷ xs) 0 x (omega arith)) in
           later_holder (holders e.slot (x ∷ xs)) (Some x) (newest key_of at xs) e two here further
       | inr seen ↦ further (rw seen at is)
     ]
 
-pub found-in_range : (es : List Entry) (ts : List ℕ) (used : List Bool) (at : Key) (found : Option Entry) → Accounts es ts used → found ≡ newest key_of at es → IfSome found (λ e. e.slot < length used)
+pub found-in_range : (es : List Entry) (ts : List ℕ) (used : List Bool) (at : Key) (found : Option Entry) → Accounts es ts used
+    → found ≡ newest key_of at es → IfSome found (λ e. e.slot < length used)
 found-in_range es ts used at None a is = tt
 found-in_range es ts used at (Some e) a is = in-range used e.slot (omega (arith, a.each_once e.slot, newest-holder at es e (sym is)))
 
@@ -356,14 +369,16 @@ no-holder (e ∷ es) slot apart =
     let none : as_count (e.slot == slot) ≡ 0 = grind (arith, nat_tests, other) in
     omega (arith, none, no-holder es slot (λ k d lt. apart (suc k) d (omega arith)))
 
-pub free-fits : (es : List Entry) (used : List Bool) (slot : ℕ) → slice_get used slot ≡ Some false → Accounts es [] used → (slot < length used) × All (λ e. e.slot ≢ slot) es
+pub free-fits : (es : List Entry) (used : List Bool) (slot : ℕ) → slice_get used slot ≡ Some false → Accounts es [] used
+    → (slot < length used) × All (λ e. e.slot ≢ slot) es
 free-fits es used slot free a =
     let apart : All (λ e. e.slot ≢ slot) es = λ k d lt is.
     let here : 0 < holders slot es = rw is at (holder es k d lt) in
     omega (arith, a.each_once slot, in_use-not used slot free) in
     (within used slot false free, apart)
 
-pub fits-free : (es : List Entry) (used : List Bool) (slot : ℕ) → Accounts es [] used → slot < length used → All (λ e. e.slot ≢ slot) es → slice_get used slot ≡ Some false
+pub fits-free : (es : List Entry) (used : List Bool) (slot : ℕ) → Accounts es [] used → slot < length used → All (λ e. e.slot ≢ slot) es
+    → slice_get used slot ≡ Some false
 fits-free es used slot a lt apart = is_not-in_use used slot lt (omega (arith, a.each_once slot, no-holder es slot apart))
 
 without-one : (slot : ℕ) → without (slot ∷ []) slot ≡ []
@@ -372,14 +387,19 @@ without-one slot = grind (arith, nat_tests)
 contains-one : (slot : ℕ) → Contains (slot ∷ []) slot
 contains-one slot = (0, omega arith, refl)
 
-pub used-replay : (es : List Entry) (used : List Bool) (e : Entry) (old : Option ℕ) → slice_get used e.slot ≡ Some false → Accounts es [] used → old ≡ slot_of es e.key → WasUsed (slice_set used e.slot true) old
+pub used-replay : (es : List Entry) (used : List Bool) (e : Entry) (old : Option ℕ) → slice_get used e.slot ≡ Some false → Accounts es [] used
+    → old ≡ slot_of es e.key → WasUsed (slice_set used e.slot true) old
 used-replay es used e old free a is = used-entry es (e.slot ∷ []) (slice_set used e.slot true) e.key old (accounts-reserve es [] used e.slot free a) is
 
-pub sound-replay : (es : List Entry) (used : List Bool) (e : Entry) (spare left : ℕ) → slice_get used e.slot ≡ Some false → 1 ≤ spare → left + (if is_some (slot_of es e.key) then 0 else 1) ≡ spare → Sound es [] used spare 0
+pub sound-replay : (es : List Entry) (used : List Bool) (e : Entry) (spare left : ℕ) → slice_get used e.slot ≡ Some false → 1 ≤ spare
+    → left + (if is_some (slot_of es e.key) then 0 else 1) ≡ spare → Sound es [] used spare 0
     → Sound (placed key_of es e) [] (given (slice_set used e.slot true) (slot_of es e.key)) left 0
 sound-replay es used e spare left free some room s =
     subst (λ ts. Sound (placed key_of es e) ts (given (slice_set used e.slot true) (slot_of es e.key)) left 0) (without-one e.slot)
-    (sound-settle es (e.slot ∷ []) (slice_set used e.slot true) e spare left 1 0 (contains-one e.slot) room refl (sound-reserve es [] used e.slot spare spare 0 free some s))
+    (sound-settle es (e.slot ∷ []) (slice_set used e.slot true) e spare left 1 0 (contains-one e.slot) room refl
+    (sound-reserve es [] used e.slot spare spare 0 free some s))
 
-pub sound-wider : (es : List Entry) (ts : List ℕ) (used : List Bool) (spare more out : ℕ) → spare ≤ more → Sound es ts used spare out → Sound es ts used more out
-sound-wider es ts used spare more out room s = record { accounts = s.accounts; order = s.order; room = omega (arith, s.room, room); counted = s.counted; few = s.few }
+pub sound-wider : (es : List Entry) (ts : List ℕ) (used : List Bool) (spare more out : ℕ) → spare ≤ more → Sound es ts used spare out
+    → Sound es ts used more out
+sound-wider es ts used spare more out room s =
+    record { accounts = s.accounts; order = s.order; room = omega (arith, s.room, room); counted = s.counted; few = s.few }

@@ -1,6 +1,7 @@
 //! Which slot is whose: that of an entry, of a ticket, or free.
 
-ghost use Rattle.std.specs.Prelude.{◌≡◌, ◌≢◌, ◌≤◌, ◌<◌, ◌+◌, ◌-◌, ◌++◌, ◌∷◌, ◌↔◌, [], length, All, Contains, Ok, None, IfOk, OnErr, IfSome, IfNone, Some, true, slice_get};
+ghost use Rattle.std.specs.Prelude.{◌≡◌, ◌≢◌, ◌≤◌, ◌<◌, ◌+◌, ◌-◌, ◌++◌, ◌∷◌, ◌↔◌, [], length, All, Contains, Ok, None, IfOk};
+ghost use Rattle.std.specs.Prelude.{OnErr, IfSome, IfNone, Some, true, slice_get};
 ghost use Rattle.std.specs.Bool.{OnTrue, OnFalse};
 ghost use Rattle.physical_map.specs.Entries.{key_of, slot_of, without_key};
 ghost use Rattle.physical_map.specs.Keys.{placed, newest, IsInOrder};
@@ -121,7 +122,10 @@ impl Ledger {
     /// The slot of a ticket becomes that of an entry. The slot of the entry that it replaces is free.
     pub fn settle(&mut self, ticket: Ticket, key: Key, version: Version)
         requires { Contains self.old.tickets ticket }
-        ensures { self.new ≡ record self.old { entries = placed key_of self.old.entries (record { key = key; slot = ticket; version = version }); tickets = without self.old.tickets ticket } }
+        ensures { self.new ≡ record self.old {
+          entries = placed key_of self.old.entries (record { key = key; slot = ticket; version = version });
+          tickets = without self.old.tickets ticket;
+        } }
     {
         let slot = ticket.slot();
         let replaced = self.map.put(Entry { key, slot, version });

@@ -1,5 +1,6 @@
 -- The slots stay in turn.
-use Rattle.std.proofs.Common.{◌≡◌, ◌≢◌, ℕ, zero, suc, ◌+◌, ◌-◌, ◌<◌, ◌^◌, Bool, true, false, nat_lt, List, [], ◌∷◌, length, replicate, set, get_or, slice_get, Some, refl, sym, ◌∙◌, ap, subst, arith, inl, inr}
+use Rattle.std.proofs.Common.{◌≡◌, ◌≢◌, ℕ, zero, suc, ◌+◌, ◌-◌, ◌<◌, ◌^◌, Bool, true, false, nat_lt, List, [], ◌∷◌, length, replicate, set}
+use Rattle.std.proofs.Common.{get_or, slice_get, Some, refl, sym, ◌∙◌, ap, subst, arith, inl, inr}
 use Rattle.std.proofs.lemmas.Bool.{cases_eq}
 use Rattle.std.proofs.lemmas.Bool.Decides.{nat_tests}
 use Rattle.std.proofs.lemmas.List.{length-replicate, length-set, get_or-set_same, get_or-set_other}
@@ -85,7 +86,8 @@ module _ (used : List Bool) (order place : List ℕ) (taken : ℕ) (turn : IsInT
       }
 
   -- two slots of which both are in use or both are free exchange places
-  pub turn-exchanged : (slot at : ℕ) → slot < length used → at < length used → nat_lt (get_or place slot 0) taken ≡ nat_lt at taken → IsInTurn used (exchanged order place at slot) (exchanged place order slot at) taken
+  pub turn-exchanged : (slot at : ℕ) → slot < length used → at < length used → nat_lt (get_or place slot 0) taken ≡ nat_lt at taken
+      → IsInTurn used (exchanged order place at slot) (exchanged place order slot at) taken
   turn-exchanged slot at within less alike = record {
     ordered = length-exchanged order place at slot ∙ turn.ordered;
     placed = length-exchanged place order slot at ∙ turn.placed;
@@ -97,7 +99,8 @@ module _ (used : List Bool) (order place : List ℕ) (taken : ℕ) (turn : IsInT
           let stood : get_or place s 0 ≡ at = ap (λ (i : ℕ). get_or place i 0) other ∙ (turn.holds at less).1 in
           rw (goes, stood) (sym alike)
       | inr apart ↦ elim (cases_eq s slot) [
-        | inl here ↦ rw (exchanged-here place order slot at s (omega (arith, turn.placed)) apart here) (ap (λ (i : ℕ). nat_lt (get_or place i 0) taken) here ∙ alike)
+        | inl here ↦ rw (exchanged-here place order slot at s (omega (arith, turn.placed)) apart here)
+            (ap (λ (i : ℕ). nat_lt (get_or place i 0) taken) here ∙ alike)
         | inr nor ↦ rw (exchanged-rest place order slot at s apart nor) refl
       ]
     ]);
@@ -109,12 +112,14 @@ module _ (used : List Bool) (order place : List ℕ) (taken : ℕ) (turn : IsInT
   pub stands-exchanged : (slot at : ℕ) → slot < length used → at < length used → get_or (exchanged order place at slot) at 0 ≡ slot
   stands-exchanged slot at within less = elim (cases_eq at (get_or place slot 0)) [
     | inl other ↦
-        exchanged-other order place at slot at (omega (arith, turn.ordered, (turn.stands slot within).0)) other ∙ ap (λ (i : ℕ). get_or order i 0) other ∙ (turn.stands slot within).1
+        exchanged-other order place at slot at (omega (arith, turn.ordered, (turn.stands slot within).0)) other ∙ ap (λ (i : ℕ). get_or order i 0) other
+        ∙ (turn.stands slot within).1
     | inr apart ↦ exchanged-here order place at slot at (omega (arith, turn.ordered)) apart refl
   ]
 
 -- a free slot is taken into use once it stands behind those in use
-pub turn-taken_this : (used : List Bool) (order place : List ℕ) (taken slot : ℕ) → IsInTurn used order place taken → slot < length used → get_or used slot false ≡ false → IsInTurn (set used slot true) (exchanged order place taken slot) (exchanged place order slot taken) (taken + 1)
+pub turn-taken_this : (used : List Bool) (order place : List ℕ) (taken slot : ℕ) → IsInTurn used order place taken → slot < length used
+    → get_or used slot false ≡ false → IsInTurn (set used slot true) (exchanged order place taken slot) (exchanged place order slot taken) (taken + 1)
 turn-taken_this used order place taken slot turn within free =
     let behind : nat_lt (get_or place slot 0) taken ≡ false = sym (turn.first slot within) ∙ free in
     let stood : get_or place slot 0 < length used = (turn.stands slot within).0 in
@@ -127,7 +132,9 @@ turn-taken_this used order place taken slot turn within free =
     (turn-taken used (exchanged order place taken slot) (exchanged place order slot taken) taken turned more)
 
 -- and one in use is free again once it stands last among them
-pub turn-given_this : (used : List Bool) (order place : List ℕ) (taken slot : ℕ) → IsInTurn used order place taken → slot < length used → get_or used slot false ≡ true → IsInTurn (set used slot false) (exchanged order place (taken - 1) slot) (exchanged place order slot (taken - 1)) (taken - 1)
+pub turn-given_this : (used : List Bool) (order place : List ℕ) (taken slot : ℕ)
+    → IsInTurn used order place taken → slot < length used → get_or used slot false ≡ true
+    → IsInTurn (set used slot false) (exchanged order place (taken - 1) slot) (exchanged place order slot (taken - 1)) (taken - 1)
 turn-given_this used order place taken slot turn within taking =
     let before : nat_lt (get_or place slot 0) taken ≡ true = sym (turn.first slot within) ∙ taking in
     let some : 0 < taken = grind (arith, nat_tests) in

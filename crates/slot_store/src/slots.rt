@@ -1,6 +1,7 @@
 //! Which slots are in use, and their contents.
 
-ghost use Rattle.std.specs.Prelude.{◌≡◌, ◌≤◌, ◌<◌, ◌+◌, ◌↔◌, true, false, length, replicate, slice_get, slice_set, IsTrue, IsNone, IfOk, IfSome, IfNone, OnOk, Some, ◌^◌};
+ghost use Rattle.std.specs.Prelude.{◌≡◌, ◌≤◌, ◌<◌, ◌+◌, ◌↔◌, true, false, length, replicate, slice_get, slice_set, IsTrue};
+ghost use Rattle.std.specs.Prelude.{IsNone, IfOk, IfSome, IfNone, OnOk, Some, ◌^◌};
 ghost use Rattle.std.specs.Bool.{OnFalse, OnTrue};
 ghost use Rattle.petal_base.specs.Block.{IsBlock};
 ghost use Rattle.petal_disk.specs.Disk.{part, written, Torn, Follows, Within, Only, Elapses, LeavesOnly, LeftByWrite};

@@ -1,6 +1,7 @@
 //! Which slots are in use.
 
-ghost use Rattle.std.specs.Prelude.{◌≡◌, ◌<◌, ◌-◌, ◌↔◌, true, false, length, replicate, slice_get, slice_set, slice_index_or, IsTrue, IsNone, IfOk, IfSome, IfNone, Some};
+ghost use Rattle.std.specs.Prelude.{◌≡◌, ◌<◌, ◌-◌, ◌↔◌, true, false, length, replicate, slice_get, slice_set, slice_index_or};
+ghost use Rattle.std.specs.Prelude.{IsTrue, IsNone, IfOk, IfSome, IfNone, Some};
 ghost use Rattle.std.specs.Bool.{OnFalse, OnTrue};
 ghost use Rattle.std.specs.List.{range_with_len};
 ghost use Rattle.slot_store.specs.Slots.{free_in};

@@ -20,9 +20,11 @@ pub passed_room : (s : State) (fence : Fence) → ready s.view.queue ≡ Some fe
 passed_room s fence is h = record { most = h.most; fits = h.fits; within = passed_within h.most s fence is h.within }
 
 -- before a fence takes effect no epoch is the greatest number
-pub epochs_fit : (s : State) (fence : Fence) → ready s.view.queue ≡ Some fence → HasRoom s → (disk : ℕ) (row : DiskRow) → disk_at s.disks.rows disk ≡ Some row → row.epoch < 4294967295
+pub epochs_fit : (s : State) (fence : Fence) → ready s.view.queue ≡ Some fence → HasRoom s → (disk : ℕ) (row : DiskRow)
+    → disk_at s.disks.rows disk ≡ Some row → row.epoch < 4294967295
 epochs_fit s fence is h disk row at =
-    let one : length s.view.queue ≡ suc (length (behind (servers_in s.view.members) s.view.queue)) = length-behind (servers_in s.view.members) s.view.queue fence is in
+    let one : length s.view.queue ≡ suc (length (behind (servers_in s.view.members) s.view.queue)) =
+    length-behind (servers_in s.view.members) s.view.queue fence is in
     let le : row.epoch + length s.view.queue ≤ s.view.queued = epoch_below (length s.view.queue) s.view.queued disk s.disks.rows h.within.epochs row at in
     omega (arith, h.within.queued, h.fits)
 
@@ -30,13 +32,16 @@ taken_some : (v : View) (fence : Fence) → ready v.queue ≡ Some fence → tak
 taken_some v fence is = ap (λ o. if is_some o then passed v else v) is
 
 -- behind a fence that took effect there is room
-pub room_behind : (s t : State) (v : View) (fence : Fence) → ready s.view.queue ≡ Some fence → v ≡ taken s.view → t ≡ effect fence.kind (record s { view = v }) → HasRoom s → HasRoom t
+pub room_behind : (s t : State) (v : View) (fence : Fence) → ready s.view.queue ≡ Some fence → v ≡ taken s.view
+    → t ≡ effect fence.kind (record s { view = v }) → HasRoom s → HasRoom t
 room_behind s t v fence is took did h =
-    let e : t ≡ effect fence.kind (record s { view = passed s.view }) = did ∙ ap (λ (w : View). effect fence.kind (record s { view = w })) (took ∙ taken_some s.view fence is) in
+    let e : t ≡ effect fence.kind (record s { view = passed s.view }) = did
+    ∙ ap (λ (w : View). effect fence.kind (record s { view = w })) (took ∙ taken_some s.view fence is) in
     subst HasRoom (sym e) (passed_room s fence is h)
 
 -- and one fence fewer
-pub shorter_behind : (s t : State) (v : View) (fence : Fence) → ready s.view.queue ≡ Some fence → v ≡ taken s.view → t ≡ effect fence.kind (record s { view = v }) → length t.view.queue < length s.view.queue
+pub shorter_behind : (s t : State) (v : View) (fence : Fence) → ready s.view.queue ≡ Some fence → v ≡ taken s.view
+    → t ≡ effect fence.kind (record s { view = v }) → length t.view.queue < length s.view.queue
 shorter_behind s t v fence is took did =
     let e : t.view ≡ passed s.view = ap (λ (u : State). u.view) did ∙ view-effect fence.kind (record s { view = v }) ∙ took ∙ taken_some s.view fence is in
     let long : length t.view.queue ≡ length (behind (servers_in s.view.members) s.view.queue) = ap (λ (w : View). length w.queue) e in

@@ -9,7 +9,8 @@ use Rattle.petal_paxos.specs.declared.record.StateRecord.{StateRecord}
 use Rattle.petal_paxos.specs.declared.record.StateRecord.TheVariants.{Inc, Promise, Accepted, Chosen}
 use Rattle.state_record.specs.Body.{body_of, HasBody}
 
-pub some_accepted : (p q r s : ℕ) (b : Ballot) (c d : Command) → p ≡ q → r ≡ b.round → s ≡ b.server → Some c ≡ Some d → Some (Accepted p (record { round = r; server = s }) c) ≡ Some (Accepted q b d)
+pub some_accepted : (p q r s : ℕ) (b : Ballot) (c d : Command) → p ≡ q → r ≡ b.round → s ≡ b.server → Some c ≡ Some d
+    → Some (Accepted p (record { round = r; server = s }) c) ≡ Some (Accepted q b d)
 some_accepted p q r s b c d ep er es ec = let same : c ≡ d = cc in λ i. Some (Accepted (ep i) (record { round = er i; server = es i }) (same i))
 
 pub some_chosen : (p q : ℕ) (c d : Command) → p ≡ q → Some c ≡ Some d → Some (Chosen p c) ≡ Some (Chosen q d)

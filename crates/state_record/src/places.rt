@@ -86,7 +86,8 @@ impl Places {
     /// Keeps what a record says, at a place that has a row. It takes no memory.
     pub fn note(&mut self, place: u32, entry: &StateRecord)
         requires there { IsSome (found_row self.old place) }
-        requires here { (p : ℕ) → row_after p (row_at self.old p) entry.now ≡ (if p == place then row_after place (row_at self.old place) entry.now else row_at self.old p) }
+        requires here { (p : ℕ)
+            → row_after p (row_at self.old p) entry.now ≡ (if p == place then row_after place (row_at self.old place) entry.now else row_at self.old p) }
         ensures { (p : ℕ) → row_at self.new p ≡ row_after p (row_at self.old p) entry.now }
     {
         let row = row_noted(place, self.row(place), entry);

@@ -151,7 +151,8 @@ fn read_promise(body: &[u8]) -> StateRecord
 
 fn read_accepted(body: &[u8]) -> Option<StateRecord>
     requires { length body.now ≡ 127 }
-    ensures { (place : ℕ) (ballot : Ballot) (command : Command) → HasBody (Accepted place ballot command) → body.now ≡ body_of (Accepted place ballot command) → result ≡ Some (Accepted place ballot command) }
+    ensures { (place : ℕ) (ballot : Ballot) (command : Command) → HasBody (Accepted place ballot command)
+        → body.now ≡ body_of (Accepted place ballot command) → result ≡ Some (Accepted place ballot command) }
 {
     let command = command_at(body)?;
     Some(StateRecord::Accepted {
@@ -166,7 +167,8 @@ fn read_accepted(body: &[u8]) -> Option<StateRecord>
 
 fn read_chosen(body: &[u8]) -> Option<StateRecord>
     requires { length body.now ≡ 127 }
-    ensures { (place : ℕ) (command : Command) → HasBody (Chosen place command) → body.now ≡ body_of (Chosen place command) → result ≡ Some (Chosen place command) }
+    ensures { (place : ℕ) (command : Command) → HasBody (Chosen place command) → body.now ≡ body_of (Chosen place command)
+        → result ≡ Some (Chosen place command) }
 {
     let command = command_at(body)?;
     Some(StateRecord::Chosen {

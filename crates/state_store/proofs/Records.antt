@@ -1,5 +1,6 @@
 -- Records from what was read of their bodies.
-use Rattle.std.proofs.Common.{◌≡◌, ℕ, zero, suc, ◌+◌, ◌<◌, List, [], ◌∷◌, ◌++◌, length, take, get_or, map, fold, Option, Some, None, refl, sym, ap, subst, ◌∙◌, arith}
+use Rattle.std.proofs.Common.{◌≡◌, ℕ, zero, suc, ◌+◌, ◌<◌, List, [], ◌∷◌, ◌++◌, length, take, get_or, map, fold, Option}
+use Rattle.std.proofs.Common.{Some, None, refl, sym, ap, subst, ◌∙◌, arith}
 use Rattle.state_store.specs.Device.{bodies_of, AreSpelled}
 use Rattle.petal_paxos.specs.declared.record.StateRecord.{StateRecord}
 use Rattle.state_record.specs.Body.{body_of, HasBody}
@@ -17,16 +18,20 @@ found (r ∷ rs) zero lt sp = record { entry = r; fits = sp.0; body = refl; more
 found (r ∷ rs) (suc i) lt sp = let f = found rs i (omega arith) sp.1 in record { entry = f.entry; fits = f.fits; body = f.body; more = ap (λ l. r ∷ l) f.more }
 
 -- what is read of a body of the list is its record
-pub read_same : (bodies : List (List ℕ)) (records : List StateRecord) (i : ℕ) (read : Option StateRecord) (entry : StateRecord) (past : List StateRecord) → AreSpelled records → bodies ≡ bodies_of records → i < length bodies
-    → ((r : StateRecord) → HasBody r → get_or bodies i [] ≡ body_of r → read ≡ Some r) → read ≡ Some entry → past ≡ take i records → past ++ entry ∷ [] ≡ take (i + 1) records
+pub read_same : (bodies : List (List ℕ)) (records : List StateRecord) (i : ℕ) (read : Option StateRecord) (entry : StateRecord) (past : List StateRecord)
+    → AreSpelled records → bodies ≡ bodies_of records → i < length bodies
+    → ((r : StateRecord) → HasBody r → get_or bodies i [] ≡ body_of r → read ≡ Some r) → read ≡ Some entry → past ≡ take i records
+    → past ++ entry ∷ [] ≡ take (i + 1) records
 read_same bodies records i read entry past sp is lt only got so_far =
     let f = found records i (subst (λ (l : List (List ℕ)). i < length l) is lt) sp in
     let e : read ≡ Some f.entry = only f.entry f.fits (ap (λ (l : List (List ℕ)). get_or l i []) is ∙ f.body) in
     let same : entry ≡ f.entry = cc in
-    ap (λ n. n ++ entry ∷ []) so_far ∙ ap (λ (r : StateRecord). take i records ++ r ∷ []) same ∙ sym f.more ∙ ap (λ n. take n records) (let n : suc i ≡ i + 1 = omega arith in n)
+    ap (λ n. n ++ entry ∷ []) so_far ∙ ap (λ (r : StateRecord). take i records ++ r ∷ []) same ∙ sym f.more
+    ∙ ap (λ n. take n records) (let n : suc i ≡ i + 1 = omega arith in n)
 
 -- so none is not read
-pub read_none : (bodies : List (List ℕ)) (records : List StateRecord) (i : ℕ) (read : Option StateRecord) → AreSpelled records → bodies ≡ bodies_of records → i < length bodies
+pub read_none : (bodies : List (List ℕ)) (records : List StateRecord) (i : ℕ) (read : Option StateRecord) → AreSpelled records
+    → bodies ≡ bodies_of records → i < length bodies
     → ((r : StateRecord) → HasBody r → get_or bodies i [] ≡ body_of r → read ≡ Some r) → read ≡ None → ⊥
 read_none bodies records i read sp is lt only none =
     let f = found records i (subst (λ (l : List (List ℕ)). i < length l) is lt) sp in

@@ -92,13 +92,15 @@ impl<D: Disk> Device<D> {
         ensures found { IfOk result (λ o. D.told → (take 64 (D.seen disk) ≡ header) × Counts 128 4096 65536 (D.seen disk) (bodies_of o.0.records)) }
         ensures spelled { IfOk result (λ o. AreSpelled o.0.records) }
         ensures same { (records : List StateRecord) → IfOk result (λ o. D.told → StandsFor (D.seen disk) records → o.0.records ≡ records) }
-        ensures holds { (records : List StateRecord) → IfOk result (λ o. D.told → StandsFor (D.seen disk) records → Holds o.0.region (D.seen o.0.disk) (D.may_leave o.0.disk) o.0.records) }
+        ensures holds { (records : List StateRecord)
+            → IfOk result (λ o. D.told → StandsFor (D.seen disk) records → Holds o.0.region (D.seen o.0.disk) (D.may_leave o.0.disk) o.0.records) }
         ensures rows { IfOk result (λ o. (place : ℕ) → row_at o.1.places place ≡ row_of o.0.records place) }
         ensures inc { IfOk result (λ o. o.1.inc ≡ inc_of o.0.records) }
         ensures blank { IfErr result (λ e. e.1 ≡ error.Blank → D.told → 8392704 ≤ D.size disk → take 64 (D.seen disk) ≢ header) }
         ensures bad { (index : ℕ) → IfErr result (λ e. e.1 ≡ error.BadRecord index → D.told → IsBadOn (D.seen disk) index) }
         ensures failed { IfErr result (λ e. e.1 ≡ error.Failed → D.faults disk < D.faults e.0) }
-        ensures bad_headed { (index : ℕ) → IfErr result (λ e. e.1 ≡ error.BadRecord index → (8392704 ≤ D.size disk) × (D.told → take 64 (D.seen disk) ≡ header)) }
+        ensures bad_headed { (index : ℕ)
+            → IfErr result (λ e. e.1 ≡ error.BadRecord index → (8392704 ≤ D.size disk) × (D.told → take 64 (D.seen disk) ≡ header)) }
         ensures not_full { IfErr result (λ e. e.1 ≢ error.JournalFull) }
         ensures device { IfOk result (λ o. KeepsDevice D.size D.seen D.may_leave D.moment D.left_since disk o.0.disk) }
         ensures err_device { IfErr result (λ e. KeepsDevice D.size D.seen D.may_leave D.moment D.left_since disk e.0) }
@@ -126,7 +128,8 @@ impl<D: Disk> Device<D> {
     pub fn reopen(&mut self, alloc: Global) -> Result<Kept, StateError>
         ensures left { D.told → D.may_leave self.old.disk (D.seen self.new.disk) }
         ensures same { (records : List StateRecord) → OnOk result (D.told → StandsFor (D.seen self.new.disk) records → self.new.records ≡ records) }
-        ensures holds { (records : List StateRecord) → OnOk result (D.told → StandsFor (D.seen self.new.disk) records → Holds self.new.region (D.seen self.new.disk) (D.may_leave self.new.disk) self.new.records) }
+        ensures holds { (records : List StateRecord) → OnOk result (D.told → StandsFor (D.seen self.new.disk) records
+            → Holds self.new.region (D.seen self.new.disk) (D.may_leave self.new.disk) self.new.records) }
         ensures rows { IfOk result (λ kept. (place : ℕ) → row_at kept.places place ≡ row_of self.new.records place) }
         ensures inc { IfOk result (λ kept. kept.inc ≡ inc_of self.new.records) }
         ensures err { OnErr result (self.new.records ≡ self.old.records) }
@@ -242,14 +245,16 @@ fn read_device<D: Disk>(alloc: Global, disk: &mut D) -> Result<(Journal<128>, Re
     ensures found { IfOk result (λ o. D.told → (take 64 (D.seen disk.old) ≡ header) × Counts 128 4096 65536 (D.seen disk.old) (bodies_of o.1.history.items)) }
     ensures spelled { IfOk result (λ o. AreSpelled o.1.history.items) }
     ensures same { (records : List StateRecord) → IfOk result (λ o. D.told → StandsFor (D.seen disk.old) records → o.1.history.items ≡ records) }
-    ensures holds { (records : List StateRecord) → IfOk result (λ o. D.told → StandsFor (D.seen disk.old) records → Holds o.0 (D.seen disk.new) (D.may_leave disk.new) o.1.history.items) }
+    ensures holds { (records : List StateRecord)
+        → IfOk result (λ o. D.told → StandsFor (D.seen disk.old) records → Holds o.0 (D.seen disk.new) (D.may_leave disk.new) o.1.history.items) }
     ensures rows { IfOk result (λ o. (place : ℕ) → row_at o.1.places place ≡ row_of o.1.history.items place) }
     ensures inc { IfOk result (λ o. o.1.inc ≡ inc_of o.1.history.items) }
     ensures blank { IsErrOf result error.Blank → D.told → 8392704 ≤ D.size disk.old → take 64 (D.seen disk.old) ≢ header }
     ensures bad { (index : ℕ) → IfErr result (λ e. e ≡ error.BadRecord index → D.told → IsBadOn (D.seen disk.old) index) }
     ensures failed { IsErrOf result error.Failed → D.faults disk.old < D.faults disk.new }
     ensures later { D.faults disk.old ≤ D.faults disk.new }
-    ensures bad_headed { (index : ℕ) → IfErr result (λ e. e ≡ error.BadRecord index → (8392704 ≤ D.size disk.old) × (D.told → take 64 (D.seen disk.old) ≡ header)) }
+    ensures bad_headed { (index : ℕ)
+        → IfErr result (λ e. e ≡ error.BadRecord index → (8392704 ≤ D.size disk.old) × (D.told → take 64 (D.seen disk.old) ≡ header)) }
     ensures not_full { ¬ IsErrOf result error.JournalFull }
     ensures device { KeepsDevice D.size D.seen D.may_leave D.moment D.left_since disk.old disk.new }
 {

@@ -33,7 +33,8 @@ pub fn read_records(alloc: Global, bodies: &[Vec<u8>]) -> Result<Register, State
     ensures same { (records : List StateRecord) → AreSpelled records → contents bodies.now ≡ bodies_of records → IfOk result (λ r. r.history.items ≡ records) }
     ensures rows { IfOk result (λ r. (place : ℕ) → row_at r.places place ≡ row_of r.history.items place) }
     ensures inc { IfOk result (λ r. r.inc ≡ inc_of r.history.items) }
-    ensures bad { (index : ℕ) → IfErr result (λ e. e ≡ error.BadRecord index → (index < length bodies.now) × ((r : StateRecord) → HasBody r → slice_index_or (contents bodies.now) index [] ≡ body_of r → ⊥)) }
+    ensures bad { (index : ℕ) → IfErr result (λ e. e ≡ error.BadRecord index
+        → (index < length bodies.now) × ((r : StateRecord) → HasBody r → slice_index_or (contents bodies.now) index [] ≡ body_of r → ⊥)) }
     ensures errors { IfErr result IsReadError }
 {
     let mut history = GhostList::new();

@@ -1,6 +1,7 @@
 //! The state store of a server.
 
-ghost use Rattle.std.specs.Prelude.{◌≡◌, ◌≢◌, ◌⊎◌, ◌≤◌, ◌<◌, ◌+◌, ◌==◌, ◌++◌, ◌∷◌, [], ℕ, List, Option, min, if◌then◌else◌, OnOk, OnErr, IfOk, IfErr, IsErrOf, IsOk, take, length, Some, None, false};
+ghost use Rattle.std.specs.Prelude.{◌≡◌, ◌≢◌, ◌⊎◌, ◌≤◌, ◌<◌, ◌+◌, ◌==◌, ◌++◌, ◌∷◌, [], ℕ, List, Option, min, if◌then◌else◌, OnOk, OnErr, IfOk};
+ghost use Rattle.std.specs.Prelude.{IfErr, IsErrOf, IsOk, take, length, Some, None, false};
 ghost use Rattle.petal_disk.specs.Plans.{beneath, plan_state};
 ghost use Rattle.petal_disk.specs.Disk.{LeavesOnly};
 ghost use Rattle.petal_disk.specs.Keeping.{KeepsDevice};
@@ -87,11 +88,13 @@ impl<D: Disk> StateStore<D> {
         ensures found { IfOk result (λ s. D.told → (take 64 (D.seen disk) ≡ header) × Counts 128 4096 65536 (D.seen disk) (bodies_of s.records)) }
         ensures spelled { IfOk result (λ s. AreSpelled s.records) }
         ensures same { (records : List StateRecord) → IfOk result (λ s. D.told → StandsFor (D.seen disk) records → s.records ≡ records) }
-        ensures holds { (records : List StateRecord) → IfOk result (λ s. D.told → StandsFor (D.seen disk) records → Holds s.region (D.seen s.disk) (D.may_leave s.disk) s.records) }
+        ensures holds { (records : List StateRecord)
+            → IfOk result (λ s. D.told → StandsFor (D.seen disk) records → Holds s.region (D.seen s.disk) (D.may_leave s.disk) s.records) }
         ensures blank { IfErr result (λ e. e.1 ≡ error.Blank → D.told → 8392704 ≤ D.size disk → take 64 (D.seen disk) ≢ header) }
         ensures bad { (index : ℕ) → IfErr result (λ e. e.1 ≡ error.BadRecord index → D.told → IsBadOn (D.seen disk) index) }
         ensures failed { IfErr result (λ e. e.1 ≡ error.Failed → D.faults disk < D.faults e.0) }
-        ensures bad_headed { (index : ℕ) → IfErr result (λ e. e.1 ≡ error.BadRecord index → (8392704 ≤ D.size disk) × (D.told → take 64 (D.seen disk) ≡ header)) }
+        ensures bad_headed { (index : ℕ)
+            → IfErr result (λ e. e.1 ≡ error.BadRecord index → (8392704 ≤ D.size disk) × (D.told → take 64 (D.seen disk) ≡ header)) }
         ensures not_full { IfErr result (λ e. e.1 ≢ error.JournalFull) }
         ensures device { IfOk result (λ s. KeepsDevice D.size D.seen D.may_leave D.moment D.left_since disk s.disk) }
         ensures err_device { IfErr result (λ e. KeepsDevice D.size D.seen D.may_leave D.moment D.left_since disk e.0) }
@@ -113,7 +116,8 @@ impl<D: Disk> StateStore<D> {
     pub fn reopen(&mut self, alloc: Global) -> Result<(), StateError>
         ensures left { D.told → D.may_leave self.old.disk (D.seen self.new.disk) }
         ensures same { (records : List StateRecord) → OnOk result (D.told → StandsFor (D.seen self.new.disk) records → self.new.records ≡ records) }
-        ensures holds { (records : List StateRecord) → OnOk result (D.told → StandsFor (D.seen self.new.disk) records → Holds self.new.region (D.seen self.new.disk) (D.may_leave self.new.disk) self.new.records) }
+        ensures holds { (records : List StateRecord) → OnOk result (D.told → StandsFor (D.seen self.new.disk) records
+            → Holds self.new.region (D.seen self.new.disk) (D.may_leave self.new.disk) self.new.records) }
         ensures err { OnErr result (self.new.records ≡ self.old.records) }
         ensures failed { IsErrOf result error.Failed → D.faults self.old.disk < D.faults self.new.disk }
         ensures later { D.faults self.old.disk ≤ D.faults self.new.disk }
@@ -166,7 +170,8 @@ impl<D: Disk> StateStore<D> {
     /// `Failed` where the device failed: the store is to be opened again. `JournalFull` exactly where a commit is needed and
     /// the journal has all its records; `NoMemory`. Nothing changed at these two.
     pub fn raise_inc(&mut self) -> Result<(), StateError>
-        ensures ok { OnOk result (self.new.records ≡ (if inc_of self.old.records == 4294967295 then self.old.records else self.old.records ++ kind.Inc (inc_of self.old.records + 1) ∷ [])) }
+        ensures ok { OnOk result (self.new.records
+            ≡ (if inc_of self.old.records == 4294967295 then self.old.records else self.old.records ++ kind.Inc (inc_of self.old.records + 1) ∷ [])) }
         ensures err { OnErr result (self.new.records ≡ self.old.records) }
         ensures full { IsErrOf result error.JournalFull → (self.old.region.count ≡ 65536) × (self.new ≡ self.old) }
         ensures full_comes { self.old.region.count ≡ 65536 → inc_of self.old.records ≢ 4294967295 → IsErrOf result error.JournalFull }
@@ -200,8 +205,10 @@ impl<D: Disk> StateStore<D> {
     pub fn promise(&mut self, place: u32, ballot: Ballot) -> Result<(), StateError>
         ensures ok { OnOk result (Commits self.old.records self.new.records (kind.Promise place ballot)) }
         ensures err { OnErr result (self.new.records ≡ self.old.records) }
-        ensures full { IsErrOf result error.JournalFull → (self.old.region.count ≡ 65536) × (¬ AddsNothing self.old.records (kind.Promise place ballot)) × (self.new ≡ self.old) }
-        ensures full_comes { self.old.region.count ≡ 65536 → ¬ AddsNothing self.old.records (kind.Promise place ballot) → IsErrOf result error.JournalFull ⊎ IsErrOf result error.NoMemory }
+        ensures full { IsErrOf result error.JournalFull → (self.old.region.count ≡ 65536) × (¬ AddsNothing self.old.records (kind.Promise place ballot))
+            × (self.new ≡ self.old) }
+        ensures full_comes { self.old.region.count ≡ 65536 → ¬ AddsNothing self.old.records (kind.Promise place ballot)
+            → IsErrOf result error.JournalFull ⊎ IsErrOf result error.NoMemory }
         ensures memory { IsErrOf result error.NoMemory → self.new ≡ self.old }
         ensures only { IfErr result IsCommitError }
         ensures failed { IsErrOf result error.Failed → D.faults self.old.disk < D.faults self.new.disk }
@@ -210,7 +217,8 @@ impl<D: Disk> StateStore<D> {
         ensures either { D.told → Holds self.old.region (D.seen self.old.disk) (D.may_leave self.old.disk) self.old.records
             → WithOrWithout (D.seen self.new.disk) self.old.records (kind.Promise place ballot) }
         ensures any_moment { D.told → Holds self.old.region (D.seen self.old.disk) (D.may_leave self.old.disk) self.old.records
-            → LeavesOnly D.moment D.left_since self.old.disk self.new.disk (StandsForEither self.old.records (committed self.old.records (kind.Promise place ballot))) }
+            → LeavesOnly D.moment D.left_since self.old.disk self.new.disk
+            (StandsForEither self.old.records (committed self.old.records (kind.Promise place ballot))) }
         ensures later { D.faults self.old.disk ≤ D.faults self.new.disk }
         ensures run { D.came_to self.old.disk self.new.disk }
     {
@@ -231,8 +239,10 @@ impl<D: Disk> StateStore<D> {
     ) -> Result<(), StateError>
         ensures ok { OnOk result (Commits self.old.records self.new.records (kind.Accepted place ballot command.now)) }
         ensures err { OnErr result (self.new.records ≡ self.old.records) }
-        ensures full { IsErrOf result error.JournalFull → (self.old.region.count ≡ 65536) × (¬ AddsNothing self.old.records (kind.Accepted place ballot command.now)) × (self.new ≡ self.old) }
-        ensures full_comes { self.old.region.count ≡ 65536 → ¬ AddsNothing self.old.records (kind.Accepted place ballot command.now) → IsErrOf result error.JournalFull ⊎ IsErrOf result error.NoMemory }
+        ensures full { IsErrOf result error.JournalFull
+            → (self.old.region.count ≡ 65536) × (¬ AddsNothing self.old.records (kind.Accepted place ballot command.now)) × (self.new ≡ self.old) }
+        ensures full_comes { self.old.region.count ≡ 65536 → ¬ AddsNothing self.old.records (kind.Accepted place ballot command.now)
+            → IsErrOf result error.JournalFull ⊎ IsErrOf result error.NoMemory }
         ensures memory { IsErrOf result error.NoMemory → self.new ≡ self.old }
         ensures only { IfErr result IsCommitError }
         ensures failed { IsErrOf result error.Failed → D.faults self.old.disk < D.faults self.new.disk }
@@ -241,7 +251,8 @@ impl<D: Disk> StateStore<D> {
         ensures either { D.told → Holds self.old.region (D.seen self.old.disk) (D.may_leave self.old.disk) self.old.records
             → WithOrWithout (D.seen self.new.disk) self.old.records (kind.Accepted place ballot command.now) }
         ensures any_moment { D.told → Holds self.old.region (D.seen self.old.disk) (D.may_leave self.old.disk) self.old.records
-            → LeavesOnly D.moment D.left_since self.old.disk self.new.disk (StandsForEither self.old.records (committed self.old.records (kind.Accepted place ballot command.now))) }
+            → LeavesOnly D.moment D.left_since self.old.disk self.new.disk
+            (StandsForEither self.old.records (committed self.old.records (kind.Accepted place ballot command.now))) }
         ensures later { D.faults self.old.disk ≤ D.faults self.new.disk }
         ensures run { D.came_to self.old.disk self.new.disk }
     {
@@ -264,8 +275,10 @@ impl<D: Disk> StateStore<D> {
     pub fn choose(&mut self, place: u32, command: &Command) -> Result<(), StateError>
         ensures ok { OnOk result (Commits self.old.records self.new.records (kind.Chosen place command.now)) }
         ensures err { OnErr result (self.new.records ≡ self.old.records) }
-        ensures full { IsErrOf result error.JournalFull → (self.old.region.count ≡ 65536) × (¬ AddsNothing self.old.records (kind.Chosen place command.now)) × (self.new ≡ self.old) }
-        ensures full_comes { self.old.region.count ≡ 65536 → ¬ AddsNothing self.old.records (kind.Chosen place command.now) → IsErrOf result error.JournalFull ⊎ IsErrOf result error.NoMemory }
+        ensures full { IsErrOf result error.JournalFull
+            → (self.old.region.count ≡ 65536) × (¬ AddsNothing self.old.records (kind.Chosen place command.now)) × (self.new ≡ self.old) }
+        ensures full_comes { self.old.region.count ≡ 65536 → ¬ AddsNothing self.old.records (kind.Chosen place command.now)
+            → IsErrOf result error.JournalFull ⊎ IsErrOf result error.NoMemory }
         ensures memory { IsErrOf result error.NoMemory → self.new ≡ self.old }
         ensures only { IfErr result IsCommitError }
         ensures failed { IsErrOf result error.Failed → D.faults self.old.disk < D.faults self.new.disk }
@@ -274,7 +287,8 @@ impl<D: Disk> StateStore<D> {
         ensures either { D.told → Holds self.old.region (D.seen self.old.disk) (D.may_leave self.old.disk) self.old.records
             → WithOrWithout (D.seen self.new.disk) self.old.records (kind.Chosen place command.now) }
         ensures any_moment { D.told → Holds self.old.region (D.seen self.old.disk) (D.may_leave self.old.disk) self.old.records
-            → LeavesOnly D.moment D.left_since self.old.disk self.new.disk (StandsForEither self.old.records (committed self.old.records (kind.Chosen place command.now))) }
+            → LeavesOnly D.moment D.left_since self.old.disk self.new.disk
+            (StandsForEither self.old.records (committed self.old.records (kind.Chosen place command.now))) }
         ensures later { D.faults self.old.disk ≤ D.faults self.new.disk }
         ensures run { D.came_to self.old.disk self.new.disk }
     {
@@ -294,7 +308,8 @@ impl<D: Disk> StateStore<D> {
         ensures ok { OnOk result (Commits self.old.records self.new.records entry.now) }
         ensures err { OnErr result (self.new.records ≡ self.old.records) }
         ensures full { IsErrOf result error.JournalFull → (self.old.region.count ≡ 65536) × (¬ AddsNothing self.old.records entry.now) × (self.new ≡ self.old) }
-        ensures full_comes { self.old.region.count ≡ 65536 → ¬ AddsNothing self.old.records entry.now → IsErrOf result error.JournalFull ⊎ IsErrOf result error.NoMemory }
+        ensures full_comes { self.old.region.count ≡ 65536 → ¬ AddsNothing self.old.records entry.now
+            → IsErrOf result error.JournalFull ⊎ IsErrOf result error.NoMemory }
         ensures memory { IsErrOf result error.NoMemory → self.new ≡ self.old }
         ensures only { IfErr result IsCommitError }
         ensures failed { IsErrOf result error.Failed → D.faults self.old.disk < D.faults self.new.disk }

@@ -84,6 +84,7 @@ fn plan_by(chance: &mut Chance, stop: bool) -> Plan {
         kind: CallKind::Any,
         at: chance.below(40).saturating_add(1) as u32,
         stop,
+        late: false,
     }
 }
 

@@ -33,7 +33,8 @@ kind_of-spelling bytes Settled e = ap (λ (l : List ℕ). get_or l 0 0) e
 pub cell_is : (map block : ℕ) (cell : Cell) → map ≡ cell.map → block ≡ cell.block → ◌≡◌ {A = Cell} (record { map = map; block = block }) cell
 cell_is map block cell e f = rw (e, f) refl
 
-pub key_is : (map block epoch : ℕ) (key : Key) → map ≡ key.map → block ≡ key.block → epoch ≡ key.epoch → ◌≡◌ {A = Key} (record { map = map; block = block; epoch = epoch }) key
+pub key_is : (map block epoch : ℕ) (key : Key) → map ≡ key.map → block ≡ key.block → epoch ≡ key.epoch
+    → ◌≡◌ {A = Key} (record { map = map; block = block; epoch = epoch }) key
 key_is map block epoch key e f h = rw (e, f, h) refl
 
 pub put_is : (a : Key) (b d : ℕ) (key : Key) (version slot : ℕ) → a ≡ key → b ≡ version → d ≡ slot → Put a b d ≡ Put key version slot

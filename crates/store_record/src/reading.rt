@@ -82,7 +82,8 @@ fn kind_at(bytes: &[u8]) -> MarkKind
 
 fn read_put(bytes: &[u8]) -> StoreRecord
     requires { length bytes.now ≡ 63 }
-    ensures { (key : Key) (version slot : ℕ) → HasSpelling (Put key version slot) → bytes.now ≡ spelling (Put key version slot) → result ≡ Put key version slot }
+    ensures { (key : Key) (version slot : ℕ) → HasSpelling (Put key version slot) → bytes.now ≡ spelling (Put key version slot)
+        → result ≡ Put key version slot }
 {
     StoreRecord::Put {
         key: key_at(bytes),

@@ -52,6 +52,7 @@ fn stopped_put<D: Disk>(store: &mut Store<Planned<D>>, at: u32, block: &Block) -
         kind: CallKind::Any,
         at,
         stop: true,
+        late: false,
     });
     let answered = put(store, block).is_ok();
     store.disarm();

@@ -5,10 +5,12 @@
 //! knows nothing of what a fence does once it takes effect, or of who may join and leave.
 #![tactic(auto)]
 
-ghost use Rattle.std.specs.Prelude.{◌≡◌, ◌<◌, ◌+◌, ◌-◌, ◌^◌, ◌==◌, IfOk, OnOk, OnErr, IsTrue, Some, is_some, length, filter, not, slice_get, slice_set, option_copied};
+ghost use Rattle.std.specs.Prelude.{◌≡◌, ◌<◌, ◌+◌, ◌-◌, ◌^◌, ◌==◌, IfOk, OnOk, OnErr, IsTrue, Some, is_some, length, filter};
+ghost use Rattle.std.specs.Prelude.{not, slice_get, slice_set, option_copied};
 ghost use Rattle.std.specs.List.{range_with_len};
 ghost use Rattle.global_tables.specs.declared.fence.Member.TheVariants.{Out};
-ghost use Rattle.global_tables.specs.View.{new_view, joined, left, queued, drained, taken, ready, head, awaiting, servers_in, stands_in, last_inc, first_waiting, reported, behind, out_of};
+ghost use Rattle.global_tables.specs.View.{new_view, joined, left, queued, drained, taken, ready, head, awaiting, servers_in, stands_in};
+ghost use Rattle.global_tables.specs.View.{last_inc, first_waiting, reported, behind, out_of};
 
 pub use global_tables::{Fence, FenceKind, Member};
 use petal_base::{Inc, NoMemory, Sequence, ServerId};

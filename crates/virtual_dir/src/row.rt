@@ -1,7 +1,8 @@
 //! What happens to one disk.
 
 ghost use Rattle.std.specs.Prelude.{◌≡◌, ◌<◌, ◌-◌, ◌^◌, Some, IfOk, OnOk, OnErr, slice_set, if◌then◌else◌};
-ghost use Rattle.global_tables.specs.Disk.{row_frozen, row_moving, row_fenced, row_noted, move_fenced, move_done, with_link, all_noted, completes, option_moved};
+ghost use Rattle.global_tables.specs.Disk.{row_frozen, row_moving, row_fenced, row_noted, move_fenced, move_done, with_link};
+ghost use Rattle.global_tables.specs.Disk.{all_noted, completes, option_moved};
 
 use global_tables::{DiskRow, Move, RegionState, Snapshot};
 use petal_base::{MapId, Name, NoMemory, REGIONS, Sequence};

@@ -1,5 +1,6 @@
 -- The lines without an answer are those that wait.
-use Rattle.std.proofs.Common.{◌≡◌, ◌≢◌, ℕ, zero, suc, ◌+◌, ◌≤◌, ◌<◌, length, take, get_or, List, [], ◌∷◌, ◌++◌, ◌⊎◌, inl, inr, Option, Some, None, refl, sym, ap, ◌∙◌, subst, arith}
+use Rattle.std.proofs.Common.{◌≡◌, ◌≢◌, ℕ, zero, suc, ◌+◌, ◌≤◌, ◌<◌, length, take, get_or, List, [], ◌∷◌, ◌++◌, ◌⊎◌, inl, inr}
+use Rattle.std.proofs.Common.{Option, Some, None, refl, sym, ap, ◌∙◌, subst, arith}
 use Rattle.std.proofs.lemmas.Bool.{cases_eq, cases_lt}
 use Rattle.std.proofs.lemmas.List.{take_more}
 use Rattle.std.specs.Ordering.{nat_cmp}
@@ -44,7 +45,8 @@ module _ (lines : List Line) (line : Line) (rows : Table ℕ ℕ) (numbered : Ar
   waits_too other m = elim (cases_eq other.number line.number) [
     | inl e ↦
         let same : other ≡ line = numbered other line m last e in
-        ap (λ n. at nat_cmp (put nat_cmp rows line.number line.phase) n) e ∙ at_same rows line.number line.phase ∙ ap (λ p. Some p) (sym (same_phase other line same))
+        ap (λ n. at nat_cmp (put nat_cmp rows line.number line.phase) n) e ∙ at_same rows line.number line.phase
+        ∙ ap (λ p. Some p) (sym (same_phase other line same))
     | inr ne ↦ at_apart rows line.number line.phase other.number ne ∙ elim (in-append other lines (line ∷ []) m) [
       | inl a ↦ elim (h.each other a) [ inl given ↦ absurd (no_answers other.number given) | inr there ↦ there ]
       | inr b ↦ elim b [ inl e ↦ absurd (ne (ap (λ (l : Line). l.number) e)) | inr none ↦ absurd none ]
@@ -57,7 +59,8 @@ module _ (lines : List Line) (line : Line) (rows : Table ℕ ℕ) (numbered : Ar
       line = line;
       there = last;
       number_is = sym same;
-      phase_is = phase_of_some _ line.phase phase (ap (λ n. at nat_cmp (put nat_cmp rows line.number line.phase) n) same ∙ at_same rows line.number line.phase) e;
+      phase_is =
+          phase_of_some _ line.phase phase (ap (λ n. at nat_cmp (put nat_cmp rows line.number line.phase) n) same ∙ at_same rows line.number line.phase) e;
     }
     | inr ne ↦
         let own = (h.only number phase (sym (at_apart rows line.number line.phase number ne) ∙ e)).1 in
@@ -81,7 +84,8 @@ just_now : (number other : ℕ) (answer : Answer) (given : List (ℕ × Answer))
 unfolding In
 just_now number other answer given e = record { answer = answer; is = inl (ap (λ n. (n, answer)) e) }
 
-not_now : (number other : ℕ) (answer : Answer) (given : List (ℕ × Answer)) → other ≢ number → IsAnswered ((number, answer) ∷ given) other → IsAnswered given other
+not_now : (number other : ℕ) (answer : Answer) (given : List (ℕ × Answer)) → other ≢ number → IsAnswered ((number, answer) ∷ given) other
+    → IsAnswered given other
 unfolding In
 not_now number other answer given ne is = elim is.is [
   | inl e ↦ absurd (ne (ap (λ (p : ℕ × Answer). p.0) e))
@@ -144,9 +148,11 @@ in_take x (suc k) [] h = absurd h
 in_take x (suc k) (y ∷ ys) (inl e) = inl e
 in_take x (suc k) (y ∷ ys) (inr h) = inr (in_take x k ys h)
 
-pub more_wait : (lines : List Line) (i : ℕ) (line : Line) (rows added : Table ℕ ℕ) → AreNumbered lines → i < length lines → line ≡ get_or lines i line → Await (take i lines) [] rows → added ≡ put nat_cmp rows line.number line.phase → Await (take (i + 1) lines) [] added
+pub more_wait : (lines : List Line) (i : ℕ) (line : Line) (rows added : Table ℕ ℕ) → AreNumbered lines → i < length lines → line ≡ get_or lines i line
+    → Await (take i lines) [] rows → added ≡ put nat_cmp rows line.number line.phase → Await (take (i + 1) lines) [] added
 more_wait lines i line rows added numbered within is h put_so =
     let more : take (i + 1) lines ≡ take i lines ++ line ∷ [] = take_more lines i line within ∙ ap (λ x. take i lines ++ x ∷ []) (sym is) in
     let back = λ (x : Line) (m : In x (take i lines ++ line ∷ [])). in_take x (i + 1) lines (subst (λ (ls : List Line). In x ls) (sym more) m) in
     let own : AreNumbered (take i lines ++ line ∷ []) = λ one other m n same. numbered one other (back one m) (back other n) same in
-    subst (λ (ls : List Line). Await ls [] added) (sym more) (subst (λ (t : Table ℕ ℕ). Await (take i lines ++ line ∷ []) [] t) (sym put_so) (one_waits (take i lines) line rows own h))
+    subst (λ (ls : List Line). Await ls [] added) (sym more)
+    (subst (λ (t : Table ℕ ℕ). Await (take i lines ++ line ∷ []) [] t) (sym put_so) (one_waits (take i lines) line rows own h))

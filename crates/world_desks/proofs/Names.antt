@@ -53,11 +53,14 @@ other_name : (a b : LetterName) → a ≢ b → eq_by_cmp name_cmp a b ≡ false
 other_name a b ne = apart (eq_by_cmp name_cmp a b) (λ e. ne (name_cmp_same a b (tied (name_cmp a b) e)))
 
 -- what stands at a name once a letter is there too
-pub found : (rows : Table LetterName Letter) (letter : Letter) (name : LetterName) → at name_cmp (with_letter rows letter) name ≡ cond (eq_by_cmp name_cmp name (name_of letter)) (Some letter) (at name_cmp rows name)
+pub found : (rows : Table LetterName Letter) (letter : Letter) (name : LetterName)
+    → at name_cmp (with_letter rows letter) name ≡ cond (eq_by_cmp name_cmp name (name_of letter)) (Some letter) (at name_cmp rows name)
 found rows letter name = at-put name_cmp_total rows (name_of letter) letter name
 
 pub found_itself : (rows : Table LetterName Letter) (letter : Letter) → at name_cmp (with_letter rows letter) (name_of letter) ≡ Some letter
-found_itself rows letter = found rows letter (name_of letter) ∙ ap (λ b. cond b (Some letter) (at name_cmp rows (name_of letter))) (name_itself (name_of letter))
+found_itself rows letter = found rows letter (name_of letter)
+    ∙ ap (λ b. cond b (Some letter) (at name_cmp rows (name_of letter))) (name_itself (name_of letter))
 
-pub found_other : (rows : Table LetterName Letter) (letter : Letter) (name : LetterName) → name ≢ name_of letter → at name_cmp (with_letter rows letter) name ≡ at name_cmp rows name
+pub found_other : (rows : Table LetterName Letter) (letter : Letter) (name : LetterName) → name ≢ name_of letter
+    → at name_cmp (with_letter rows letter) name ≡ at name_cmp rows name
 found_other rows letter name ne = found rows letter name ∙ ap (λ b. cond b (Some letter) (at name_cmp rows name)) (other_name name (name_of letter) ne)

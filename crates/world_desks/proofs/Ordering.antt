@@ -54,25 +54,34 @@ module _ (lines : List Line) (line : Line) (number phase : ℕ) (h : AreUpTo lin
   ]
 
   numbers_too : (one : Line) → In one (lines ++ line ∷ []) → one.number ≤ line.number
-  numbers_too one m = elim (which one m) [ inl a ↦ let le = h.numbers one a in omega arith | inr e ↦ let d : one.number ≡ line.number = ap (λ (l : Line). l.number) e in omega arith ]
+  numbers_too one m = elim (which one m) [
+    | inl a ↦ let le = h.numbers one a in omega arith
+    | inr e ↦ let d : one.number ≡ line.number = ap (λ (l : Line). l.number) e in omega arith
+  ]
 
   phases_too : (one : Line) → In one (lines ++ line ∷ []) → one.phase ≤ line.phase
-  phases_too one m = elim (which one m) [ inl a ↦ let le = h.phases one a in omega arith | inr e ↦ let d : one.phase ≡ line.phase = ap (λ (l : Line). l.phase) e in omega arith ]
+  phases_too one m = elim (which one m) [
+    | inl a ↦ let le = h.phases one a in omega arith
+    | inr e ↦ let d : one.phase ≡ line.phase = ap (λ (l : Line). l.phase) e in omega arith
+  ]
 
   pub one_up : AreUpTo (lines ++ line ∷ []) line.number line.phase
   one_up = record { numbered = numbered_too; ordered = ordered_too; numbers = numbers_too; phases = phases_too }
 
 -- one line more, at its place
-pub next_up : (lines : List Line) (i : ℕ) (line : Line) (number phase : ℕ) → i < length lines → line ≡ get_or lines i line → AreUpTo (take i lines) number phase → number < line.number → phase ≤ line.phase → AreUpTo (take (i + 1) lines) line.number line.phase
+pub next_up : (lines : List Line) (i : ℕ) (line : Line) (number phase : ℕ) → i < length lines → line ≡ get_or lines i line
+    → AreUpTo (take i lines) number phase → number < line.number → phase ≤ line.phase → AreUpTo (take (i + 1) lines) line.number line.phase
 next_up lines i line number phase within is h above later =
     let more : take (i + 1) lines ≡ take i lines ++ line ∷ [] = take_more lines i line within ∙ ap (λ x. take i lines ++ x ∷ []) (sym is) in
     subst (λ (ls : List Line). AreUpTo ls line.number line.phase) (sym more) (one_up (take i lines) line number phase h above later)
 
 -- where the next line goes on from this number and phase, the rest decides
-climb_step : (line : Line) (rest : List Line) (number phase : ℕ) → number < line.number → phase ≤ line.phase → climb number phase (line ∷ rest) ≡ climb line.number line.phase rest
+climb_step : (line : Line) (rest : List Line) (number phase : ℕ) → number < line.number → phase ≤ line.phase
+    → climb number phase (line ∷ rest) ≡ climb line.number line.phase rest
 climb_step line rest number phase above later = grind (arith, nat_tests)
 
-pub climb_on : (lines : List Line) (i : ℕ) (line : Line) (number phase : ℕ) → i < length lines → line ≡ get_or lines i line → number < line.number → phase ≤ line.phase → climb number phase (drop i lines) ≡ climb line.number line.phase (drop (i + 1) lines)
+pub climb_on : (lines : List Line) (i : ℕ) (line : Line) (number phase : ℕ) → i < length lines → line ≡ get_or lines i line → number < line.number
+    → phase ≤ line.phase → climb number phase (drop i lines) ≡ climb line.number line.phase (drop (i + 1) lines)
 climb_on lines i line number phase within is above later =
     let more : drop i lines ≡ line ∷ drop (i + 1) lines = drop_more lines i line within ∙ ap (λ x. x ∷ drop (i + 1) lines) (sym is) in
     ap (climb number phase) more ∙ climb_step line (drop (i + 1) lines) number phase above later

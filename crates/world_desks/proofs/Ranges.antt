@@ -30,12 +30,14 @@ module _ {A : Type 0} where
       let more : map f (range_with_len (a + 1) n) ≡ map g (range_with_len (a + 1) n) = map_same f g (a + 1) n (λ k le. same k (omega arith)) in
       λ i. here i ∷ more i
 
-  set_from : (f g : ℕ → A) (a n i : ℕ) → i < n → ((k : ℕ) → k ≢ a + i → f k ≡ g k) → slice_set (map f (range_with_len a n)) i (g (a + i)) ≡ map g (range_with_len a n)
+  set_from : (f g : ℕ → A) (a n i : ℕ) → i < n → ((k : ℕ) → k ≢ a + i → f k ≡ g k)
+      → slice_set (map f (range_with_len a n)) i (g (a + i)) ≡ map g (range_with_len a n)
   set_from f g a zero i h same = absurd (omega arith)
   set_from f g a (suc n) zero h same =
       let e : a + 0 ≡ a = omega arith in
       let here : g (a + 0) ≡ g a = ap g e in
-      let more : map f (range_with_len (a + 1) n) ≡ map g (range_with_len (a + 1) n) = map_same f g (a + 1) n (λ k le. same k (λ (q : k ≡ a + 0). omega arith)) in
+      let more : map f (range_with_len (a + 1) n) ≡ map g (range_with_len (a + 1) n) =
+      map_same f g (a + 1) n (λ k le. same k (λ (q : k ≡ a + 0). omega arith)) in
       λ i. here i ∷ more i
   set_from f g a (suc n) (suc i) h same =
       let less : i < n = omega arith in
@@ -46,7 +48,8 @@ module _ {A : Type 0} where
       (λ j. here j ∷ slice_set (map f (range_with_len (a + 1) n)) i (value j)) ∙ ap (λ rest. g a ∷ rest) more
 
   -- one of the values is another
-  pub set_range : (f g : ℕ → A) (n i : ℕ) (x : A) → i < n → x ≡ g i → ((k : ℕ) → k ≢ i → f k ≡ g k) → slice_set (map f (range_with_len 0 n)) i x ≡ map g (range_with_len 0 n)
+  pub set_range : (f g : ℕ → A) (n i : ℕ) (x : A) → i < n → x ≡ g i → ((k : ℕ) → k ≢ i → f k ≡ g k)
+      → slice_set (map f (range_with_len 0 n)) i x ≡ map g (range_with_len 0 n)
   set_range f g n i x h is same =
       let e : 0 + i ≡ i = omega arith in
       let value : x ≡ g (0 + i) = is ∙ ap g (sym e) in

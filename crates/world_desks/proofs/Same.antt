@@ -198,9 +198,11 @@ same_body (body.Seen line round running inc full) (body.Seen line' round' runnin
     let y = same_number inc inc' four.0 in
     let z = same_flag full full' four.1 in
     λ k. body.Seen (v k) (w k) (x k) (y k) (z k)
-same_body (body.Write client seq cell epoch bytes) (body.Write client' seq' cell' epoch' bytes') h = let same = bytes_decides bytes bytes' in grind (arith, nat_tests, same.0)
+same_body (body.Write client seq cell epoch bytes) (body.Write client' seq' cell' epoch' bytes') h = let same = bytes_decides bytes bytes' in
+    grind (arith, nat_tests, same.0)
 same_body (body.Data seq bytes) (body.Data seq' bytes') h = let same = bytes_decides bytes bytes' in grind (arith, nat_tests, same.0)
-same_body (body.Replicate op key version bytes) (body.Replicate op' key' version' bytes') h = let same = bytes_decides bytes bytes' in grind (arith, nat_tests, same.0)
+same_body (body.Replicate op key version bytes) (body.Replicate op' key' version' bytes') h = let same = bytes_decides bytes bytes' in
+    grind (arith, nat_tests, same.0)
 same_body (body.Propose command) (body.Propose other) h = ap body.Propose (same_command command other h)
 same_body (body.Pax said) (body.Pax other) h = ap body.Pax (same_pax said other h)
 same_body (body.News after entries) (body.News before others) h =
@@ -225,7 +227,8 @@ same_body (body.Hello map link after block) (body.Hello map' link' after' block'
     let z = same_block block block' three.1 in
     λ k. body.Hello (w k) (x k) (y k) (z k)
 same_body (body.Trim op cell epochs) (body.Trim op' cell' epochs') h = let same = bytes_decides epochs epochs' in grind (arith, nat_tests, same.0)
-same_body (body.Sync op key version index bytes) (body.Sync op' key' version' index' bytes') h = let same = bytes_decides bytes bytes' in grind (arith, nat_tests, same.0)
+same_body (body.Sync op key version index bytes) (body.Sync op' key' version' index' bytes') h = let same = bytes_decides bytes bytes' in
+    grind (arith, nat_tests, same.0)
 same_body (body.Fill key bytes) (body.Fill key' bytes') h = let same = bytes_decides bytes bytes' in grind (arith, nat_tests, same.0)
 same_body (body.Down server inc) (body.Down server' inc') h = grind (arith, nat_tests)
 same_body (body.Ask rev) (body.Ask rev') h = grind (arith, nat_tests)
@@ -253,13 +256,15 @@ same_actor (actor.Client n) (actor.Client m) h = grind (arith, nat_tests)
 same_actor _ _ h = cc
 
 -- all of seven tests
-all_seven : (a b c d e f g : Bool) → (a && (b && (c && (d && (e && (f && g)))))) ≡ true → (a ≡ true) × (b ≡ true) × (c ≡ true) × (d ≡ true) × (e ≡ true) × (f ≡ true) × (g ≡ true)
+all_seven : (a b c d e f g : Bool) → (a && (b && (c && (d && (e && (f && g)))))) ≡ true → (a ≡ true) × (b ≡ true) × (c ≡ true) × (d ≡ true)
+    × (e ≡ true) × (f ≡ true) × (g ≡ true)
 all_seven true true true true true true true h = (refl, refl, refl, refl, refl, refl, refl)
 all_seven _ _ _ _ _ _ _ h = cc
 
 pub same_letter : (a b : Letter) → letters.ghosts.eq a b ≡ true → a ≡ b
 same_letter a b h =
-    let parts = all_seven (actors.ghosts.eq a.from b.from) (a.inc == b.inc) (actors.ghosts.eq a.to b.to) (a.rev == b.rev) (a.stamp == b.stamp) (a.nth == b.nth) (bodies.ghosts.eq a.body b.body) h in
+    let parts = all_seven (actors.ghosts.eq a.from b.from) (a.inc == b.inc) (actors.ghosts.eq a.to b.to) (a.rev == b.rev) (a.stamp == b.stamp)
+    (a.nth == b.nth) (bodies.ghosts.eq a.body b.body) h in
     let from = same_actor a.from b.from parts.0 in
     let to = same_actor a.to b.to parts.2 in
     let body = same_body a.body b.body parts.6 in
@@ -358,4 +363,5 @@ pub letter_itself : (a : Letter) → letters.ghosts.eq a a ≡ true
 letter_itself a =
     and_also (actors.ghosts.eq a.from a.from) _ (actor_itself a.from) (and_also (a.inc == a.inc) _ (number_itself a.inc)
     (and_also (actors.ghosts.eq a.to a.to) _ (actor_itself a.to) (and_also (a.rev == a.rev) _ (number_itself a.rev)
-    (and_also (a.stamp == a.stamp) _ (number_itself a.stamp) (and_also (a.nth == a.nth) (bodies.ghosts.eq a.body a.body) (number_itself a.nth) (body_itself a.body))))))
+    (and_also (a.stamp == a.stamp) _ (number_itself a.stamp)
+    (and_also (a.nth == a.nth) (bodies.ghosts.eq a.body a.body) (number_itself a.nth) (body_itself a.body))))))

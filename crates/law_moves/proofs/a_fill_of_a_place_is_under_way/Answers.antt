@@ -7,4 +7,5 @@ returns-clause-coming c script records sound legal n place cell pairs op row the
     comes_after script records sound legal n place cell pairs op there is fills row linked at_place
 
 pub returns-clause-frozen : goal.returns-clause-frozen
-returns-clause-frozen c script records sound legal n place cell pairs op there is fills = filling_after script records sound legal n place cell pairs op there is fills
+returns-clause-frozen c script records sound legal n place cell pairs op there is fills =
+    filling_after script records sound legal n place cell pairs op there is fills

@@ -16,7 +16,8 @@ loop-next-init c =
       front = rw c.in_ok-push.ensures.items (begun_front c.args.run.now.items c.again.result);
       longer = rw c.in_ok-push.ensures.items (omega arith);
       reached = rw c.in_ok-push.ensures.items (omega arith);
-      there = rw (c.in_ok-push.ensures.items, c.again.ensures) (begun_run (learnt c.args.places.now.entries) c.args.place c.args.command.now c.args.run.now.items c.requires.run next);
+      there = rw (c.in_ok-push.ensures.items, c.again.ensures)
+          (begun_run (learnt c.args.places.now.entries) c.args.place c.args.command.now c.args.run.now.items c.requires.run next);
     }
 
 pub loop-next-preserved : goal.loop-next-preserved
@@ -24,16 +25,20 @@ loop-next-preserved c =
     let kept = c.loop-next.invariant in
     let longer = pushed_length c.loop-next.run.items c.again-in-Some.result in
     let len : c.len-in-loop-next.result ≡ length c.loop-next.run.items = omega arith in
-    let there : learnt c.args.places.now.entries (length c.loop-next.run.items + 1) ≡ Some c.in-Some.next.now = ap (λ n. learnt c.args.places.now.entries (n + 1)) (sym len) ∙ sym c.in-Some.ensures.value in
+    let there : learnt c.args.places.now.entries (length c.loop-next.run.items + 1) ≡ Some c.in-Some.next.now =
+    ap (λ n. learnt c.args.places.now.entries (n + 1)) (sym len) ∙ sym c.in-Some.ensures.value in
     record {
       front = rw c.in_ok-push-2.ensures.items (pushed_front c.args.run.now.items c.loop-next.run.items c.again-in-Some.result kept.longer kept.front);
       longer = rw c.in_ok-push-2.ensures.items (omega arith);
       reached = rw c.in_ok-push-2.ensures.items (omega arith);
-      there = rw (c.in_ok-push-2.ensures.items, c.again-in-Some.ensures) (longer_run (learnt c.args.places.now.entries) c.args.place c.args.command.now c.in-Some.next.now c.loop-next.run.items kept.there kept.reached there);
+      there = rw (c.in_ok-push-2.ensures.items, c.again-in-Some.ensures) (longer_run
+          (learnt c.args.places.now.entries) c.args.place c.args.command.now c.in-Some.next.now c.loop-next.run.items kept.there kept.reached there);
     }
 
 pub returns-clause-ok : goal.returns-clause-ok
 returns-clause-ok c =
     let len : c.len-in-loop-next.result ≡ length c.loop-next.run.items = omega arith in
-    let none : learnt c.args.places.now.entries (length c.loop-next.run.items + 1) ≡ None = ap (λ n. learnt c.args.places.now.entries (n + 1)) (sym len) ∙ sym c.in_default.ensures.value in
-    ended_run (learnt c.args.places.now.entries) c.args.place c.args.command.now c.loop-next.run.items c.loop-next.invariant.there c.loop-next.invariant.reached none
+    let none : learnt c.args.places.now.entries (length c.loop-next.run.items + 1) ≡ None = ap (λ n. learnt c.args.places.now.entries (n + 1)) (sym len)
+    ∙ sym c.in_default.ensures.value in
+    ended_run (learnt c.args.places.now.entries) c.args.place c.args.command.now c.loop-next.run.items c.loop-next.invariant.there
+    c.loop-next.invariant.reached none

@@ -21,7 +21,8 @@ loop-row-preserved g c =
     let is : at + 1 ≡ suc at = omega arith in
     let sent = c.page_awaited-found.ensures in
     record {
-      letters = letters_more (sender here) f c.args.before (length c.args.before) rows at (at + 1) no_row is c.loop-row-test.true c.loop-row.letters c.in_ok-more.more.0 c.loop-row.nth
+      letters = letters_more (sender here) f c.args.before (length c.args.before) rows
+          at (at + 1) no_row is c.loop-row-test.true c.loop-row.letters c.in_ok-more.more.0 c.loop-row.nth
           c.loop-row.invariant.letters c.loop-row.invariant.count
           (c.in_ok-more.ensures.0 ∙ ap (λ (ps : List Post). c.loop-row.letters ++ letters_of (sender here) c.loop-row.nth ps) sent);
       count = count_more (sender here) f c.args.before (length c.args.before) rows at (at + 1) no_row is c.loop-row-test.true c.loop-row.nth c.in_ok-more.more.1

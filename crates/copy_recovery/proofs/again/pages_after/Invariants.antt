@@ -10,7 +10,8 @@ use Rattle.copy_recovery.proofs.again.pages_after.Given as goal
 abbrev pub invariant-loop-row : goal.invariant-loop-row
 invariant-loop-row g l = record {
   letters : l.letters ≡ l.initial.letters
-      ++ letters_of (sender l.here) (length l.initial.letters) (flat_map (λ row. page_for l.here.state (own_of l.side l.store) row (other_in l.here.state l.here.me row)) (take l.row-index l.row-items));
+      ++ letters_of (sender l.here) (length l.initial.letters)
+      (flat_map (λ row. page_for l.here.state (own_of l.side l.store) row (other_in l.here.state l.here.me row)) (take l.row-index l.row-items));
   count : l.nth ≡ length l.initial.letters
       + length (flat_map (λ row. page_for l.here.state (own_of l.side l.store) row (other_in l.here.state l.here.me row)) (take l.row-index l.row-items));
 }

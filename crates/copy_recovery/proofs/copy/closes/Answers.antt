@@ -22,6 +22,7 @@ returns g c =
       apart = c.side.inside.apart;
     } in
     rw (← c.side.view_is)
-    (closed_is c.args.here.now side c.args.store.now h c.args.cell c.args.copy c.sets_copied.new.noted c.end_copying.new.self c.set_full.new.self c.followed.result
+    (closed_is c.args.here.now side c.args.store.now h c.args.cell c.args.copy c.sets_copied.new.noted c.end_copying.new.self
+    c.set_full.new.self c.followed.result
     c.in_ok-sets_copied.ensures.ok c.end_copying.ensures c.set_full.ensures
     (c.followed.ensures ∙ ap left c.mend_after.ensures))

@@ -28,7 +28,8 @@ returns-in-Err g c =
     } in
     let back = c.restore_progress.ensures
     ∙ ap (λ (k : Copies). restored k c.link_id-link.result c.found_progress-found.result) c.in_ok-set_progress.ensures.ok
-    ∙ restored_is c.side.inside.copies c.link_id-link.result _ c.found_progress-found.result c.found_progress-found.ensures.sorted c.found_progress-found.ensures.value in
+    ∙ restored_is c.side.inside.copies c.link_id-link.result _ c.found_progress-found.result c.found_progress-found.ensures.sorted
+    c.found_progress-found.ensures.value in
     rw (← c.side.view_is, c.from.ensures)
     (refused_done g.D.Disk c.args.here.now old (record old { copies = c.restore_progress.new.self }) c.args.store.now c.mark.new.store c.in-Err.error _
     (λ i. record old { copies = back i }) (rw (c.cell_at.ensures, c.in-Err.is) at c.mark.ensures))

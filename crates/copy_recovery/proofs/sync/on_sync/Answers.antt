@@ -19,7 +19,8 @@ returns-in-Some-Some g c =
     let cell = cell_of c.args.entry.now.key in
     let holder = sym (ap (cell_holder c.args.here.now) c.cell-cell.ensures) ∙ sym c.holder_on.ensures ∙ c.in-Some-Some.is-0 in
     let last = known_place (at cell_cmp c.args.side.now.copies.last cell) c.in-Some-Some.op c.in-Some-Some.index
-    (sym (ap (λ (k : Cell). option_map {U = ℕ × ℕ} (λ (l : LastCopy). (l.op, l.index)) (at cell_cmp c.args.side.now.copies.last k)) c.cell-cell.ensures) ∙ sym c.last_place.ensures ∙ c.in-Some-Some.is-1) in
+    (sym (ap (λ (k : Cell). option_map {U = ℕ × ℕ} (λ (l : LastCopy). (l.op, l.index)) (at cell_cmp c.args.side.now.copies.last k)) c.cell-cell.ensures)
+    ∙ sym c.last_place.ensures ∙ c.in-Some-Some.is-1) in
     let number = last.1.1.0 in
     let same : (entry.op == last.0.op) ≡ true = grind (arith, nat_tests, number, c.if-op-entry.true) in
     rw (← (sync_is c.args.here.now own entry c.in-Some-Some.holder last.0 holder last.1.0 same)) (c.hears_entry.ensures last.0 last.1.0 last.1.1.1)

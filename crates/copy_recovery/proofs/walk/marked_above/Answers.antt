@@ -21,7 +21,8 @@ returns-then-is_kept g c =
 pub loop-block-smaller : goal.loop-block-smaller
 loop-block-smaller g c =
     let all = marked_in c.args.row.now.map c.args.store.now.marks in
-    less_room c.loop-block.after c.in-Some.block (least_above c.loop-block.after all c.in-Some.block (sym c.next_marked.ensures ∙ c.in-Some.is)) c.is_kept.ensures.fits
+    less_room c.loop-block.after c.in-Some.block
+    (least_above c.loop-block.after all c.in-Some.block (sym c.next_marked.ensures ∙ c.in-Some.is)) c.is_kept.ensures.fits
 
 pub loop-block-preserved : goal.loop-block-preserved
 loop-block-preserved g c =

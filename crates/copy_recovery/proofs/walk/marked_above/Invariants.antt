@@ -7,7 +7,8 @@ use Rattle.copy_recovery.specs.Walks.{marked_on, room_above}
 use Rattle.copy_recovery.proofs.walk.marked_above.Given as goal
 
 abbrev pub invariant-loop-block : goal.invariant-loop-block
-invariant-loop-block g l = least (filter (above l.after) (marked_on l.here.state l.row l.store.marks)) ≡ least (filter (above l.fn.after) (marked_on l.here.state l.row l.store.marks))
+invariant-loop-block g l = least (filter (above l.after) (marked_on l.here.state l.row l.store.marks))
+    ≡ least (filter (above l.fn.after) (marked_on l.here.state l.row l.store.marks))
 
 abbrev pub decreases-loop-block : goal.decreases-loop-block
 decreases-loop-block g l = room_above l.after

@@ -22,7 +22,8 @@ returns-then-is_kept g c =
 pub loop-block-smaller : goal.loop-block-smaller
 loop-block-smaller g c =
     let all = stored_in c.args.row.now.map (chains_of c.args.store.now.entries) in
-    less_room c.loop-block.after c.in-Some.block (least_above c.loop-block.after all c.in-Some.block (sym c.next_stored.ensures ∙ c.in-Some.is)) c.is_kept.ensures.fits
+    less_room c.loop-block.after c.in-Some.block
+    (least_above c.loop-block.after all c.in-Some.block (sym c.next_stored.ensures ∙ c.in-Some.is)) c.is_kept.ensures.fits
 
 pub loop-block-preserved : goal.loop-block-preserved
 loop-block-preserved g c =

@@ -8,7 +8,8 @@ use Rattle.copy_recovery.specs.Walks.{stored_on, room_above}
 use Rattle.copy_recovery.proofs.walk.stored_above.Given as goal
 
 abbrev pub invariant-loop-block : goal.invariant-loop-block
-invariant-loop-block g l = least (filter (above l.after) (stored_on l.here.state l.row (chains_of l.store.entries))) ≡ least (filter (above l.fn.after) (stored_on l.here.state l.row (chains_of l.store.entries)))
+invariant-loop-block g l = least (filter (above l.after) (stored_on l.here.state l.row (chains_of l.store.entries)))
+    ≡ least (filter (above l.fn.after) (stored_on l.here.state l.row (chains_of l.store.entries)))
 
 abbrev pub decreases-loop-block : goal.decreases-loop-block
 decreases-loop-block g l = room_above l.after

@@ -9,4 +9,5 @@ returns-in-Ok-clause-logs g c records told only stands =
     let st = c.in_ok-journal.ensures.stored told (bodies_of records) stands.stands in
     let log = c.put_together.ensures.log in
     let same = c.in-Ok.ensures.same records stands.spelled (ap contents c.deref.ensures.value ∙ st.0) in
-    opened_device c.args.said.slots c.args.said.fresh records c.put_together.result.log _ _ _ _ (ap (λ (l : Log). l.fresh) log) (ap (λ (l : Log). l.records) log ∙ same) (ap (λ (l : Log). l.region.count) log ∙ st.1.count) c.open.ensures.seen c.open.ensures.crash only stands
+    opened_device c.args.said.slots c.args.said.fresh records c.put_together.result.log _ _ _ _ (ap (λ (l : Log). l.fresh) log)
+    (ap (λ (l : Log). l.records) log ∙ same) (ap (λ (l : Log). l.region.count) log ∙ st.1.count) c.open.ensures.seen c.open.ensures.crash only stands

@@ -28,40 +28,52 @@ returns-then-not-branch-clause-bad c index is =
     let i = c.loop-index.index in
     let all = contents c.args.bodies.now in
     let lt : i < length all = omega (arith, length-map c.args.bodies.now (λ body. body.items), c.loop-index-test.true) in
-    let here : get_or all i [] ≡ c.deref.result.now = at_map (λ body. body.items) c.args.bodies.now i c.index-bodies-index.result [] c.loop-index-test.true c.index-bodies-index.is ∙ sym c.deref.ensures.value in
+    let here : get_or all i [] ≡ c.deref.result.now =
+    at_map (λ body. body.items) c.args.bodies.now i c.index-bodies-index.result [] c.loop-index-test.true c.index-bodies-index.is
+    ∙ sym c.deref.ensures.value in
     let refused = rw c.if-not-branch.true at c.in_ok-step.ensures.refused in
     let same : i ≡ index = cc in
-    subst (λ (k : ℕ). IsBad c.args.said.slots c.args.said.fresh all k) same (not_read c.args.said.slots c.args.said.fresh all i c.loop-index.replay c.deref.result.now lt here c.loop-index.invariant.read refused)
+    subst (λ (k : ℕ). IsBad c.args.said.slots c.args.said.fresh all k) same
+    (not_read c.args.said.slots c.args.said.fresh all i c.loop-index.replay c.deref.result.now lt here c.loop-index.invariant.read refused)
 
 pub loop-index-preserved : goal.loop-index-preserved
 loop-index-preserved c =
     let i = c.loop-index.index in
     let all = contents c.args.bodies.now in
     let lt : i < length all = omega (arith, length-map c.args.bodies.now (λ body. body.items), c.loop-index-test.true) in
-    let here : get_or all i [] ≡ c.deref.result.now = at_map (λ body. body.items) c.args.bodies.now i c.index-bodies-index.result [] c.loop-index-test.true c.index-bodies-index.is ∙ sym c.deref.ensures.value in
+    let here : get_or all i [] ≡ c.deref.result.now =
+    at_map (λ body. body.items) c.args.bodies.now i c.index-bodies-index.result [] c.loop-index-test.true c.index-bodies-index.is
+    ∙ sym c.deref.ensures.value in
     let next = rw c.if-not-branch.false at c.in_ok-step.ensures.next in
     record {
-      read = next_read c.args.said.slots c.args.said.fresh all i c.loop-index.replay c.step.new.replay c.deref.result.now lt here c.loop-index.invariant.read next;
-      same = λ records sp is. next_same records all i c.loop-index.replay c.step.new.replay c.deref.result.now sp is lt here (c.loop-index.invariant.same records sp is) next;
+      read = next_read c.args.said.slots c.args.said.fresh all i c.loop-index.replay c.step.new.replay c.deref.result.now lt here
+          c.loop-index.invariant.read next;
+      same = λ records sp is. next_same records all i c.loop-index.replay c.step.new.replay c.deref.result.now sp is lt here
+          (c.loop-index.invariant.same records sp is) next;
     }
 
 pub returns-clause-read : goal.returns-clause-read
 returns-clause-read c =
     let all = contents c.args.bodies.now in
-    let whole : take c.loop-index.index all ≡ all = take_all c.loop-index.index all (omega (arith, length-map c.args.bodies.now (λ body. body.items), c.loop-index-test.false)) in
+    let whole : take c.loop-index.index all ≡ all =
+    take_all c.loop-index.index all (omega (arith, length-map c.args.bodies.now (λ body. body.items), c.loop-index-test.false)) in
     subst (λ (bs : List (List ℕ)). IsRead c.args.said.slots c.args.said.fresh bs c.loop-index.replay) whole c.loop-index.invariant.read
 
 pub returns-clause-same : goal.returns-clause-same
 returns-clause-same c records sp is =
     let all = contents c.args.bodies.now in
     let long : length all ≡ length records = ap length is ∙ length-map records spelling in
-    c.loop-index.invariant.same records sp is ∙ take_all c.loop-index.index records (omega (arith, long, length-map c.args.bodies.now (λ body. body.items), c.loop-index-test.false))
+    c.loop-index.invariant.same records sp is
+    ∙ take_all c.loop-index.index records (omega (arith, long, length-map c.args.bodies.now (λ body. body.items), c.loop-index-test.false))
 
 pub returns-then-not-branch-clause-good : goal.returns-then-not-branch-clause-good
 returns-then-not-branch-clause-good c records sp fit is =
     let i = c.loop-index.index in
     let all = contents c.args.bodies.now in
     let lt : i < length all = omega (arith, length-map c.args.bodies.now (λ body. body.items), c.loop-index-test.true) in
-    let here : get_or all i [] ≡ c.deref.result.now = at_map (λ body. body.items) c.args.bodies.now i c.index-bodies-index.result [] c.loop-index-test.true c.index-bodies-index.is ∙ sym c.deref.ensures.value in
+    let here : get_or all i [] ≡ c.deref.result.now =
+    at_map (λ body. body.items) c.args.bodies.now i c.index-bodies-index.result [] c.loop-index-test.true c.index-bodies-index.is
+    ∙ sym c.deref.ensures.value in
     let refused = rw c.if-not-branch.true at c.in_ok-step.ensures.refused in
-    absurd (is_read c.args.said.slots c.args.said.fresh records all i c.loop-index.replay c.deref.result.now sp fit is lt here (c.loop-index.invariant.same records sp is) c.loop-index.invariant.read refused)
+    absurd (is_read c.args.said.slots c.args.said.fresh records all i c.loop-index.replay c.deref.result.now sp fit is lt here
+    (c.loop-index.invariant.same records sp is) c.loop-index.invariant.read refused)

@@ -9,5 +9,7 @@ returns-clause-past c bodies stored =
     let old = c.args.disk.now in
     let new = c.append.new.disk in
     on_ok c.append.result _ _
-    (λ appended. was_left (λ (d : MemDisk) (f : List ℕ). Mixes d.now.items d.kept.items f) old.past.items new.past.items old.disk new.disk 8 c.args.journal.now c.append.new.self _ _ bodies c.args.body.now c.append.ensures.place.0 c.append.ensures.place.1 (mixes_now old.disk.now.items old.disk.kept.items old.disk.same_size) c.append.ensures.run stored (appended tt bodies stored))
+    (λ appended. was_left (λ (d : MemDisk) (f : List ℕ). Mixes d.now.items d.kept.items f) old.past.items new.past.items
+    old.disk new.disk 8 c.args.journal.now c.append.new.self _ _ bodies c.args.body.now c.append.ensures.place.0 c.append.ensures.place.1
+    (mixes_now old.disk.now.items old.disk.kept.items old.disk.same_size) c.append.ensures.run stored (appended tt bodies stored))
     c.append.ensures.appended

@@ -13,7 +13,8 @@ use Rattle.petal_rules.specs.World.{step}
 use Rattle.history_rows.proofs.blanks.a_blank_server_is_filled.Goals as goal
 
 pub returns : goal.returns
-unfolding number nobody at put without put_at on_pax starts learns applies next_copy copies_on mends on_hello_ask on_hello on_trim trims_on on_trimmed on_sync on_synced on_sync_full handles hears_log does log_does heard refusal step
+unfolding number nobody at put without put_at on_pax starts learns applies next_copy copies_on mends on_hello_ask on_hello on_trim trims_on on_trimmed
+    on_sync on_synced on_sync_full handles hears_log does log_does heard refusal step
 returns c = record {
   chain = refl;
   copied = refl;

@@ -25,9 +25,24 @@ blanked = record { is = refl; first = λ is. none_some refl is }
 pub returns : goal.returns
 unfolding at put put_at heard refusal step
 returns c = record {
-  stops = record { may = (one_of_three, record { runs = refl; asked = blank_of 4 1; opened = asked; stops = (refl, refl) }); clock = few _ refl; receives = none_yet; goes_on = refl };
-  blanks = record { may = (one_of_three, record { rests = refl; asked = blank_of 4 1; opened = stopped; blanks = (refl, inr refl) }); clock = few _ refl; receives = none_yet; goes_on = refl };
-  boots = record { may = (one_of_three, record { rests = refl; raises = one_life; asked = blank_of 4 1; opened = blanked; boots = (refl, refl) }); clock = few _ refl; receives = none_yet; goes_on = refl };
+  stops = record {
+    may = (one_of_three, record { runs = refl; asked = blank_of 4 1; opened = asked; stops = (refl, refl) });
+    clock = few _ refl;
+    receives = none_yet;
+    goes_on = refl;
+  };
+  blanks = record {
+    may = (one_of_three, record { rests = refl; asked = blank_of 4 1; opened = stopped; blanks = (refl, inr refl) });
+    clock = few _ refl;
+    receives = none_yet;
+    goes_on = refl;
+  };
+  boots = record {
+    may = (one_of_three, record { rests = refl; raises = one_life; asked = blank_of 4 1; opened = blanked; boots = (refl, refl) });
+    clock = few _ refl;
+    receives = none_yet;
+    goes_on = refl;
+  };
   blank = refl;
   answered = refl;
   kept = refl;

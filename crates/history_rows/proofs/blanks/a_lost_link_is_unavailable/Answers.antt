@@ -14,7 +14,8 @@ use Rattle.petal_rules.specs.World.{step}
 use Rattle.history_rows.proofs.blanks.a_lost_link_is_unavailable.Goals as goal
 
 pub returns : goal.returns
-unfolding number nobody at put without put_at on_propose on_pax starts learns applies on_ask goes_on on_write handles hears_log does log_does heard ticked refusal next_dead step
+unfolding number nobody at put without put_at on_propose on_pax starts learns applies on_ask goes_on on_write handles hears_log does log_does
+    heard ticked refusal next_dead step
 returns c = record {
   lost = refl;
   refused = refl;

@@ -10,7 +10,8 @@ use Rattle.petal_rules.specs.World.{step}
 use Rattle.history_rows.proofs.copies.a_block_is_copied.Goals as goal
 
 pub returns : goal.returns
-unfolding at put without put_at next_copy copies_on mends on_hello_ask on_hello on_trim trims_on on_trimmed on_sync on_synced on_sync_full handles hears_log does log_does heard refusal next_dead step
+unfolding at put without put_at next_copy copies_on mends on_hello_ask on_hello on_trim trims_on on_trimmed on_sync on_synced on_sync_full handles
+    hears_log does log_does heard refusal next_dead step
 returns c = record {
   paged = refl;
   trimmed = refl;

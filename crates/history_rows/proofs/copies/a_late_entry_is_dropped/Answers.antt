@@ -11,7 +11,8 @@ use Rattle.petal_rules.specs.World.{step}
 use Rattle.history_rows.proofs.copies.a_late_entry_is_dropped.Goals as goal
 
 pub returns : goal.returns
-unfolding at put without put_at next_copy copies_on mends on_hello_ask on_hello on_trim trims_on on_trimmed on_sync on_synced on_sync_full goes_on on_write handles hears_log does log_does heard refusal next_dead step
+unfolding at put without put_at next_copy copies_on mends on_hello_ask on_hello on_trim trims_on on_trimmed on_sync on_synced on_sync_full goes_on on_write
+    handles hears_log does log_does heard refusal next_dead step
 returns c = record {
   written = refl;
   marked = refl;

@@ -15,7 +15,8 @@ use Rattle.petal_rules.specs.World.{step}
 use Rattle.history_rows.proofs.copies.a_link_is_both_again.Goals as goal
 
 pub returns : goal.returns
-unfolding number nobody at put without put_at on_pax starts learns applies next_copy copies_on mends on_hello_ask on_hello on_trim trims_on on_trimmed on_sync on_synced on_sync_full goes_on on_write handles hears_log does log_does heard refusal next_dead step
+unfolding number nobody at put without put_at on_pax starts learns applies next_copy copies_on mends on_hello_ask on_hello on_trim trims_on on_trimmed
+    on_sync on_synced on_sync_full goes_on on_write handles hears_log does log_does heard refusal next_dead step
 returns c = record {
   both = refl;
   content = refl;

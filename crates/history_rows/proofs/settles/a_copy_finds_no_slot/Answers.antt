@@ -11,12 +11,18 @@ use Rattle.history_rows.proofs.Lines.{few, none_of_three, none_yet, settle_of}
 use Rattle.history_rows.proofs.settles.a_copy_finds_no_slot.Goals as goal
 
 pub returns : goal.returns
-unfolding at put without put_at next_copy copies_on mends on_hello_ask on_hello on_trim trims_on on_trimmed on_sync on_synced on_sync_full handles hears_log does log_does heard refusal next_dead step
+unfolding at put without put_at next_copy copies_on mends on_hello_ask on_hello on_trim trims_on on_trimmed on_sync on_synced on_sync_full handles
+    hears_log does log_does heard refusal next_dead step
 returns c = record {
   chain = refl;
   marked = refl;
   closed = refl;
   full = refl;
-  glance = record { may = (none_of_three, record { asked = settle_of 3 1; is = refl; line_is = refl; due = refl }); clock = few _ refl; receives = none_yet; goes_on = refl };
+  glance = record {
+    may = (none_of_three, record { asked = settle_of 3 1; is = refl; line_is = refl; due = refl });
+    clock = few _ refl;
+    receives = none_yet;
+    goes_on = refl;
+  };
   answered = refl;
 }

@@ -19,9 +19,19 @@ stopped = record { is = refl; first = λ is. none_some refl is }
 pub returns : goal.returns
 unfolding put_at heard refusal step
 returns c = record {
-  may = record { may = (one_of_three, record { runs = refl; asked = asked_for 3 1; opened = asked; stops = (refl, refl) }); clock = none_yet; receives = none_yet; goes_on = refl };
+  may = record {
+    may = (one_of_three, record { runs = refl; asked = asked_for 3 1; opened = asked; stops = (refl, refl) });
+    clock = none_yet;
+    receives = none_yet;
+    goes_on = refl;
+  };
   stopped = refl;
   told = refl;
-  glance = record { may = (one_of_three, record { asked = asked_for 3 1; is = stopped.is; line_is = refl; due = (refl, stopped.first, (refl, refl)) }); clock = one_step; receives = none_yet; goes_on = refl };
+  glance = record {
+    may = (one_of_three, record { asked = asked_for 3 1; is = stopped.is; line_is = refl; due = (refl, stopped.first, (refl, refl)) });
+    clock = one_step;
+    receives = none_yet;
+    goes_on = refl;
+  };
   answered = refl;
 }

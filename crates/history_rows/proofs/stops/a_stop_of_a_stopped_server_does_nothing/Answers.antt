@@ -26,7 +26,12 @@ pub returns : goal.returns
 unfolding put_at heard refusal step
 returns c = record {
   may_not = may_not;
-  glance = record { may = (one_of_three, record { asked = asked_for 4 2; is = asked.is; line_is = refl; due = (refl, asked.first, (refl, rests)) }); clock = two_steps; receives = none_yet; goes_on = refl };
+  glance = record {
+    may = (one_of_three, record { asked = asked_for 4 2; is = asked.is; line_is = refl; due = (refl, asked.first, (refl, rests)) });
+    clock = two_steps;
+    receives = none_yet;
+    goes_on = refl;
+  };
   same = refl;
   answered = refl;
   told = refl;

@@ -10,7 +10,8 @@ returns g c =
       done = grind (arith, common_steps);
       holds = c.mark.ensures.holds;
       moments = λ told holds.
-          mark_moments g.D.Disk only_now c.args.store.now c.mark.new.self c.args.kind c.args.cell c.mark.ensures.idle holds (c.mark.ensures.any_moment told holds);
+          mark_moments g.D.Disk only_now c.args.store.now c.mark.new.self c.args.kind c.args.cell c.mark.ensures.idle holds
+          (c.mark.ensures.any_moment told holds);
       tickets = grind (arith, common_steps);
       kept = c.mark.ensures.kept;
       errors = grind (arith, common_steps);

@@ -10,7 +10,8 @@ returns-clause-commit g c =
       done = grind (arith, common_steps);
       holds = c.settle_fresh.ensures.holds;
       moments = λ told holds.
-          settle_moments g.D.Disk only_now c.args.store.now c.settle_fresh.new.self c.settle_fresh.ensures.idle holds (c.settle_fresh.ensures.any_moment told holds);
+          settle_moments g.D.Disk only_now c.args.store.now c.settle_fresh.new.self c.settle_fresh.ensures.idle holds
+          (c.settle_fresh.ensures.any_moment told holds);
       tickets = grind (arith, common_steps);
       kept = c.settle_fresh.ensures.kept;
       errors = grind (arith, common_steps);

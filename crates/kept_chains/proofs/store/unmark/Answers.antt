@@ -10,7 +10,8 @@ returns g c =
       done = grind (arith, common_steps);
       holds = c.unmark.ensures.holds;
       moments = λ told holds.
-          unmark_moments g.D.Disk only_now c.args.store.now c.unmark.new.self c.args.kind c.args.cell c.unmark.ensures.idle holds (c.unmark.ensures.any_moment told holds);
+          unmark_moments g.D.Disk only_now c.args.store.now c.unmark.new.self c.args.kind c.args.cell c.unmark.ensures.idle holds
+          (c.unmark.ensures.any_moment told holds);
       tickets = grind (arith, common_steps);
       kept = c.unmark.ensures.kept;
       errors = grind (arith, common_steps);

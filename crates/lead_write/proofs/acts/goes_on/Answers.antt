@@ -13,7 +13,8 @@ pub returns-in-Some-clause-job : goal.returns-in-Some-clause-job
 returns-in-Some-clause-job g c =
     let is = sym c.in_ok-op.ensures.value ∙ c.in-Some.is in
     let at_cell = own_is _ c.args.cell c.in-Some.op is c.in_ok-op.ensures.own in
-    rw (← (goes_some c.args.here.now (own_of c.args.side.now c.args.store.now) c.args.cell c.in-Some.op c.in_ok-op.ensures.sorted is at_cell)) c.acts.ensures.job
+    rw (← (goes_some c.args.here.now (own_of c.args.side.now c.args.store.now) c.args.cell c.in-Some.op c.in_ok-op.ensures.sorted is at_cell))
+    c.acts.ensures.job
 
 pub returns-in-None-clause-job : goal.returns-in-None-clause-job
 returns-in-None-clause-job g c =

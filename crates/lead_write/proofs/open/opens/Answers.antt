@@ -13,12 +13,14 @@ goes_on-requires-clause-tickets g c κs within =
 pub takes_back-requires-clause-some : goal.takes_back-requires-clause-some
 takes_back-requires-clause-some g c κs within =
     slot_some c.args.op.now c.args.side.now c.args.store.now c.requires.tickets c.requires.none c.begins.new.side c.begins.new.store
-    (c.in_ok-begins.ensures.yes c.if-not-branch.false) c.goes_on.new.side c.goes_on.new.store (c.in-Err-NoMemory.ensures.job.same (ap Err c.in-Err-NoMemory.field-0-is)).0 (c.in-Err-NoMemory.ensures.same (ap Err c.in-Err-NoMemory.field-0-is))
+    (c.in_ok-begins.ensures.yes c.if-not-branch.false) c.goes_on.new.side c.goes_on.new.store
+    (c.in-Err-NoMemory.ensures.job.same (ap Err c.in-Err-NoMemory.field-0-is)).0 (c.in-Err-NoMemory.ensures.same (ap Err c.in-Err-NoMemory.field-0-is))
 
 pub takes_back-requires-clause-out : goal.takes_back-requires-clause-out
 takes_back-requires-clause-out g c κs within =
     slot_out c.args.op.now c.args.side.now c.args.store.now c.requires.tickets c.requires.none c.begins.new.side c.begins.new.store
-    (c.in_ok-begins.ensures.yes c.if-not-branch.false) c.goes_on.new.side c.goes_on.new.store (c.in-Err-NoMemory.ensures.job.same (ap Err c.in-Err-NoMemory.field-0-is)).0 (c.in-Err-NoMemory.ensures.same (ap Err c.in-Err-NoMemory.field-0-is)) c.requires.new
+    (c.in_ok-begins.ensures.yes c.if-not-branch.false) c.goes_on.new.side c.goes_on.new.store (c.in-Err-NoMemory.ensures.job.same
+    (ap Err c.in-Err-NoMemory.field-0-is)).0 (c.in-Err-NoMemory.ensures.same (ap Err c.in-Err-NoMemory.field-0-is)) c.requires.new
 
 pub returns-in-Err-NoMemory-clause-job : goal.returns-in-Err-NoMemory-clause-job
 returns-in-Err-NoMemory-clause-job g c =
@@ -39,7 +41,8 @@ returns-in-Err-NoMemory-clause-job g c =
 pub returns-in-Err-NoMemory-clause-same : goal.returns-in-Err-NoMemory-clause-same
 returns-in-Err-NoMemory-clause-same g c _ =
     store_back c.args.op.now c.args.side.now c.args.store.now c.requires.tickets c.requires.none c.begins.new.side c.begins.new.store
-    (c.in_ok-begins.ensures.yes c.if-not-branch.false) c.goes_on.new.side c.goes_on.new.store (c.in-Err-NoMemory.ensures.job.same (ap Err c.in-Err-NoMemory.field-0-is)).0
+    (c.in_ok-begins.ensures.yes c.if-not-branch.false) c.goes_on.new.side c.goes_on.new.store
+    (c.in-Err-NoMemory.ensures.job.same (ap Err c.in-Err-NoMemory.field-0-is)).0
     (c.in-Err-NoMemory.ensures.same (ap Err c.in-Err-NoMemory.field-0-is)) c.takes_back.new.store c.takes_back.ensures.store
 
 pub takes_back-requires-in-Err-JournalFull-clause-some : goal.takes_back-requires-in-Err-JournalFull-clause-some
@@ -71,11 +74,14 @@ returns-in-Err-JournalFull-clause-job g c =
 pub returns-in-Ok-clause-job : goal.returns-in-Ok-clause-job
 returns-in-Ok-clause-job g c =
     opened_done c.args.op.now c.args.side.now c.args.store.now c.requires.tickets c.requires.none c.begins.new.side c.begins.new.store
-    (c.in_ok-begins.ensures.yes c.if-not-branch.false) c.args.here.now g.D.Disk c.goes_on.new.side c.goes_on.new.store _ (nat_lt 0 (free_of (store_of c.args.store.now)))
+    (c.in_ok-begins.ensures.yes c.if-not-branch.false) c.args.here.now g.D.Disk c.goes_on.new.side c.goes_on.new.store
+    _ (nat_lt 0 (free_of (store_of c.args.store.now)))
     (sym c.in_ok-begins.ensures.room ∙ c.if-not-branch.false) (λ no. absurd (cc)) (λ no. absurd (cc)) c.in-Ok.ensures.job
 
 pub returns-in-Err-Failed-clause-job : goal.returns-in-Err-Failed-clause-job
 returns-in-Err-Failed-clause-job g c =
     opened_done c.args.op.now c.args.side.now c.args.store.now c.requires.tickets c.requires.none c.begins.new.side c.begins.new.store
-    (c.in_ok-begins.ensures.yes c.if-not-branch.false) c.args.here.now g.D.Disk c.goes_on.new.side c.goes_on.new.store _ (nat_lt 0 (free_of (store_of c.args.store.now)))
-    (sym c.in_ok-begins.ensures.room ∙ c.if-not-branch.false) (λ no. absurd (cc)) (λ no. absurd (cc)) (rw c.in-Err-Failed.field-0-is at c.in-Err-Failed.ensures.job)
+    (c.in_ok-begins.ensures.yes c.if-not-branch.false) c.args.here.now g.D.Disk c.goes_on.new.side c.goes_on.new.store
+    _ (nat_lt 0 (free_of (store_of c.args.store.now)))
+    (sym c.in_ok-begins.ensures.room ∙ c.if-not-branch.false) (λ no. absurd (cc)) (λ no. absurd (cc))
+    (rw c.in-Err-Failed.field-0-is at c.in-Err-Failed.ensures.job)

@@ -31,11 +31,13 @@ returns-clause-job g c =
     let table = rw c.put_stage.ensures at c.set_put.ensures.table in
     record {
       done = λ told.
-          puts_done c.args.here.now before c.args.store.now c.args.op.now h m c.set_put.new.self c.spend.new.table c.spend.new.store c.next_version-version.result _
+          puts_done c.args.here.now before c.args.store.now c.args.op.now h m c.set_put.new.self c.spend.new.table c.spend.new.store
+          c.next_version-version.result _
           table c.next_version-version.ensures (c.in_ok-spend.ensures.ok told)
           c.follows_up.ensures;
       keeps =
-          puts_keeps c.args.here.now before c.args.store.now c.args.op.now h m c.set_put.new.self c.spend.new.table slot.0 c.next_version-version.result c.spend.new.store.tickets
+          puts_keeps c.args.here.now before c.args.store.now c.args.op.now h m c.set_put.new.self c.spend.new.table slot.0
+          c.next_version-version.result c.spend.new.store.tickets
           table c.in_ok-spend.ensures.sorted slot.1 c.in_ok-spend.ensures.table (c.in_ok-spend.ensures.tickets slot.0 slot.1);
       holds = c.in_ok-spend.ensures.holds;
       moments = rw c.next_version-version.ensures at c.in_ok-spend.ensures.moments;

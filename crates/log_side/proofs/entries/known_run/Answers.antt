@@ -13,4 +13,5 @@ pub loop-told-preserved : goal.loop-told-preserved
 loop-told-preserved g c = λ log same.
     let next : c.in_ok-place.place ≡ c.loop-told.place + 1 = search rules in
     run_next log c.loop-told.run c.push.new.self _ c.in-Some.command c.loop-told.place c.in_ok-place.place c.args.most c.loop-told._told (omega arith)
-    (ap (λ (rs : List StateRecord). known_at rs c.loop-told.place) same ∙ sym c.chosen.ensures ∙ c.in-Some.is) c.in_ok-push.ensures.ok next (c.loop-told.invariant log same)
+    (ap (λ (rs : List StateRecord). known_at rs c.loop-told.place) same ∙ sym c.chosen.ensures ∙ c.in-Some.is) c.in_ok-push.ensures.ok next
+    (c.loop-told.invariant log same)

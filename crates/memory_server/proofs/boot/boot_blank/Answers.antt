@@ -9,7 +9,8 @@ use Rattle.memory_server.proofs.boot.boot_blank.Goals as goal
 pub returns-in_ok-outcome-in-Ok : goal.returns-in_ok-outcome-in-Ok
 returns-in_ok-outcome-in-Ok g c = λ told kept.
     let made = c.in-Ok.made in
-    booted_on g.D.Disk c.args.core.now c.args.store.now c.args.state.now c.args.disk kept made _ _ _ (ap store_of c.in-Ok.ensures.ok ∙ ap blank_store c.slots.ensures)
+    booted_on g.D.Disk c.args.core.now c.args.store.now c.args.state.now c.args.disk kept made
+    _ _ _ (ap store_of c.in-Ok.ensures.ok ∙ ap blank_store c.slots.ensures)
     c.in-Ok.ensures.later
     (c.in_ok-outcome-in-Ok.ensures told (c.in-Ok.ensures.holds told) kept)
 

@@ -19,7 +19,8 @@ pub returns-in-Err-JournalFull : goal.returns-in-Err-JournalFull
 returns-in-Err-JournalFull g c = λ told holds kept opened.
     let old : Mounted _ = record { core = c.args.core.now; store = c.args.store.now; state = c.args.state.now } in
     rw (c.done-in-Err-JournalFull.ensures, c.new.ensures)
-    (boot_full g.D.Disk told old c.requires.stopped holds kept opened c.boot.new.self c.boot.new.state (rw c.in-Err-JournalFull.field-0-is at c.in-Err-JournalFull.ensures))
+    (boot_full g.D.Disk told old c.requires.stopped holds kept opened c.boot.new.self c.boot.new.state
+    (rw c.in-Err-JournalFull.field-0-is at c.in-Err-JournalFull.ensures))
 
 pub returns-in_ok-end-in-Err-Failed : goal.returns-in_ok-end-in-Err-Failed
 returns-in_ok-end-in-Err-Failed g c = λ told holds kept opened.

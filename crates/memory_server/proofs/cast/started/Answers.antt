@@ -14,5 +14,6 @@ pub loop-me-preserved : goal.loop-me-preserved
 loop-me-preserved c =
     rw c.in_ok-push.ensures.ok (
       cast_more site_of c.args.servers c.args.slots c.loop-me.me c.loop-me.members c.in_ok-start.field-0 c.loop-me.invariant.0 c.in_ok-start.ensures.site,
-      All-append (fits c.args.slots) c.loop-me.members _ c.loop-me.invariant.1 (All-cons (fits c.args.slots) c.in_ok-start.field-0 [] c.in_ok-start.ensures.device (All-nil (fits c.args.slots))),
+      All-append (fits c.args.slots) c.loop-me.members _ c.loop-me.invariant.1
+          (All-cons (fits c.args.slots) c.in_ok-start.field-0 [] c.in_ok-start.ensures.device (All-nil (fits c.args.slots))),
     )

@@ -78,5 +78,6 @@ returns-in_ok-end-in-Err-Failed g c = λ told.
           ∙ stops_letters c.work.new.self core (store_of store) state.records worked.life.1
           ∙ sym (fault_letters old end);
       stands = record { tickets = λ runs. absurd (cc); store = held; state = kept };
-      cause = λ _. has_failed g.D.Disk old c.work.new.store c.work.new.state c.stop-letters.new.self c.reopen.new.store c.reopen.new.state worked.cause reopened.later;
+      cause = λ _. has_failed g.D.Disk old c.work.new.store c.work.new.state c.stop-letters.new.self c.reopen.new.store c.reopen.new.state
+          worked.cause reopened.later;
     })

@@ -5,4 +5,5 @@ use Rattle.pair_side.proofs.crossing.drops_cells.Goals as goal
 
 pub returns-clause-rows : goal.returns-clause-rows
 returns-clause-rows g c =
-    filter_same_pairs _ (λ row. not (cell_ends c.args.here.now.state c.args.next.now c.args.entry.now row.0)) _ (λ k v b w f' t. search rules) _ _ c.retain.ensures.filtered
+    filter_same_pairs _ (λ row. not (cell_ends c.args.here.now.state c.args.next.now c.args.entry.now row.0)) _ (λ k v b w f' t. search rules)
+    _ _ c.retain.ensures.filtered

@@ -11,7 +11,8 @@ use Rattle.pair_side.proofs.crossing.frees.Given as goal
 abbrev pub invariant-loop-cell : goal.invariant-loop-cell
 invariant-loop-cell g l = record {
   below : (slot : ℕ) → times slot (values_of l.apart) ≤ times slot l.store.tickets;
-  more : (last : Table Cell ℕ) (after : Holdings _) → AreFreed (cell_ends l.here.state l.next l.entry) l.apart last l.store after → AreFreed (cell_ends l.here.state l.next l.entry) l.fn.apart last l.fn.store after;
+  more : (last : Table Cell ℕ) (after : Holdings _) → AreFreed (cell_ends l.here.state l.next l.entry) l.apart last l.store after
+      → AreFreed (cell_ends l.here.state l.next l.entry) l.fn.apart last l.fn.store after;
 }
 
 abbrev pub decreases-loop-cell : goal.decreases-loop-cell

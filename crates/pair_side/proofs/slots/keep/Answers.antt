@@ -5,5 +5,6 @@ use Rattle.pair_side.proofs.slots.keep.Goals as goal
 pub returns-in-Err-clause-err : goal.returns-in-Err-clause-err
 returns-in-Err-clause-err g c = (
   c.in-Err.ensures.err,
-  c.give_back.ensures ∙ undone c.args.store.now c.set_apart.new.store c.in-Some.ticket c.in-Err.ticket (rw c.in-Some.is at c.in_ok-set_apart.ensures.some) c.in-Err.ensures.back (rw c.in-Some.is at c.in_ok-set_apart.ensures.other),
+  c.give_back.ensures ∙ undone c.args.store.now c.set_apart.new.store c.in-Some.ticket c.in-Err.ticket
+      (rw c.in-Some.is at c.in_ok-set_apart.ensures.some) c.in-Err.ensures.back (rw c.in-Some.is at c.in_ok-set_apart.ensures.other),
 )

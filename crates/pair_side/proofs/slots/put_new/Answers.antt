@@ -27,7 +27,8 @@ returns-in-Ok-clause-change g c =
       full = λ no. absurd (cc);
       full_rest = λ no. absurd (cc);
       holds = c.in-Ok.ensures.holds;
-      moments = λ told holds. put_moments g.D.Disk mid c.put.new.self c.args.key c.args.version c.in-Some.ticket c.args.block.now (rw c.block.ensures at (c.put.ensures.any_moment told holds));
+      moments = λ told holds. put_moments g.D.Disk mid c.put.new.self c.args.key c.args.version c.in-Some.ticket c.args.block.now
+          (rw c.block.ensures at (c.put.ensures.any_moment told holds));
       cause = record { later = c.put.ensures.cause.later; failed = λ no. absurd (cc) };
       run = c.put.ensures.run;
     }) _ (sym room)
@@ -39,7 +40,8 @@ returns-in-Err-clause-change g c =
     let out = rw c.in-Some.is at c.in_ok-set_apart.ensures.out in
     let room = rw c.in-Some.is at c.in_ok-set_apart.ensures.room in
     let mid = c.set_apart.new.store in
-    put_new_is {T = Bool} g.D.Disk c.args.store.now mid c.put.new.self c.in-Some.ticket c.args.key c.args.version c.args.block.now (Err c.in-Err.error) set other
+    put_new_is {T = Bool} g.D.Disk c.args.store.now mid c.put.new.self c.in-Some.ticket c.args.key c.args.version c.args.block.now
+    (Err c.in-Err.error) set other
     (record {
       out = out;
       content = tt;
@@ -50,7 +52,8 @@ returns-in-Err-clause-change g c =
       full = λ is. c.in-Err.ensures.full.0 (ap Err (err_is c.in-Err.error JournalFull is));
       full_rest = λ is. c.in-Err.ensures.full_rest (ap Err (err_is c.in-Err.error JournalFull is));
       holds = λ _ _. tt;
-      moments = λ told holds. put_moments g.D.Disk mid c.put.new.self c.args.key c.args.version c.in-Some.ticket c.args.block.now (rw c.block.ensures at (c.put.ensures.any_moment told holds));
+      moments = λ told holds. put_moments g.D.Disk mid c.put.new.self c.args.key c.args.version c.in-Some.ticket c.args.block.now
+          (rw c.block.ensures at (c.put.ensures.any_moment told holds));
       cause = record { later = c.put.ensures.cause.later; failed = λ is. c.in-Err.ensures.cause.failed (ap Err (err_is c.in-Err.error Failed is)) };
       run = c.put.ensures.run;
     }) _ (sym room)

@@ -14,7 +14,8 @@ returns-in-2 c command = elim command as (λ d. HasSpelling d → c.args.bytes.n
 
 pub returns-in-3 : goal.returns-in-3
 returns-in-3 c command = elim command as (λ d. HasSpelling d → c.args.bytes.now ≡ spelling d → Some c.read_caught.result ≡ Some d) [
-  | Caught map link holder holder_inc other other_inc ↦ λ fits is. ap (λ (d : Command). Some d) (c.read_caught.ensures map link holder holder_inc other other_inc fits is)
+  | Caught map link holder holder_inc other other_inc ↦
+      λ fits is. ap (λ (d : Command). Some d) (c.read_caught.ensures map link holder holder_inc other other_inc fits is)
   | d ↦ λ fits is. let kind = kind_of-spelling c.args.bytes.now d is in absurd (omega arith)
 ]
 

@@ -17,6 +17,8 @@ returns-then-count-eq0-clause-count g c told =
     let inv = c.loop-done.invariant in
     let so_far = inv.so_far told in
     let n = length c.loop-done.into - c.loop-done.done in
-    let wide : 0 < length (take n (drop c.loop-done.done c.loop-done.into)) = omega (arith, length-take n (drop c.loop-done.done c.loop-done.into), length-drop c.loop-done.done c.loop-done.into, c.loop-done-test.true) in
-    let over : drop c.loop-done.done (g.S.Source.left c.args.source.now) ≡ [] = sym so_far.rest_is ∙ (c.in_ok-count.ensures.takes told).ends c.if-count-eq0.true wide in
+    let wide : 0 < length (take n (drop c.loop-done.done c.loop-done.into)) =
+    omega (arith, length-take n (drop c.loop-done.done c.loop-done.into), length-drop c.loop-done.done c.loop-done.into, c.loop-done-test.true) in
+    let over : drop c.loop-done.done (g.S.Source.left c.args.source.now) ≡ [] = sym so_far.rest_is
+    ∙ (c.in_ok-count.ensures.takes told).ends c.if-count-eq0.true wide in
     omega (arith, ap length over, length-drop c.loop-done.done (g.S.Source.left c.args.source.now), so_far.enough, inv.same_length, inv.within)

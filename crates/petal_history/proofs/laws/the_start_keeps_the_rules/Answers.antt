@@ -27,7 +27,8 @@ no_votes place (x ∷ xs) = no_votes place xs
 
 none_chosen : (setting : Setting) (place : ℕ) → chosen_at setting.servers (devices (start setting)) place ≡ None
 none_chosen setting place =
-    ap (λ votes. option_map (λ vote. vote.1) (find (wins setting.servers (devices (start setting)) place) votes)) (no_votes place (range_with_len 0 setting.servers))
+    ap (λ votes. option_map (λ vote. vote.1) (find (wins setting.servers (devices (start setting)) place) votes))
+    (no_votes place (range_with_len 0 setting.servers))
 
 empty_from : (setting : Setting) (place most : ℕ) → chosen_from setting.servers (devices (start setting)) place most ≡ []
 empty_from setting place zero = refl

@@ -15,5 +15,6 @@ use Rattle.petal_rules.specs.World.{step}
 use Rattle.petal_history.proofs.witness.a_name_is_unknown.Goals as goal
 
 pub returns : goal.returns
-unfolding number nobody at put without put_at on_propose on_pax starts learns on_news applies on_ask goes_on on_write on_reserve on_reserved on_pair_full on_replicate on_replicated on_read handles hears_log does log_does heard ticked refusal next_dead step
+unfolding number nobody at put without put_at on_propose on_pax starts learns on_news applies on_ask goes_on on_write on_reserve on_reserved on_pair_full
+    on_replicate on_replicated on_read handles hears_log does log_does heard ticked refusal next_dead step
 returns c = record { answers = refl; chosen = refl }

@@ -7,14 +7,16 @@ use Rattle.petal_machine.proofs.Places.{found, not_found, changed_at, same_some,
 use Rattle.petal_machine.proofs.machine.freeze.Goals as goal
 
 pub returns-in_default-clause-not_allowed : goal.returns-in_default-clause-not_allowed
-returns-in_default-clause-not_allowed c _ h = let e = not_found (is_named c.args.name.now) c.args.disks.now (sym c.in_default.is ∙ c.place_of.ensures) in let f = h.known.is in cc
+returns-in_default-clause-not_allowed c _ h = let e = not_found (is_named c.args.name.now) c.args.disks.now (sym c.in_default.is ∙ c.place_of.ensures) in
+    let f = h.known.is in cc
 
 pub returns-clause-ok : goal.returns-clause-ok
 returns-clause-ok c =
     let e = sym c.in-Some.is ∙ c.place_of.ensures in
     on_ok_map c.freeze_disk.result c.freeze_disk.ensures.ok (λ ok. (
       record { known = record { disk = _; is = found (is_named c.args.name.now) c.args.disks.now c.in-Some.place c.index-disks-place.result e }; fresh = ok.0 },
-      ap (slice_set c.args.disks.now c.in-Some.place) ok.1 ∙ sym (changed_at c.args.name.now (frozen c.args.snap) c.args.disks.now c.in-Some.place c.index-disks-place.result e),
+      ap (slice_set c.args.disks.now c.in-Some.place) ok.1
+          ∙ sym (changed_at c.args.name.now (frozen c.args.snap) c.args.disks.now c.in-Some.place c.index-disks-place.result e),
     ))
 
 pub returns-clause-not_allowed : goal.returns-clause-not_allowed

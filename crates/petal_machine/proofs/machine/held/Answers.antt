@@ -6,7 +6,8 @@ use Rattle.petal_machine.proofs.Places.{found, not_found, same_some}
 use Rattle.petal_machine.proofs.machine.held.Goals as goal
 
 pub returns-in_default-clause-none : goal.returns-in_default-clause-none
-returns-in_default-clause-none c h = let e = not_found (is_of c.args.write.now.client) c.args.opened.now (sym c.in_default.is ∙ c.open_place.ensures) in let f = h.is in cc
+returns-in_default-clause-none c h = let e = not_found (is_of c.args.write.now.client) c.args.opened.now (sym c.in_default.is ∙ c.open_place.ensures) in
+    let f = h.is in cc
 
 pub returns-then-is_same-clause-some : goal.returns-then-is_same-clause-some
 returns-then-is_same-clause-some c =

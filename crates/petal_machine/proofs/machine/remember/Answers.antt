@@ -7,4 +7,5 @@ use Rattle.petal_machine.proofs.machine.remember.Goals as goal
 pub loop-own-preserved : goal.loop-own-preserved
 loop-own-preserved c =
     ap (slice_set c.loop-own.opened c.loop-own.own-index) (c.remember_one.ensures ∙ ap (remembers c.args.disks.now) (sym c.own-item.is))
-    ∙ map_over_more (remembers c.args.disks.now) c.args.opened.now c.loop-own.opened c.loop-own.own-index c.own-item.result (omega (arith, c.loop-own.auto.opened)) c.loop-own.invariant c.own-item.is
+    ∙ map_over_more (remembers c.args.disks.now) c.args.opened.now c.loop-own.opened c.loop-own.own-index c.own-item.result
+    (omega (arith, c.loop-own.auto.opened)) c.loop-own.invariant c.own-item.is

@@ -29,9 +29,11 @@ returns-in-Ok-clause-in_part g c = λ told which.
     let is : history ≡ records_of p = ap (λ h. h.records) c.into_history.ensures.value in
     let legal : IsLegal c.args.script history = play_legal c.args.script p history same is c.into_history.ensures.legal in
     let part : Adds old (text_of history) new = elim which [
-      | inl three ↦ adds_phases c.args.script history old new (c.phases_come_one_after_the_other.ensures.text c.args.script) c.requires.rising c.requires.ordered legal
+      | inl three ↦ adds_phases c.args.script history old new
+          (c.phases_come_one_after_the_other.ensures.text c.args.script) c.requires.rising c.requires.ordered legal
           (play_wrote c.args.script p history old new same is (c.play_phases-status.ensures.phases told three))
-      | inr five ↦ adds_last c.args.script history old new (c.phases_come_one_after_the_other.ensures.text c.args.script) c.requires.rising c.requires.ordered legal
+      | inr five ↦ adds_last c.args.script history old new
+          (c.phases_come_one_after_the_other.ensures.text c.args.script) c.requires.rising c.requires.ordered legal
           (play_last c.args.script p history old new same is (c.play_phases-status.ensures.last told five))
     ] in
     (legal, c.every_history_keeps_the_law.ensures c.args.script history c.requires.sound legal, part)
@@ -49,7 +51,8 @@ returns-in-Ok-clause-whole_phase g c = λ five.
     let history = c.into_history.result.records in
     let same : p.script ≡ c.args.script = c.play_phases-status.ensures.script ∙ ap (λ (q : Progress). q.script) c.in-Ok.ensures.start in
     let is : history ≡ records_of p = ap (λ h. h.records) c.into_history.ensures.value in
-    play_ends c.args.script p history same (ended_all p history is (c.play_phases-status.ensures.since (λ three. absurd (omega arith)))) c.play_phases-status.ensures.by_phases
+    play_ends c.args.script p history same (ended_all p history is (c.play_phases-status.ensures.since (λ three. absurd (omega arith))))
+    c.play_phases-status.ensures.by_phases
 
 pub returns-in-Err-clause-by_phases : goal.returns-in-Err-clause-by_phases
 returns-in-Err-clause-by_phases g c = λ told three.

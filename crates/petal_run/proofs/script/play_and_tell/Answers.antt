@@ -19,7 +19,8 @@ returns-in-Err-NoMemory-clause-phases g c = λ told base three wrote.
     let old = c.args.playing.now in
     let new = c.play_phase.new.self in
     let ends : Ends old new c.in-Ok-Some.answers = rw c.in-Ok-Some.field-0-is at c.in-Ok-Some.ensures.ends in
-    subst (λ sink. WrotePhases new.script (records_of new) base (g.W.Sink.taken sink)) (sym (c.in-Err-NoMemory.ensures.nothing (ap Err c.in-Err-NoMemory.field-0-is)))
+    subst (λ sink. WrotePhases new.script (records_of new) base (g.W.Sink.taken sink))
+    (sym (c.in-Err-NoMemory.ensures.nothing (ap Err c.in-Err-NoMemory.field-0-is)))
     (wrote_before old new c.in-Ok-Some.answers c.play_phase.ensures.script c.requires.by_phases ends base (g.W.Sink.taken c.args.sink.now) wrote)
 
 pub returns-in-Err-clause-phases : goal.returns-in-Err-clause-phases

@@ -13,7 +13,12 @@ returns-then-is_same-clause-items c =
     let es = c.args.entries.now.items in
     let key = c.args.entry.key in
     let at : c.rank_of-at.result ≡ rank es key = c.rank_of-at.ensures.rank ∙ ap (λ (l : List Entry). rank l key) c.deref.ensures.value in
-    let found : Found es key c.index.result.now c.rank_of-at.result = record { is = at; within = omega (arith, c.if-at-len.true, c.args.entries.now.ok); here = c.index.ensures; same = sym c.is_same.ensures ∙ c.if-is_same.true } in
+    let found : Found es key c.index.result.now c.rank_of-at.result = record {
+      is = at;
+      within = omega (arith, c.if-at-len.true, c.args.entries.now.ok);
+      here = c.index.ensures;
+      same = sym c.is_same.ensures ∙ c.if-is_same.true;
+    } in
     place-over es c.args.entry c.index.result.now c.rank_of-at.result found
 
 pub returns-then-is_same-clause-order : goal.returns-then-is_same-clause-order
@@ -21,7 +26,12 @@ returns-then-is_same-clause-order c =
     let es = c.args.entries.now.items in
     let key = c.args.entry.key in
     let at : c.rank_of-at.result ≡ rank es key = c.rank_of-at.ensures.rank ∙ ap (λ (l : List Entry). rank l key) c.deref.ensures.value in
-    let found : Found es key c.index.result.now c.rank_of-at.result = record { is = at; within = omega (arith, c.if-at-len.true, c.args.entries.now.ok); here = c.index.ensures; same = sym c.is_same.ensures ∙ c.if-is_same.true } in
+    let found : Found es key c.index.result.now c.rank_of-at.result = record {
+      is = at;
+      within = omega (arith, c.if-at-len.true, c.args.entries.now.ok);
+      here = c.index.ensures;
+      same = sym c.is_same.ensures ∙ c.if-is_same.true;
+    } in
     rw (place-over es c.args.entry c.index.result.now c.rank_of-at.result found) (ordered-placed key_of es c.args.entry c.requires.order)
 
 pub returns-then-is_same-clause-replaced : goal.returns-then-is_same-clause-replaced
@@ -29,7 +39,12 @@ returns-then-is_same-clause-replaced c =
     let es = c.args.entries.now.items in
     let key = c.args.entry.key in
     let at : c.rank_of-at.result ≡ rank es key = c.rank_of-at.ensures.rank ∙ ap (λ (l : List Entry). rank l key) c.deref.ensures.value in
-    let found : Found es key c.index.result.now c.rank_of-at.result = record { is = at; within = omega (arith, c.if-at-len.true, c.args.entries.now.ok); here = c.index.ensures; same = sym c.is_same.ensures ∙ c.if-is_same.true } in
+    let found : Found es key c.index.result.now c.rank_of-at.result = record {
+      is = at;
+      within = omega (arith, c.if-at-len.true, c.args.entries.now.ok);
+      here = c.index.ensures;
+      same = sym c.is_same.ensures ∙ c.if-is_same.true;
+    } in
     entry-found es key c.index.result.now c.rank_of-at.result found
 
 pub insert_reserved-requires-clause-at : goal.insert_reserved-requires-clause-at
@@ -45,8 +60,10 @@ insert_reserved-requires-clause-room c =
     let key = c.args.entry.key in
     let at : c.rank_of-at.result ≡ rank es key = c.rank_of-at.ensures.rank ∙ ap (λ (l : List Entry). rank l key) c.deref.ensures.value in
     let none : None ≡ slot_of es key = elim c.if-at-len.branch [
-      | then-at-len+else-is_same w ↦ slot-absent es key w.index.result.now c.rank_of-at.result c.requires.order (record { is = at; other = λ within. (w.index.ensures, sym w.is_same.ensures ∙ w.if-is_same.false) })
-      | else-at-len w ↦ slot-absent es key c.args.entry c.rank_of-at.result c.requires.order (record { is = at; other = λ within. absurd (omega (arith, w.if-at-len.false, c.args.entries.now.ok, c.len.ensures)) })
+      | then-at-len+else-is_same w ↦ slot-absent es key w.index.result.now c.rank_of-at.result c.requires.order
+          (record { is = at; other = λ within. (w.index.ensures, sym w.is_same.ensures ∙ w.if-is_same.false) })
+      | else-at-len w ↦ slot-absent es key c.args.entry c.rank_of-at.result c.requires.order
+          (record { is = at; other = λ within. absurd (omega (arith, w.if-at-len.false, c.args.entries.now.ok, c.len.ensures)) })
     ] in
     elim c.requires.room [ inl room ↦ room | inr some ↦ absurd (some-none (slot_of es key) none some) ]
 
@@ -56,8 +73,10 @@ returns-clause-items c =
     let key = c.args.entry.key in
     let at : c.rank_of-at.result ≡ rank es key = c.rank_of-at.ensures.rank ∙ ap (λ (l : List Entry). rank l key) c.deref.ensures.value in
     c.insert_reserved.ensures.items ∙ (elim c.if-at-len.branch [
-      | then-at-len+else-is_same w ↦ place-between es c.args.entry w.index.result.now c.rank_of-at.result (record { is = at; other = λ within. (w.index.ensures, sym w.is_same.ensures ∙ w.if-is_same.false) })
-      | else-at-len w ↦ place-between es c.args.entry c.args.entry c.rank_of-at.result (record { is = at; other = λ within. absurd (omega (arith, w.if-at-len.false, c.args.entries.now.ok, c.len.ensures)) })
+      | then-at-len+else-is_same w ↦ place-between es c.args.entry w.index.result.now c.rank_of-at.result
+          (record { is = at; other = λ within. (w.index.ensures, sym w.is_same.ensures ∙ w.if-is_same.false) })
+      | else-at-len w ↦ place-between es c.args.entry c.args.entry c.rank_of-at.result
+          (record { is = at; other = λ within. absurd (omega (arith, w.if-at-len.false, c.args.entries.now.ok, c.len.ensures)) })
     ])
 
 pub returns-clause-order : goal.returns-clause-order
@@ -69,6 +88,8 @@ returns-clause-replaced c =
     let key = c.args.entry.key in
     let at : c.rank_of-at.result ≡ rank es key = c.rank_of-at.ensures.rank ∙ ap (λ (l : List Entry). rank l key) c.deref.ensures.value in
     elim c.if-at-len.branch [
-      | then-at-len+else-is_same w ↦ entry-absent es key w.index.result.now c.rank_of-at.result c.requires.order (record { is = at; other = λ within. (w.index.ensures, sym w.is_same.ensures ∙ w.if-is_same.false) })
-      | else-at-len w ↦ entry-absent es key c.args.entry c.rank_of-at.result c.requires.order (record { is = at; other = λ within. absurd (omega (arith, w.if-at-len.false, c.args.entries.now.ok, c.len.ensures)) })
+      | then-at-len+else-is_same w ↦ entry-absent es key w.index.result.now c.rank_of-at.result c.requires.order
+          (record { is = at; other = λ within. (w.index.ensures, sym w.is_same.ensures ∙ w.if-is_same.false) })
+      | else-at-len w ↦ entry-absent es key c.args.entry c.rank_of-at.result c.requires.order
+          (record { is = at; other = λ within. absurd (omega (arith, w.if-at-len.false, c.args.entries.now.ok, c.len.ensures)) })
     ]

@@ -10,7 +10,8 @@ returns-clause-items c =
     let key = c.args.key.now in
     let at : c.rank_of-at.result ≡ rank es key = c.rank_of-at.ensures.rank ∙ ap (λ (l : List Entry). rank l key) c.deref.ensures.value in
     let yes : c.is_same.result ≡ true = grind (arith, nat_tests) in
-    let found : Found es key c.index.result.now c.rank_of-at.result = record { is = at; within = omega (arith, c.if-at-len.false, c.args.entries.now.ok); here = c.index.ensures; same = sym c.is_same.ensures ∙ yes } in
+    let found : Found es key c.index.result.now c.rank_of-at.result =
+    record { is = at; within = omega (arith, c.if-at-len.false, c.args.entries.now.ok); here = c.index.ensures; same = sym c.is_same.ensures ∙ yes } in
     c.remove.ensures.items ∙ without-found es key c.index.result.now c.rank_of-at.result found
 
 pub returns-clause-order : goal.returns-clause-order
@@ -22,7 +23,8 @@ returns-clause-dropped c =
     let key = c.args.key.now in
     let at : c.rank_of-at.result ≡ rank es key = c.rank_of-at.ensures.rank ∙ ap (λ (l : List Entry). rank l key) c.deref.ensures.value in
     let yes : c.is_same.result ≡ true = grind (arith, nat_tests) in
-    let found : Found es key c.index.result.now c.rank_of-at.result = record { is = at; within = omega (arith, c.if-at-len.false, c.args.entries.now.ok); here = c.index.ensures; same = sym c.is_same.ensures ∙ yes } in
+    let found : Found es key c.index.result.now c.rank_of-at.result =
+    record { is = at; within = omega (arith, c.if-at-len.false, c.args.entries.now.ok); here = c.index.ensures; same = sym c.is_same.ensures ∙ yes } in
     entry-found es key c.index.result.now c.rank_of-at.result found
 
 pub returns-then-at-len-clause-items : goal.returns-then-at-len-clause-items
@@ -31,7 +33,8 @@ returns-then-at-len-clause-items c =
     let key = c.args.key.now in
     let at : c.rank_of-at.result ≡ rank es key = c.rank_of-at.ensures.rank ∙ ap (λ (l : List Entry). rank l key) c.deref.ensures.value in
     let none : Entry = record { key = key; slot = 0; version = 0 } in
-    without-absent es key none c.rank_of-at.result c.requires (record { is = at; other = λ within. absurd (omega (arith, c.if-at-len.true, c.args.entries.now.ok, c.len.ensures)) })
+    without-absent es key none c.rank_of-at.result c.requires
+    (record { is = at; other = λ within. absurd (omega (arith, c.if-at-len.true, c.args.entries.now.ok, c.len.ensures)) })
 
 pub returns-then-at-len-clause-dropped : goal.returns-then-at-len-clause-dropped
 returns-then-at-len-clause-dropped c =
@@ -39,7 +42,8 @@ returns-then-at-len-clause-dropped c =
     let key = c.args.key.now in
     let at : c.rank_of-at.result ≡ rank es key = c.rank_of-at.ensures.rank ∙ ap (λ (l : List Entry). rank l key) c.deref.ensures.value in
     let none : Entry = record { key = key; slot = 0; version = 0 } in
-    entry-absent es key none c.rank_of-at.result c.requires (record { is = at; other = λ within. absurd (omega (arith, c.if-at-len.true, c.args.entries.now.ok, c.len.ensures)) })
+    entry-absent es key none c.rank_of-at.result c.requires
+    (record { is = at; other = λ within. absurd (omega (arith, c.if-at-len.true, c.args.entries.now.ok, c.len.ensures)) })
 
 pub returns-then-not-is_same-clause-items : goal.returns-then-not-is_same-clause-items
 returns-then-not-is_same-clause-items c =
@@ -47,7 +51,8 @@ returns-then-not-is_same-clause-items c =
     let key = c.args.key.now in
     let at : c.rank_of-at.result ≡ rank es key = c.rank_of-at.ensures.rank ∙ ap (λ (l : List Entry). rank l key) c.deref.ensures.value in
     let no : c.is_same.result ≡ false = grind (arith, nat_tests) in
-    without-absent es key c.index.result.now c.rank_of-at.result c.requires (record { is = at; other = λ within. (c.index.ensures, sym c.is_same.ensures ∙ no) })
+    without-absent es key c.index.result.now c.rank_of-at.result c.requires
+    (record { is = at; other = λ within. (c.index.ensures, sym c.is_same.ensures ∙ no) })
 
 pub returns-then-not-is_same-clause-dropped : goal.returns-then-not-is_same-clause-dropped
 returns-then-not-is_same-clause-dropped c =

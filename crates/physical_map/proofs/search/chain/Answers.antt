@@ -13,4 +13,5 @@ returns c =
     let at = c.rank_of.result in
     let rest = take (length es - at) (drop at es) in
     let whole : rest ≡ drop at es = take_rest es at in
-    ap (λ (n : ℕ). take n rest) c.cell_prefix.ensures ∙ ap (take_while p) whole ∙ ap (λ (n : ℕ). take_while p (drop n es)) c.rank_of.ensures.rank ∙ sym (chain-part c.args.cell.now es c.requires)
+    ap (λ (n : ℕ). take n rest) c.cell_prefix.ensures ∙ ap (take_while p) whole ∙ ap (λ (n : ℕ). take_while p (drop n es)) c.rank_of.ensures.rank
+    ∙ sym (chain-part c.args.cell.now es c.requires)

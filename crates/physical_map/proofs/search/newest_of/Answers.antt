@@ -8,7 +8,8 @@ abbrev first : Entry
 first = record { key = record { map = 0; block = 0; epoch = 0 }; slot = 0; version = 0 }
 
 pub returns-then-behind-eq0 : goal.returns-then-behind-eq0
-returns-then-behind-eq0 c = sym (newest-none c.args.entries.now c.args.at.now c.requires (omega (arith, c.rank_behind-behind.ensures.rank, c.if-behind-eq0.true)))
+returns-then-behind-eq0 c =
+    sym (newest-none c.args.entries.now c.args.at.now c.requires (omega (arith, c.rank_behind-behind.ensures.rank, c.if-behind-eq0.true)))
 
 pub returns-then-is_seen : goal.returns-then-is_seen
 returns-then-is_seen c =

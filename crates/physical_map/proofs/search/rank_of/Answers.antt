@@ -12,5 +12,7 @@ returns-clause-rank c =
     let es = c.args.entries.now in
     let key = c.args.key.now in
     let none : Entry = record { key = key; slot = 0; version = 0 } in
-    let point = c.partition_point.ensures.partitioned (λ (e : Entry). key_below e.key key) (always_returns_same _ _ _ (λ a r f k. search (rules, of_calls))) (partitioned key_of es key c.requires) in
-    sym (prefix_len_is (λ (e : Entry). key_below e.key key) es c.partition_point.result none c.partition_point.ensures.bound (λ k l. point.0 k none (omega arith) l) (λ l. point.1 c.partition_point.result none (omega arith) l))
+    let point = c.partition_point.ensures.partitioned (λ (e : Entry). key_below e.key key)
+    (always_returns_same _ _ _ (λ a r f k. search (rules, of_calls))) (partitioned key_of es key c.requires) in
+    sym (prefix_len_is (λ (e : Entry). key_below e.key key) es c.partition_point.result none c.partition_point.ensures.bound
+    (λ k l. point.0 k none (omega arith) l) (λ l. point.1 c.partition_point.result none (omega arith) l))

@@ -14,5 +14,7 @@ returns-clause-rank c =
     let es = c.args.entries.now in
     let map = c.args.map in
     let after = c.args.after in
-    let point = c.partition_point.ensures.partitioned (λ (e : Entry). before_blocks map after e.key) (always_returns_same _ _ _ (λ a r f k. search (rules, of_calls))) (partitioned-blocks map after es c.requires) in
-    sym (prefix_len_is (λ (e : Entry). before_blocks map after e.key) es c.partition_point.result first c.partition_point.ensures.bound (λ k l. point.0 k first (omega arith) l) (λ l. point.1 c.partition_point.result first (omega arith) l))
+    let point = c.partition_point.ensures.partitioned (λ (e : Entry). before_blocks map after e.key)
+    (always_returns_same _ _ _ (λ a r f k. search (rules, of_calls))) (partitioned-blocks map after es c.requires) in
+    sym (prefix_len_is (λ (e : Entry). before_blocks map after e.key) es c.partition_point.result first c.partition_point.ensures.bound
+    (λ k l. point.0 k first (omega arith) l) (λ l. point.1 c.partition_point.result first (omega arith) l))

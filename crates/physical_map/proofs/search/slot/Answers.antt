@@ -14,7 +14,12 @@ returns-then-is_same c =
     let at = c.rank_of-at.result in
     let e = get_or es at first in
     let within : at < length es = c.if-at-entries.true in
-    slot-found es c.args.key.now e at (record { is = c.rank_of-at.ensures.rank; within = within; here = get_or_default es at first e within; same = sym c.is_same.ensures ∙ c.if-is_same.true })
+    slot-found es c.args.key.now e at (record {
+      is = c.rank_of-at.ensures.rank;
+      within = within;
+      here = get_or_default es at first e within;
+      same = sym c.is_same.ensures ∙ c.if-is_same.true;
+    })
 
 pub returns-else-at-entries : goal.returns-else-at-entries
 returns-else-at-entries c =

@@ -2,4 +2,5 @@ use Rattle.plain_schedule.proofs.Fronts.{still}
 use Rattle.plain_schedule.proofs.playing.play_lines.Goals as goal
 
 pub phase_answers-requires-clause-told : goal.phase_answers-requires-clause-told
-phase_answers-requires-clause-told g c = (still c.args.told c.args.schedule.now.world.records c.loop.schedule.world.records c.requires.told c.loop.invariant.3).within
+phase_answers-requires-clause-told g c =
+    (still c.args.told c.args.schedule.now.world.records c.loop.schedule.world.records c.requires.told c.loop.invariant.3).within

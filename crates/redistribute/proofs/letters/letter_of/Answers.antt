@@ -8,7 +8,8 @@ use Rattle.redistribute.proofs.letters.letter_of.Goals as goal
 pub returns-in-Some-clause-letter : goal.returns-in-Some-clause-letter
 returns-in-Some-clause-letter g c =
     IfOk-weaker c.letter_to.result _ _
-    (λ found is told side. ap posts_of (is told) ∙ letter_is c.args.here.now.state (own_of side c.args.store.now) c.args.key _ _ (sym c.in-Some.is ∙ c.destination.ensures) refl)
+    (λ found is told side. ap posts_of (is told)
+    ∙ letter_is c.args.here.now.state (own_of side c.args.store.now) c.args.key _ _ (sym c.in-Some.is ∙ c.destination.ensures) refl)
     c.letter_to.ensures.letter
 
 pub returns-in-None-clause-letter : goal.returns-in-None-clause-letter

@@ -14,5 +14,6 @@ returns-then-len-eq-MOST_RUNS c =
 pub returns : goal.returns
 returns c =
     let none : length c.loop-rest.rest.now ≡ 0 = eqb-true _ _ (sym c.loop-rest-test.ensures) in
-    let all : runs c.args.bytes.now ≡ c.loop-rest.few.items = c.loop-rest.invariant.0 ∙ ap (λ rs. c.loop-rest.few.items ++ rs) (none_left c.loop-rest.rest.now none) ∙ append-nil c.loop-rest.few.items in
+    let all : runs c.args.bytes.now ≡ c.loop-rest.few.items = c.loop-rest.invariant.0
+    ∙ ap (λ rs. c.loop-rest.few.items ++ rs) (none_left c.loop-rest.rest.now none) ∙ append-nil c.loop-rest.few.items in
     (sym all, omega (arith, ap length all))

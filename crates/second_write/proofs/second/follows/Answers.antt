@@ -39,7 +39,8 @@ returns-clause-job g c =
     (follows_in here (own_of side c.args.store.now) c.args.op c.args.key c.args.bytes.now cell)) c.cell-cell.ensures
     (record {
       done = λ told.
-          follows_done here side c.args.store.now c.cell-cell.result c.args.op h c.args.key c.args.bytes.now c.replace.new.self c.spend.new.table c.spend.new.store
+          follows_done here side c.args.store.now c.cell-cell.result c.args.op h c.args.key c.args.bytes.now c.replace.new.self
+          c.spend.new.table c.spend.new.store
           c.next_version-version.result c.only.result c.replace.ensures c.next_version-version.ensures (c.in_ok-spend.ensures.ok told)
           (c.only.ensures ∙ ap only (c.in_ok-letters.ensures ∙ said));
       keeps =

@@ -38,7 +38,8 @@ returns-in-Err g c =
     let kept = c.in_ok-keep.ensures.yes c.if-not-branch.false in
     let there = kept_there side.apart c.keep.new.table c.args.store.now c.keep.new.store c.args.cell kept in
     let has = rw (← c.side.view_is) at c.requires.has in
-    let back = apart_back c.args.here.now side c.args.store.now c.args.cell c.args.op h c.keep.new.table c.give_back.new.table kept.slot has kept.table c.give_back.ensures.table in
+    let back = apart_back c.args.here.now side c.args.store.now c.args.cell c.args.op h c.keep.new.table c.give_back.new.table kept.slot has
+    kept.table c.give_back.ensures.table in
     let held = c.give_back.ensures.store kept.slot there ∙ undone c.args.store.now c.keep.new.store kept.slot kept.slot kept.store refl kept.other in
     rw (← c.side.view_is)
     (all_same c.args.here.now side _ c.args.store.now c.give_back.new.store _ (λ i. record side { last = c.in-Err.ensures.err i; apart = back i }) held)

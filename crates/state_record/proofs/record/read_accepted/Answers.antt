@@ -3,7 +3,8 @@ use Rattle.state_record.proofs.Bodies.{some_accepted}
 use Rattle.state_record.proofs.record.read_accepted.Goals as goal
 
 pub returns-in_err-command : goal.returns-in_err-command
-returns-in_err-command c place ballot command fits is = absurd (cc (c.command_at.ensures command _ fits.2 (ap (λ (l : List ℕ). drop 10 l) is), c.in_err-command.was))
+returns-in_err-command c place ballot command fits is =
+    absurd (cc (c.command_at.ensures command _ fits.2 (ap (λ (l : List ℕ). drop 10 l) is), c.in_err-command.was))
 
 pub returns : goal.returns
 returns c place ballot command fits is =

@@ -9,7 +9,8 @@ returns-in_err-append-clause-any_moment g c told =
     let j = c.in_ok-journal.journal in
     let at : IsPlaced j = record { base = ap (λ r. r.base) c.in_ok-journal.ensures.region; limit = ap (λ r. r.limit) c.in_ok-journal.ensures.region } in
     let base = at.base in
-    first_record g.D.Disk.moment g.D.Disk.left_since c.args.disk.now c.format_behind_gate.new.disk c.append.new.disk _ _ _ c.body_of.result j at (c.in_ok-journal.ensures.durable told) (c.in_ok-journal.ensures.shut told)
+    first_record g.D.Disk.moment g.D.Disk.left_since c.args.disk.now c.format_behind_gate.new.disk c.append.new.disk _ _ _ c.body_of.result j
+    at (c.in_ok-journal.ensures.durable told) (c.in_ok-journal.ensures.shut told)
     (c.format_behind_gate.ensures.any_moment told) (c.append.ensures.any_moment told [] (c.in_ok-journal.ensures.stored told))
 
 pub returns-in_err-append-clause-either : goal.returns-in_err-append-clause-either
@@ -24,7 +25,8 @@ returns-clause-any_moment g c told =
     let j = c.in_ok-journal.journal in
     let at : IsPlaced j = record { base = ap (λ r. r.base) c.in_ok-journal.ensures.region; limit = ap (λ r. r.limit) c.in_ok-journal.ensures.region } in
     let base = at.base in
-    first_record g.D.Disk.moment g.D.Disk.left_since c.args.disk.now c.format_behind_gate.new.disk c.append.new.disk _ _ _ c.body_of.result j at (c.in_ok-journal.ensures.durable told) (c.in_ok-journal.ensures.shut told)
+    first_record g.D.Disk.moment g.D.Disk.left_since c.args.disk.now c.format_behind_gate.new.disk c.append.new.disk _ _ _ c.body_of.result j
+    at (c.in_ok-journal.ensures.durable told) (c.in_ok-journal.ensures.shut told)
     (c.format_behind_gate.ensures.any_moment told) (c.append.ensures.any_moment told [] (c.in_ok-journal.ensures.stored told))
 
 pub returns-clause-either : goal.returns-clause-either
@@ -47,4 +49,5 @@ returns-clause-stands g c told =
     let region = c.in_ok-journal.ensures.region in
     let at : IsPlaced c.append.new.self = record { base = place.0 ∙ ap (λ r. r.base) region; limit = place.1 ∙ ap (λ r. r.limit) region } in
     let now = (c.in_ok-append.ensures.appended told [] (c.in_ok-journal.ensures.stored told)).now in
-    subst (λ (body : List ℕ). Stands 128 4096 65536 (g.D.Disk.seen c.append.new.disk) (body ∷ [])) c.body_of.ensures.spelled (placed c.append.new.self _ _ at now)
+    subst (λ (body : List ℕ). Stands 128 4096 65536 (g.D.Disk.seen c.append.new.disk) (body ∷ [])) c.body_of.ensures.spelled
+    (placed c.append.new.self _ _ at now)

@@ -11,7 +11,8 @@ freeze_row-requires c =
 pub returns-in_ok-freeze_row-in-Some-clause-ok : goal.returns-in_ok-freeze_row-in-Some-clause-ok
 returns-in_ok-freeze_row-in-Some-clause-ok c =
     let at : position (is_disk c.args.disk) c.args.rows.now ≡ Some c.in-Some.at = cc in
-    change_at c.args.disk (row_frozen c.args.name.now) c.args.rows.now c.in-Some.at c.freeze_row.new.row c.index-rows-at.result at c.in_ok-freeze_row-in-Some.ensures.ok
+    change_at c.args.disk (row_frozen c.args.name.now) c.args.rows.now c.in-Some.at c.freeze_row.new.row c.index-rows-at.result
+    at c.in_ok-freeze_row-in-Some.ensures.ok
 
 pub returns-in-None-clause-ok : goal.returns-in-None-clause-ok
 returns-in-None-clause-ok c =

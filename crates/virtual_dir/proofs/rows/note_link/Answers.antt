@@ -6,7 +6,8 @@ use Rattle.virtual_dir.proofs.rows.note_link.Goals as goal
 pub returns-in_ok-note_row-in-Some-clause-ok : goal.returns-in_ok-note_row-in-Some-clause-ok
 returns-in_ok-note_row-in-Some-clause-ok c =
     let at : position (is_disk c.args.disk) c.args.rows.now ≡ Some c.in-Some.at = cc in
-    change_at c.args.disk (row_noted c.args.note.region c.args.note.link c.args.note.links) c.args.rows.now c.in-Some.at c.note_row.new.row c.index-rows-at.result at c.in_ok-note_row-in-Some.ensures.ok
+    change_at c.args.disk (row_noted c.args.note.region c.args.note.link c.args.note.links) c.args.rows.now c.in-Some.at c.note_row.new.row
+    c.index-rows-at.result at c.in_ok-note_row-in-Some.ensures.ok
 
 pub returns-in-None-clause-ok : goal.returns-in-None-clause-ok
 returns-in-None-clause-ok c =

@@ -9,7 +9,8 @@ returns-clause-stored g c told bodies stands =
     let d = g.D.Disk in
     let all = contents c.in_ok-bodies.bodies.items in
     let seen = c.read_bodies.ensures.seen ∙ c.sync.ensures.seen in
-    let counts : Counts g.row.R c.args.base c.args.limit (d.seen c.args.disk.now) all = subst (λ (file : List ℕ). Counts g.row.R c.args.base c.args.limit file all) c.sync.ensures.seen (c.in_ok-bodies.ensures.counts told) in
+    let counts : Counts g.row.R c.args.base c.args.limit (d.seen c.args.disk.now) all =
+    subst (λ (file : List ℕ). Counts g.row.R c.args.base c.args.limit file all) c.sync.ensures.seen (c.in_ok-bodies.ensures.counts told) in
     let same = only_those _ _ _ _ _ _ counts stands in
     let count : c.len.result ≡ length c.in_ok-bodies.bodies.items = search rules in (
       same,

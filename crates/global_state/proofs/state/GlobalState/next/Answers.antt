@@ -5,4 +5,5 @@ use Rattle.petal_state.proofs.Bounds.{after_within}
 use Rattle.global_state.proofs.state.GlobalState.next.Goals as goal
 
 pub invariant_of-result : goal.invariant_of-result
-invariant_of-result c = subst (λ (s : State). IsWithin s.rev s) (sym c.in_ok-next.ensures) (after_within c.self.inside.tables c.args.command.now c.self.invariant)
+invariant_of-result c =
+    subst (λ (s : State). IsWithin s.rev s) (sym c.in_ok-next.ensures) (after_within c.self.inside.tables c.args.command.now c.self.invariant)

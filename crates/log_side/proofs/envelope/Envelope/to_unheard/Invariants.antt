@@ -9,5 +9,6 @@ use Rattle.log_side.proofs.envelope.Envelope.to_unheard.Given as goal
 
 abbrev pub invariant-loop-server : goal.invariant-loop-server
 invariant-loop-server l =
-    l.letters ++ letters_of l.self l.nth (map (post_of (body.Pax l.said)) (filter (λ n. not (is_in l.heard n)) (range_with_len l.server (l.servers - l.server))))
+    l.letters ++ letters_of l.self l.nth
+    (map (post_of (body.Pax l.said)) (filter (λ n. not (is_in l.heard n)) (range_with_len l.server (l.servers - l.server))))
     ≡ letters_of l.self 0 (map (post_of (body.Pax l.said)) (filter (λ n. not (is_in l.heard n)) (range_with_len 0 l.servers)))

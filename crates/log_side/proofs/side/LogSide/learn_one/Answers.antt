@@ -10,7 +10,8 @@ returns g c =
       done = record {
         log = learnt.done.log;
         letters = learnt.done.letters;
-        jobs = rw c.in_ok-letter.ensures (then_more c.in_ok-done.done.apply _ (job.Letter c.args.letter.now ∷ []) (rw c.in_ok-done.ensures.alone at learnt.done.jobs));
+        jobs = rw c.in_ok-letter.ensures
+            (then_more c.in_ok-done.done.apply _ (job.Letter c.args.letter.now ∷ []) (rw c.in_ok-done.ensures.alone at learnt.done.jobs));
       };
       voter = learnt.voter;
       holds = search rules;

@@ -15,4 +15,5 @@ returns-in-Idle c =
       wants = it.wants;
       asks = it.asks;
     } in
-    rw (← c.self.view_is) (IfOk-weaker c.has_wanted.result _ _ (start_wanted part c.args.returning.now c.in-Idle.is) (rw (← c.self.view_is) at c.has_wanted.ensures))
+    rw (← c.self.view_is)
+    (IfOk-weaker c.has_wanted.result _ _ (start_wanted part c.args.returning.now c.in-Idle.is) (rw (← c.self.view_is) at c.has_wanted.ensures))

@@ -19,4 +19,5 @@ returns c =
     let entries = rw (← c.self.view_is) at c.rev.ensures.entries in
     let below = c.if-rev-ge-GREATEST_PLACE.false in
     rw (← c.self.view_is)
-    (IfOk-weaker c.most_urgent.result _ _ (idle_want part c.args.returning.now c.in-Idle.is (omega (arith, entries, below))) (rw (← c.self.view_is) at c.most_urgent.ensures))
+    (IfOk-weaker c.most_urgent.result _ _ (idle_want part c.args.returning.now c.in-Idle.is (omega (arith, entries, below)))
+    (rw (← c.self.view_is) at c.most_urgent.ensures))

@@ -15,7 +15,8 @@ returns g c =
       done = rw c.only.ensures (record {
         log = refl;
         letters = c.one.ensures
-            ∙ ap (λ (who : Sender). letters_of who 0 (record { to = c.args.from; body = body.News c.args.rev c.in_ok-commands.commands } ∷ [])) c.envelope.ensures
+            ∙ ap (λ (who : Sender). letters_of who 0 (record { to = c.args.from; body = body.News c.args.rev c.in_ok-commands.commands } ∷ []))
+            c.envelope.ensures
             ∙ ap (λ (run : List Command). letters_of (sender_of c.args.self.now) 0 (record { to = c.args.from; body = body.News c.args.rev run } ∷ []))
             (c.in_ok-commands.ensures log refl ∙ ap (λ (place : ℕ). known_run log place 64) first);
         jobs = refl;

@@ -10,7 +10,8 @@ pub invariant_of-self : goal.invariant_of-self
 invariant_of-self c = rw c.remove.ensures.entries (kept_by_remove _ _ c.len.ensures.ordered c.self.invariant)
 
 pub returns-clause-table : goal.returns-clause-table
-returns-clause-table c = c.remove.ensures.entries ∙ remove_is_without cell_cmp_total _ _ c.len.ensures.ordered ∙ ap (λ t. without cell_cmp t c.args.cell) c.self.view_is
+returns-clause-table c = c.remove.ensures.entries ∙ remove_is_without cell_cmp_total _ _ c.len.ensures.ordered
+    ∙ ap (λ t. without cell_cmp t c.args.cell) c.self.view_is
 
 pub returns-clause-own : goal.returns-clause-own
 returns-clause-own c = rw (← c.self.view_is) (own_cell _ c.args.cell c.self.invariant)

@@ -9,12 +9,14 @@ pub invariant_of-self-2 : goal.invariant_of-self-2
 unfolding at
 invariant_of-self-2 c =
     let w = at_version c.in-Some.pending.now c.args.version c.args.stage in
-    rw c.advance.ensures (rw (c.get_mut.follows.holds w).0 (kept_by_set _ c.args.cell c.in-Some.pending.now w c.get_mut.ensures.ordered (sym c.in-Some.ensures.value) refl c.self.invariant))
+    rw c.advance.ensures (rw (c.get_mut.follows.holds w).0
+    (kept_by_set _ c.args.cell c.in-Some.pending.now w c.get_mut.ensures.ordered (sym c.in-Some.ensures.value) refl c.self.invariant))
 
 pub returns-clause-table : goal.returns-clause-table
 unfolding at
 returns-clause-table c =
     let w = at_version c.in-Some.pending.now c.args.version c.args.stage in
     rw c.advance.ensures
-    ((c.get_mut.follows.holds w).0 ∙ set_is_versioned _ c.args.cell c.in-Some.pending.now c.args.version c.args.stage c.get_mut.ensures.ordered (sym c.in-Some.ensures.value)
+    ((c.get_mut.follows.holds w).0
+    ∙ set_is_versioned _ c.args.cell c.in-Some.pending.now c.args.version c.args.stage c.get_mut.ensures.ordered (sym c.in-Some.ensures.value)
     ∙ ap (λ t. versioned t c.args.cell c.args.version c.args.stage (at cell_cmp t c.args.cell)) c.self.view_is)

@@ -9,7 +9,8 @@ pub invariant_of-self-2 : goal.invariant_of-self-2
 unfolding at
 invariant_of-self-2 c =
     let w = at_stage c.in-Some.pending.now c.args.stage in
-    rw c.restage.ensures (rw (c.get_mut.follows.holds w).0 (kept_by_set _ c.args.cell c.in-Some.pending.now w c.get_mut.ensures.ordered (sym c.in-Some.ensures.value) refl c.self.invariant))
+    rw c.restage.ensures (rw (c.get_mut.follows.holds w).0
+    (kept_by_set _ c.args.cell c.in-Some.pending.now w c.get_mut.ensures.ordered (sym c.in-Some.ensures.value) refl c.self.invariant))
 
 pub returns-clause-table : goal.returns-clause-table
 unfolding at

@@ -8,4 +8,5 @@ returns c = rw (c.in_ok-extend_from_slice.ensures.items, c.deref.ensures.value, 
 
 pub invariant_of-result : goal.invariant_of-result
 unfolding halves_block
-invariant_of-result c = rw (c.in_ok-extend_from_slice.ensures.items, c.deref.ensures.value, c.in_ok-second.ensures, c.in_ok-bytes.ensures) (halves_block-whole c.args.x c.args.y)
+invariant_of-result c = rw (c.in_ok-extend_from_slice.ensures.items, c.deref.ensures.value, c.in_ok-second.ensures, c.in_ok-bytes.ensures)
+    (halves_block-whole c.args.x c.args.y)

@@ -7,4 +7,5 @@ pub returns-clause-crash : goal.returns-clause-crash
 returns-clause-crash c left m =
     let now : c.in_ok-vec.field-0.items ≡ replicate c.args.len 0 = search rules in
     let kept : c.in_ok-vec-2.field-0.items ≡ replicate c.args.len 0 = search rules in
-    mixes_same _ left (subst (λ (k : List ℕ). Mixes k (replicate c.args.len 0) left) now (subst (λ (k : List ℕ). Mixes c.in_ok-vec.field-0.items k left) kept m))
+    mixes_same _ left
+    (subst (λ (k : List ℕ). Mixes k (replicate c.args.len 0) left) now (subst (λ (k : List ℕ). Mixes c.in_ok-vec.field-0.items k left) kept m))

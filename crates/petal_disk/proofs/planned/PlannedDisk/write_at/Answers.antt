@@ -6,10 +6,10 @@ pub returns-then-stops-clause-torn : goal.returns-then-stops-clause-torn
 returns-then-stops-clause-torn g c told =
     let n = length c.args.bytes.now in
     let le : length (take (n / 2) c.args.bytes.now) ≤ n = omega (arith, length-take (n / 2) c.args.bytes.now) in
-    torn_more c.args.at _ n _ _ le (c.write_at.ensures.torn told)
+    torn_more c.args.at _ n _ _ le (c.write_at-then-stops.ensures.torn told)
 
 pub returns-then-stops-clause-crash : goal.returns-then-stops-clause-crash
 returns-then-stops-clause-crash g c =
     let n = length c.args.bytes.now in
     let le : length (take (n / 2) c.args.bytes.now) ≤ n = omega (arith, length-take (n / 2) c.args.bytes.now) in
-    follows_more c.args.at _ n _ _ le c.write_at.ensures.crash
+    follows_more c.args.at _ n _ _ le c.write_at-then-stops.ensures.crash

@@ -21,4 +21,5 @@ returns g c = λ setting w ordered h.
     let at = ap (λ (k : Actors). slice_get k.seats c.args.client) (sym c.self.view_is) ∙ sym c.in-Some.ensures in
     let is = seat_is setting w c.args.self.now c.args.client c.args.step.now c.in-Some.seat.now h at in
     let receives = subst (λ s. s < greatest_u64) c.received.ensures c.if-received-ge-LAST.false in
-    client_exact setting w c.args.self.now c.args.client c.args.step.now c.in-Some.seat.now h at c.may_react.result c.if-seat-ge-LAST.false receives (sym c.spent.ensures ∙ c.if-spent.false) (c.may_react.ensures setting w ordered h is)
+    client_exact setting w c.args.self.now c.args.client c.args.step.now c.in-Some.seat.now h
+    at c.may_react.result c.if-seat-ge-LAST.false receives (sym c.spent.ensures ∙ c.if-spent.false) (c.may_react.ensures setting w ordered h is)

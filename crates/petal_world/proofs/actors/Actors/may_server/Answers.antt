@@ -31,4 +31,5 @@ returns g c = λ setting w h.
     let clock = subst (λ (d : Desk). d.clock < greatest_u64) c.desk.view_is c.if-desk-ge-LAST.false in
     let receives = subst (λ s. s < greatest_u64) c.received.ensures c.if-received-ge-LAST.false in
     let goes_on = ap (λ (d : Desk). is_spent_server d.site.server) (sym c.desk.view_is) ∙ sym c.is_spent.ensures ∙ c.if-is_spent.false in
-    server_exact setting w c.args.self.now c.args.server c.args.step.now c.in-Some.desk.now h at c.may_serve.result clock receives goes_on (c.may_serve.ensures setting w h is)
+    server_exact setting w c.args.self.now c.args.server c.args.step.now c.in-Some.desk.now h
+    at c.may_serve.result clock receives goes_on (c.may_serve.ensures setting w h is)

@@ -9,7 +9,8 @@ use Rattle.petal_world.proofs.actors.Actors.rev.Goals as goal
 
 pub returns-in-None : goal.returns-in-None
 returns-in-None g c = λ setting w h.
-    server_no_rev setting w c.args.self.now c.args.actor h c.in-Server.server c.in-Server.is (ap (λ (k : Actors). slice_get k.desks c.in-Server.server) (sym c.self.view_is) ∙ sym c.in-None.ensures)
+    server_no_rev setting w c.args.self.now c.args.actor h c.in-Server.server c.in-Server.is
+    (ap (λ (k : Actors). slice_get k.desks c.in-Server.server) (sym c.self.view_is) ∙ sym c.in-None.ensures)
 
 pub returns-in-Some : goal.returns-in-Some
 returns-in-Some g c = λ setting w h.

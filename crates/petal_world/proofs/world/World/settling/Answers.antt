@@ -8,6 +8,12 @@ use Rattle.petal_world.proofs.world.World.settling.Goals as goal
 
 pub returns : goal.returns
 returns g c =
-    let play : Play = record { script = c.self.inside.script; records = c.self.inside.records; phase = c.self.inside.phase; floor = c.self.inside.floor; over = c.self.inside.over } in
+    let play : Play = record {
+      script = c.self.inside.script;
+      records = c.self.inside.records;
+      phase = c.self.inside.phase;
+      floor = c.self.inside.floor;
+      over = c.self.inside.over;
+    } in
     subst (λ (p : Play). p.over ≡ false → c.settling.result ≡ settle_of ((world_of p).clients operator).asked) c.self.view_is
     (λ on. c.settling.ensures (setting_of play.script) (world_of play) (c.self.invariant.shows on))

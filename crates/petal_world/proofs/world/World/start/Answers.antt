@@ -10,7 +10,14 @@ use Rattle.petal_world.proofs.world.World.start.Goals as goal
 
 pub invariant_of-result : goal.invariant_of-result
 invariant_of-result g c =
-    let actors : Actors = record { seats = c.in_ok-start.field-0; desks = c.in_ok-start-2.field-0; sent = c.new.result; waiting = c.in_ok-start-3.field-0; control = c.new-2.result } in
+    let actors : Actors = record {
+      seats = c.in_ok-start.field-0;
+      desks = c.in_ok-start-2.field-0;
+      sent = c.new.result;
+      waiting = c.in_ok-start-3.field-0;
+      control = c.new-2.result;
+    } in
     let waiting = subst (λ (lines : List Line). Await lines [] c.in_ok-start-3.field-0) c.as_slice.ensures c.in_ok-start-3.ensures in
     subst (λ (rs : List Record). IsKept (record { script = c.args.script; records = rs; phase = 0; floor = 0; over = false }) actors) (sym c.new-3.ensures)
-    (start_kept g.H.Host.seen c.args.hosts c.args.script actors c.requires.ordered c.requires.hosts c.in_ok-start.ensures c.in_ok-start-2.ensures c.new.ensures waiting c.new-2.ensures)
+    (start_kept g.H.Host.seen c.args.hosts c.args.script actors c.requires.ordered c.requires.hosts c.in_ok-start.ensures c.in_ok-start-2.ensures
+    c.new.ensures waiting c.new-2.ensures)

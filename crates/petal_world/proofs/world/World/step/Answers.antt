@@ -8,13 +8,26 @@ use Rattle.petal_world.proofs.world.World.step.Goals as goal
 
 pub take-requires : goal.take-requires
 take-requires g c =
-    let play : Play = record { script = c.self.inside.script; records = c.self.inside.records; phase = c.self.inside.phase; floor = c.self.inside.floor; over = c.self.inside.over } in
+    let play : Play = record {
+      script = c.self.inside.script;
+      records = c.self.inside.records;
+      phase = c.self.inside.phase;
+      floor = c.self.inside.floor;
+      over = c.self.inside.over;
+    } in
     let shows = c.self.invariant.shows c.if-self.false in
-    can (setting_of play.script) (world_of play) c.self.inside.actors c.args.actor c.args.step.now shows ((c.may.ensures (setting_of play.script) (world_of play) c.self.invariant.ordered shows).0 c.if-not-may.false)
+    can (setting_of play.script) (world_of play) c.self.inside.actors c.args.actor c.args.step.now shows
+    ((c.may.ensures (setting_of play.script) (world_of play) c.self.invariant.ordered shows).0 c.if-not-may.false)
 
 pub invariant_of-self : goal.invariant_of-self
 invariant_of-self g c =
-    let play : Play = record { script = c.self.inside.script; records = c.self.inside.records; phase = c.self.inside.phase; floor = c.self.inside.floor; over = c.self.inside.over } in
+    let play : Play = record {
+      script = c.self.inside.script;
+      records = c.self.inside.records;
+      phase = c.self.inside.phase;
+      floor = c.self.inside.floor;
+      over = c.self.inside.over;
+    } in
     let shows = c.self.invariant.shows c.if-self.false in
     let may = (c.may.ensures (setting_of play.script) (world_of play) c.self.invariant.ordered shows).0 c.if-not-may.false in
     let stamp = c.stamp_of-stamp.ensures (setting_of play.script) (world_of play) shows may in
@@ -24,14 +37,26 @@ invariant_of-self g c =
 
 pub returns-in-Ok-clause-allowed : goal.returns-in-Ok-clause-allowed
 returns-in-Ok-clause-allowed g c =
-    let play : Play = record { script = c.self.inside.script; records = c.self.inside.records; phase = c.self.inside.phase; floor = c.self.inside.floor; over = c.self.inside.over } in
+    let play : Play = record {
+      script = c.self.inside.script;
+      records = c.self.inside.records;
+      phase = c.self.inside.phase;
+      floor = c.self.inside.floor;
+      over = c.self.inside.over;
+    } in
     let shows = c.self.invariant.shows c.if-self.false in
     subst (λ (p : Play). MayStep (setting_of p.script) (world_of p) c.args.actor c.args.step.now) c.self.view_is
     ((c.may.ensures (setting_of play.script) (world_of play) c.self.invariant.ordered shows).0 c.if-not-may.false)
 
 pub returns-in-Ok-clause-told : goal.returns-in-Ok-clause-told
 returns-in-Ok-clause-told g c =
-    let play : Play = record { script = c.self.inside.script; records = c.self.inside.records; phase = c.self.inside.phase; floor = c.self.inside.floor; over = c.self.inside.over } in
+    let play : Play = record {
+      script = c.self.inside.script;
+      records = c.self.inside.records;
+      phase = c.self.inside.phase;
+      floor = c.self.inside.floor;
+      over = c.self.inside.over;
+    } in
     let shows = c.self.invariant.shows c.if-self.false in
     let may = (c.may.ensures (setting_of play.script) (world_of play) c.self.invariant.ordered shows).0 c.if-not-may.false in
     let stamp = c.stamp_of-stamp.ensures (setting_of play.script) (world_of play) shows may in
@@ -44,7 +69,13 @@ returns-in-Ok-clause-told g c =
 
 pub returns-in-Ok-clause-ok : goal.returns-in-Ok-clause-ok
 returns-in-Ok-clause-ok g c =
-    let play : Play = record { script = c.self.inside.script; records = c.self.inside.records; phase = c.self.inside.phase; floor = c.self.inside.floor; over = c.self.inside.over } in
+    let play : Play = record {
+      script = c.self.inside.script;
+      records = c.self.inside.records;
+      phase = c.self.inside.phase;
+      floor = c.self.inside.floor;
+      over = c.self.inside.over;
+    } in
     let shows = c.self.invariant.shows c.if-self.false in
     let may = (c.may.ensures (setting_of play.script) (world_of play) c.self.invariant.ordered shows).0 c.if-not-may.false in
     let stamp = c.stamp_of-stamp.ensures (setting_of play.script) (world_of play) shows may in

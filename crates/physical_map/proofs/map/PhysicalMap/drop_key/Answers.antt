@@ -10,7 +10,8 @@ invariant_of-self c =
     let es = c.self.inside.entries.items in
     let rest = top_of (without_key es c.args.key) in
     let gone = c.version_in.ensures ∙ ap version_in c.take_out-dropped.ensures.dropped in
-    let before : c.self.inside.top ≡ max c.version_in.result rest = c.self.invariant.greatest ∙ top-parted es c.args.key ∙ ap (λ (n : ℕ). max n rest) (sym gone) in
+    let before : c.self.inside.top ≡ max c.version_in.result rest = c.self.invariant.greatest ∙ top-parted es c.args.key
+    ∙ ap (λ (n : ℕ). max n rest) (sym gone) in
     let left : top_of c.deref.result.now ≡ rest = ap top_of (c.deref.ensures.value ∙ c.take_out-dropped.ensures.items) in
     record {
       order = c.take_out-dropped.ensures.order;

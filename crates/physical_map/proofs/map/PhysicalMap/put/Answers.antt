@@ -12,7 +12,8 @@ invariant_of-self c =
     let rest = top_of (without_key es e.key) in
     let gone = c.version_in.ensures ∙ ap version_in c.place-replaced.ensures.replaced in
     let before : c.self.inside.top ≡ max c.version_in.result rest = c.self.invariant.greatest ∙ top-parted es e.key ∙ ap (λ (n : ℕ). max n rest) (sym gone) in
-    let after : top_of c.deref.result.now ≡ max e.version rest = ap top_of (c.deref.ensures.value ∙ c.place-replaced.ensures.items) ∙ top-placed es e c.self.invariant.order in
+    let after : top_of c.deref.result.now ≡ max e.version rest = ap top_of (c.deref.ensures.value ∙ c.place-replaced.ensures.items)
+    ∙ top-placed es e c.self.invariant.order in
     record {
       order = c.place-replaced.ensures.order;
       greatest = c.top_after-self-inside.ensures rest before after ∙ ap top_of c.deref.ensures.value;

@@ -14,8 +14,10 @@ pub returns-in-Some-clause-over : goal.returns-in-Some-clause-over
 returns-in-Some-clause-over c = λ over.
     let i = c.self.inside in
     let lines : c.as_slice.result.now ≡ i.schedule.world.script.lines = c.as_slice.ensures ∙ ap (λ (s : Script). s.lines) c.script-script.ensures in
-    let is : slice_get i.schedule.world.script.lines i.place ≡ Some c.in-Some.line.now = subst (λ (ls : List Line). slice_get ls i.place ≡ Some c.in-Some.line.now) lines
-    (slice_get_read c.as_slice.result.now (length c.as_slice.result.now) i.place c.in-Some.line.now refl c.in-Some.ensures.lookup.3.0 c.in-Some.ensures.lookup.1) in
+    let is : slice_get i.schedule.world.script.lines i.place ≡ Some c.in-Some.line.now =
+    subst (λ (ls : List Line). slice_get ls i.place ≡ Some c.in-Some.line.now) lines
+    (slice_get_read c.as_slice.result.now (length c.as_slice.result.now) i.place c.in-Some.line.now refl c.in-Some.ensures.lookup.3.0
+    c.in-Some.ensures.lookup.1) in
     let le = line_to_play i.schedule.world.script i.schedule.world.records i.told i.place i.phase c.self.invariant c.in-Some.line.now is in
     absurd (grind (arith, nat_tests, over, le, c.number_of.ensures.value))
 
@@ -23,8 +25,10 @@ pub returns-in-Some-clause-next : goal.returns-in-Some-clause-next
 returns-in-Some-clause-next c = λ on.
     let i = c.self.inside in
     let lines : c.as_slice.result.now ≡ i.schedule.world.script.lines = c.as_slice.ensures ∙ ap (λ (s : Script). s.lines) c.script-script.ensures in
-    let is : slice_get i.schedule.world.script.lines i.place ≡ Some c.in-Some.line.now = subst (λ (ls : List Line). slice_get ls i.place ≡ Some c.in-Some.line.now) lines
-    (slice_get_read c.as_slice.result.now (length c.as_slice.result.now) i.place c.in-Some.line.now refl c.in-Some.ensures.lookup.3.0 c.in-Some.ensures.lookup.1) in
+    let is : slice_get i.schedule.world.script.lines i.place ≡ Some c.in-Some.line.now =
+    subst (λ (ls : List Line). slice_get ls i.place ≡ Some c.in-Some.line.now) lines
+    (slice_get_read c.as_slice.result.now (length c.as_slice.result.now) i.place c.in-Some.line.now refl c.in-Some.ensures.lookup.3.0
+    c.in-Some.ensures.lookup.1) in
     let le = line_to_play i.schedule.world.script i.schedule.world.records i.told i.place i.phase c.self.invariant c.in-Some.line.now is in
     subst (λ (p : Progress). p.phases < 4294967296) c.self.view_is (omega (arith, le, c.number_of.ensures.value, c.number_of.ensures.small))
 

@@ -15,7 +15,8 @@ returns-in_err-begin-clause-by_phases g c =
     let new = c.begin.new.self.world in
     let went : WentOn i.schedule.world.script new.script i.schedule.world.records new.records =
     stood_still i.schedule.world.script new.script i.schedule.world.records new.records c.begin.ensures.script c.begin.ensures.records c.self.invariant.legal in
-    goes_by_phases new.script new.records i.told i.place i.phase (kept i.schedule.world.script new.script i.schedule.world.records new.records i.told i.place i.phase c.self.invariant went)
+    goes_by_phases new.script new.records i.told i.place i.phase
+    (kept i.schedule.world.script new.script i.schedule.world.records new.records i.told i.place i.phase c.self.invariant went)
 
 pub invariant_of-self-in-Ok : goal.invariant_of-self-in-Ok
 invariant_of-self-in-Ok g c =
@@ -30,12 +31,15 @@ invariant_of-self-in-Ok g c =
     let lines : c.as_slice-lines.result.now ≡ i.schedule.world.script.lines = c.as_slice-lines.ensures ∙ ap (λ (s : Script). s.lines) c.script.ensures in
     let slice = c.as_slice-lines.result.now in
     let run : count ≡ phase_run i.phase (drop i.place i.schedule.world.script.lines) = c.lines_of_phase-count.ensures.run
-    ∙ ap (phase_run i.phase) (take_all (length slice - i.place) (drop i.place slice) (omega (arith, length-drop i.place slice))) ∙ ap (λ (ls : List Line). phase_run i.phase (drop i.place ls)) lines in
+    ∙ ap (phase_run i.phase) (take_all (length slice - i.place) (drop i.place slice) (omega (arith, length-drop i.place slice)))
+    ∙ ap (λ (ls : List Line). phase_run i.phase (drop i.place ls)) lines in
     let room : i.phase < 4294967296 = subst (λ (p : Progress). p.phases < 4294967296) (sym c.self.view_is) c.requires.next in
     let exactly : keys_of (answers_of (drop i.told new.records)) ≡ numbers (take count (drop i.place i.schedule.world.script.lines)) =
-    ap keys_of (sym c.in-Ok.ensures.answers) ∙ c.in-Ok.ensures.exactly ∙ ap (λ (s : Script). numbers (take count (drop i.place s.lines))) c.begin.ensures.script in
+    ap keys_of (sym c.in-Ok.ensures.answers) ∙ c.in-Ok.ensures.exactly
+    ∙ ap (λ (s : Script). numbers (take count (drop i.place s.lines))) c.begin.ensures.script in
     let kept_now : KeepsPlaces new.script new.records (length c.records-told.result.now) (i.place + count) (i.phase + 1) =
-    kept_next i.schedule.world.script new.script i.schedule.world.records new.records i.told i.place i.phase c.self.invariant went (length c.records-told.result.now) count all (c.phases_come_one_after_the_other.ensures.answers i.schedule.world.script) room run exactly in
+    kept_next i.schedule.world.script new.script i.schedule.world.records new.records i.told i.place i.phase c.self.invariant went
+    (length c.records-told.result.now) count all room run exactly in
     kept_now
 
 pub invariant_of-self-in-Err : goal.invariant_of-self-in-Err
@@ -61,12 +65,15 @@ returns-in-Ok-clause-by_phases g c =
     let lines : c.as_slice-lines.result.now ≡ i.schedule.world.script.lines = c.as_slice-lines.ensures ∙ ap (λ (s : Script). s.lines) c.script.ensures in
     let slice = c.as_slice-lines.result.now in
     let run : count ≡ phase_run i.phase (drop i.place i.schedule.world.script.lines) = c.lines_of_phase-count.ensures.run
-    ∙ ap (phase_run i.phase) (take_all (length slice - i.place) (drop i.place slice) (omega (arith, length-drop i.place slice))) ∙ ap (λ (ls : List Line). phase_run i.phase (drop i.place ls)) lines in
+    ∙ ap (phase_run i.phase) (take_all (length slice - i.place) (drop i.place slice) (omega (arith, length-drop i.place slice)))
+    ∙ ap (λ (ls : List Line). phase_run i.phase (drop i.place ls)) lines in
     let room : i.phase < 4294967296 = subst (λ (p : Progress). p.phases < 4294967296) (sym c.self.view_is) c.requires.next in
     let exactly : keys_of (answers_of (drop i.told new.records)) ≡ numbers (take count (drop i.place i.schedule.world.script.lines)) =
-    ap keys_of (sym c.in-Ok.ensures.answers) ∙ c.in-Ok.ensures.exactly ∙ ap (λ (s : Script). numbers (take count (drop i.place s.lines))) c.begin.ensures.script in
+    ap keys_of (sym c.in-Ok.ensures.answers) ∙ c.in-Ok.ensures.exactly
+    ∙ ap (λ (s : Script). numbers (take count (drop i.place s.lines))) c.begin.ensures.script in
     let kept_now : KeepsPlaces new.script new.records (length c.records-told.result.now) (i.place + count) (i.phase + 1) =
-    kept_next i.schedule.world.script new.script i.schedule.world.records new.records i.told i.place i.phase c.self.invariant went (length c.records-told.result.now) count all (c.phases_come_one_after_the_other.ensures.answers i.schedule.world.script) room run exactly in
+    kept_next i.schedule.world.script new.script i.schedule.world.records new.records i.told i.place i.phase c.self.invariant went
+    (length c.records-told.result.now) count all room run exactly in
     goes_by_phases new.script new.records (length c.records-told.result.now) (i.place + count) (i.phase + 1) kept_now
 
 pub returns-in-Ok-clause-ends : goal.returns-in-Ok-clause-ends
@@ -78,7 +85,8 @@ returns-in-Ok-clause-ends g c =
     went_on i.schedule.world.script mid.script new.script i.schedule.world.records mid.records new.records
     c.begin.ensures.script c.begin.ensures.records c.play_lines-played.ensures.script c.play_lines-played.ensures.goes_on c.records-told.ensures.legal in
     let all : length c.records-told.result.now ≡ length new.records = ap length c.records-told.ensures.value in
-    ends_next i.schedule.world.script new.script i.schedule.world.records new.records i.told i.place i.phase c.self.invariant went c.args.self.now c.self.view_is (length c.records-told.result.now) c.in-Ok.answers all c.in-Ok.ensures.answers
+    ends_next i.schedule.world.script new.script i.schedule.world.records new.records i.told i.place i.phase c.self.invariant went c.args.self.now
+    c.self.view_is (length c.records-told.result.now) c.in-Ok.answers all c.in-Ok.ensures.answers
 
 pub returns-in-Err-clause-by_phases : goal.returns-in-Err-clause-by_phases
 returns-in-Err-clause-by_phases g c =
@@ -88,7 +96,8 @@ returns-in-Err-clause-by_phases g c =
     let went : WentOn i.schedule.world.script new.script i.schedule.world.records new.records =
     went_on i.schedule.world.script mid.script new.script i.schedule.world.records mid.records new.records
     c.begin.ensures.script c.begin.ensures.records c.play_lines-played.ensures.script c.play_lines-played.ensures.goes_on c.records-told.ensures.legal in
-    goes_by_phases new.script new.records i.told i.place i.phase (kept i.schedule.world.script new.script i.schedule.world.records new.records i.told i.place i.phase c.self.invariant went)
+    goes_by_phases new.script new.records i.told i.place i.phase
+    (kept i.schedule.world.script new.script i.schedule.world.records new.records i.told i.place i.phase c.self.invariant went)
 
 pub returns-in-Err-clause-grows : goal.returns-in-Err-clause-grows
 returns-in-Err-clause-grows g c =
@@ -98,7 +107,8 @@ returns-in-Err-clause-grows g c =
     let went : WentOn i.schedule.world.script new.script i.schedule.world.records new.records =
     went_on i.schedule.world.script mid.script new.script i.schedule.world.records mid.records new.records
     c.begin.ensures.script c.begin.ensures.records c.play_lines-played.ensures.script c.play_lines-played.ensures.goes_on c.records-told.ensures.legal in
-    grows i.schedule.world.script new.script i.schedule.world.records new.records i.told i.place i.phase c.self.invariant went c.args.self.now c.self.view_is i.told i.phase
+    grows i.schedule.world.script new.script i.schedule.world.records new.records i.told i.place i.phase c.self.invariant went c.args.self.now
+    c.self.view_is i.told i.phase
 
 pub returns-in-Err-clause-no_memory : goal.returns-in-Err-clause-no_memory
 returns-in-Err-clause-no_memory g c =
@@ -108,4 +118,5 @@ returns-in-Err-clause-no_memory g c =
     let went : WentOn i.schedule.world.script new.script i.schedule.world.records new.records =
     went_on i.schedule.world.script mid.script new.script i.schedule.world.records mid.records new.records
     c.begin.ensures.script c.begin.ensures.records c.play_lines-played.ensures.script c.play_lines-played.ensures.goes_on c.records-told.ensures.legal in
-    told_stays i.schedule.world.script new.script i.schedule.world.records new.records i.told i.place i.phase c.self.invariant went c.args.self.now c.self.view_is
+    told_stays i.schedule.world.script new.script i.schedule.world.records new.records i.told i.place i.phase c.self.invariant went
+    c.args.self.now c.self.view_is

@@ -28,7 +28,8 @@ pub enters_by-requires-clause-next : goal.enters_by-requires-clause-next
 enters_by-requires-clause-next g c = λ _ _.
     let done = c.in_ok-done.ensures in
     subst (λ (s : State). IfSome c.in_ok-done.entered (λ it. s ≡ after it.before it.entry)) (sym c.state.ensures)
-    (state_entered c.self.inside.log c.apply.new.self c.args.state.now.records c.in_ok-done.done c.in_ok-done.entered done.done done.voter done.entry done.before)
+    (state_entered c.self.inside.log c.apply.new.self c.args.state.now.records c.in_ok-done.done c.in_ok-done.entered done.done
+    done.voter done.entry done.before)
 
 pub returns-in-Err : goal.returns-in-Err
 returns-in-Err g c =
@@ -39,7 +40,8 @@ returns-in-Err g c =
     let done = c.in_ok-done.ensures in
     let entered = rw (c.me-me.ensures, c.inc-inc.ensures, done.entry) at (c.in-Err.ensures (state_of it.log) done.before) in
     rw (← c.self.view_is)
-    (applied_failed g.D.Disk c.args.state.now.records old c.args.store.now there new c.enters_by.new.store c.in-Err.error entered.errors entered refl done.voter)
+    (applied_failed g.D.Disk c.args.state.now.records old c.args.store.now there new c.enters_by.new.store c.in-Err.error
+    entered.errors entered refl done.voter)
 
 pub returns-in-Ok : goal.returns-in-Ok
 returns-in-Ok g c =

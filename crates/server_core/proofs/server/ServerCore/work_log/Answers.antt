@@ -42,5 +42,6 @@ returns-in-Err g c =
     let job = c.in-Some.job.now in
     let asked = rw (← c.self.view_is) at c.requires.first in
     let first = first_is it.queue.items job _ asked (rw c.make_room.ensures.same at c.in-Some.ensures.lookup) in
-    let refused = refused_work g.E.Disk store old new c.args.state.now c.does_log.new.state job first (rw first at asked) refl c.in-Err.ensures.same c.make_room.ensures.same in
+    let refused = refused_work g.E.Disk store old new c.args.state.now c.does_log.new.state job first
+    (rw first at asked) refl c.in-Err.ensures.same c.make_room.ensures.same in
     rw (← c.self.view_is) (rw c.of_state.ensures (refused c.in-Err.error c.in-Err.ensures.done))

@@ -14,5 +14,6 @@ returns g c =
     let first = first_is it.queue.items job _ asked c.in-Some.ensures.lookup in
     let done = rw (c.new-here.ensures, c.me.ensures, c.inc.ensures, c.state.ensures) at c.in_ok-done.ensures in
     rw (← c.self.view_is)
-    (pair_work g.D.Disk c.args.state.now.records old new c.args.store.now c.does.new.store job first (rw first at asked) c.in_ok-done.done c.after-letters.result done refl refl
+    (pair_work g.D.Disk c.args.state.now.records old new c.args.store.now c.does.new.store job first
+    (rw first at asked) c.in_ok-done.done c.after-letters.result done refl refl
     c.go_on.ensures c.after-letters.ensures)

@@ -8,4 +8,5 @@ use Rattle.server_store.proofs.store.Store.chain.Goals as goal
 pub returns : goal.returns
 returns g c =
     let own = c.self.inside in
-    rw (← c.self.view_is) (subst (λ (l : List Entry). IfOk c.chain.result (λ chain. chain ≡ chain_of c.args.cell l)) (c.map.ensures ∙ is_listed (g.D.Disk.seen own.disk) own.ledger.entries) c.chain.ensures)
+    rw (← c.self.view_is) (subst (λ (l : List Entry). IfOk c.chain.result (λ chain. chain ≡ chain_of c.args.cell l))
+    (c.map.ensures ∙ is_listed (g.D.Disk.seen own.disk) own.ledger.entries) c.chain.ensures)

@@ -7,4 +7,5 @@ use Rattle.server_store.proofs.store.Store.chain_at.Goals as goal
 pub returns : goal.returns
 returns g c =
     rw (← c.self.view_is)
-    (c.chain_at.ensures ∙ ap (λ (es : List Entry). chain_of c.args.cell es) (c.map.ensures ∙ is_listed (g.D.Disk.seen c.self.inside.disk) c.self.inside.ledger.entries))
+    (c.chain_at.ensures
+    ∙ ap (λ (es : List Entry). chain_of c.args.cell es) (c.map.ensures ∙ is_listed (g.D.Disk.seen c.self.inside.disk) c.self.inside.ledger.entries))

@@ -13,7 +13,8 @@ pub returns-then-not-has_key-clause-content : goal.returns-then-not-has_key-clau
 returns-then-not-has_key-clause-content g c told = sym (not_held c.args.self.now.entries c.args.key (none_is _ (sym c.has_key.ensures ∙ c.if-not-has_key.true)))
 
 pub returns-in_err-commit-clause-listed : goal.returns-in_err-commit-clause-listed
-returns-in_err-commit-clause-listed g c = on_err c.from_residual.result _ (rw (← c.self.view_is) (listed_still (g.D.Disk.seen c.self.inside.disk) (g.D.Disk.seen c.commit.new.disk) c.self.inside.ledger.entries))
+returns-in_err-commit-clause-listed g c = on_err c.from_residual.result
+    _ (rw (← c.self.view_is) (listed_still (g.D.Disk.seen c.self.inside.disk) (g.D.Disk.seen c.commit.new.disk) c.self.inside.ledger.entries))
 
 pub returns-in_err-commit-clause-either : goal.returns-in_err-commit-clause-either
 returns-in_err-commit-clause-either g c told = rw (← c.self.view_is) (λ h. c.commit.ensures.either told c.self.inside.ledger.slots _ h)
@@ -35,7 +36,8 @@ pub returns-clause-holds : goal.returns-clause-holds
 returns-clause-holds g c told =
     let x = g.D.Disk.seen c.self.inside.disk in
     let es = c.self.inside.ledger.entries in
-    rw (← c.self.view_is, c.drop_key.ensures, c.commit.ensures.contents told (without_key es c.args.key) ∙ map-without x es c.args.key) (λ h. c.in_ok-commit.ensures.keeps told c.self.inside.ledger.slots _ h)
+    rw (← c.self.view_is, c.drop_key.ensures, c.commit.ensures.contents told (without_key es c.args.key) ∙ map-without x es c.args.key)
+    (λ h. c.in_ok-commit.ensures.keeps told c.self.inside.ledger.slots _ h)
 
 pub returns-clause-either : goal.returns-clause-either
 returns-clause-either g c told = rw (← c.self.view_is) (λ h. c.commit.ensures.either told c.self.inside.ledger.slots _ h)

@@ -1,7 +1,8 @@
 use Rattle.std.proofs.Common.{◌≡◌, ◌∙◌, List, false, not, refl, sym, ap}
 use Rattle.busy_marks.specs.declared.marks.Mark.{Mark}
 use Rattle.busy_marks.specs.Marks.{has_mark, without_mark}
-use Rattle.server_store.proofs.Changes.{listed_still, taken_back}
+use Rattle.busy_marks.proofs.Sets.{taken_back}
+use Rattle.server_store.proofs.Changes.{listed_still}
 use Rattle.server_store.proofs.store.Store.mark.Goals as goal
 
 pub invariant_of-self-in-Err : goal.invariant_of-self-in-Err
@@ -16,7 +17,8 @@ pub returns-in-Ok-clause-listed : goal.returns-in-Ok-clause-listed
 returns-in-Ok-clause-listed g c = rw (← c.self.view_is) (listed_still _ _ c.self.inside.ledger.entries)
 
 pub returns-in-Ok-clause-holds : goal.returns-in-Ok-clause-holds
-returns-in-Ok-clause-holds g c told = rw (← c.self.view_is, c.in_ok-set.ensures.ok, c.commit.ensures.contents told c.self.inside.ledger.entries) (λ h. c.in-Ok.ensures.keeps told c.self.inside.ledger.slots _ h)
+returns-in-Ok-clause-holds g c told = rw (← c.self.view_is, c.in_ok-set.ensures.ok, c.commit.ensures.contents told c.self.inside.ledger.entries)
+    (λ h. c.in-Ok.ensures.keeps told c.self.inside.ledger.slots _ h)
 
 pub returns-in-Ok-clause-either : goal.returns-in-Ok-clause-either
 returns-in-Ok-clause-either g c told = rw (← c.self.view_is) (λ h. c.commit.ensures.either told c.self.inside.ledger.slots _ h)

@@ -7,4 +7,5 @@ use Rattle.server_store.proofs.store.Store.nth.Goals as goal
 pub returns : goal.returns
 returns g c =
     rw (← c.self.view_is)
-    (c.nth.ensures ∙ ap (λ (es : List Entry). slice_get (chain_of c.args.cell es) c.args.place) (c.map.ensures ∙ is_listed (g.D.Disk.seen c.self.inside.disk) c.self.inside.ledger.entries))
+    (c.nth.ensures ∙ ap (λ (es : List Entry). slice_get (chain_of c.args.cell es) c.args.place)
+    (c.map.ensures ∙ is_listed (g.D.Disk.seen c.self.inside.disk) c.self.inside.ledger.entries))

@@ -5,7 +5,8 @@ use Rattle.server_store.proofs.store.Store.open.Goals as goal
 pub returns-in-Ok-Some-clause-same : goal.returns-in-Ok-Some-clause-same
 returns-in-Ok-Some-clause-same g c slots fresh recorded picture told lt room shows =
     let read = c.read_device in
-    reopened (g.D.Disk.seen c.args.disk) (g.D.Disk.seen read.new.disk) (g.D.Disk.may_leave read.new.disk) c.in-Ok-Some.found read.new.disk slots fresh recorded picture
+    reopened (g.D.Disk.seen c.args.disk) (g.D.Disk.seen read.new.disk)
+    (g.D.Disk.may_leave read.new.disk) c.in-Ok-Some.found read.new.disk slots fresh recorded picture
     (rw c.in-Ok-Some.field-0-is at c.in-Ok-Some.ensures.found) read.ensures.device.same_seen ((rw c.in-Ok-Some.field-0-is at c.in-Ok-Some.ensures.durable) told)
     ((rw c.in-Ok-Some.field-0-is at c.in-Ok-Some.ensures.same slots fresh recorded) told lt shows.stands) shows
 

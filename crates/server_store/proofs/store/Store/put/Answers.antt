@@ -13,7 +13,8 @@ pub returns-in-Ok-clause-put : goal.returns-in-Ok-clause-put
 returns-in-Ok-clause-put g c =
     let es = c.self.inside.ledger.entries in
     let e : Entry = record { key = c.args.key; slot = c.args.ticket; version = c.args.version } in
-    rw (c.settle.ensures, ← c.self.view_is) (listed-held (g.D.Disk.seen c.commit_put.new.disk) (placed key_of es e) ∙ ap (λ (l : List Entry). placed key_of l e) (is_listed (g.D.Disk.seen c.self.inside.disk) es))
+    rw (c.settle.ensures, ← c.self.view_is) (listed-held (g.D.Disk.seen c.commit_put.new.disk) (placed key_of es e)
+    ∙ ap (λ (l : List Entry). placed key_of l e) (is_listed (g.D.Disk.seen c.self.inside.disk) es))
 
 pub returns-in-Ok-clause-content : goal.returns-in-Ok-clause-content
 returns-in-Ok-clause-content g c told =
@@ -25,7 +26,8 @@ returns-in-Ok-clause-content g c told =
     let apart = of-all (λ (s : ℕ). All (λ (e : Entry). e.slot ≢ s) es) own.ledger.tickets slot c.slots.ensures.apart has in
     let contents = rw c.slot.ensures at c.commit_put.ensures.contents told es in
     let content = rw c.slot.ensures at c.in-Ok.ensures.content told in
-    rw (c.settle.ensures, ← c.self.view_is) (put_shown (g.D.Disk.seen own.disk) (g.D.Disk.seen c.commit_put.new.disk) es e c.args.block.now (contents apart) content)
+    rw (c.settle.ensures, ← c.self.view_is)
+    (put_shown (g.D.Disk.seen own.disk) (g.D.Disk.seen c.commit_put.new.disk) es e c.args.block.now (contents apart) content)
 
 pub returns-in-Ok-clause-holds : goal.returns-in-Ok-clause-holds
 returns-in-Ok-clause-holds g c told =

@@ -1,7 +1,8 @@
 use Rattle.std.proofs.Common.{◌≡◌, ◌∙◌, false, sym}
 use Rattle.busy_marks.specs.declared.marks.Mark.{Mark}
 use Rattle.busy_marks.specs.Marks.{has_mark}
-use Rattle.server_store.proofs.Changes.{listed_still, not_marked}
+use Rattle.busy_marks.proofs.Sets.{not_marked}
+use Rattle.server_store.proofs.Changes.{listed_still}
 use Rattle.server_store.proofs.store.Store.unmark.Goals as goal
 
 pub returns-then-not-has-clause-ok : goal.returns-then-not-has-clause-ok
@@ -21,7 +22,8 @@ pub returns-clause-listed : goal.returns-clause-listed
 returns-clause-listed g c = rw (← c.self.view_is) (listed_still _ _ c.self.inside.ledger.entries)
 
 pub returns-clause-holds : goal.returns-clause-holds
-returns-clause-holds g c told = rw (← c.self.view_is, c.clear.ensures, c.commit.ensures.contents told c.self.inside.ledger.entries) (λ h. c.in_ok-commit.ensures.keeps told c.self.inside.ledger.slots _ h)
+returns-clause-holds g c told = rw (← c.self.view_is, c.clear.ensures, c.commit.ensures.contents told c.self.inside.ledger.entries)
+    (λ h. c.in_ok-commit.ensures.keeps told c.self.inside.ledger.slots _ h)
 
 pub returns-clause-either : goal.returns-clause-either
 returns-clause-either g c told = rw (← c.self.view_is) (λ h. c.commit.ensures.either told c.self.inside.ledger.slots _ h)

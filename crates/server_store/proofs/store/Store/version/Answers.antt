@@ -5,4 +5,5 @@ use Rattle.server_store.proofs.Contents.{is_listed}
 use Rattle.server_store.proofs.store.Store.version.Goals as goal
 
 pub returns : goal.returns
-returns g c = rw (← c.self.view_is) (c.version.ensures ∙ ap (λ (l : List Entry). version_of c.args.cell l) (c.map.ensures ∙ is_listed (g.D.Disk.seen c.self.inside.disk) c.self.inside.ledger.entries))
+returns g c = rw (← c.self.view_is) (c.version.ensures
+    ∙ ap (λ (l : List Entry). version_of c.args.cell l) (c.map.ensures ∙ is_listed (g.D.Disk.seen c.self.inside.disk) c.self.inside.ledger.entries))

@@ -15,6 +15,7 @@ invariant_of-self c =
     let has : Contains own.tickets.items c.args.ticket = rw (← c.self.view_is) at c.requires in
     let some = some-out own.map.entries own.tickets.items own.slots.used own.map.spare own.out c.args.ticket has c.self.invariant.0 in
     rw (c.changed-self-inside.ensures, c.give.ensures, c.slot.ensures) (
-      sound-give_back own.map.entries own.tickets.items own.slots.used c.args.ticket own.map.spare own.out (own.out - 1) has (omega (arith, some)) c.self.invariant.0,
+      sound-give_back own.map.entries own.tickets.items own.slots.used c.args.ticket own.map.spare own.out (own.out - 1) has
+          (omega (arith, some)) c.self.invariant.0,
       c.self.invariant.1,
     )

@@ -22,7 +22,8 @@ give_if_any-requires c =
     let none : own.tickets.items ≡ [] = rw (← c.self.view_is) at c.requires in
     let accounts : Accounts own.map.entries [] own.slots.used = rw none at c.self.invariant.0.accounts in
     let free : slice_get own.slots.used e.slot ≡ Some false = c.if-not-take_this.ensures.taken.0 refl in
-    let replaced : c.put-replaced.result ≡ slot_of own.map.entries e.key = c.put-replaced.ensures.replaced ∙ ap (λ (l : List Entry). slot_of l e.key) c.reserve.ensures.entries in
+    let replaced : c.put-replaced.result ≡ slot_of own.map.entries e.key = c.put-replaced.ensures.replaced
+    ∙ ap (λ (l : List Entry). slot_of l e.key) c.reserve.ensures.entries in
     rw c.if-not-take_this.ensures.changed (used-replay own.map.entries own.slots.used e c.put-replaced.result free accounts replaced)
 
 pub invariant_of-self-2 : goal.invariant_of-self-2
@@ -31,10 +32,13 @@ invariant_of-self-2 c =
     let e = c.args.entry in
     let none : own.tickets.items ≡ [] = rw (← c.self.view_is) at c.requires in
     let free : slice_get own.slots.used e.slot ≡ Some false = c.if-not-take_this.ensures.taken.0 refl in
-    let replaced : c.put-replaced.result ≡ slot_of own.map.entries e.key = c.put-replaced.ensures.replaced ∙ ap (λ (l : List Entry). slot_of l e.key) c.reserve.ensures.entries in
+    let replaced : c.put-replaced.result ≡ slot_of own.map.entries e.key = c.put-replaced.ensures.replaced
+    ∙ ap (λ (l : List Entry). slot_of l e.key) c.reserve.ensures.entries in
     let zero : own.out ≡ 0 = c.self.invariant.0.counted ∙ ap length none in
-    let wider = sound-wider own.map.entries own.tickets.items own.slots.used own.map.spare c.reserve.new.self.spare own.out c.reserve.ensures.spare c.self.invariant.0 in
-    let sound = subst (λ (ts : List ℕ). Sound own.map.entries ts own.slots.used c.reserve.new.self.spare 0) none (subst (λ (n : ℕ). Sound own.map.entries own.tickets.items own.slots.used c.reserve.new.self.spare n) zero wider) in
+    let wider = sound-wider own.map.entries own.tickets.items own.slots.used own.map.spare c.reserve.new.self.spare own.out
+    c.reserve.ensures.spare c.self.invariant.0 in
+    let sound = subst (λ (ts : List ℕ). Sound own.map.entries ts own.slots.used c.reserve.new.self.spare 0) none
+    (subst (λ (n : ℕ). Sound own.map.entries own.tickets.items own.slots.used c.reserve.new.self.spare n) zero wider) in
     let room : c.put-replaced.new.self.spare + (if is_some (slot_of own.map.entries e.key) then 0 else 1) ≡ c.reserve.new.self.spare =
     ap (λ (o : Option ℕ). c.put-replaced.new.self.spare + (if is_some o then 0 else 1)) (sym replaced) ∙ c.put-replaced.ensures.spare in
     rw (c.give_if_any.ensures, c.put-replaced.ensures.entries, c.reserve.ensures.entries, replaced, c.if-not-take_this.ensures.changed, none, zero) (

@@ -6,7 +6,8 @@ invariant_of-self-in-Some c =
     let own = c.self.inside in
     let slot = c.in-Some.slot in
     rw (c.with-self-inside.ensures, c.new-ticket.ensures, c.in-Some.ensures.taken, c.reserve.ensures.entries) (
-      sound-reserve own.map.entries own.tickets.items own.slots.used slot own.map.spare c.reserve.new.self.spare own.out c.in-Some.ensures.free c.in_ok-reserve.ensures.room c.self.invariant.0,
+      sound-reserve own.map.entries own.tickets.items own.slots.used slot own.map.spare c.reserve.new.self.spare own.out c.in-Some.ensures.free
+          c.in_ok-reserve.ensures.room c.self.invariant.0,
       c.self.invariant.1,
     )
 

@@ -19,6 +19,7 @@ invariant_of-self c =
     let room : c.put-replaced.new.self.spare + (if is_some (slot_of own.map.entries e.key) then 0 else 1) ≡ own.map.spare =
     ap (λ (o : Option ℕ). c.put-replaced.new.self.spare + (if is_some o then 0 else 1)) (sym c.put-replaced.ensures.replaced) ∙ c.put-replaced.ensures.spare in
     rw (c.changed-self-inside.ensures, c.give_if_any.ensures, c.put-replaced.ensures.entries, c.put-replaced.ensures.replaced, c.slot-slot.ensures) (
-      sound-settle own.map.entries own.tickets.items own.slots.used e own.map.spare c.put-replaced.new.self.spare own.out (own.out - 1) has room (omega (arith, some)) c.self.invariant.0,
+      sound-settle own.map.entries own.tickets.items own.slots.used e own.map.spare c.put-replaced.new.self.spare own.out (own.out - 1) has room
+          (omega (arith, some)) c.self.invariant.0,
       c.self.invariant.1,
     )

@@ -5,4 +5,5 @@ use Rattle.petal_state.specs.State.{State}
 use Rattle.state_fold.proofs.tables.Tables.effect.Goals as goal
 
 pub freeze-requires : goal.freeze-requires
-freeze-requires c = subst (λ (s : State). (row : DiskRow) → disk_at s.disks.rows c.in-Whole.disk ≡ Some row → row.epoch < 4294967295) (sym c.self.view_is) (c.requires c.in-Whole.disk)
+freeze-requires c = subst (λ (s : State). (row : DiskRow) → disk_at s.disks.rows c.in-Whole.disk ≡ Some row → row.epoch < 4294967295) (sym c.self.view_is)
+    (c.requires c.in-Whole.disk)

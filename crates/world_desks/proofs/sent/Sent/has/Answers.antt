@@ -7,12 +7,15 @@ use Rattle.world_desks.specs.declared.name.LetterName.{LetterName}
 use Rattle.world_desks.proofs.sent.Sent.has.Goals as goal
 
 abbrev Stands : Table LetterName Letter → Letter → Bool → Type 0
-Stands rows letter result = (IsTrue result → at name_cmp rows (name_of letter) ≡ Some letter) × (at name_cmp rows (name_of letter) ≡ Some letter → IsTrue result)
+Stands rows letter result = (IsTrue result → at name_cmp rows (name_of letter) ≡ Some letter)
+    × (at name_cmp rows (name_of letter) ≡ Some letter → IsTrue result)
 
-nowhere : (inside rows : Table LetterName Letter) (name : LetterName) (letter : Letter) → inside ≡ rows → name ≡ name_of letter → None ≡ at name_cmp inside name → Stands rows letter false
+nowhere : (inside rows : Table LetterName Letter) (name : LetterName) (letter : Letter) → inside ≡ rows → name ≡ name_of letter
+    → None ≡ at name_cmp inside name → Stands rows letter false
 nowhere inside rows name letter v n e = (λ f. cc, λ h. let k : at name_cmp rows (name_of letter) ≡ None = cc in cc)
 
-there : (inside rows : Table LetterName Letter) (name : LetterName) (letter one found : Letter) (b : Bool) → inside ≡ rows → name ≡ name_of letter → Some one ≡ at name_cmp inside name → found ≡ one → (IsTrue b → found ≡ letter) → (found ≡ letter → IsTrue b) → Stands rows letter b
+there : (inside rows : Table LetterName Letter) (name : LetterName) (letter one found : Letter) (b : Bool) → inside ≡ rows → name ≡ name_of letter
+    → Some one ≡ at name_cmp inside name → found ≡ one → (IsTrue b → found ≡ letter) → (found ≡ letter → IsTrue b) → Stands rows letter b
 there inside rows name letter one found b v n e f same equal =
     let k : at name_cmp rows (name_of letter) ≡ Some found = cc in
     (λ t. let s = same t in cc, λ h. equal cc)
