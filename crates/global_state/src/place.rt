@@ -1,6 +1,7 @@
 //! Which cells are live, and who leads, reads and holds them.
 
-ghost use Rattle.std.specs.Prelude.{◌≡◌, Option, option_and_then, option_copied};
+ghost use Rattle.std.specs.Prelude.{◌≡◌, ℕ, true, Option, option_and_then, option_copied};
+ghost use Rattle.global_state.specs.LiveMap.{is_live_map, is_still};
 ghost use Rattle.global_tables.specs.Disk.{has_link};
 ghost use Rattle.petal_state.specs.CellState.{has_map, owner, live_new, live_old, live_under, live, leaving, cell_link, state_lead, row_lead, link_lead};
 ghost use Rattle.petal_state.specs.CellState.{lead, serves, readable, is_of, holds, held, noted_in, noted};
@@ -47,6 +48,12 @@ fn live_under(map: MapId, region: u8, row: &DiskRow) -> bool
     }
 }
 
+fn is_still(map: MapId, row: &DiskRow) -> bool
+    ensures { result ≡ is_still map row.now }
+{
+    row.map == map && row.moving.is_none()
+}
+
 fn serves(server: ServerId, row: &LinkRow, state: LinkState) -> bool
     ensures { result ≡ serves server row.now state }
 {
@@ -86,6 +93,17 @@ impl GlobalState {
     {
         match self.owner(cell.map) {
             Some(row) => live_under(cell.map, region(cell.block), row),
+            None => false,
+        }
+    }
+
+    /// Whether the map is that of a disk that is not on the move; then each cell of the map is live.
+    pub fn is_live_map(&self, map: MapId) -> bool
+        ensures value { result ≡ is_live_map self.now map }
+        ensures live { is_live_map self.now map ≡ true → (block : ℕ) → live self.now (record { map = map; block = block }) ≡ true }
+    {
+        match self.owner(map) {
+            Some(row) => is_still(map, row),
             None => false,
         }
     }

@@ -1,5 +1,5 @@
 -- What is to be dropped next, found among the entries in their order.
-use Rattle.std.proofs.Common.{◌≡◌, ℕ, ◌||◌, Bool, true, false, not, List, [], ◌∷◌, map, find, option_map, Option, Some}
+use Rattle.std.proofs.Common.{◌≡◌, ℕ, ◌||◌, Bool, true, false, not, List, [], ◌∷◌, map, find, Option, Some}
 use Rattle.std.proofs.Common.{None, refl, sym, ap, ◌∙◌, inl, inr, arith}
 use Rattle.std.proofs.lemmas.Bool.{cases_Bool}
 use Rattle.std.proofs.lemmas.Bool.Decides.{nat_tests}
@@ -8,13 +8,12 @@ use Rattle.std.specs.List.{list_any}
 use Rattle.busy_marks.specs.declared.marks.Mark.{Mark}
 use Rattle.petal_base.specs.declared.cell.Key.{Key}
 use Rattle.petal_base.specs.Cells.{cell_of}
-use Rattle.petal_msg.specs.declared.dead.Dead.{Dead}
 use Rattle.petal_msg.specs.declared.dead.Dead.TheVariants as dead
 use Rattle.petal_rules.specs.State.{State, live}
 use Rattle.petal_rules.specs.Store.{chain_in, epochs_of}
 use Rattle.petal_rules.specs.Sweeping.{dead_mark, next_dead}
 use Rattle.physical_map.specs.declared.entry.Entry.{Entry}
-use Rattle.physical_map.specs.Entries.{chain_of, in_cell, key_of}
+use Rattle.physical_map.specs.Entries.{chain_of, in_cell}
 use Rattle.physical_map.specs.Keys.{IsInOrder}
 use Rattle.server_store.specs.Holdings.{Held, Holdings, key_held, listed}
 use Rattle.kept_chains.specs.Kept.{chains_of, store_of, stored_of}

@@ -2,3 +2,4 @@ pub mod Flat
 pub mod Firsts
 pub mod Fillings
 pub mod Dead
+pub mod Rests

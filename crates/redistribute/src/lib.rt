@@ -8,6 +8,7 @@ mod answer;
 mod letters;
 mod next;
 mod region;
+mod search;
 mod sweep;
 mod want;
 

@@ -10,36 +10,16 @@ ghost use Rattle.kept_chains.specs.Kept.{chains_of, store_of};
 ghost use Rattle.pair_side.specs.declared.done.FollowUp.TheVariants as follow_up;
 ghost use Rattle.pair_side.specs.Done.{IsDone};
 ghost use Rattle.pair_side.specs.Side.{own_of, HasTicketsAt};
-ghost use Rattle.redistribute.specs.Swept.{first_dead, first_mark};
 
-use busy_marks::{Mark, MarkKind};
+use crate::search::{dead_entry, dead_mark};
+use busy_marks::MarkKind;
 use global_state::GlobalState;
 use kept_chains::{drop_entry, unmark};
 use pair_side::{Done, FollowUp, Here, Side, WorkError, silent};
 use petal_base::{Cell, Key, Sequence};
 use petal_disk::Disk;
 use petal_msg::Dead;
-use server_store::{Entry, Store};
-
-/// The first entry of a cell that is live no longer.
-fn dead_entry(state: &GlobalState, entries: &[Entry]) -> Option<Key>
-    ensures { result ≡ first_dead state.now entries.now }
-{
-    match entries.iter().find(|entry| !state.live(entry.key.cell())) {
-        Some(entry) => Some(entry.key),
-        None => None,
-    }
-}
-
-/// The first mark of such a cell.
-fn dead_mark(state: &GlobalState, marks: &[Mark]) -> Option<Dead>
-    ensures { result ≡ first_mark state.now marks.now }
-{
-    match marks.iter().find(|mark| !state.live(mark.cell)) {
-        Some(mark) => Some(Dead::Mark(mark.kind, mark.cell)),
-        None => None,
-    }
-}
+use server_store::Store;
 
 /// What is to be dropped next: the first entry of a cell that is live no longer, or else the first such mark.
 pub fn next_dead<D: Disk>(state: &GlobalState, store: &Store<D>) -> Option<Dead>
