@@ -2,3 +2,4 @@ pub mod Changes
 pub mod Commits
 pub mod Contents
 pub mod Opening
+pub mod MarkOrder

@@ -1,8 +1,11 @@
-use Rattle.std.proofs.Common.{◌≡◌, ◌∙◌, List, false, not, refl, sym, ap}
+use Rattle.std.proofs.Common.{◌≡◌, ◌∙◌, List, true, false, not, refl, sym, ap, subst}
+use Rattle.std.specs.List.Sorted.{IsStrictlySortedBy}
 use Rattle.busy_marks.specs.declared.marks.Mark.{Mark}
-use Rattle.busy_marks.specs.Marks.{has_mark, without_mark}
+use Rattle.busy_marks.specs.Marks.{has_mark, mark_cmp, without_mark}
 use Rattle.busy_marks.proofs.Sets.{taken_back}
+use Rattle.data_device.specs.Kept.{Kept}
 use Rattle.server_store.proofs.Changes.{listed_still}
+use Rattle.server_store.proofs.MarkOrder.{marks_sorted, set_already}
 use Rattle.server_store.proofs.store.Store.mark.Goals as goal
 
 pub invariant_of-self-in-Err : goal.invariant_of-self-in-Err
@@ -44,3 +47,12 @@ returns-in-Err-clause-full g c is =
 
 pub returns-in-Err-clause-either : goal.returns-in-Err-clause-either
 returns-in-Err-clause-either g c told = rw (← c.self.view_is) (λ h. c.commit.ensures.either told c.self.inside.ledger.slots _ h)
+
+pub returns-then-has-clause-ok : goal.returns-then-has-clause-ok
+returns-then-has-clause-ok g c =
+    let m : Mark = record { kind = c.args.kind; cell = c.args.cell } in
+    let marks = c.self.inside.marks in
+    let there : has_mark m marks ≡ true = sym c.has.ensures ∙ c.if-has.true in
+    let order : IsStrictlySortedBy mark_cmp marks =
+    subst (λ (k : Kept). IsStrictlySortedBy mark_cmp k.marks) c.self.invariant.1 (marks_sorted c.self.inside.log.fresh c.self.inside.log.records) in
+    rw (← c.self.view_is) (sym (set_already m marks order there))
