@@ -10,7 +10,7 @@ ghost use Rattle.memory_server.specs.Booted.{Booted, BootedBlank, core_at};
 ghost use Rattle.memory_server.specs.Server.{store_on};
 
 use crate::recovery::{Counts, reopen, reread};
-use crate::taken::Outcome;
+use crate::taken::Attempt;
 use petal_base::{NoMemory, Sequence};
 use petal_disk::Disk;
 use petal_rules::CommitEnd;
@@ -41,24 +41,24 @@ fn boot_opened<D: Disk>(
     core: &mut ServerCore,
     store: &mut Store<D>,
     state: &mut StateStore<D>,
-) -> Result<Outcome, NoMemory>
+) -> Result<Attempt, NoMemory>
     requires stopped { core.old.running ≡ false }
     requires raises { core.old.log.voter.inc < greatest_u32 }
     requires known { core.old.log.voter.inc ≡ inc_of state.old.records }
-    ensures { IfOk result (λ outcome. D.told → HoldsAt D.Disk store.old → logs.HoldsAt D.Disk state.old → store.old.tickets ≡ []
+    ensures { IfOk result (λ attempt. D.told → HoldsAt D.Disk store.old → logs.HoldsAt D.Disk state.old → store.old.tickets ≡ []
         → Booted D.Disk (record { core = core.old; store = store.old; state = state.old })
-        (record { core = core.new; store = store.new; state = state.new }) outcome.end outcome.letters) }
+        (record { core = core.new; store = store.new; state = state.new }) attempt.end attempt.letters) }
 {
     // as many slots as a number of 32 bits can tell
     let _slots = store.slots();
     let before = Counts::of(store, state);
     match core.boot(alloc, state) {
-        Ok(letters) => Ok(Outcome::done(letters)),
-        Err(WorkError::JournalFull) => Ok(Outcome::done(Sequence::new(alloc))),
+        Ok(letters) => Ok(Attempt::done(letters)),
+        Err(WorkError::JournalFull) => Ok(Attempt::done(Sequence::new(alloc))),
         Err(WorkError::Failed) => {
             let end = reopen(alloc, store, state, before)?;
             raise_at(end, core);
-            Ok(Outcome::failed(Sequence::new(alloc), end))
+            Ok(Attempt::failed(Sequence::new(alloc), end))
         }
         Err(WorkError::NoMemory) => Err(NoMemory),
     }
@@ -74,12 +74,12 @@ pub fn boot_again<D: Disk>(
     core: &mut ServerCore,
     store: &mut Store<D>,
     state: &mut StateStore<D>,
-) -> Result<Outcome, NoMemory>
+) -> Result<Attempt, NoMemory>
     requires stopped { core.old.running ≡ false }
     requires raises { core.old.log.voter.inc < greatest_u32 }
-    ensures { IfOk result (λ outcome. D.told → HoldsAt D.Disk store.old → logs.HoldsAt D.Disk state.old
+    ensures { IfOk result (λ attempt. D.told → HoldsAt D.Disk store.old → logs.HoldsAt D.Disk state.old
         → Booted D.Disk (record { core = core.old; store = store.old; state = state.old })
-        (record { core = core.new; store = store.new; state = state.new }) outcome.end outcome.letters) }
+        (record { core = core.new; store = store.new; state = state.new }) attempt.end attempt.letters) }
 {
     // as many slots as a number of 32 bits can tell
     let _slots = store.slots();
@@ -87,8 +87,8 @@ pub fn boot_again<D: Disk>(
     if state.inc() != core.inc() {
         return Err(NoMemory);
     }
-    let outcome = boot_opened(alloc, core, store, state)?;
-    Ok(outcome)
+    let attempt = boot_opened(alloc, core, store, state)?;
+    Ok(attempt)
 }
 
 /// A stopped server boots whose data device is a blank one: a store is made there, which waits to be filled, and then it boots as
@@ -102,7 +102,7 @@ pub fn boot_blank<D: Disk>(
     store: &mut Store<D>,
     state: &mut StateStore<D>,
     disk: D,
-) -> Result<(Outcome, Option<D>), NoMemory>
+) -> Result<(Attempt, Option<D>), NoMemory>
     requires stopped { core.old.running ≡ false }
     requires raises { core.old.log.voter.inc < greatest_u32 }
     requires room { slot_start store.old.slots ≤ D.size disk }
@@ -113,12 +113,12 @@ pub fn boot_blank<D: Disk>(
     match Store::format(alloc, disk, store.slots(), true) {
         Ok(made) => {
             *store = made;
-            let outcome = boot_again(alloc, core, store, state)?;
-            Ok((outcome, None))
+            let attempt = boot_again(alloc, core, store, state)?;
+            Ok((attempt, None))
         }
         Err((disk, StoreError::Failed)) => {
-            let outcome = Outcome::failed(Sequence::new(alloc), CommitEnd::Before);
-            Ok((outcome, Some(disk)))
+            let attempt = Attempt::failed(Sequence::new(alloc), CommitEnd::Before);
+            Ok((attempt, Some(disk)))
         }
         Err(_) => Err(NoMemory),
     }

@@ -11,7 +11,7 @@ ghost use Rattle.server_store.specs.Slots.{slot_start};
 ghost use Rattle.memory_server.specs.Server.{HasFailed, left_at, site_of, whole_after, whole_of};
 
 use crate::boot::{boot_again, boot_blank};
-use crate::taken::{Outcome, Stops, done};
+use crate::taken::{Attempt, Stops, done};
 use crate::work::work_first;
 use petal_base::{Inc, NoMemory, Rev, Sequence, ServerId};
 use petal_disk::{Disk, MemDisk, Plan, Planned, Which};
@@ -147,10 +147,10 @@ impl MemServer {
     }
 
     /// Does the first job of the queue, where it runs.
-    fn first_job(&mut self, alloc: Global) -> Result<Outcome, NoMemory>
-        ensures site { IfOk result (λ outcome. site_of self.new ≡ left_at (whole_after (whole_of self.old) (Work outcome.end))) }
-        ensures letters { IfOk result (λ outcome. outcome.letters ≡ (acted_at (whole_of self.old) (Work outcome.end)).letters) }
-        ensures cause { IfOk result (λ outcome. IsFault (as_end outcome.end) → HasFailed ⟦<Planned<MemDisk> as Disk>⟧ self.old self.new) }
+    fn first_job(&mut self, alloc: Global) -> Result<Attempt, NoMemory>
+        ensures site { IfOk result (λ attempt. site_of self.new ≡ left_at (whole_after (whole_of self.old) (Work attempt.end))) }
+        ensures letters { IfOk result (λ attempt. attempt.letters ≡ (acted_at (whole_of self.old) (Work attempt.end)).letters) }
+        ensures cause { IfOk result (λ attempt. IsFault (as_end attempt.end) → HasFailed ⟦<Planned<MemDisk> as Disk>⟧ self.old self.new) }
     {
         if self.over || self.blank.is_some() {
             return Err(NoMemory);
@@ -159,9 +159,9 @@ impl MemServer {
             return Err(NoMemory);
         }
         self.over = true;
-        let outcome = work_first(alloc, &mut self.core, &mut self.store, &mut self.state)?;
+        let attempt = work_first(alloc, &mut self.core, &mut self.store, &mut self.state)?;
         self.over = false;
-        Ok(outcome)
+        Ok(attempt)
     }
 
     /// Does the first job of the queue, where it runs. It stops the server where a plan was met that does: then a device tells so
@@ -173,9 +173,9 @@ impl MemServer {
         ensures cause { IfOk result (λ taken. IsFault taken.end → HasFailed ⟦<Planned<MemDisk> as Disk>⟧ self.old self.new) }
     {
         let before = Stops::of(&self.store, &self.state);
-        let outcome = self.first_job(alloc)?;
+        let attempt = self.first_job(alloc)?;
         let stopped = Stops::of(&self.store, &self.state) != before;
-        Ok(outcome.job_taken(stopped))
+        Ok(attempt.job_taken(stopped))
     }
 
     /// A tick, in which the data device may fail; then all is as before.
@@ -229,10 +229,10 @@ impl MemServer {
     /// filled, both stores are opened again, and it runs as its next incarnation. Where the blank device fails it stays stopped
     /// as it was. Where the journal of the state device has no room it stays stopped, and so does one of which the state device
     /// fails: then the devices tell whether the incarnation was raised.
-    fn boot_up(&mut self, alloc: Global) -> Result<Outcome, NoMemory>
-        ensures site { IfOk result (λ outcome. site_of self.new ≡ left_at (whole_after (whole_of self.old) (Boot outcome.end))) }
-        ensures letters { IfOk result (λ outcome. outcome.letters ≡ (acted_at (whole_of self.old) (Boot outcome.end)).letters) }
-        ensures cause { IfOk result (λ outcome. IsFault (as_end outcome.end) → HasFailed ⟦<Planned<MemDisk> as Disk>⟧ self.old self.new) }
+    fn boot_up(&mut self, alloc: Global) -> Result<Attempt, NoMemory>
+        ensures site { IfOk result (λ attempt. site_of self.new ≡ left_at (whole_after (whole_of self.old) (Boot attempt.end))) }
+        ensures letters { IfOk result (λ attempt. attempt.letters ≡ (acted_at (whole_of self.old) (Boot attempt.end)).letters) }
+        ensures cause { IfOk result (λ attempt. IsFault (as_end attempt.end) → HasFailed ⟦<Planned<MemDisk> as Disk>⟧ self.old self.new) }
     {
         if self.over || self.core.is_running() || self.core.inc() == Inc::MAX {
             return Err(NoMemory);
@@ -240,16 +240,16 @@ impl MemServer {
         self.over = true;
         match self.blank.take() {
             None => {
-                let outcome = boot_again(alloc, &mut self.core, &mut self.store, &mut self.state)?;
+                let attempt = boot_again(alloc, &mut self.core, &mut self.store, &mut self.state)?;
                 self.over = false;
-                Ok(outcome)
+                Ok(attempt)
             }
             Some(disk) => {
                 let (core, store, state) = (&mut self.core, &mut self.store, &mut self.state);
-                let (outcome, back) = boot_blank(alloc, core, store, state, disk)?;
+                let (attempt, back) = boot_blank(alloc, core, store, state, disk)?;
                 self.blank = back;
                 self.over = false;
-                Ok(outcome)
+                Ok(attempt)
             }
         }
     }
@@ -261,8 +261,8 @@ impl MemServer {
         ensures end { IfOk result (λ taken. taken.end ≡ end_in (Boot (boot_end taken.end))) }
         ensures cause { IfOk result (λ taken. IsFault taken.end → HasFailed ⟦<Planned<MemDisk> as Disk>⟧ self.old self.new) }
     {
-        let outcome = self.boot_up(alloc)?;
-        Ok(outcome.boot_taken())
+        let attempt = self.boot_up(alloc)?;
+        Ok(attempt.boot_taken())
     }
 
     /// Takes the step, whatever it has in memory.

@@ -15,30 +15,30 @@ use server_store::Store;
 use state_store::StateStore;
 use world_desks::{StepEnd, Taken};
 
-/// What a job or a boot comes to.
+/// What a job or a boot comes to that was tried.
 #[derive(Drop)]
-pub struct Outcome {
+pub struct Attempt {
     /// The letters that it sends, without their stamps.
     pub letters: Sequence<Letter>,
     pub end: WorkEnd,
 }
 
-impl Outcome {
+impl Attempt {
     /// No device failed.
-    pub fn done(letters: Sequence<Letter>) -> Outcome
+    pub fn done(letters: Sequence<Letter>) -> Attempt
         ensures { result ≡ record { letters = letters; end = Done } }
     {
-        Outcome {
+        Attempt {
             letters,
             end: WorkEnd::Done,
         }
     }
 
     /// A device failed.
-    pub fn failed(letters: Sequence<Letter>, end: CommitEnd) -> Outcome
+    pub fn failed(letters: Sequence<Letter>, end: CommitEnd) -> Attempt
         ensures { result ≡ record { letters = letters; end = Fault end } }
     {
-        Outcome {
+        Attempt {
             letters,
             end: WorkEnd::Fault(end),
         }

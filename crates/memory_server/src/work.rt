@@ -7,7 +7,7 @@ ghost use Rattle.memory_server.specs.Booted.{Worked};
 ghost use Rattle.memory_server.specs.Server.{Stands};
 
 use crate::recovery::{Counts, reopen};
-use crate::taken::Outcome;
+use crate::taken::Attempt;
 use petal_base::{NoMemory, Sequence};
 use petal_disk::Disk;
 use server_core::{ServerCore, WorkError};
@@ -25,24 +25,24 @@ pub fn work_first<D: Disk>(
     core: &mut ServerCore,
     store: &mut Store<D>,
     state: &mut StateStore<D>,
-) -> Result<Outcome, NoMemory>
+) -> Result<Attempt, NoMemory>
     requires runs { core.old.running ≡ true }
     requires goes_on { is_spent core.old (store_of store.old) ≡ false }
     requires stands { Stands D.Disk (record { core = core.old; store = store.old; state = state.old }) }
-    ensures { IfOk result (λ outcome. D.told → Worked D.Disk (record { core = core.old; store = store.old; state = state.old })
-        (record { core = core.new; store = store.new; state = state.new }) outcome.end outcome.letters) }
+    ensures { IfOk result (λ attempt. D.told → Worked D.Disk (record { core = core.old; store = store.old; state = state.old })
+        (record { core = core.new; store = store.new; state = state.new }) attempt.end attempt.letters) }
 {
     // as many slots as a number of 32 bits can tell
     let _slots = store.slots();
     let before = Counts::of(store, state);
     match core.work(alloc, store, state) {
-        Ok(Some(letters)) => Ok(Outcome::done(letters)),
-        Ok(None) => Ok(Outcome::done(Sequence::new(alloc))),
-        Err(WorkError::JournalFull) => Ok(Outcome::done(core.stop(alloc))),
+        Ok(Some(letters)) => Ok(Attempt::done(letters)),
+        Ok(None) => Ok(Attempt::done(Sequence::new(alloc))),
+        Err(WorkError::JournalFull) => Ok(Attempt::done(core.stop(alloc))),
         Err(WorkError::Failed) => {
             let letters = core.stop(alloc);
             let end = reopen(alloc, store, state, before)?;
-            Ok(Outcome::failed(letters, end))
+            Ok(Attempt::failed(letters, end))
         }
         Err(WorkError::NoMemory) => Err(NoMemory),
     }

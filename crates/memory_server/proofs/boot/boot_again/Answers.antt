@@ -13,4 +13,4 @@ returns g c = λ told holds kept.
     let again = c.in_ok-reread.ensures.again told small holds kept in
     let later = c.reread.ensures.later in
     from_before old c.reread.new.store c.reread.new.state c.requires.stopped again (omega (arith, later))
-    (c.in_ok-outcome.ensures told again.holds again.state_holds again.tickets)
+    (c.in_ok-attempt.ensures told again.holds again.state_holds again.tickets)

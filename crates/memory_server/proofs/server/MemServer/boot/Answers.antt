@@ -9,13 +9,13 @@ use Rattle.memory_server.proofs.server.MemServer.boot.Goals as goal
 pub returns-clause-site : goal.returns-clause-site
 returns-clause-site c =
     rw c.boot_taken.ensures
-    (c.in_ok-outcome.ensures.site
-    ∙ ap (λ e. left_at (whole_after (whole_of c.args.self.now) (Boot e))) (boot_left c.in_ok-outcome.outcome.end))
+    (c.in_ok-attempt.ensures.site
+    ∙ ap (λ e. left_at (whole_after (whole_of c.args.self.now) (Boot e))) (boot_left c.in_ok-attempt.attempt.end))
 
 pub returns-clause-letters : goal.returns-clause-letters
 returns-clause-letters c =
     rw c.boot_taken.ensures
-    (c.in_ok-outcome.ensures.letters ∙ ap (λ e. (acted_at (whole_of c.args.self.now) (Boot e)).letters) (boot_left c.in_ok-outcome.outcome.end))
+    (c.in_ok-attempt.ensures.letters ∙ ap (λ e. (acted_at (whole_of c.args.self.now) (Boot e)).letters) (boot_left c.in_ok-attempt.attempt.end))
 
 pub returns-clause-end : goal.returns-clause-end
-returns-clause-end c = rw c.boot_taken.ensures (boot_told c.in_ok-outcome.outcome.end)
+returns-clause-end c = rw c.boot_taken.ensures (boot_told c.in_ok-attempt.attempt.end)

@@ -6,20 +6,20 @@ use Rattle.memory_server.proofs.server.MemServer.first_job.Goals as goal
 pub returns-clause-site : goal.returns-clause-site
 returns-clause-site c =
     let none = none_there c.self.inside.blank (sym c.is_some.ensures ∙ c.if-is_some.false) in
-    rw (← c.self.view_is, none) (c.in_ok-outcome.ensures tt).site
+    rw (← c.self.view_is, none) (c.in_ok-attempt.ensures tt).site
 
 pub returns-clause-letters : goal.returns-clause-letters
 returns-clause-letters c =
     let none = none_there c.self.inside.blank (sym c.is_some.ensures ∙ c.if-is_some.false) in
-    rw (← c.self.view_is, none) (c.in_ok-outcome.ensures tt).sends
+    rw (← c.self.view_is, none) (c.in_ok-attempt.ensures tt).sends
 
 pub returns-clause-cause : goal.returns-clause-cause
 returns-clause-cause c =
     let none = none_there c.self.inside.blank (sym c.is_some.ensures ∙ c.if-is_some.false) in
-    rw (← c.self.view_is, none) (c.in_ok-outcome.ensures tt).cause
+    rw (← c.self.view_is, none) (c.in_ok-attempt.ensures tt).cause
 
 pub invariant_of-self-2 : goal.invariant_of-self-2
 invariant_of-self-2 c =
     let none = none_there c.self.inside.blank (sym c.is_some.ensures ∙ c.if-is_some.false) in
-    let stands = (c.in_ok-outcome.ensures tt).stands in
+    let stands = (c.in_ok-attempt.ensures tt).stands in
     rw none (record { stands = λ _ _. stands; rests = λ no. absurd (cc); room = tt; state = λ _. stands.state })

@@ -6,14 +6,14 @@ use Rattle.memory_server.proofs.server.MemServer.work.Goals as goal
 
 pub returns-clause-site : goal.returns-clause-site
 returns-clause-site c =
-    rw c.job_taken.ensures (c.in_ok-outcome.ensures.site ∙ job_left (whole_of c.args.self.now) c.in_ok-outcome.outcome.end _)
+    rw c.job_taken.ensures (c.in_ok-attempt.ensures.site ∙ job_left (whole_of c.args.self.now) c.in_ok-attempt.attempt.end _)
 
 pub returns-clause-letters : goal.returns-clause-letters
 returns-clause-letters c =
-    rw c.job_taken.ensures (c.in_ok-outcome.ensures.letters ∙ job_sends (whole_of c.args.self.now) c.in_ok-outcome.outcome.end _)
+    rw c.job_taken.ensures (c.in_ok-attempt.ensures.letters ∙ job_sends (whole_of c.args.self.now) c.in_ok-attempt.attempt.end _)
 
 pub returns-clause-end : goal.returns-clause-end
 returns-clause-end c = job_told c.job_taken.result.end
 
 pub returns-clause-cause : goal.returns-clause-cause
-returns-clause-cause c = rw c.job_taken.ensures (λ fault. c.in_ok-outcome.ensures.cause (job_fault c.in_ok-outcome.outcome.end _ fault))
+returns-clause-cause c = rw c.job_taken.ensures (λ fault. c.in_ok-attempt.ensures.cause (job_fault c.in_ok-attempt.attempt.end _ fault))
