@@ -3,7 +3,7 @@ use Rattle.std.proofs.Common.{◌≡◌, Bool, true, refl, ◌∙◌, sym}
 use Rattle.memory_server.specs.Server.{left_at, whole_after}
 use Rattle.petal_msg.specs.declared.letter.Letter.{Letter}
 use Rattle.petal_rules.specs.declared.step.Step.{Step}
-use Rattle.petal_rules.specs.declared.step.Step.TheVariants.{Call, Deliver, Tick, Work, StopIn, Stop, Blank, Boot, Arm, Glance}
+use Rattle.petal_rules.specs.declared.step.Step.TheVariants.{Work, StopIn}
 use Rattle.world_desks.proofs.Left.{StepsLeft, steps_left}
 use Rattle.world_desks.specs.Desks.{Site, acted_at, ended, job_ended, may_take, site_after}
 use Rattle.world_desks.specs.declared.step_end.StepEnd.{StepEnd}
@@ -17,16 +17,9 @@ job_ends (step_end.StopIn commit) running = refl
 
 -- a job or a boot may be taken with each end or with none
 may_ended : (what : Step) (end : StepEnd) (running : Bool) → may_take (ended what end) running ≡ may_take what running
-may_ended (Call line) end running = refl
-may_ended (Deliver letter) end running = refl
-may_ended Tick end running = refl
 may_ended (Work named) end running = job_ends end running
 may_ended (StopIn named) end running = job_ends end running
-may_ended Stop end running = refl
-may_ended Blank end running = refl
-may_ended (Boot named) end running = refl
-may_ended (Arm which plan) end running = refl
-may_ended (Glance line round) end running = refl
+may_ended _ end running = refl
 
 module _ (old : Site) (what : Step) (may : may_take what old.server.life.running ≡ true) where
   left : StepsLeft old.servers old.me old.server what

@@ -301,10 +301,7 @@ impl MemServer {
         match step {
             Step::Tick | Step::Work(_) | Step::StopIn(_) | Step::Stop => self.core.is_running(),
             Step::Blank | Step::Boot(_) => !self.core.is_running(),
-            Step::Call { line: _ }
-            | Step::Deliver { letter: _ }
-            | Step::Arm { which: _, plan: _ }
-            | Step::Glance { line: _, round: _ } => true,
+            _ => true,
         }
     }
 }

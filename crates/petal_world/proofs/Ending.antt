@@ -4,7 +4,7 @@ use Rattle.petal_msg.specs.declared.letter.Actor.{Actor}
 use Rattle.petal_msg.specs.declared.letter.Actor.TheVariants as actor
 use Rattle.petal_rules.specs.World.{Setting, World, MayWork, MayActor, MayClient, MayServer, MayStep, received, greatest_u64}
 use Rattle.petal_rules.specs.declared.step.Step.{Step}
-use Rattle.petal_rules.specs.declared.step.Step.TheVariants.{Call, Deliver, Tick, Work, StopIn, Stop, Blank, Boot, Arm, Glance}
+use Rattle.petal_rules.specs.declared.step.Step.TheVariants.{Work, StopIn, Boot}
 use Rattle.petal_world.specs.Play.{phase_for, stamp_of}
 use Rattle.world_desks.specs.Desks.{end_in, ended, job_ended}
 use Rattle.world_desks.specs.declared.step_end.StepEnd.{StepEnd}
@@ -35,65 +35,33 @@ job_phase (Stopped commit) who setting w phase = refl
 -- ### Any step
 
 server_ended : (what : Step) (end : StepEnd) (w : World) (n : ℕ) → MayServer what w n → MayServer (ended what end) w n
-server_ended (Call line) end w n may = may
-server_ended (Deliver letter) end w n may = may
-server_ended Tick end w n may = may
 server_ended (Work named) end w n may = job_allowed end w n may
 server_ended (StopIn named) end w n may = job_allowed end w n may
-server_ended Stop end w n may = may
-server_ended Blank end w n may = may
-server_ended (Boot named) end w n may = may
-server_ended (Arm which plan) end w n may = may
-server_ended (Glance line round) end w n may = may
+server_ended _ end w n may = may
 
 -- a client has no jobs
 client_none : (what : Step) (end : StepEnd) (setting : Setting) (w : World) (c : ℕ) → MayClient what setting w c → ended what end ≡ what
-client_none (Call line) end setting w c may = refl
-client_none (Deliver letter) end setting w c may = refl
-client_none Tick end setting w c may = refl
 client_none (Work named) end setting w c may = absurd may
 client_none (StopIn named) end setting w c may = absurd may
-client_none Stop end setting w c may = refl
-client_none Blank end setting w c may = refl
 client_none (Boot named) end setting w c may = absurd may
-client_none (Arm which plan) end setting w c may = refl
-client_none (Glance line round) end setting w c may = refl
+client_none _ end setting w c may = refl
 
 pub client_ended : (what : Step) (end : StepEnd) (setting : Setting) (w : World) (c : ℕ) → MayClient (ended what end) setting w c → ended what end ≡ what
-client_ended (Call line) end setting w c may = refl
-client_ended (Deliver letter) end setting w c may = refl
-client_ended Tick end setting w c may = refl
 client_ended (Work named) end setting w c may = absurd (job_of_none end setting w c may)
 client_ended (StopIn named) end setting w c may = absurd (job_of_none end setting w c may)
-client_ended Stop end setting w c may = refl
-client_ended Blank end setting w c may = refl
 client_ended (Boot named) end setting w c may = absurd may
-client_ended (Arm which plan) end setting w c may = refl
-client_ended (Glance line round) end setting w c may = refl
+client_ended _ end setting w c may = refl
 
 pub client_done : (what : Step) (setting : Setting) (w : World) (c : ℕ) → MayClient what setting w c → Done ≡ end_in what
-client_done (Call line) setting w c may = refl
-client_done (Deliver letter) setting w c may = refl
-client_done Tick setting w c may = refl
 client_done (Work named) setting w c may = absurd may
 client_done (StopIn named) setting w c may = absurd may
-client_done Stop setting w c may = refl
-client_done Blank setting w c may = refl
 client_done (Boot named) setting w c may = absurd may
-client_done (Arm which plan) setting w c may = refl
-client_done (Glance line round) setting w c may = refl
+client_done _ setting w c may = refl
 
 received_ended : (what : Step) (end : StepEnd) → received (ended what end) ≡ received what
-received_ended (Call line) end = refl
-received_ended (Deliver letter) end = refl
-received_ended Tick end = refl
 received_ended (Work named) end = job_receives end
 received_ended (StopIn named) end = job_receives end
-received_ended Stop end = refl
-received_ended Blank end = refl
-received_ended (Boot named) end = refl
-received_ended (Arm which plan) end = refl
-received_ended (Glance line round) end = refl
+received_ended _ end = refl
 
 actor_ended : (who : Actor) (what : Step) (end : StepEnd) (setting : Setting) (w : World)
     → MayActor who what setting w → MayActor who (ended what end) setting w
@@ -116,13 +84,6 @@ stamp_ended floor w (actor.Client c) what end = ap (λ k. max floor (max (w.clie
 
 pub phase_ended : (what : Step) (end : StepEnd) (who : Actor) (setting : Setting) (w : World) (phase : ℕ)
     → phase_for (ended what end) who setting w phase ≡ phase_for what who setting w phase
-phase_ended (Call line) end who setting w phase = refl
-phase_ended (Deliver letter) end who setting w phase = refl
-phase_ended Tick end who setting w phase = refl
 phase_ended (Work named) end who setting w phase = job_phase end who setting w phase
 phase_ended (StopIn named) end who setting w phase = job_phase end who setting w phase
-phase_ended Stop end who setting w phase = refl
-phase_ended Blank end who setting w phase = refl
-phase_ended (Boot named) end who setting w phase = refl
-phase_ended (Arm which plan) end who setting w phase = refl
-phase_ended (Glance line round) end who setting w phase = refl
+phase_ended _ end who setting w phase = refl

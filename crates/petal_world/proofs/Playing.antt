@@ -7,7 +7,7 @@ use Rattle.petal_msg.specs.declared.letter.Actor.TheVariants as actor
 use Rattle.script_lines.specs.declared.request.Line.{Line}
 use Rattle.petal_rules.specs.World.{Setting, World, MayStep, MayClient, start, clock_of, next_stamp, next_line, setting_of}
 use Rattle.petal_rules.specs.declared.step.Step.{Step}
-use Rattle.petal_rules.specs.declared.step.Step.TheVariants.{Call, Deliver, Tick, Work, StopIn, Stop, Blank, Boot, Arm, Glance}
+use Rattle.petal_rules.specs.declared.step.Step.TheVariants.{Call}
 use Rattle.petal_history.specs.Legal.{IsLegalFrom, Follows, InPhase, CallsInPhase, world_after, stepped}
 use Rattle.petal_history.specs.declared.record.Record.{Record}
 use Rattle.client_core.specs.Core.{is_spent}
@@ -25,15 +25,7 @@ use Rattle.world_desks.proofs.Ranges.{get_range}
 
 can_take : (setting : Setting) (w : World) (c : ℕ) (what : Step) → MayClient what setting w c → CanTake what (w.clients c)
 can_take setting w c (Call line) may = may.free
-can_take setting w c (Deliver letter) may = tt
-can_take setting w c Tick may = tt
-can_take setting w c (Work end) may = tt
-can_take setting w c (StopIn end) may = tt
-can_take setting w c Stop may = tt
-can_take setting w c Blank may = tt
-can_take setting w c (Boot end) may = tt
-can_take setting w c (Arm which plan) may = tt
-can_take setting w c (Glance line round) may = tt
+can_take setting w c _ may = tt
 
 pub can : (setting : Setting) (w : World) (actors : Actors) (who : Actor) (what : Step) → Shows setting w actors
     → MayStep setting w who what → Can actors who what
@@ -77,16 +69,7 @@ in_line (Some line) phase = refl
 
 calls_in : (what : Step) (who : Actor) (setting : Setting) (w : World) (phase : ℕ) → CallsInPhase what who setting w (phase_for what who setting w phase)
 calls_in (Call line) (actor.Client c) setting w phase = in_line (next_line setting.lines c (w.clients c)) phase
-calls_in (Call line) (actor.Server n) setting w phase = tt
-calls_in (Deliver letter) who setting w phase = tt
-calls_in Tick who setting w phase = tt
-calls_in (Work end) who setting w phase = tt
-calls_in (StopIn end) who setting w phase = tt
-calls_in Stop who setting w phase = tt
-calls_in Blank who setting w phase = tt
-calls_in (Boot end) who setting w phase = tt
-calls_in (Arm which plan) who setting w phase = tt
-calls_in (Glance line round) who setting w phase = tt
+calls_in _ who setting w phase = tt
 
 follows : (play : Play) (who : Actor) (what : Step) → MayStep (setting_of play.script) (world_of play) who what
     → Follows (setting_of play.script) (world_of play) (record_of play who what)

@@ -10,7 +10,7 @@ use Rattle.petal_rules.specs.World.{Setting, World, start, step, setting_of, nex
 use Rattle.petal_rules.specs.Log as log
 use Rattle.petal_rules.specs.World as rules
 use Rattle.petal_rules.specs.declared.step.Step.{Step}
-use Rattle.petal_rules.specs.declared.step.Step.TheVariants.{Call, Deliver, Tick, Work, StopIn, Stop, Blank, Boot, Arm, Glance}
+use Rattle.petal_rules.specs.declared.step.Step.TheVariants.{Call}
 use Rattle.petal_history.specs.Legal.{IsLegal, world_after}
 use Rattle.petal_history.specs.declared.record.Record.{Record}
 use Rattle.client_core.specs.Core.{is_spent}
@@ -53,16 +53,7 @@ phase_of (Some line) phase = line.phase
 -- the phase of a record: a call's is its line's
 abbrev pub phase_for : Step → Actor → Setting → World → ℕ → ℕ
 phase_for (Call line) (actor.Client c) setting w phase = phase_of (next_line setting.lines c (w.clients c)) phase
-phase_for (Call line) (actor.Server n) setting w phase = phase
-phase_for (Deliver letter) who setting w phase = phase
-phase_for Tick who setting w phase = phase
-phase_for (Work end) who setting w phase = phase
-phase_for (StopIn end) who setting w phase = phase
-phase_for Stop who setting w phase = phase
-phase_for Blank who setting w phase = phase
-phase_for (Boot end) who setting w phase = phase
-phase_for (Arm which plan) who setting w phase = phase
-phase_for (Glance line round) who setting w phase = phase
+phase_for _ who setting w phase = phase
 
 -- what a step does to the world behind the records
 abbrev pub done_by : Play → Actor → Step → rules.Stepped

@@ -4,7 +4,7 @@ use Rattle.std.specs.List.{range_with_len}
 use Rattle.petal_rules.specs.Clients.{Client}
 use Rattle.petal_rules.specs.World.{Setting, World, client_step, lines_of}
 use Rattle.petal_rules.specs.declared.step.Step.{Step}
-use Rattle.petal_rules.specs.declared.step.Step.TheVariants.{Call, Deliver, Tick, Work, StopIn, Stop, Blank, Boot, Arm, Glance}
+use Rattle.petal_rules.specs.declared.step.Step.TheVariants.{Call}
 use Rattle.client_core.specs.Core.{Core, at_core, state_of}
 use Rattle.client_core.specs.declared.reaction.Reaction.{Reaction}
 use Rattle.petal_world.specs.declared.seat.Seat.{Seat}
@@ -12,15 +12,7 @@ use Rattle.petal_world.specs.declared.seat.Seat.{Seat}
 -- the client can take the step: it calls a line only where it has nothing open
 abbrev pub CanTake : Step → Client → Type 0
 CanTake (Call line) client = client.asked ≡ None
-CanTake (Deliver letter) client = Unit {0}
-CanTake Tick client = Unit {0}
-CanTake (Work end) client = Unit {0}
-CanTake (StopIn end) client = Unit {0}
-CanTake Stop client = Unit {0}
-CanTake Blank client = Unit {0}
-CanTake (Boot end) client = Unit {0}
-CanTake (Arm which plan) client = Unit {0}
-CanTake (Glance line round) client = Unit {0}
+CanTake _ client = Unit {0}
 
 -- the rule of a step, at this client: the core after it, and what it gives
 abbrev pub reacted_at : Seat → Step → Core × Reaction

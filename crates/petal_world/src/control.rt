@@ -56,12 +56,7 @@ impl Control {
                 self.hand = None;
                 self.glanced = Some(*line);
             }
-            Step::Call { line: _ }
-            | Step::Deliver { letter: _ }
-            | Step::Tick
-            | Step::Work(_)
-            | Step::StopIn(_)
-            | Step::Arm { which: _, plan: _ } => {}
+            _ => {}
         }
     }
 

@@ -32,15 +32,7 @@ pub fn received(step: &Step) -> Stamp
 {
     match step {
         Step::Deliver { letter } => letter.get().stamp,
-        Step::Call { line: _ }
-        | Step::Tick
-        | Step::Work(_)
-        | Step::StopIn(_)
-        | Step::Stop
-        | Step::Blank
-        | Step::Boot(_)
-        | Step::Arm { which: _, plan: _ }
-        | Step::Glance { line: _, round: _ } => 0,
+        _ => 0,
     }
 }
 

@@ -95,19 +95,7 @@ impl<H: Host> Actors<H> {
     {
         match (step, actor) {
             (Step::Call { line: _ }, Actor::Client(client)) => self.line_phase(client, phase),
-            (Step::Call { line: _ }, Actor::Server(_))
-            | (
-                Step::Deliver { letter: _ }
-                | Step::Tick
-                | Step::Work(_)
-                | Step::StopIn(_)
-                | Step::Stop
-                | Step::Blank
-                | Step::Boot(_)
-                | Step::Arm { which: _, plan: _ }
-                | Step::Glance { line: _, round: _ },
-                _,
-            ) => phase,
+            _ => phase,
         }
     }
 

@@ -167,13 +167,10 @@ steps_left servers n s (Glance line round) on = shows servers n line round s.lif
 
 -- as it may each step that is allowed
 pub allowed : (w : World) (n : ℕ) (what : Step) → MayServer what w n → may_take what (w.servers n).life.running ≡ true
-allowed w n (Call line) may = refl
-allowed w n (Deliver letter) may = refl
 allowed w n Tick may = may.runs
 allowed w n (Work end) may = may.acts.runs
 allowed w n (StopIn end) may = may.acts.runs
 allowed w n Stop may = may.runs
 allowed w n Blank may = ap not may.rests
 allowed w n (Boot end) may = ap not may.rests
-allowed w n (Arm which plan) may = refl
-allowed w n (Glance line round) may = refl
+allowed w n _ may = refl
