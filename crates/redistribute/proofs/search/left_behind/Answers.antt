@@ -16,4 +16,5 @@ returns-then-is_live_map-clause-first c =
 
 pub returns-then-is_live_map-clause-order : goal.returns-then-is_live_map-clause-order
 returns-then-is_live_map-clause-order c =
-    subst (λ (es : List Entry). IsInOrder key_of es) (sym c.above_map.ensures) (order-drop (up_to c.args.entry.now.key.map c.args.later.now) c.args.later.now c.requires.1)
+    subst (λ (es : List Entry). IsInOrder key_of es) (sym c.above_map.ensures)
+    (order-drop (up_to c.args.entry.now.key.map c.args.later.now) c.args.later.now c.requires.1)
