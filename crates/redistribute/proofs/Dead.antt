@@ -18,7 +18,7 @@ use Rattle.physical_map.specs.Keys.{IsInOrder}
 use Rattle.server_store.specs.Holdings.{Held, Holdings, key_held, listed}
 use Rattle.kept_chains.specs.Kept.{chains_of, store_of, stored_of}
 use Rattle.kept_chains.proofs.Walks.{epochs_is}
-use Rattle.redistribute.specs.Swept.{first_dead, first_mark}
+use Rattle.redistribute.specs.Swept.{first_dead}
 use Rattle.redistribute.proofs.Flat.{dead_by, dead_is}
 
 module _ (state : State) where
@@ -38,13 +38,6 @@ module _ (state : State) where
   dead_found s order =
       dead_is state (dead_mark state s.marks) key_held stored_of s.entries order
       ∙ ap (dead_by state (dead_mark state s.marks)) (find_listed s.entries)
-
-  pub mark_is : (ms : List Mark) → first_mark state ms ≡ dead_mark state ms
-  mark_is [] = refl
-  mark_is (m ∷ ms) = elim (cases_Bool (live state m.cell)) [
-    | inl lives ↦ rw lives (mark_is ms)
-    | inr dies ↦ rw dies refl
-  ]
 
   no_key : (ms : List Mark) (k : Key) → dead_mark state ms ≡ Some (dead.Key k) → ⊥
   no_key [] k is = absurd (cc)

@@ -3,3 +3,5 @@ pub mod Firsts
 pub mod Fillings
 pub mod Dead
 pub mod Rests
+pub mod Marked
+pub mod DeadMarks

@@ -40,7 +40,7 @@ partitioned_maps map es order i j d le within up = elim (cases_eq i j) [
 same_map : (k l : Key) → key_below k l ≡ true → nat_le l.map k.map ≡ true → k.map ≡ l.map
 same_map k l rises up = grind (arith, nat_tests, rises, up)
 
--- behind an entry of a map of which each cell is live nothing of the map is looked for
+-- after an entry of a map of which each cell is live nothing of that map is looked at
 pub passed : (state : State) (k : Key) (es : List Entry) → ((block : ℕ) → live state (record { map = k.map; block = block }) ≡ true)
     → IsAbove key_of k es → first_dead state (drop (up_to k.map es) es) ≡ first_dead state es
 passed state k [] lives above = refl

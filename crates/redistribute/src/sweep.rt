@@ -29,7 +29,7 @@ pub fn next_dead<D: Disk>(state: &GlobalState, store: &Store<D>) -> Option<Dead>
     let _ = store.free();
     match dead_entry(state, store.entries()) {
         Some(key) => Some(Dead::Key(key)),
-        None => dead_mark(state, store.marks()),
+        None => dead_mark(state, store),
     }
 }
 

@@ -1,11 +1,10 @@
 use Rattle.std.proofs.Common.{sym, ap, subst, ◌∙◌, List}
-use Rattle.busy_marks.specs.declared.marks.Mark.{Mark}
 use Rattle.physical_map.specs.declared.entry.Entry.{Entry}
 use Rattle.physical_map.specs.Entries.{key_of}
 use Rattle.physical_map.specs.Keys.{IsInOrder}
 use Rattle.petal_rules.specs.Sweeping.{dead_mark}
-use Rattle.redistribute.specs.Swept.{first_dead, first_mark}
-use Rattle.redistribute.proofs.Dead.{dead_found, mark_is}
+use Rattle.redistribute.specs.Swept.{first_dead}
+use Rattle.redistribute.proofs.Dead.{dead_found}
 use Rattle.redistribute.proofs.Flat.{dead_by}
 use Rattle.redistribute.proofs.Rests.{order_listed}
 use Rattle.redistribute.proofs.sweep.next_dead.Goals as goal
@@ -26,4 +25,4 @@ returns-in-None g c =
     let s = c.args.store.now in
     let found = ap (λ (es : List Entry). first_dead state es) (sym c.entries.ensures) ∙ sym c.dead_entry.ensures ∙ c.in-None.is in
     sym (dead_found state s c.free.ensures.order ∙ ap (dead_by state (dead_mark state s.marks)) found
-    ∙ sym (mark_is state s.marks) ∙ ap (λ (ms : List Mark). first_mark state ms) (sym c.marks.ensures) ∙ sym c.dead_mark.ensures)
+    ∙ sym c.dead_mark.ensures)
