@@ -1,6 +1,6 @@
 -- A client's write that a second server can still put is in time. Where its link was touched after its own entries, that was by a Leave, after
 -- which the era rises only once the second server has reported; and it has applied no more than its own entries.
-use Rattle.std.proofs.Common.{◌≡◌, ◌≤◌, ◌+◌, ◌++◌, ℕ, true, List, [], ◌∷◌, Some, length, length-append, refl, sym, ap}
+use Rattle.std.proofs.Common.{◌≡◌, ◌≤◌, ◌++◌, ℕ, true, List, [], ◌∷◌, Some, length, length-append, refl, sym, ap}
 use Rattle.std.proofs.Common.{◌∙◌, subst, inl, inr, arith, append_assoc}
 use Rattle.std.specs.Prelude.{fold}
 use Rattle.std.proofs.lemmas.Grind.{fold-append}

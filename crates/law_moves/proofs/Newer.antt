@@ -15,7 +15,7 @@ use Rattle.petal_rules.specs.Blanked.{BeforeBlank}
 use Rattle.petal_rules.specs.Crossing.{crossed}
 use Rattle.petal_rules.specs.Lists.{In}
 use Rattle.petal_rules.specs.Server.{Own, Post, Server}
-use Rattle.petal_rules.specs.State.{State, coming}
+use Rattle.petal_rules.specs.State.{State}
 use Rattle.petal_rules.specs.Store.{Chain, Store, cell_cmp}
 use Rattle.petal_rules.specs.Writes.{is_clients}
 use Rattle.petal_rules.specs.World.{Setting, World, blank_joins_in, chosen_log, chosen_state, kept, server_state, setting_of, start}

@@ -1,9 +1,9 @@
 -- Each kind of job keeps what is known of requests.
-use Rattle.std.proofs.Common.{◌≡◌, ◌≢◌, ◌≤◌, ◌+◌, ℕ, List, [], ◌∷◌, Bool, true, false, Some, None, length, refl, ap, sym, ◌∙◌, subst, inl, inr, arith}
+use Rattle.std.proofs.Common.{◌≡◌, ◌≢◌, ◌≤◌, ◌+◌, ℕ, List, [], ◌∷◌, true, false, Some, None, length, refl, ap, sym, ◌∙◌, subst, inl, inr, arith}
 use Rattle.std.specs.Ordering.{nat_cmp}
 use Rattle.busy_marks.specs.declared.marks.MarkKind.TheVariants.{Stale}
 use Rattle.petal_base.specs.declared.cell.Cell.{Cell}
-use Rattle.petal_table.specs.Table.{Table, at, put, without}
+use Rattle.petal_table.specs.Table.{at, put, without}
 use Rattle.petal_table.proofs.Rows.{at_same, at_apart}
 use Rattle.petal_command.specs.declared.command.Command.{Command}
 use Rattle.petal_msg.specs.Kinds.{Refused, is_logged, is_refused, subject_of}
@@ -24,9 +24,9 @@ use Rattle.petal_history.specs.Claims.{IsPrefix}
 use Rattle.petal_state.specs.Command.{state_after}
 use Rattle.petal_rules.specs.Lists.{In}
 use Rattle.petal_rules.specs.Log.{rev_of}
-use Rattle.petal_rules.specs.State.{State, coming, held, is_in, is_lead, live}
+use Rattle.petal_rules.specs.State.{coming, held, is_in, is_lead, live}
 use Rattle.petal_rules.specs.Store.{cell_cmp}
-use Rattle.petal_rules.specs.Fills.{Moving, fill_operation}
+use Rattle.petal_rules.specs.Fills.{fill_operation}
 use Rattle.petal_rules.specs.Server.{Own, Here, Pairs, Post, Done}
 use Rattle.petal_rules.specs.Writes.{Wanted, acts, ends, gives_back, is_clients, is_writes_held, moved_as, next_stage, old_lead, operation}
 use Rattle.petal_rules.specs.Writes.{ended, finishes, pending_on, with_mark_at, without_pending}
@@ -54,7 +54,7 @@ use Rattle.law_steps.proofs.Subjects.{of_filler, of_second, of_sweep}
 use Rattle.law_steps.proofs.Taking.{taking}
 use Rattle.law_requests.specs.Asked.{IsRead, IsWrite, IsOpen}
 use Rattle.law_requests.specs.Known.{Lives, LedBy, seen, done_by, NothingKnown, ReadKnown, WriteKnown, Known, asked_for}
-use Rattle.law_requests.specs.Known.{IsUsed, Has_pending, Has_finished, AskingBy}
+use Rattle.law_requests.specs.Known.{IsUsed, Has_finished, AskingBy}
 use Rattle.law_requests.proofs.Cells.{coming_untold}
 use Rattle.law_requests.proofs.Ended.{write_now}
 use Rattle.law_requests.proofs.Frames.{Ends, Tells, SaysOk, JobTells, Scene}

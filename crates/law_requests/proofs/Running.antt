@@ -17,7 +17,7 @@ use Rattle.petal_state.specs.Command.{state_after}
 use Rattle.petal_state.specs.Place.{places_from}
 use Rattle.petal_state.specs.State.{start}
 use Rattle.petal_rules.specs.Progress.{has_proposed}
-use Rattle.petal_rules.specs.State.{State, held, id_of, is_in, is_lead}
+use Rattle.petal_rules.specs.State.{held, id_of, is_in, is_lead}
 use Rattle.petal_rules.specs.Store.{cell_cmp}
 use Rattle.petal_rules.specs.Writes.{Wanted, is_clients, is_writes_held}
 use Rattle.petal_rules.specs.World.{Setting, World, server_state, chosen_log, chosen_state}

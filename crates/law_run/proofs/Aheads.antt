@@ -1,7 +1,7 @@
 -- Where two copies of a cell differ, the first server is one put ahead of the second one.
 use Rattle.std.proofs.Common.{◌≡◌, ◌+◌, Bool, true, false, Some, None, refl, subst, ◌⊎◌, inl, inr, arith, ◌≤◌, Option}
 use Rattle.std.proofs.lemmas.Bool.{cases_lt}
-use Rattle.petal_table.specs.Table.{at, put}
+use Rattle.petal_table.specs.Table.{put}
 use Rattle.petal_msg.specs.declared.operation.Pending.{Pending}
 use Rattle.petal_history.specs.Claims.{one_put_ahead}
 use Rattle.law_copies.specs.Pair.{AreCopies, IsAhead, Pair, PairOk, Working, far}

@@ -1,9 +1,7 @@
 -- What is chosen in a world, as a later state tells it; and its disks, with the cells under which their blocks are named.
-use Rattle.std.proofs.Common.{◌≡◌, ◌≢◌, ◌≤◌, ◌<◌, ◌==◌, ℕ, Bool, List, true, false, Option, Some, None, refl, sym, ap, ◌∙◌, subst, ◌⊎◌, inl, inr, arith, length}
+use Rattle.std.proofs.Common.{◌≡◌, ◌≤◌, ◌==◌, ℕ, List, true, false, Some, sym, ap, ◌∙◌, ◌⊎◌, inl, inr, arith}
 use Rattle.std.specs.Prelude.{if◌then◌else◌, is_some, option_and_then, option_map, slice_get}
-use Rattle.std.proofs.lemmas.Option.{slice_get_within}
 use Rattle.petal_base.specs.declared.cell.Cell.{Cell}
-use Rattle.global_tables.specs.Disk.{disk_at}
 use Rattle.global_tables.specs.Map.{disk_of, tuple_of}
 use Rattle.global_tables.specs.declared.disk.DiskRow.{DiskRow}
 use Rattle.global_tables.specs.declared.disk.Move.{Move}
@@ -21,10 +19,10 @@ use Rattle.law_state.specs.Disks.{AreDisks}
 use Rattle.law_state.specs.Firm.{Firm}
 use Rattle.law_state.specs.Homes.{epoch_at, stage_at, stage_by, stage_under}
 use Rattle.law_state.specs.Steady.{IsSteady}
-use Rattle.law_state.specs.Tables.{IsPlainState, IsGrown, IsRowAt}
+use Rattle.law_state.specs.Tables.{IsPlainState, IsGrown}
 use Rattle.law_state.proofs.Disks.{log_disks}
 use Rattle.law_state.proofs.Entries.{log_plain}
-use Rattle.law_state.proofs.Owners.{disk_on, epoch_in, epoch_is, home, home_later, map_made, no_home, stage_in, stage_is}
+use Rattle.law_state.proofs.Owners.{epoch_in, epoch_is, home_later, map_made, no_home, stage_in, stage_is}
 use Rattle.law_state.proofs.Places.{found_at, get_in, in_get}
 use Rattle.law_state.proofs.Rows.{HasRowLater, known_row, stays_row}
 use Rattle.law_state.proofs.Steady.{viewed}

@@ -2,11 +2,10 @@
 use Rattle.std.proofs.Common.{◌≡◌, ◌==◌, ◌++◌, ℕ, [], true, false, Option, Some, None, refl, sym, ap, ◌∙◌, subst, inl, inr, is_some}
 use Rattle.law_run.proofs.Named.{entry_named, entry_over, has_named, has_over, is_between}
 use Rattle.std.specs.List.{flat_map}
-use Rattle.std.specs.Prelude.{drop, if◌then◌else◌, length, map, unwrap_or, option_and_then}
+use Rattle.std.specs.Prelude.{drop, if◌then◌else◌, length, map, option_and_then}
 use Rattle.std.specs.Ordering.{nat_cmp}
 use Rattle.petal_base.specs.declared.cell.Cell.{Cell}
 use Rattle.petal_table.specs.Table.{at}
-use Rattle.petal_table.proofs.Rows.{at-empty}
 use Rattle.global_tables.specs.Disk.{disk_at}
 use Rattle.global_tables.specs.declared.disk.DiskRow.{DiskRow}
 use Rattle.petal_machine.specs.Machine.{Plain}
@@ -18,11 +17,11 @@ use Rattle.petal_rules.specs.Boots.{blanked, stays}
 use Rattle.petal_rules.specs.Log.{state_in}
 use Rattle.petal_rules.specs.Server.{Server}
 use Rattle.petal_rules.specs.State.{authority, in_both}
-use Rattle.petal_rules.specs.Store.{Chain, Store, bytes_of, cell_cmp, chain_in, entry_at}
-use Rattle.petal_rules.specs.World.{Setting, World, acts, blank_joins_in, chosen_log, chosen_state, counted, kept, server_state}
+use Rattle.petal_rules.specs.Store.{Store, bytes_of, cell_cmp, chain_in, entry_at}
+use Rattle.petal_rules.specs.World.{Setting, World, acts, blank_joins_in, chosen_log, chosen_state, counted, kept}
 use Rattle.petal_rules.specs.declared.step.Step.TheVariants.{Blank}
 use Rattle.petal_rules.proofs.ListLemmas.{put_apart, put_same}
-use Rattle.petal_rules.proofs.Tests.{all_put, all_put_apart, number_itself, same_or_apart, true_false}
+use Rattle.petal_rules.proofs.Tests.{all_put_apart, number_itself, same_or_apart, true_false}
 use Rattle.petal_history.specs.Contents.{content_at, content_where, entry_by, entry_of, has_content_at, has_content_where, old_cell}
 use Rattle.petal_history.specs.Events.{change_by, freezes, freezes_on, makes, make_of, takes, told_with}
 use Rattle.law_state.specs.Firm.{Firm}

@@ -26,7 +26,7 @@ use Rattle.petal_rules.specs.Clients.{Client, Reaction, client_sender}
 use Rattle.petal_rules.specs.World.{Setting, World, reacts, stamped, chosen_state, counted, kept}
 use Rattle.petal_rules.proofs.ListLemmas.{in-append}
 use Rattle.petal_history.specs.Contents.{content_where, has_content_where}
-use Rattle.petal_history.specs.Events.{open_write, write_asked, change_by, freezes, takes, makes, make_of, looks, look_of}
+use Rattle.petal_history.specs.Events.{open_write, write_asked, change_by, freezes, takes, makes, make_of, look_of}
 use Rattle.petal_history.specs.declared.record.Record.{Record}
 use Rattle.law_steps.specs.Operations.{done_to}
 use Rattle.law_steps.specs.Happens.{Heard}

@@ -1,10 +1,9 @@
 -- The server whose copy of a cell counts serves the cell's link.
-use Rattle.std.proofs.Common.{◌≡◌, ◌==◌, ℕ, true, Option, Some, refl, sym, ap, ◌∙◌, subst, inl, inr}
+use Rattle.std.proofs.Common.{◌≡◌, ◌==◌, ℕ, true, Some, sym, ap, ◌∙◌, inl, inr}
 use Rattle.petal_base.specs.declared.cell.Cell.{Cell}
 use Rattle.global_tables.specs.Link.{has_server}
-use Rattle.global_tables.specs.declared.link.LinkRow.{LinkRow}
-use Rattle.petal_state.specs.CellState.{cell_link, serves}
-use Rattle.petal_rules.specs.State.{State, authority, live}
+use Rattle.petal_state.specs.CellState.{serves}
+use Rattle.petal_rules.specs.State.{State, authority}
 use Rattle.petal_rules.specs.World.{Setting, World, chosen_state}
 use Rattle.petal_rules.proofs.Tests.{none_some, number_itself, same_some}
 use Rattle.law_state.specs.Below.{IsServing}

@@ -1,5 +1,5 @@
 -- Snapshots that a step takes: of each disk those that it has after the step and had not before. And no event changes a snapshot.
-use Rattle.std.proofs.Common.{◌≡◌, ◌≢◌, ◌≤◌, ◌+◌, ℕ, suc, List, [], ◌∷◌, ◌++◌, Bool, true, Option, Some, refl, sym, ap, ◌∙◌}
+use Rattle.std.proofs.Common.{◌≡◌, ◌≢◌, ◌≤◌, ℕ, suc, List, [], ◌∷◌, ◌++◌, Bool, Option, Some, refl, sym, ap, ◌∙◌}
 use Rattle.std.proofs.Common.{subst, inl, inr, arith, append_assoc, length}
 use Rattle.global_tables.specs.declared.map.MapRow.{MapRow}
 use Rattle.std.specs.Prelude.{drop, map, slice_get}

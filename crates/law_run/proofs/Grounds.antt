@@ -1,7 +1,7 @@
 -- What follows from the ground on which the run stands: of operations that are remembered, of the epochs of those that are put, and of
 -- entries.
 use Rattle.std.proofs.Common.{◌≡◌, ◌≤◌, ◌+◌, ℕ, List, [], ◌∷◌, true, false, Option, Some, None, refl, sym, ap, ◌∙◌, subst}
-use Rattle.std.proofs.Common.{inl, inr, arith, length, ◌⊎◌, ◌<◌, nat_cmp}
+use Rattle.std.proofs.Common.{inl, inr, arith, length, ◌⊎◌, nat_cmp}
 use Rattle.std.proofs.lemmas.Bool.{cases_lt}
 use Rattle.std.specs.Cmp.{nat_cmp_total}
 use Rattle.global_tables.specs.declared.link.LinkRow.{LinkRow}

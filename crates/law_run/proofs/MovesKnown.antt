@@ -1,15 +1,12 @@
 -- What is known of moves after each legal history.
-use Rattle.std.proofs.Common.{◌+◌, ◌≡◌, ◌≤◌, ◌++◌, ◌⊎◌, ℕ, List, [], ◌∷◌, Bool, true, false, Option, Some, None, refl, sym, ap}
-use Rattle.std.proofs.Common.{◌∙◌, subst, inl, inr, arith, length, is_some}
+use Rattle.std.proofs.Common.{◌≡◌, ◌≤◌, ◌++◌, ◌⊎◌, ℕ, List, [], ◌∷◌, Bool, true, false, Option, Some, None, refl, sym, ap}
+use Rattle.std.proofs.Common.{◌∙◌, subst, inl, inr, arith, is_some}
 use Rattle.std.specs.Prelude.{option_map, if◌then◌else◌}
 use Rattle.std.specs.Ordering.{nat_cmp}
 use Rattle.std.proofs.lemmas.Bool.{cases_lt}
 use Rattle.petal_base.specs.Cells.{cell_of}
 use Rattle.petal_base.specs.declared.cell.Cell.{Cell}
-use Rattle.petal_command.specs.declared.command.Command.{Command}
 use Rattle.petal_command.specs.declared.command.Command.TheVariants.{Drained}
-use Rattle.global_tables.specs.declared.link.LinkRow.{LinkRow}
-use Rattle.global_tables.specs.declared.link.LinkState.TheVariants.{Both}
 use Rattle.petal_msg.specs.declared.letter.Actor.{Actor}
 use Rattle.petal_msg.specs.declared.letter.Actor.TheVariants as actor
 use Rattle.petal_msg.specs.declared.operation.Pending.{Pending}
@@ -20,25 +17,23 @@ use Rattle.script_lines.specs.declared.script.Script.{Script}
 use Rattle.petal_rules.specs.Reads.{is_all_held}
 use Rattle.petal_rules.specs.Server.{Pairs}
 use Rattle.petal_rules.specs.State.{State, held, is_in, authority}
-use Rattle.petal_rules.specs.Store.{Chain, Stored, cell_cmp, chain_in}
-use Rattle.petal_rules.specs.Writes.{is_clients}
+use Rattle.petal_rules.specs.Store.{Chain, cell_cmp, chain_in}
 use Rattle.petal_rules.specs.World.{Setting, World, begins_to_leave, chain_that_counts, chosen_log, chosen_state, kept, server_state, setting_of, start, step}
 use Rattle.petal_rules.specs.declared.step.Step.{Step}
-use Rattle.petal_rules.proofs.Tests.{by_test, none_some, same_some, true_false}
-use Rattle.petal_history.specs.Claims.{IsPrefix, Moves}
-use Rattle.petal_history.specs.Legal.{IsLegal, stepped, world_after}
+use Rattle.petal_rules.proofs.Tests.{none_some, same_some, true_false}
+use Rattle.petal_history.specs.Claims.{IsPrefix}
+use Rattle.petal_history.specs.Legal.{IsLegal, stepped}
 use Rattle.petal_history.specs.Sound.{IsSound}
 use Rattle.petal_history.specs.declared.record.Record.{Record}
 use Rattle.law_log.proofs.Histories.{history_is_firm}
 use Rattle.law_state.specs.Firm.{Firm}
-use Rattle.law_state.specs.Homes.{epoch_at, stage_at}
-use Rattle.law_state.proofs.Reports.{HasReportedSo, log_unread}
-use Rattle.law_steps.specs.Operations.{progress}
+use Rattle.law_state.specs.Homes.{stage_at}
+use Rattle.law_state.proofs.Reports.{log_unread}
 use Rattle.law_steps.proofs.Firms.{always_firm}
 use Rattle.law_steps.proofs.Fronts.{front_long, one_front, front_itself}
 use Rattle.law_steps.proofs.Histories.{front_legal, rests_after, runs_now, start_rests, world_more}
 use Rattle.law_stores.proofs.Ways.{At, along}
-use Rattle.law_copies.specs.Visits.{IsLinked, WasThere, place_by}
+use Rattle.law_copies.specs.Visits.{WasThere}
 use Rattle.law_copies.proofs.Histories.{good_after}
 use Rattle.law_requests.proofs.Histories.{asking_along, reports_known}
 use Rattle.law_moves.proofs.Afterwards.{comes_after, dead_frozen, filling_after, over_after}

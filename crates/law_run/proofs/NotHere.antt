@@ -1,37 +1,34 @@
 -- A server that says that the new map has nothing: what the old map answers then is what the machine has.
-use Rattle.petal_history.specs.Contents.{old_cell, entry_before, entry_of}
+use Rattle.petal_history.specs.Contents.{old_cell, entry_of}
 use Rattle.petal_history.specs.Claims.{IsPrefix}
 use Rattle.law_state.specs.Tables.{IsPlainState}
 use Rattle.law_state.specs.Disks.{AreDisks}
 use Rattle.law_steps.specs.Ready.{IsRising}
 use Rattle.std.specs.Ordering.{nat_cmp}
-use Rattle.std.proofs.Common.{◌≡◌, ◌≤◌, ◌++◌, ℕ, List, [], ◌∷◌, Bool, true, false, Option, Some, None, is_some, length, refl, sym}
+use Rattle.std.proofs.Common.{◌≡◌, ◌≤◌, ◌++◌, ℕ, List, [], ◌∷◌, Bool, true, false, Option, Some, None, is_some, refl, sym}
 use Rattle.std.proofs.Common.{ap, ◌∙◌, subst, inl, inr, arith, option_and_then}
 use Rattle.std.specs.List.{flat_map}
 use Rattle.std.proofs.lemmas.Bool.{cases_lt}
 use Rattle.petal_base.specs.declared.cell.Cell.{Cell}
 use Rattle.petal_command.specs.declared.command.Command.{Command}
-use Rattle.petal_machine.specs.Machine.{Plain}
 use Rattle.petal_msg.specs.declared.body.Body.{Body}
 use Rattle.petal_msg.specs.declared.body.Body.TheVariants as body
 use Rattle.petal_msg.specs.declared.letter.Actor.TheVariants as actor
 use Rattle.petal_msg.specs.declared.letter.Letter.{Letter}
 use Rattle.petal_state.specs.CellState.{cell_asked, has_map, named_cell, source}
 use Rattle.petal_state.specs.Command.{state_after}
-use Rattle.petal_state.specs.declared.answer.DiskView.{DiskView}
 use Rattle.petal_table.specs.Table.{at}
 use Rattle.script_lines.specs.declared.request.Line.{Line}
 use Rattle.script_lines.specs.declared.request.Request.TheVariants as request
 use Rattle.petal_rules.specs.Clients.{epoch_for}
 use Rattle.petal_rules.specs.Lists.{In}
 use Rattle.petal_rules.specs.Server.{Own}
-use Rattle.petal_rules.specs.State.{State, authority, coming, is_in, is_lead, leaving, find}
+use Rattle.petal_rules.specs.State.{State, coming, is_lead, leaving, find}
 use Rattle.petal_rules.specs.Store.{Chain, Store, Stored, bytes_of, cell_cmp, chain_in, entry_at}
 use Rattle.petal_rules.specs.World.{chosen_log, chosen_state, counted, kept, server_state, World}
-use Rattle.petal_rules.proofs.Tests.{by_bool, none_some, same_some, some_or_none, true_false}
+use Rattle.petal_rules.proofs.Tests.{by_bool, none_some, same_some, true_false}
 use Rattle.petal_history.specs.Events.{NotThere, look_for, look_for_data, look_of, old_data}
 use Rattle.petal_history.specs.Legal.{IsLegalFrom}
-use Rattle.law_state.specs.Below.{IsServing}
 use Rattle.law_state.specs.Homes.{HasStage, epoch_at, stage_at}
 use Rattle.law_state.proofs.Disks.{log_disks}
 use Rattle.law_state.proofs.Entries.{log_plain}
@@ -44,16 +41,15 @@ use Rattle.law_steps.proofs.Histories.{own_below, own_plain}
 use Rattle.law_copies.specs.Pair.{owns_of}
 use Rattle.law_moves.specs.Fills.{Has}
 use Rattle.law_requests.specs.Asked.{IsRead}
-use Rattle.law_run.specs.Follow.{Follow}
-use Rattle.law_run.proofs.Along.{cell_comes, cell_lives, cell_old, content_is, disks_now, has_content_is, plain_now, rows_in}
+use Rattle.law_run.proofs.Along.{cell_comes, cell_lives, cell_old, content_is, disks_now, has_content_is, plain_now}
 use Rattle.law_run.proofs.Contents.{was_has, was_kept}
 use Rattle.law_run.proofs.Entries.{AreUpTo}
 use Rattle.law_run.proofs.Looks.{Accepts, AreGrounded, Looked, letter_looks}
-use Rattle.law_run.proofs.Named.{entry_over, has_over, is_between}
-use Rattle.law_run.proofs.OldReads.{IsFoundAt, IsOld, found}
+use Rattle.law_run.proofs.Named.{entry_over, has_over}
+use Rattle.law_run.proofs.OldReads.{IsFoundAt, found}
 use Rattle.law_run.proofs.Overlay.{entry_there, has_below}
 use Rattle.law_run.proofs.Reading.{IsAskedAt, IsKnownRead, IsOfDisk, known_read}
-use Rattle.law_run.proofs.Shows.{AreCalm, IsReading, all_looked, entry_is, look_may, named, nothing_looked, now_high, now_low, of, row_has}
+use Rattle.law_run.proofs.Shows.{AreCalm, IsReading, all_looked, entry_is, look_may, nothing_looked, now_high, now_low, of, row_has}
 use Rattle.law_run.proofs.Shows.{same_above, same_chain, serving_now, shown_none, some_is}
 use Rattle.law_run.proofs.Sources.{source_here, source_stays}
 use Rattle.law_run.proofs.Steps.{LooksTold, ServerStep, frozen_same, later_world, letters, look_here}

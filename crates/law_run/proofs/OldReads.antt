@@ -1,9 +1,8 @@
 -- A read that was told that the new map has nothing, and is answered under the old one: whoever answers has what was frozen.
-use Rattle.std.proofs.Common.{◌+◌, ◌||◌, ◌≡◌, ◌≤◌, ◌==◌, ◌&&◌, ℕ, List, [], ◌∷◌, ◌++◌, Bool, true, false, Option, Some, None, length}
+use Rattle.std.proofs.Common.{◌||◌, ◌≡◌, ◌≤◌, ◌==◌, ◌&&◌, ℕ, List, [], ◌∷◌, Bool, true, Option, Some, None, length}
 use Rattle.std.proofs.Common.{refl, sym, ap, ◌∙◌, subst, ◌⊎◌, inl, inr, arith, not}
 use Rattle.std.specs.Prelude.{if◌then◌else◌, option_map}
 use Rattle.petal_base.specs.declared.cell.Cell.{Cell}
-use Rattle.petal_command.specs.declared.command.Command.{Command}
 use Rattle.petal_msg.specs.declared.body.Body.{Body}
 use Rattle.petal_msg.specs.declared.body.Body.TheVariants as body
 use Rattle.petal_msg.specs.declared.letter.Actor.{Actor}
@@ -16,7 +15,7 @@ use Rattle.petal_rules.specs.Lists.{In}
 use Rattle.petal_rules.specs.Server.{Done, Post, Sender, letters_of, sender}
 use Rattle.petal_rules.specs.State.{State, leaving, servers_of}
 use Rattle.petal_rules.specs.Store.{chain_in, entry_at, bytes_of}
-use Rattle.petal_rules.specs.World.{Setting, World, acts, before_blanks, chosen_log, chosen_state, server_state, server_step, stamped}
+use Rattle.petal_rules.specs.World.{Setting, World, acts, chosen_log, chosen_state, server_state, server_step, stamped}
 use Rattle.petal_rules.specs.World.{step, MayActor, begins_to_leave, chain_that_counts}
 use Rattle.petal_rules.specs.declared.step.Step.{Step}
 use Rattle.petal_rules.specs.declared.step.Step.TheVariants.{Blank}
@@ -32,8 +31,8 @@ use Rattle.law_state.specs.Steady.{IsSteady}
 use Rattle.law_state.proofs.Steady.{log_below, log_rev}
 use Rattle.law_steps.specs.Did.{By_read, Did}
 use Rattle.law_steps.specs.DidRead.{IsReadable, Not_here, Shows}
-use Rattle.law_steps.specs.Happens.{By_ballot, By_entry, By_job, Ends, Fails, Goes, Handled, Serving, Stays, Wakes, Worked}
-use Rattle.law_steps.specs.Happens.{own_place, stopped_so, served_so, without_rev}
+use Rattle.law_steps.specs.Happens.{By_ballot, By_entry, By_job, Ends, Fails, Goes, Handled, Serving, Stays, Wakes}
+use Rattle.law_steps.specs.Happens.{own_place, without_rev}
 use Rattle.law_steps.proofs.Coming.{stage_facts}
 use Rattle.law_steps.proofs.Fronts.{front_itself, front_on}
 use Rattle.law_steps.proofs.Histories.{own_plain, own_steady}

@@ -1,5 +1,5 @@
 -- A server's put of the copy that counts gives a block the bytes of a write under way; one of another copy changes no content.
-use Rattle.std.proofs.Common.{◌≡◌, ◌≢◌, ◌<◌, ℕ, true, Some, is_some, sym, ap, ◌∙◌, subst, ◌⊎◌, inl, inr, ◌≤◌, ◌&&◌, ◌||◌}
+use Rattle.std.proofs.Common.{◌≡◌, ◌≢◌, ◌<◌, ℕ, true, Some, is_some, sym, ap, ◌∙◌, subst, inl, inr, ◌&&◌, ◌||◌}
 use Rattle.std.proofs.Common.{Bool, List, Option, None, false, refl, arith}
 use Rattle.law_steps.proofs.Coming.{stage_facts}
 use Rattle.std.specs.Prelude.{option_and_then}
@@ -20,28 +20,27 @@ use Rattle.petal_base.specs.declared.cell.Key.{Key}
 use Rattle.petal_base.specs.Cells.{cell_of}
 use Rattle.petal_table.specs.Table.{at, put}
 use Rattle.global_tables.specs.declared.disk.DiskRow.{DiskRow}
-use Rattle.global_tables.specs.declared.link.LinkRow.{LinkRow}
 use Rattle.petal_machine.specs.Machine.{Plain}
 use Rattle.petal_machine.specs.Run.{replay}
 use Rattle.petal_msg.specs.declared.body.Body.{Body}
 use Rattle.petal_msg.specs.declared.operation.Pending.{Pending}
 use Rattle.petal_state.specs.CellState.{named_cell}
 use Rattle.petal_state.specs.Command.{state_after}
-use Rattle.petal_rules.specs.State.{State, authority, is_second}
+use Rattle.petal_rules.specs.State.{State, authority}
 use Rattle.petal_rules.specs.Store.{Chain, Store, Stored, cell_cmp, chain_in, chains_with, entry_at, bytes_of}
 use Rattle.petal_rules.specs.Server.{Own, Here}
 use Rattle.petal_rules.specs.World.{World, blank_joins_in, chosen_log, chosen_state, counted, kept}
 use Rattle.petal_rules.proofs.CellTables.{cell_same}
-use Rattle.petal_rules.proofs.Tests.{same_or_apart, same_some, some_or_none, none_some, is_the_one, by_bool, true_false}
+use Rattle.petal_rules.proofs.Tests.{same_or_apart, same_some, some_or_none, none_some, by_bool, true_false}
 use Rattle.petal_history.specs.Contents.{entry_before, entry_by, entry_of, first_entry, old_cell}
 use Rattle.petal_history.specs.Events.{change_by, open_write}
-use Rattle.law_state.specs.Below.{HoldsAlone, IsSecondary}
-use Rattle.law_state.proofs.Cells.{both_authority, alone_authority, second_by}
+use Rattle.law_state.specs.Below.{IsSecondary}
+use Rattle.law_state.proofs.Cells.{both_authority, alone_authority}
 use Rattle.law_state.proofs.Roles.{log_roles}
 use Rattle.law_steps.specs.Happens.{Handled, own_place}
 use Rattle.law_steps.specs.Ready.{IsRising}
 use Rattle.law_steps.proofs.Fronts.{front_on}
-use Rattle.law_steps.proofs.Histories.{chosen_steady, own_steady, runs_now}
+use Rattle.law_steps.proofs.Histories.{runs_now}
 use Rattle.law_stores.specs.Waiting.{IsOwn}
 use Rattle.law_copies.specs.Pair.{owns_of}
 use Rattle.law_copies.specs.Visits.{IsLinked, place_by, AliveIn}

@@ -4,7 +4,7 @@ use Rattle.std.proofs.Common.{◌≡◌, ◌<◌, ℕ, true, Some, refl, sym, ap
 use Rattle.petal_state.specs.Command.{state_after}
 use Rattle.petal_rules.specs.Writes.{is_clients}
 use Rattle.law_steps.proofs.Coming.{stage_facts}
-use Rattle.law_state.specs.Homes.{HasStage, stage_at}
+use Rattle.law_state.specs.Homes.{HasStage}
 use Rattle.global_tables.specs.declared.link.LinkRow.{LinkRow}
 use Rattle.global_tables.specs.declared.link.LinkState.TheVariants.{Both}
 use Rattle.petal_base.specs.declared.cell.Cell.{Cell}

@@ -1,19 +1,19 @@
 -- What is chosen grows: by which cells a block's content is told after a step, and before it. A region that begins its way has what counted at the
 -- old map, and one that has come has at the new one all that was frozen.
-use Rattle.std.proofs.Common.{◌≡◌, ◌≢◌, ◌≤◌, ◌<◌, ◌&&◌, ◌||◌, not, ℕ, Bool, List, [], true, false, Option, Some, None, is_some}
-use Rattle.std.proofs.Common.{refl, sym, ap, ◌∙◌, subst, ◌⊎◌, inl, inr, arith}
+use Rattle.std.proofs.Common.{◌≡◌, ◌≤◌, ◌&&◌, ◌||◌, not, ℕ, Bool, List, true, false, Option, Some, None, is_some}
+use Rattle.std.proofs.Common.{refl, sym, ap, ◌∙◌, ◌⊎◌, inl, inr, arith}
 use Rattle.std.proofs.lemmas.Bool.{cases_lt}
-use Rattle.std.specs.Prelude.{if◌then◌else◌, option_and_then, option_map, slice_get}
+use Rattle.std.specs.Prelude.{if◌then◌else◌, option_and_then, option_map}
 use Rattle.petal_base.specs.declared.cell.Cell.{Cell}
 use Rattle.petal_command.specs.declared.command.Command.{Command}
 use Rattle.global_tables.specs.Disk.{disk_at}
 use Rattle.global_tables.specs.declared.disk.DiskRow.{DiskRow}
-use Rattle.petal_state.specs.CellState.{has_map, named_cell, source}
+use Rattle.petal_state.specs.CellState.{has_map, named_cell}
 use Rattle.petal_rules.specs.Lists.{In}
 use Rattle.petal_rules.specs.State.{State, authority, leaving}
 use Rattle.petal_rules.specs.Store.{Chain, Stored, bytes_of, chain_in, entry_at}
 use Rattle.petal_rules.specs.World.{World, begins_to_leave, chain_that_counts, chosen_log, chosen_state, counted, kept}
-use Rattle.petal_rules.proofs.Tests.{by_bool, none_some, same_some, some_or_none, true_false}
+use Rattle.petal_rules.proofs.Tests.{by_bool, none_some, same_some, true_false}
 use Rattle.petal_history.specs.Contents.{content_at, entry_before, entry_by, entry_of, first_entry, has_content_at, old_cell}
 use Rattle.law_state.specs.Disks.{AreDisks}
 use Rattle.law_state.specs.Homes.{HasStage, stage_at}
@@ -25,8 +25,8 @@ use Rattle.law_state.proofs.Rows.{HasRowLater}
 use Rattle.law_steps.proofs.Coming.{stage_facts}
 use Rattle.law_moves.specs.Fills.{Has}
 use Rattle.law_run.proofs.Along.{HasDisk, cell_comes, cell_leaves, cell_lives, cell_named, cell_old, content_is, disk_here, disks_now, has_content_is}
-use Rattle.law_run.proofs.Along.{later_row, named_comes, named_high, named_lives, named_low, named_map_is, old_leaves, plain_now, rows_in, stage_here}
-use Rattle.law_run.proofs.Contents.{now_has, now_kept, was_has, was_kept}
+use Rattle.law_run.proofs.Along.{later_row, named_comes, named_high, named_low, named_map_is, old_leaves, plain_now, rows_in}
+use Rattle.law_run.proofs.Contents.{now_has, now_kept}
 use Rattle.law_run.proofs.Counting.{counts_serves}
 use Rattle.law_run.proofs.Fills.{old_source}
 use Rattle.law_run.proofs.Named.{entry_over, has_over, is_between}

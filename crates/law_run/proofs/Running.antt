@@ -1,6 +1,6 @@
 -- Every legal history is a run of the plain machine.
 use Rattle.std.proofs.Common.{◌≡◌, ℕ, List, [], ◌∷◌, ◌++◌, Option, Some, refl, sym, ap, ◌∙◌, subst, true, ◌⊎◌, inl, inr, append_assoc}
-use Rattle.std.specs.Prelude.{max, fold, map, unwrap_or}
+use Rattle.std.specs.Prelude.{max, fold, map}
 use Rattle.std.specs.List.{flat_map, range_with_len}
 use Rattle.std.specs.Ordering.{nat_cmp}
 use Rattle.petal_base.specs.declared.cell.Cell.{Cell}
@@ -19,14 +19,14 @@ use Rattle.script_lines.specs.declared.script.Script.{Script}
 use Rattle.petal_rules.specs.Lists.{In}
 use Rattle.petal_rules.specs.State.{State, is_in}
 use Rattle.petal_rules.specs.Server.{Own}
-use Rattle.petal_rules.specs.Store.{Chain, cell_cmp, chain_in}
+use Rattle.petal_rules.specs.Store.{cell_cmp}
 use Rattle.petal_rules.specs.World.{Setting, World, acts, blank_joins_in, counted, reacts, step, start, setting_of, server_step, client_step, next_line}
 use Rattle.petal_rules.specs.World.{server_state, client_state, chosen_log, chosen_state, devices, MayActor}
 use Rattle.petal_rules.specs.declared.step.Step.{Step}
 use Rattle.petal_rules.specs.declared.step.Step.TheVariants.{Blank, Call}
 use Rattle.petal_rules.proofs.Tests.{by_test, none_some, same_some}
 use Rattle.petal_history.specs.Claims.{AreHeld, IsPrefix, IsStill, Law, Requests, SnapshotsStay, machine_after}
-use Rattle.petal_history.specs.Events.{begins, ended, ends, open_write, change_by, freezes, takes, makes, looks, told, told_from}
+use Rattle.petal_history.specs.Events.{begins, ended, ends, open_write, change_by, freezes, takes, makes, told, told_from}
 use Rattle.petal_history.specs.Events.{told_with, joined, events_of, IsRunOf, look_of}
 use Rattle.petal_history.specs.Legal.{Follows, IsLegal, IsLegalFrom, stepped, world_after}
 use Rattle.petal_history.specs.Sound.{IsSound}

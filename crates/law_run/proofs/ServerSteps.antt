@@ -34,8 +34,6 @@ use Rattle.petal_rules.specs.declared.step.Step.{Step}
 use Rattle.petal_rules.proofs.Settled.{IsSettling, settling}
 use Rattle.petal_rules.proofs.Tests.{true_false}
 use Rattle.petal_history.specs.Claims.{IsPrefix}
-use Rattle.petal_history.specs.Contents.{cell_of_block}
-use Rattle.petal_history.specs.Events.{accepted}
 use Rattle.petal_history.specs.declared.record.Record.{Record}
 use Rattle.law_state.specs.Tables.{IsGrown}
 use Rattle.law_steps.specs.Did.{Did, By_read}

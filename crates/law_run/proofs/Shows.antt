@@ -1,6 +1,6 @@
 -- A read's data are those that the machine has.
 use Rattle.std.proofs.Common.{◌≡◌, ◌≤◌, ◌==◌, ℕ, List, [], ◌∷◌, ◌++◌, Bool, true, Option, Some, None, is_some, refl, sym, ap}
-use Rattle.std.proofs.Common.{◌∙◌, subst, inl, inr, arith, ◌⊎◌, ◌<◌, false}
+use Rattle.std.proofs.Common.{◌∙◌, subst, inl, inr, arith, false}
 use Rattle.std.specs.List.{flat_map}
 use Rattle.std.proofs.lemmas.Bool.{cases_lt}
 use Rattle.petal_state.specs.CellState.{has_map, named_cell, serves}
@@ -11,7 +11,6 @@ use Rattle.law_state.specs.Tables.{IsPlainState}
 use Rattle.law_state.specs.Disks.{AreDisks}
 use Rattle.law_state.specs.Homes.{HasStage, epoch_at, stage_at}
 use Rattle.law_state.specs.Rows.{ByBoth, ByOne, ByNone}
-use Rattle.law_copies.proofs.Later.{holder_is_one}
 use Rattle.law_steps.proofs.Coming.{stage_facts}
 use Rattle.law_steps.specs.DidRead.{IsReadable}
 use Rattle.petal_machine.specs.declared.event.Event.{Event}
@@ -22,53 +21,44 @@ use Rattle.law_run.proofs.Machine.{onward_itself}
 use Rattle.law_run.proofs.Named.{entry_over, has_over, is_between}
 use Rattle.law_run.proofs.Reading.{AsksFor, IsAskedAt, IsKnownRead, IsOfDisk, known_read, may_look, of_disk, own_epoch}
 use Rattle.law_run.proofs.Reading.{own_up_to, reader_serves, reads_old_is, same_disk}
-use Rattle.std.specs.Prelude.{option_and_then, option_map, if◌then◌else◌}
+use Rattle.std.specs.Prelude.{if◌then◌else◌}
 use Rattle.petal_base.specs.declared.cell.Cell.{Cell}
 use Rattle.petal_command.specs.declared.command.Command.{Command}
 use Rattle.petal_table.specs.Table.{at}
 use Rattle.global_tables.specs.declared.disk.DiskRow.{DiskRow}
-use Rattle.global_tables.specs.declared.disk.Snapshot.{Snapshot}
 use Rattle.global_tables.specs.declared.link.LinkRow.{LinkRow}
 use Rattle.petal_machine.specs.Run.{MayLook}
-use Rattle.petal_machine.specs.declared.state.Disk.{Disk}
-use Rattle.petal_machine.specs.declared.state.Snapshot as machine
 use Rattle.petal_msg.specs.declared.body.Body.{Body}
 use Rattle.petal_msg.specs.declared.body.Body.TheVariants as body
 use Rattle.petal_msg.specs.declared.letter.Actor.TheVariants as actor
 use Rattle.petal_msg.specs.declared.letter.Letter.{Letter}
 use Rattle.petal_state.specs.Command.{state_after}
-use Rattle.petal_state.specs.declared.answer.DiskView.{DiskView}
 use Rattle.script_lines.specs.declared.request.Line.{Line}
 use Rattle.script_lines.specs.declared.request.Request.TheVariants as request
 use Rattle.petal_rules.specs.Lists.{In}
-use Rattle.petal_rules.specs.State.{State, authority, is_in, is_lead, readable, snapshot, coming, held, leads_link, leaving, live}
+use Rattle.petal_rules.specs.State.{State, authority, is_in, is_lead, readable, coming, held, leads_link, leaving, live}
 use Rattle.petal_rules.specs.Store.{Store, cell_cmp, Chain, chain_in, entry_at, bytes_of, Stored}
 use Rattle.petal_rules.specs.Server.{Own}
-use Rattle.petal_rules.specs.Clients.{epoch_for}
 use Rattle.petal_rules.specs.World.{chosen_state, chosen_log, counted, server_state}
 use Rattle.petal_rules.proofs.ListLemmas.{in-append}
-use Rattle.petal_rules.proofs.Tests.{by_bool, is_the_so, none_some, same_numbers, same_some, some_or_none, number_itself, true_false}
-use Rattle.petal_history.specs.Claims.{Holds}
+use Rattle.petal_rules.proofs.Tests.{by_bool, is_the_so, same_numbers, same_some, true_false}
 use Rattle.petal_history.specs.Contents.{entry_before, entry_by, entry_of, old_cell}
-use Rattle.petal_history.specs.Events.{look_for, look_of, looks, accepted, asks_old, job_asks_old, reads_old}
+use Rattle.petal_history.specs.Events.{look_for, look_of, accepted}
 use Rattle.law_state.specs.Below.{IsServing}
-use Rattle.law_state.proofs.Cells.{alone_authority, both_authority, both_leads, dead_reader, read_by}
+use Rattle.law_state.proofs.Cells.{alone_authority, both_authority, both_leads, dead_reader}
 use Rattle.law_state.proofs.Leaves.{either_true}
 use Rattle.law_state.proofs.Roles.{log_roles}
 use Rattle.law_steps.specs.Happens.{Handled, own_place}
-use Rattle.law_steps.proofs.Fronts.{front_itself, front_on, one_front}
-use Rattle.law_steps.proofs.Histories.{chosen_steady, own_below, own_steady, runs_now, own_plain}
+use Rattle.law_steps.proofs.Fronts.{front_itself}
+use Rattle.law_steps.proofs.Histories.{chosen_steady, own_below, runs_now, own_plain}
 use Rattle.law_copies.specs.Pair.{PairOk, owns_of, pair_of}
 use Rattle.law_copies.specs.Visits.{half, place_by, AliveIn, IsLinked}
 use Rattle.law_copies.proofs.Places.{one_row, places_up, dead_not, linked_between}
-use Rattle.law_requests.specs.Asked.{IsRead}
-use Rattle.law_requests.specs.Known.{Known, ReadKnown, seen}
 use Rattle.law_run.proofs.Seats.{chosen_store, chosen_twins, equal_pair, visit_here, alive_here}
 use Rattle.law_run.proofs.Along.{HasDisk, cell_named, content_is, disk_here, disks_now, has_content_is, named_comes, plain_now, rows_in}
 use Rattle.law_run.proofs.Looks.{AllLooks, Looked, looked, Accepts, letter_looks}
 use Rattle.law_run.proofs.Contents.{was_kept, now_has, now_kept, was_has}
 use Rattle.law_run.proofs.Entries.{AreUpTo, entry_later}
-use Rattle.law_run.proofs.Grounds.{kept_up_to}
 use Rattle.law_run.proofs.Steps.{ServerStep, LooksTold, letters, later_world, look_here}
 
 -- looks that are allowed, one after another

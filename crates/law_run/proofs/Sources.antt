@@ -1,9 +1,8 @@
 -- From which cell the entries of a cell that is coming come: it is the same by each state by which it is coming.
-use Rattle.std.proofs.Common.{◌≡◌, ◌≤◌, ◌<◌, ◌==◌, ℕ, Bool, List, true, false, Option, Some, None, refl, sym, ap, ◌∙◌, subst, ◌⊎◌, inl, inr, arith}
-use Rattle.std.specs.Prelude.{if◌then◌else◌, option_and_then, option_map, slice_get}
+use Rattle.std.proofs.Common.{◌≡◌, ◌==◌, ℕ, List, true, Option, Some, None, refl, sym, ap, ◌∙◌, inl, inr, arith}
+use Rattle.std.specs.Prelude.{if◌then◌else◌, option_and_then, option_map}
 use Rattle.petal_base.specs.declared.cell.Cell.{Cell}
 use Rattle.petal_command.specs.declared.command.Command.{Command}
-use Rattle.global_tables.specs.Map.{disk_of}
 use Rattle.global_tables.specs.declared.disk.DiskRow.{DiskRow}
 use Rattle.global_tables.specs.Region.{region_of}
 use Rattle.global_tables.specs.declared.disk.Move.{Move}
@@ -11,12 +10,11 @@ use Rattle.global_tables.specs.declared.disk.RegionState.{RegionState}
 use Rattle.global_tables.specs.declared.disk.RegionState.TheVariants.{Old, Fenced, New}
 use Rattle.petal_history.specs.Claims.{IsPrefix}
 use Rattle.petal_history.specs.Contents.{home_of, old_cell}
-use Rattle.petal_state.specs.CellState.{has_map, is_fenced, move_region, named_cell, named_map, old_map, owner, source, source_in}
+use Rattle.petal_state.specs.CellState.{has_map, is_fenced, move_region, named_cell, named_map, old_map, source, source_in}
 use Rattle.petal_state.specs.Command.{state_after}
-use Rattle.petal_state.specs.State.{leaves}
 use Rattle.petal_rules.specs.Lists.{In}
 use Rattle.petal_rules.specs.State.{State}
-use Rattle.petal_rules.proofs.Tests.{by_bool, none_some, number_itself, same_numbers, same_some, some_or_none, true_false}
+use Rattle.petal_rules.proofs.Tests.{number_itself, some_or_none, true_false}
 use Rattle.law_state.specs.Disks.{AreDisks}
 use Rattle.law_state.specs.Homes.{stage_at}
 use Rattle.law_state.specs.Plain.{IsPlainLog}

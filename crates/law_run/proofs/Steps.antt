@@ -1,7 +1,7 @@
 -- What the machine is told of a server's step: takes, disks that are made, snapshots that are taken, and looks.
-use Rattle.std.proofs.Common.{◌≡◌, ◌≢◌, ◌≤◌, ◌<◌, ◌&&◌, not, ℕ, Bool, List, [], ◌++◌, ◌∷◌, true, false, Option, Some, None}
+use Rattle.std.proofs.Common.{◌≡◌, ◌≢◌, ◌<◌, ℕ, List, [], ◌++◌, ◌∷◌, false, Option, Some, None}
 use Rattle.std.proofs.Common.{refl, sym, ap, ◌∙◌, subst, inl, inr, arith}
-use Rattle.std.specs.Prelude.{if◌then◌else◌, option_map}
+use Rattle.std.specs.Prelude.{option_map}
 use Rattle.std.specs.List.{flat_map}
 use Rattle.std.specs.Cmp.{nat_cmp_total}
 use Rattle.petal_msg.specs.declared.letter.Actor.TheVariants as actor
@@ -15,13 +15,13 @@ use Rattle.petal_command.specs.declared.command.Command.{Command}
 use Rattle.petal_state.specs.Command.{state_after}
 use Rattle.petal_rules.specs.Blanked.{kept_store}
 use Rattle.petal_rules.specs.Lists.{In}
-use Rattle.petal_rules.specs.Log.{Log, state_in}
-use Rattle.petal_rules.specs.State.{State, authority, leaving}
+use Rattle.petal_rules.specs.Log.{Log}
+use Rattle.petal_rules.specs.State.{State, authority}
 use Rattle.petal_rules.specs.Store.{Chain, Store, chain_in, entry_at}
 use Rattle.petal_rules.specs.Server.{Server, Own, Done}
 use Rattle.petal_rules.specs.Jobs.{Acted}
 use Rattle.petal_rules.specs.World.{Setting, World, acts, before_blanks, begins_to_leave, blank_joins_in, chain_that_counts, counted, counted_by}
-use Rattle.petal_rules.specs.World.{kept, kept_by, stamped, server_state, chosen_log, chosen_state}
+use Rattle.petal_rules.specs.World.{kept, kept_by, stamped, chosen_log, chosen_state}
 use Rattle.petal_rules.specs.declared.step.Step.{Step}
 use Rattle.petal_rules.proofs.ListLemmas.{put_same, put_apart}
 use Rattle.petal_rules.proofs.Tests.{all_put, by_test, none_some, same_or_apart, same_some}

@@ -33,7 +33,7 @@ use Rattle.petal_rules.specs.Lists.{In}
 use Rattle.petal_rules.specs.State.{State, authority, is_alone_on, live}
 use Rattle.petal_rules.specs.Store.{Chain, Store, Stored, cell_cmp, chain_in, entry_at, bytes_of, version_of}
 use Rattle.petal_rules.specs.Server.{Own, Server}
-use Rattle.petal_rules.specs.World.{World, chosen_log, chosen_state, counted, counted_by, kept, server_state}
+use Rattle.petal_rules.specs.World.{World, chosen_log, chosen_state, counted, counted_by, kept}
 use Rattle.petal_rules.proofs.Tests.{all_put_apart, by_bool, none_some, number_itself, same_numbers, same_or_apart, same_some, some_or_none, true_false}
 use Rattle.petal_history.specs.Claims.{one_put_ahead}
 use Rattle.petal_history.specs.Contents.{entry_before, entry_by, entry_of, first_entry, old_cell}
@@ -48,9 +48,9 @@ use Rattle.law_state.proofs.Cells.{alone_authority, both_authority, lost_authori
 use Rattle.law_state.proofs.Grown.{one_before}
 use Rattle.law_state.proofs.Roles.{primary_is_one, secondary_is_one}
 use Rattle.law_steps.proofs.Fronts.{front_itself, front_more, front_on, front_long}
-use Rattle.law_steps.proofs.Histories.{chosen_steady, own_steady, own_below}
+use Rattle.law_steps.proofs.Histories.{chosen_steady, own_below}
 use Rattle.law_copies.specs.Good.{Good, AreTwins, pair_at}
-use Rattle.law_copies.specs.Pair.{AreCopies, IsAhead, Pair, PairOk, Working, far, owns_of, pair_of}
+use Rattle.law_copies.specs.Pair.{PairOk, far, owns_of, pair_of}
 use Rattle.law_copies.specs.Visits.{IsLast, IsLinked, half, place_by, AliveIn, WasThere}
 use Rattle.law_copies.proofs.Later.{holder_is_one, other_than}
 use Rattle.law_copies.proofs.Places.{one_row, places_up, rows_later, linked_alive}
@@ -73,7 +73,7 @@ use Rattle.law_run.proofs.Placed.{Placed, placed}
 use Rattle.law_run.proofs.Says.{is_written, unended_data, unended_written, is_reply}
 use Rattle.law_run.proofs.Steps.{ServerStep, ServerTold, new, later_world, letters, joined_now, joined_then, kept_chain, kept_middle, quiet_looks}
 use Rattle.law_run.proofs.Seats.{chosen_last, chosen_store, chosen_twins, half_store, op_leads, op_there, shared_before, visit_here, alive_here, op_high}
-use Rattle.law_run.proofs.Aheads.{IsAheadLow, copied_low, put_ahead}
+use Rattle.law_run.proofs.Aheads.{copied_low, put_ahead}
 use Rattle.law_run.proofs.Takes.{block_there}
 
 module _ (this : ServerStep) (same_store : (new this).store.chains ≡ (owns_of this.w this.n).store.chains) where

@@ -1,8 +1,8 @@
 -- What each entry, and each fence that passes, leaves of a cell that is live and not leaving: its epoch, and that it does not leave. And what a
 -- fence holds of such a cell it held before.
-use Rattle.std.proofs.Common.{◌≡◌, ◌≢◌, ◌≤◌, ◌<◌, ◌+◌, ◌==◌, ◌&&◌, ℕ, List, Bool, true, false, not, Option, Some, None, is_some}
-use Rattle.std.proofs.Common.{refl, sym, ap, ◌∙◌, subst, ◌⊎◌, inl, inr, arith}
-use Rattle.std.specs.Prelude.{◌||◌, nat_le, option_map, option_and_then, replicate, slice_get, slice_set, unwrap_or, if◌then◌else◌}
+use Rattle.std.proofs.Common.{◌≡◌, ◌≢◌, ◌≤◌, ◌+◌, ◌==◌, ◌&&◌, ℕ, Bool, true, false, Option, Some, None}
+use Rattle.std.proofs.Common.{refl, sym, ap, ◌∙◌, subst, inl, inr, arith}
+use Rattle.std.specs.Prelude.{◌||◌, nat_le, option_map, option_and_then, slice_get, unwrap_or, if◌then◌else◌}
 use Rattle.std.specs.Option.{option_map_or}
 use Rattle.std.proofs.lemmas.Bool.Decides.{nat_tests}
 use Rattle.petal_base.specs.declared.cell.Cell.{Cell}
@@ -11,20 +11,19 @@ use Rattle.global_tables.specs.Map.{disk_of}
 use Rattle.global_tables.specs.Region.{region_of}
 use Rattle.global_tables.specs.declared.disk.DiskRow.{DiskRow}
 use Rattle.global_tables.specs.declared.disk.Move.{Move}
-use Rattle.global_tables.specs.declared.disk.RegionState.TheVariants.{Old, Fenced, New}
+use Rattle.global_tables.specs.declared.disk.RegionState.TheVariants.{Fenced, New}
 use Rattle.global_tables.specs.declared.fence.FenceKind.{FenceKind}
 use Rattle.global_tables.specs.declared.fence.FenceKind.TheVariants.{Region, Whole}
 use Rattle.global_tables.specs.declared.map.MapRow.{MapRow}
 use Rattle.petal_state.specs.declared.answer.Hold.{Hold}
 use Rattle.petal_state.specs.declared.answer.Hold.TheVariants.{All, No, Writes}
-use Rattle.petal_state.specs.CellState.{has_map, holds, is_of, live, live_under, move_region, owner}
+use Rattle.petal_state.specs.CellState.{has_map, holds, is_of, live, live_under, owner}
 use Rattle.petal_state.specs.State.{leaves}
 use Rattle.petal_rules.specs.State.{State}
-use Rattle.petal_rules.proofs.Tests.{both_true, by_bool, none_some, number_itself, same_numbers, same_some, some_or_none, true_false}
-use Rattle.law_state.specs.Homes.{epoch_at, era_at, era_by, new_stage, stage_at, stage_of}
-use Rattle.law_state.specs.Tables.{IsGrown}
+use Rattle.petal_rules.proofs.Tests.{both_true, by_bool, none_some, same_some, some_or_none, true_false}
+use Rattle.law_state.specs.Homes.{epoch_at, era_by, new_stage, stage_at, stage_of}
 use Rattle.law_state.proofs.Fences.{Acted, IsUnsettled}
-use Rattle.law_state.proofs.Homes.{HasRow, has_stage, row_or_none}
+use Rattle.law_state.proofs.Homes.{has_stage, row_or_none}
 use Rattle.law_state.proofs.Owners.{epoch_in, epoch_is, home, home_later, kept_by, no_home, owner_is, stage_in, stage_is}
 use Rattle.law_state.proofs.Places.{get_set_beside}
 

@@ -1,6 +1,6 @@
 -- What a state says of a cell, its stage says.
-use Rattle.std.proofs.Common.{◌≡◌, ◌≢◌, ◌≤◌, ◌<◌, ◌+◌, ◌==◌, ◌&&◌, ℕ, List, Bool, true, false, not, Option, Some, None}
-use Rattle.std.proofs.Common.{is_some, refl, sym, ap, ◌∙◌, ◌⊎◌, inl, inr, arith}
+use Rattle.std.proofs.Common.{◌≡◌, ◌≤◌, ◌<◌, ◌+◌, ◌==◌, ◌&&◌, ℕ, Bool, true, false, not, Option, Some, None}
+use Rattle.std.proofs.Common.{refl, sym, ap, ◌∙◌, ◌⊎◌, inl, inr, arith}
 use Rattle.std.specs.Prelude.{◌||◌, nat_le, option_map, option_and_then, slice_get, if◌then◌else◌}
 use Rattle.std.specs.Option.{option_map_or}
 use Rattle.std.proofs.lemmas.Bool.Decides.{nat_tests}
@@ -15,10 +15,10 @@ use Rattle.global_tables.specs.declared.map.MapRow.{MapRow}
 use Rattle.petal_state.specs.CellState.{cell_link, comes_under, coming, has_map, is_fenced, leaving, live, live_new, live_old, live_under}
 use Rattle.petal_state.specs.CellState.{move_region, owner, row_lead, source, source_in, target}
 use Rattle.petal_state.specs.State.{leaves, mover}
-use Rattle.petal_rules.specs.State.{State, is_lead, is_the, lead, leads_link}
-use Rattle.petal_rules.proofs.Tests.{by_bool, none_some, number_itself, same_numbers, some_or_none, true_false}
+use Rattle.petal_rules.specs.State.{State, is_lead, is_the, lead}
+use Rattle.petal_rules.proofs.Tests.{by_bool, number_itself, same_numbers, some_or_none, true_false}
 use Rattle.law_state.specs.Homes.{HasStage, HasTwin, era_by, new_stage, old_stage, stage_at, stage_of, stage_under}
-use Rattle.law_state.specs.Tables.{HasHome, IsMove, IsRowAt}
+use Rattle.law_state.specs.Tables.{HasHome, IsRowAt}
 use Rattle.law_state.proofs.Owners.{home, home_of, kept_by, left_by, mover_is, no_home, owner_is, stage_in, stage_is}
 use Rattle.law_state.proofs.Stages.{new_most, stage_most}
 

@@ -1,7 +1,7 @@
 -- A StartMove gives a disk a new map, and queues a fence for its first region. A Moved notes a link; behind the last link of the old map the
 -- region is at the new one, and the next one waits, or the move is over and the links of the old map are gone.
-use Rattle.std.proofs.Common.{◌≡◌, ◌≢◌, ◌≤◌, ◌<◌, ◌+◌, ◌++◌, ◌==◌, ℕ, zero, suc, List, [], ◌∷◌, length, Bool, true, false, not, cond, Option, Some, None}
-use Rattle.std.proofs.Common.{is_some, Result, Ok, Err, refl, sym, ap, ◌∙◌, subst, ◌⊎◌, inl, inr, length-append, arith}
+use Rattle.std.proofs.Common.{◌≡◌, ◌≢◌, ◌≤◌, ◌<◌, ◌+◌, ◌==◌, ℕ, List, [], ◌∷◌, length, Bool, true, false, not, cond, Option, Some, None}
+use Rattle.std.proofs.Common.{is_some, Result, Ok, Err, refl, sym, ap, ◌∙◌, subst, ◌⊎◌, inl, inr, arith}
 use Rattle.std.specs.Prelude.{◌||◌, filter, find, nat_lt, replicate, slice_get, slice_set, option_map, option_and_then, if◌then◌else◌}
 use Rattle.std.proofs.lemmas.Bool.Decides.{nat_tests}
 use Rattle.std.proofs.lemmas.List.{append-nil}
@@ -12,15 +12,14 @@ use Rattle.global_tables.specs.declared.disk.DiskRow.{DiskRow}
 use Rattle.global_tables.specs.declared.disk.Move.{Move}
 use Rattle.global_tables.specs.declared.disk.RegionState.TheVariants.{Old, Fenced, New}
 use Rattle.global_tables.specs.declared.disk.Verdict.{Verdict}
-use Rattle.global_tables.specs.declared.disk.Verdict.TheVariants as Verdict
 use Rattle.global_tables.specs.declared.fence.Fence.{Fence}
 use Rattle.global_tables.specs.declared.fence.FenceKind.TheVariants.{Region}
 use Rattle.global_tables.specs.declared.link.LinkRow.{LinkRow}
 use Rattle.global_tables.specs.declared.map.MapRow.{MapRow}
-use Rattle.global_tables.specs.Disk.{Disks, all_noted, change, completes, disk_at, move_done, named, noted, option_moved, row_moving}
+use Rattle.global_tables.specs.Disk.{all_noted, completes, disk_at, move_done, named, noted, option_moved, row_moving}
 use Rattle.global_tables.specs.Disk.{row_noted, same_name, snapshot_named, with_link}
 use Rattle.global_tables.specs.Link.{dropped, is_link, link_at}
-use Rattle.global_tables.specs.Map.{added, disk_of, tuple_of}
+use Rattle.global_tables.specs.Map.{disk_of, tuple_of}
 use Rattle.global_tables.specs.Region.{region_of}
 use Rattle.petal_command.specs.declared.command.Command.TheVariants.{Moved, StartMove}
 use Rattle.petal_state.specs.CellState.{has_map, is_fenced, move_region, owner}
@@ -31,8 +30,8 @@ use Rattle.petal_rules.specs.State.{State}
 use Rattle.petal_rules.proofs.Tests.{both_true, by_bool, by_test, none_some, not_true, number_itself, same_numbers}
 use Rattle.petal_rules.proofs.Tests.{same_or_apart, same_some, some_or_none, true_false}
 use Rattle.law_state.specs.Ages.{age_of}
-use Rattle.law_state.specs.Homes.{new_stage, stage_of, stage_under}
-use Rattle.law_state.specs.Tables.{HasHome, HasLaterDisk, HasLinkOf, IsFence, IsForRegion, IsForSnapshot, IsGone, IsLaterDisk, IsMove}
+use Rattle.law_state.specs.Homes.{new_stage, stage_under}
+use Rattle.law_state.specs.Tables.{HasHome, HasLaterDisk, HasLinkOf, IsGone, IsLaterDisk, IsMove}
 use Rattle.law_state.specs.Tables.{IsPlainState, IsRowAt, IsShape, Of_disk, Of_region}
 use Rattle.law_state.proofs.Ages.{no_less}
 use Rattle.law_state.proofs.Fences.{Acted, AreQueued, IsUnsettled, fence_kept, region_queued, requeued, same_region, unsettled}
@@ -40,7 +39,7 @@ use Rattle.law_state.proofs.Grown.{grown_on, same_row}
 use Rattle.law_state.proofs.Making.{map_on, mapping, new_map}
 use Rattle.law_state.proofs.Making as making
 use Rattle.law_state.proofs.Owners.{disk_at_is, disk_on, home, kept_by, owner_is, row_at_on, stage_in, stage_is, stages_later}
-use Rattle.law_state.proofs.Places.{find_none, found_at, none_find}
+use Rattle.law_state.proofs.Places.{found_at}
 use Rattle.law_state.proofs.Rowed as rowed
 use Rattle.law_state.proofs.Rowed.{beside, fence_then, here, here_now, homes_now, many_rows, names_now, owner_before, owner_then}
 use Rattle.law_state.proofs.Rowed.{row_known, row_later, rowing, rows_later, rows_now, was_row}

@@ -1,6 +1,6 @@
 -- Which cell of a disk's block its users name: one that takes writes, and the only one of those that were made for the disk.
-use Rattle.std.proofs.Common.{◌≡◌, ◌≤◌, ◌<◌, ◌==◌, ◌+◌, ℕ, Bool, List, true, false, Option, Some, None, refl, sym, ap, ◌∙◌, subst, arith}
-use Rattle.std.specs.Prelude.{◌||◌, if◌then◌else◌, option_map, option_and_then, slice_get, unwrap_or}
+use Rattle.std.proofs.Common.{◌≡◌, ◌≤◌, ◌<◌, ◌==◌, ℕ, List, true, false, Option, Some, None, refl, sym, ap, ◌∙◌, subst, arith}
+use Rattle.std.specs.Prelude.{◌||◌, if◌then◌else◌, option_map, option_and_then, slice_get}
 use Rattle.global_tables.specs.Disk.{disk_at}
 use Rattle.global_tables.specs.Map.{disk_of}
 use Rattle.global_tables.specs.Region.{region_of}

@@ -1,10 +1,10 @@
 -- Which disk has a map: the one that it was made for, or none any more. By its row a cell's stage and epoch are told.
-use Rattle.std.proofs.Common.{◌≡◌, ◌≢◌, ◌≤◌, ◌==◌, ℕ, List, Bool, true, false, Option, Some, None, is_some, refl, sym, ap, ◌∙◌, ◌⊎◌, inl, inr, arith}
+use Rattle.std.proofs.Common.{◌≡◌, ◌≤◌, ◌==◌, ℕ, List, Bool, true, false, Option, Some, None, is_some, refl, sym, ap, ◌∙◌, ◌⊎◌, inl, inr, arith}
 use Rattle.std.specs.Prelude.{◌||◌, find, option_map, option_and_then, slice_get, if◌then◌else◌}
 use Rattle.std.specs.Option.{option_map_or}
 use Rattle.petal_base.specs.declared.cell.Cell.{Cell}
 use Rattle.global_tables.specs.Disk.{disk_at, is_disk}
-use Rattle.global_tables.specs.Map.{disk_of, tuple_of}
+use Rattle.global_tables.specs.Map.{disk_of}
 use Rattle.global_tables.specs.declared.disk.DiskRow.{DiskRow}
 use Rattle.global_tables.specs.declared.disk.Move.{Move}
 use Rattle.global_tables.specs.declared.map.MapRow.{MapRow}
@@ -14,7 +14,7 @@ use Rattle.petal_rules.specs.State.{State}
 use Rattle.petal_rules.proofs.Tests.{by_bool, none_some, number_itself, same_numbers, same_some, some_or_none, true_false}
 use Rattle.law_state.specs.Homes.{epoch_at, stage_at, stage_by, stage_of, stage_under}
 use Rattle.law_state.specs.Tables.{HasHome, HasLaterDisk, IsRowAt}
-use Rattle.law_state.proofs.Places.{find_here, find_none, found_at}
+use Rattle.law_state.proofs.Places.{find_here, find_none}
 
 -- the row of the disk for which the map was made
 abbrev pub home : State → ℕ → Option DiskRow

@@ -1,7 +1,7 @@
 -- A fence that waits for nobody takes effect: its disk has one snapshot more, and the next epoch begins; or a region of its disk is on its way.
 -- What settles so is plain again.
 -- Links, maps and who is In stay as they were.
-use Rattle.std.proofs.Common.{◌≡◌, ◌≢◌, ◌≤◌, ◌+◌, ◌==◌, ℕ, zero, suc, List, [], ◌∷◌, length, Bool, true, false, cond, Option, Some, None}
+use Rattle.std.proofs.Common.{◌≡◌, ◌≢◌, ◌≤◌, ◌==◌, ℕ, zero, suc, List, [], ◌∷◌, length, false, cond, Option, Some, None}
 use Rattle.std.proofs.Common.{refl, sym, ap, ◌∙◌, subst, inl, inr, length-append, arith}
 use Rattle.std.specs.Prelude.{◌||◌, length, slice_get, option_and_then, option_map}
 use Rattle.std.specs.Option.{option_map_or}
@@ -27,7 +27,7 @@ use Rattle.petal_state.specs.Fence.{confirmed, effect, let_through, settled}
 use Rattle.petal_state.specs.State.{inc_of, is_up_as, latest, leaves, told}
 use Rattle.petal_state.proofs.Passing.{length-behind, settled_none, settled_one, view-effect}
 use Rattle.petal_rules.specs.State.{State}
-use Rattle.petal_rules.proofs.Tests.{by_bool, by_test, nat_lists_same, none_some, same_some, some_or_none, true_false}
+use Rattle.petal_rules.proofs.Tests.{by_bool, by_test, nat_lists_same, same_some, some_or_none, true_false}
 use Rattle.law_state.specs.Homes.{stage_of}
 use Rattle.law_state.specs.Tables.{IsForRegion, IsForSnapshot, IsLaterDisk, IsMove, IsRowAt, Of_disk, Of_region}
 use Rattle.law_state.proofs.Ages.{no_less}

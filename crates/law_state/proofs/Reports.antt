@@ -1,5 +1,5 @@
 -- An era rises behind reports: while a server stays In as one incarnation, the active fence that holds a cell's writes awaits its report.
-use Rattle.std.proofs.Common.{◌≡◌, ◌≢◌, ◌≤◌, ◌<◌, ◌+◌, ◌==◌, ◌&&◌, ◌++◌, ℕ, Bool, List, [], ◌∷◌, length, true, false, not, Option, Some, None}
+use Rattle.std.proofs.Common.{◌≡◌, ◌≢◌, ◌≤◌, ◌<◌, ◌+◌, ◌==◌, ◌&&◌, ◌++◌, ℕ, Bool, List, [], ◌∷◌, length, true, false, not, Some, None}
 use Rattle.std.proofs.Common.{is_some, refl, sym, ap, ◌∙◌, subst, ◌⊎◌, inl, inr, append_assoc, arith}
 use Rattle.std.specs.Prelude.{◌||◌, fold, nat_eq, replicate, slice_get, unwrap_or, if◌then◌else◌}
 use Rattle.std.specs.List.{list_any}
@@ -10,7 +10,6 @@ use Rattle.petal_base.specs.declared.cell.Cell.{Cell}
 use Rattle.global_tables.specs.declared.disk.DiskRow.{DiskRow}
 use Rattle.global_tables.specs.declared.disk.RegionState.TheVariants.{Old, New}
 use Rattle.global_tables.specs.declared.disk.Verdict.{Verdict}
-use Rattle.global_tables.specs.declared.disk.Verdict.TheVariants as Verdict
 use Rattle.global_tables.specs.declared.fence.Fence.{Fence}
 use Rattle.global_tables.specs.declared.fence.FenceKind.{FenceKind}
 use Rattle.global_tables.specs.declared.fence.FenceKind.TheVariants.{Region, Whole}
@@ -34,7 +33,7 @@ use Rattle.petal_rules.specs.Reads.{is_all_held}
 use Rattle.petal_rules.specs.State.{State, held, is_in}
 use Rattle.petal_rules.specs.Writes.{is_writes_held}
 use Rattle.petal_rules.proofs.ListLemmas.{in_later}
-use Rattle.petal_rules.proofs.Tests.{by_bool, by_test, none_some, number_itself, same_numbers, same_or_apart, same_some, some_or_none, true_false}
+use Rattle.petal_rules.proofs.Tests.{by_bool, by_test, number_itself, same_numbers, same_or_apart, same_some, some_or_none, true_false}
 use Rattle.law_state.specs.Epochs.{HasReported}
 use Rattle.law_state.specs.Homes.{epoch_at, era_at, new_stage, old_stage, stage_at, stage_of}
 use Rattle.law_state.specs.Plain.{IsPlain, IsPlainLog}

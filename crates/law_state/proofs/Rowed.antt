@@ -1,6 +1,6 @@
 -- The row of one disk is changed: its name and number stay, its map is the one that it had or a later one, and each cell is as far as it was, or
 -- farther.
-use Rattle.std.proofs.Common.{◌≡◌, ◌≢◌, ◌≤◌, ◌<◌, ◌+◌, ◌==◌, ℕ, zero, suc, List, [], ◌∷◌, length, Bool, true, false, cond, Option, Some}
+use Rattle.std.proofs.Common.{◌≡◌, ◌≢◌, ◌+◌, ◌==◌, ℕ, zero, suc, List, [], ◌∷◌, length, Bool, true, false, cond, Option, Some}
 use Rattle.std.proofs.Common.{None, refl, sym, ap, ◌∙◌, subst, ◌⊎◌, inl, inr, arith}
 use Rattle.std.specs.Prelude.{slice_get, slice_set, option_and_then}
 use Rattle.std.proofs.lemmas.List.{length-set}
@@ -9,15 +9,13 @@ use Rattle.global_tables.specs.declared.disk.DiskRow.{DiskRow}
 use Rattle.global_tables.specs.declared.disk.Move.{Move}
 use Rattle.global_tables.specs.declared.disk.RegionState.TheVariants.{Old}
 use Rattle.global_tables.specs.declared.fence.Fence.{Fence}
-use Rattle.global_tables.specs.declared.map.MapRow.{MapRow}
 use Rattle.global_tables.specs.Disk.{change, disk_at, is_disk, snapshot_named}
 use Rattle.global_tables.specs.Map.{disk_of}
 use Rattle.petal_state.specs.CellState.{has_map, owner}
 use Rattle.petal_rules.specs.State.{State}
 use Rattle.petal_rules.proofs.Tests.{by_bool, none_some, number_itself, same_numbers, same_or_apart, same_some, true_false}
-use Rattle.law_state.specs.Tables.{HasHome, HasLaterDisk, HasLinkOf, IsFence, IsForRegion, IsForSnapshot, IsLaterDisk}
-use Rattle.law_state.specs.Tables.{IsMove, IsRowAt, IsShape, Of_disk, Of_region}
-use Rattle.law_state.proofs.Ages.{no_less}
+use Rattle.law_state.specs.Tables.{HasHome, HasLaterDisk, IsFence, IsForRegion, IsForSnapshot, IsLaterDisk}
+use Rattle.law_state.specs.Tables.{IsRowAt, IsShape, Of_disk, Of_region}
 use Rattle.law_state.proofs.Fences.{Acted, AreQueued, IsUnsettled, link_kept}
 use Rattle.law_state.proofs.Grown.{grown_still, later_disk_itself}
 use Rattle.law_state.proofs.Owners.{disk_at_is, kept_by, owner_is, stages_later}

@@ -1,7 +1,7 @@
 -- How far a cell is by the row of its disk, and the regions of a move: each goes forward alone.
-use Rattle.std.proofs.Common.{◌≡◌, ◌≢◌, ◌≤◌, ◌<◌, ◌+◌, ◌==◌, ℕ, zero, suc, List, Bool, true, false, Option, Some, None, is_some}
-use Rattle.std.proofs.Common.{refl, sym, ap, ◌∙◌, subst, ◌⊎◌, inl, inr, arith}
-use Rattle.std.specs.Prelude.{◌||◌, slice_get, slice_set, replicate, unwrap_or, option_map, if◌then◌else◌}
+use Rattle.std.proofs.Common.{◌≡◌, ◌≤◌, ◌<◌, ◌+◌, ◌==◌, ℕ, zero, suc, List, Bool, true, false, Option, Some, None, is_some}
+use Rattle.std.proofs.Common.{refl, sym, ap, ◌∙◌, subst, inl, inr, arith}
+use Rattle.std.specs.Prelude.{◌||◌, slice_get, slice_set, replicate, unwrap_or, if◌then◌else◌}
 use Rattle.std.proofs.lemmas.List.{length-set, length-replicate}
 use Rattle.std.proofs.lemmas.Option.{slice_get_within}
 use Rattle.petal_base.specs.declared.cell.Cell.{Cell}
@@ -14,7 +14,7 @@ use Rattle.global_tables.specs.declared.disk.RegionState.TheVariants.{Old, Fence
 use Rattle.petal_state.specs.CellState.{is_fenced, move_region, owner}
 use Rattle.petal_state.specs.State.{leaves}
 use Rattle.petal_rules.specs.State.{State}
-use Rattle.petal_rules.proofs.Tests.{by_bool, by_test, none_some, same_or_apart, same_some, some_or_none, true_false}
+use Rattle.petal_rules.proofs.Tests.{by_test, same_or_apart, some_or_none, true_false}
 use Rattle.law_state.specs.Homes.{new_stage, old_stage, stage_at, stage_by, stage_of, stage_under}
 use Rattle.law_state.specs.Tables.{IsShape}
 use Rattle.law_state.proofs.Places.{get_replicate, get_set_beside, get_set_here}

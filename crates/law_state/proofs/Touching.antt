@@ -28,8 +28,8 @@ use Rattle.petal_rules.proofs.Tests.{both_true, by_bool, by_test, none_some, num
 use Rattle.petal_history.specs.Claims.{IsPrefix}
 use Rattle.law_state.specs.Places.{IsReseated, IsTouchedBy, By_caught, By_join, By_leave, StaysSo, row_joined}
 use Rattle.law_state.specs.Plain.{IsPlain, IsPlainLog}
-use Rattle.law_state.specs.Homes.{HasDied, stage_by}
-use Rattle.law_state.specs.Tables.{IsGone, IsPlainState}
+use Rattle.law_state.specs.Homes.{HasDied}
+use Rattle.law_state.specs.Tables.{IsPlainState}
 use Rattle.law_state.proofs.Entries.{entering, folding, log_plain}
 use Rattle.law_state.specs.Rows.{IsServed, ByBoth, ByNone, ByOne}
 use Rattle.law_state.proofs.Caughts.{act_caught, alone_by, catch_so, caught_by, link_caught, row_in_both, row_uncaught, the_row, touch_by, touch_so}

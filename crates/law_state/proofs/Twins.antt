@@ -1,5 +1,5 @@
 -- The two cells of a move are of one disk, so of one epoch; and while the move goes on neither has another one.
-use Rattle.std.proofs.Common.{◌≡◌, ◌<◌, ◌≤◌, ◌==◌, ◌||◌, ℕ, List, Bool, Option, true, false, Some, None, refl, sym, ap, ◌∙◌, subst, inl, inr, arith}
+use Rattle.std.proofs.Common.{◌≡◌, ◌<◌, ◌≤◌, ◌==◌, ℕ, List, Bool, Option, true, false, Some, None, refl, sym, ap, ◌∙◌, subst, inl, inr, arith}
 use Rattle.std.specs.Prelude.{if◌then◌else◌, option_and_then, option_map, slice_get}
 use Rattle.global_tables.specs.Map.{disk_of}
 use Rattle.global_tables.specs.Region.{region_of}
@@ -7,13 +7,12 @@ use Rattle.global_tables.specs.declared.disk.RegionState.{RegionState}
 use Rattle.global_tables.specs.declared.disk.RegionState.TheVariants.{Fenced, New, Old}
 use Rattle.global_tables.specs.declared.disk.DiskRow.{DiskRow}
 use Rattle.global_tables.specs.declared.disk.Move.{Move}
-use Rattle.global_tables.specs.declared.map.MapRow.{MapRow}
 use Rattle.petal_base.specs.declared.cell.Cell.{Cell}
 use Rattle.petal_command.specs.declared.command.Command.{Command}
 use Rattle.petal_history.specs.Claims.{IsPrefix}
-use Rattle.petal_state.specs.CellState.{has_map, move_region, owner, source, source_in, target}
+use Rattle.petal_state.specs.CellState.{has_map, move_region, source, source_in, target}
 use Rattle.petal_state.specs.Command.{state_after}
-use Rattle.petal_state.specs.State.{leaves, mover}
+use Rattle.petal_state.specs.State.{leaves}
 use Rattle.petal_rules.specs.State.{State}
 use Rattle.petal_rules.proofs.Tests.{by_bool, none_some, number_itself, same_numbers, same_some, true_false}
 use Rattle.law_state.specs.Homes.{epoch_at, new_stage, old_stage, stage_at, stage_of}
@@ -21,7 +20,7 @@ use Rattle.law_state.specs.Plain.{IsPlainLog}
 use Rattle.law_state.specs.Tables.{HasLaterDisk, IsPlainState}
 use Rattle.law_state.proofs.Entries.{log_plain}
 use Rattle.law_state.proofs.Homes.{HasRow, row_or_none}
-use Rattle.law_state.proofs.Owners.{disk_on, epoch_in, epoch_is, home, kept_by, left_by, mover_is, no_home, owner_is, stage_in, stage_is}
+use Rattle.law_state.proofs.Owners.{disk_on, epoch_in, epoch_is, kept_by, left_by, mover_is, no_home, owner_is, stage_in, stage_is}
 use Rattle.law_state.proofs.Noting.{gone_value, old_value, own_value}
 use Rattle.law_state.proofs.Steady.{front_plain, log_grown}
 

@@ -1,5 +1,5 @@
 -- How disks and cells belong together in a state that plain entries made, and who is In.
-use Rattle.std.specs.Prelude.{◌≡◌, ◌≢◌, ◌<◌, ◌≤◌, ◌⊎◌, Bool, List, ℕ, Some, None, true, false}
+use Rattle.std.specs.Prelude.{◌≡◌, ◌<◌, ◌≤◌, ◌⊎◌, Bool, List, ℕ, Some, None, true, false}
 use Rattle.petal_base.specs.declared.cell.Cell.{Cell}
 use Rattle.global_tables.specs.Disk.{disk_at, named, snapshot_named}
 use Rattle.global_tables.specs.declared.disk.DiskRow.{DiskRow}

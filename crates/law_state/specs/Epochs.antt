@@ -5,7 +5,7 @@ use Rattle.petal_command.specs.declared.command.Command.{Command}
 use Rattle.petal_command.specs.declared.command.Command.TheVariants.{Drained}
 use Rattle.petal_history.specs.Claims.{IsPrefix}
 use Rattle.petal_state.specs.Command.{state_after}
-use Rattle.petal_rules.specs.State.{State, held, is_in}
+use Rattle.petal_rules.specs.State.{held, is_in}
 use Rattle.petal_rules.specs.Writes.{is_writes_held}
 pub use Rattle.law_state.specs.Homes.{epoch_at, era_at}
 

@@ -1,5 +1,5 @@
 -- How far a cell is: its map is not its disk's yet, or it holds the disk's contents, or these have left it. A cell only goes forward.
-use Rattle.std.specs.Prelude.{◌≡◌, ◌≤◌, ℕ, ◌+◌, ◌==◌, Bool, true, nat_le, if◌then◌else◌, Option, Some, None, is_some, option_and_then}
+use Rattle.std.specs.Prelude.{◌≡◌, ◌≤◌, ℕ, ◌+◌, ◌==◌, true, nat_le, if◌then◌else◌, Option, Some, None, is_some, option_and_then}
 use Rattle.std.specs.Option.{option_map_or}
 use Rattle.global_tables.specs.Disk.{disk_at}
 use Rattle.global_tables.specs.Map.{disk_of, tuple_of}

@@ -1,5 +1,5 @@
 -- Each step keeps it that entries move to cells whose region is on its way.
-use Rattle.std.proofs.Common.{◌≡◌, ◌||◌, ℕ, Bool, true, false, List, [], ◌∷◌, ◌++◌, Some, length, refl, sym, ap, ◌∙◌, subst, inl, inr}
+use Rattle.std.proofs.Common.{◌≡◌, ◌||◌, ℕ, true, false, List, [], ◌∷◌, Some, length, refl, sym, ap, ◌∙◌, subst, inl, inr}
 use Rattle.std.specs.Prelude.{filter, not, ◌==◌}
 use Rattle.std.specs.List.{range_with_len}
 use Rattle.petal_base.specs.declared.cell.Cell.{Cell}
@@ -43,7 +43,7 @@ use Rattle.law_steps.specs.Happens.{Handled, Happens, Serves, Blanks, Turns, Wor
 use Rattle.law_steps.specs.Happens.{Goes, Ends, Stays, Wakes, Fails, own_place}
 use Rattle.law_steps.specs.Ready.{AreFirm, Rests}
 use Rattle.law_steps.proofs.Coming.{next_comes}
-use Rattle.law_steps.proofs.Filling.{HasCome, Stood, Writes, Fills, SaysFill, Is_other, Is_next, did_come, did_fills, is_fill}
+use Rattle.law_steps.proofs.Filling.{Stood, Writes, Fills, SaysFill, Is_other, Is_next, did_come, did_fills, is_fill}
 use Rattle.law_steps.proofs.Filling.{is_filling, logged_said, other_subject}
 use Rattle.law_steps.proofs.Fronts.{below_itself, front_on}
 use Rattle.law_steps.proofs.Histories.{firm_now, happens, own_plain, proposed_pairs, rests_next}

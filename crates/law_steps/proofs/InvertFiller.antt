@@ -1,5 +1,5 @@
 -- What the lead of a link of an old map does so that its entries move is one of the kinds that the relation names.
-use Rattle.std.proofs.Common.{◌≡◌, ℕ, ◌==◌, Bool, true, false, List, Option, Some, None, refl, inl, inr}
+use Rattle.std.proofs.Common.{◌≡◌, ℕ, ◌==◌, true, List, Option, Some, None, refl, inl, inr}
 use Rattle.std.specs.Ordering.{nat_cmp}
 use Rattle.std.specs.Prelude.{length, option_and_then}
 use Rattle.global_tables.specs.Link.{is_link, link_at}

@@ -1,11 +1,11 @@
 -- What a server drops of cells that are no longer live is what the relation names.
-use Rattle.std.proofs.Common.{◌≡◌, ℕ, true, false, List, [], ◌∷◌, Option, Some, None, refl, subst}
+use Rattle.std.proofs.Common.{◌≡◌, true, false, List, [], ◌∷◌, Option, Some, None, refl, subst}
 use Rattle.busy_marks.specs.declared.marks.Mark.{Mark}
 use Rattle.petal_base.specs.declared.cell.Cell.{Cell}
 use Rattle.petal_msg.specs.declared.body.Body.{Body}
 use Rattle.petal_msg.specs.declared.dead.Dead.{Dead}
 use Rattle.petal_msg.specs.declared.dead.Dead.TheVariants as dead
-use Rattle.petal_rules.specs.Server.{Own, Here, Done}
+use Rattle.petal_rules.specs.Server.{Own, Here}
 use Rattle.petal_rules.specs.State.{State, is_in, live}
 use Rattle.petal_rules.specs.Store.{Chain, Store}
 use Rattle.petal_rules.specs.Sweeping.{dead_in, dead_key, dead_mark, next_dead, sweeps, sweeps_with}
