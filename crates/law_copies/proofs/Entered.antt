@@ -1,10 +1,9 @@
 -- What is kept after an entry that a server applies.
 use Rattle.std.proofs.Common.{◌≡◌, ◌≢◌, ◌≤◌, ◌<◌, ◌+◌, ◌++◌, ◌==◌, ℕ, Bool, List, [], ◌∷◌, length, true, false, Option, Some, None}
 use Rattle.std.proofs.Common.{is_some, refl, sym, ap, ◌∙◌, subst, ◌⊎◌, inl, inr, arith}
-use Rattle.std.specs.Prelude.{unwrap_or}
 use Rattle.std.specs.Option.{option_map_or}
 use Rattle.std.specs.Ordering.{nat_cmp}
-use Rattle.busy_marks.specs.Marks.{above, has_mark}
+use Rattle.busy_marks.specs.Marks.{has_mark}
 use Rattle.global_tables.specs.Link.{has_server, other_of}
 use Rattle.global_tables.specs.declared.link.LinkRow.{LinkRow}
 use Rattle.global_tables.specs.declared.link.LinkState.TheVariants.{Both, Only}
@@ -23,9 +22,8 @@ use Rattle.petal_state.specs.Command.{state_after}
 use Rattle.petal_state.specs.State.{inc_of}
 use Rattle.petal_rules.specs.Lists.{In}
 use Rattle.petal_rules.specs.Log.{state_in}
-use Rattle.petal_rules.specs.Progress.{no_progress, progress_on}
 use Rattle.petal_rules.specs.Server.{Own, Pairs, Server}
-use Rattle.petal_rules.specs.State.{id_of, is_in, link_cmp}
+use Rattle.petal_rules.specs.State.{id_of, is_in}
 use Rattle.petal_rules.specs.Store.{Store, cell_cmp, chain_in, mark_on}
 use Rattle.petal_rules.specs.World.{Setting, World, blank_joins_in, chosen_log, server_state}
 use Rattle.petal_rules.specs.Writes.{is_clients, pending_on}
@@ -37,16 +35,14 @@ use Rattle.law_state.proofs.Leaves.{other_between}
 use Rattle.law_state.proofs.Roles.{primary_is_one, secondary_is_one}
 use Rattle.law_state.proofs.Steady.{front_plain, log_steady}
 use Rattle.law_steps.specs.Ready.{IsRising, Rests}
-use Rattle.law_copies.specs.Copied.{AreAlike, AreCopying, IsCovered, IsPage, IsTold, Is_equal, Is_marked_here, Is_marked_there, Is_to_be_copied, links_of}
+use Rattle.law_copies.specs.Copied.{AreAlike, AreCopying, IsPage, IsTold, links_of}
 use Rattle.law_copies.specs.Good.{AloneOk, AreTwins, BothOk, Good, SaidOk, StaysLeft, pair_at}
-use Rattle.law_copies.specs.Pair.{IsRecalled, Known, Pair, PairOk, far, pair_of}
-use Rattle.law_copies.specs.Steps.{AreFilled, StaysTold}
+use Rattle.law_copies.specs.Pair.{IsRecalled, Known, PairOk, far, pair_of}
+use Rattle.law_copies.specs.Steps.{AreFilled}
 use Rattle.law_copies.specs.Visits.{AliveIn, IsLinked, Visits, half, place_by, store_by, with_stores}
 use Rattle.law_copies.proofs.Counts.{joins_at}
 use Rattle.law_copies.proofs.Entering as entering
-use Rattle.law_copies.proofs.Entering.{IsCrossed, KeepsAll, keeps_onward}
-use Rattle.law_copies.proofs.Following.{kept_copying, kept_told}
-use Rattle.law_copies.proofs.HolderSteps as steps
+use Rattle.law_copies.proofs.LeftByEntry.{IsCrossed, KeepsAll}
 use Rattle.law_copies.proofs.Framed.{LeavesStore, alike_same, filled_framed, marked_back, marked_on, other_is_one, pair_same, recalled_on, to_copy_on}
 use Rattle.law_copies.proofs.Fresh.{IsFresh, fresh_alike, fresh_first, fresh_first_known, fresh_holder, fresh_holder_told}
 use Rattle.law_copies.proofs.Fresh.{fresh_other, fresh_other_told, fresh_second}
@@ -58,59 +54,7 @@ use Rattle.law_copies.proofs.Quiet.{stores_leave}
 use Rattle.law_copies.proofs.Stepping.{GoesOn, IsSoundOwn, IsTrue, KeepsFronts, good_after}
 use Rattle.law_copies.proofs.Visited.{IsAt, IsStep, IsThen, KeepsFlags, counted, counted_up, later, none_before, some_after}
 use Rattle.law_copies.proofs.Visited.{stored, stored_by, visited_apart, visited_by}
-
--- ### Where all of the cell is as before
-
--- what is so of a holder's part is so of one that is alike for the cell
-holder_stays : (links : ℕ) (own to : Own) (row : LinkRow) (cell : Cell) (other : Option Own) → KeepsAll own to row cell
-    → AreCopying links row cell (Some own) other
-    → AreCopying links row cell (Some to) other × StaysTold row cell (Some own) other (Some to) other
-holder_stays links own to row cell other all old =
-    let on = keeps_onward links own to row cell all in
-    let kept = steps.kept_step (λ b. Unit {0}) links row cell other own old to all.keeps (let e = all.next in omega arith) on.0 on.1 in
-    (kept.copying, kept.told)
-
--- and of the other server's
-other_stays : (links : ℕ) (own to : Own) (row : LinkRow) (cell : Cell) (holder : Option Own) → KeepsAll own to row cell
-    → AreCopying links row cell holder (Some own)
-    → AreCopying links row cell holder (Some to) × StaysTold row cell holder (Some own) holder (Some to)
-other_stays links own to row cell holder all old =
-    (kept_copying links row cell holder own old to all.keeps.rest, kept_told links row cell holder own old to all.keeps.rest)
-
-stays_alike : (own to : Own) (row : LinkRow) (cell : Cell) (a b : Store)
-    → at link_cmp to.copies.progress (id_of row) ≡ at link_cmp own.copies.progress (id_of row)
-    → AreAlike row cell a b (Some own) → AreAlike row cell a b (Some to)
-stays_alike own to row cell a b pages alike = record {
-  covered = by alike.covered;
-  caught = λ o is flagged. alike.caught own refl
-      (ap (λ p. option_map_or (λ (x : Progress). x.caught) p false) (sym pages) ∙ ap (λ (x : Own). is_flagged x (id_of row)) (same_some is) ∙ flagged);
-}
-  where
-    progress : progress_on to row ≡ progress_on own row
-    progress = ap (λ p. unwrap_or p no_progress) pages
-
-    by : IsCovered row cell a b (Some own) → IsCovered row cell a b (Some to)
-    by (Is_equal same) = Is_equal same
-    by (Is_marked_here marked) = Is_marked_here marked
-    by (Is_marked_there marked ahead) = Is_marked_there marked
-        (ap (λ (p : Progress). p.paged) progress ∙ ahead.0, ap (λ (p : Progress). above p.after cell.block) progress ∙ ahead.1)
-    by (Is_to_be_copied all ahead) = Is_to_be_copied all (ap (λ (p : Progress). above p.copied cell.block) progress ∙ ahead)
-
--- ### Pairs that move on
-
--- of an entry that moves, the second one of a pair has nothing until it has followed
-abbrev IsLacking : Pair → Type 0
-IsLacking pair = (op : Pending) → pair.pending ≡ Some op → is_clients op.kind ≡ false → far pair ≤ op.op + op.op
-    → at nat_cmp pair.second op.key.epoch ≡ None
-
--- what is so of a pair, and what letters tell of it, is so of the other one
-pub record PairGoes (old new : Pair) : Type 0 where
-  pub ok : PairOk old → PairOk new
-  pub known : (said : Body) → Known old said → Known new said
-  pub lacks : IsLacking old → IsLacking new
-
-pub goes_same : (old new : Pair) → old ≡ new → PairGoes old new
-goes_same old new same = record { ok = subst PairOk same; known = λ said. subst (λ p. Known p said) same; lacks = subst IsLacking same }
+use Rattle.law_copies.proofs.AsBefore.{holder_stays, other_stays, stays_alike, IsLacking, PairGoes, goes_same}
 
 module _ (setting : Setting) (records : List Record) (w : World) (stores : ℕ → Store) (v : World) (k : ℕ) (server : Server)
     (good : Good setting records (chosen_log setting w) (with_stores w stores))

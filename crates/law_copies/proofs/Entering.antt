@@ -1,41 +1,31 @@
 -- An entry that a server applies: of each cell the server comes to a new place with nothing in memory of it, or it stays where it was.
-use Rattle.std.proofs.Common.{◌≡◌, ◌+◌, ◌≤◌, ◌<◌, ◌++◌, ◌&&◌, ◌||◌, not, cond, ℕ, List, [], ◌∷◌, length, Bool, true, false, Option}
+use Rattle.std.proofs.Common.{◌≡◌, ◌+◌, ◌≤◌, ◌++◌, ℕ, List, [], ◌∷◌, length, true, false}
 use Rattle.std.proofs.Common.{Some, None, refl, sym, ap, ◌∙◌, subst, ◌⊎◌, inl, inr, arith}
-use Rattle.std.specs.Prelude.{filter, is_none, option_and_then, unwrap_or}
-use Rattle.std.specs.Option.{option_map_or}
-use Rattle.std.specs.Ordering.{is_eq}
-use Rattle.busy_marks.specs.Marks.{has_mark}
+use Rattle.std.specs.Prelude.{option_and_then, unwrap_or}
 use Rattle.global_tables.specs.Link.{other_of}
 use Rattle.global_tables.specs.declared.link.LinkRow.{LinkRow}
 use Rattle.global_tables.specs.declared.link.LinkState.TheVariants.{Both}
 use Rattle.petal_base.specs.declared.cell.Cell.{Cell}
 use Rattle.petal_command.specs.declared.command.Command.{Command}
 use Rattle.petal_command.specs.declared.command.Command.TheVariants.{Caught}
-use Rattle.petal_table.specs.Table.{Table, at}
-use Rattle.petal_table.proofs.Rows.{at-where}
-use Rattle.petal_msg.specs.declared.copying.Copying.{Copying}
+use Rattle.petal_table.specs.Table.{at}
 use Rattle.petal_msg.specs.declared.copying.LastCopy.{LastCopy}
-use Rattle.petal_msg.specs.declared.copying.LinkId.{LinkId}
-use Rattle.petal_msg.specs.declared.copying.Progress.{Progress}
 use Rattle.petal_msg.specs.declared.operation.Pending.{Pending}
 use Rattle.petal_history.specs.Claims.{IsPrefix}
 use Rattle.petal_history.specs.declared.record.Record.{Record}
 use Rattle.petal_state.specs.CellState.{cell_link, row_lead}
 use Rattle.petal_state.specs.Command.{after, state_after}
-use Rattle.petal_state.specs.Place.{touches, touches_cell}
-use Rattle.petal_rules.specs.Copies.{cell_at}
-use Rattle.petal_rules.specs.Crossing.{crossed, dies, ends_cell, ends_link, touches_link}
+use Rattle.petal_state.specs.Place.{touches}
+use Rattle.petal_rules.specs.Crossing.{crossed}
 use Rattle.petal_rules.specs.Lists.{In}
-use Rattle.petal_rules.specs.Progress.{copying_on, last_copy, no_progress, progress_on}
-use Rattle.petal_rules.specs.Server.{Copies, Own, Pairs, Server}
-use Rattle.petal_rules.specs.State.{State, id_of, is_in, link_cmp, link_named, live}
-use Rattle.petal_rules.specs.Store.{Store, cell_cmp, chain_in, mark_on}
+use Rattle.petal_rules.specs.Progress.{copying_on, last_copy, no_progress}
+use Rattle.petal_rules.specs.Server.{Own, Pairs, Server}
+use Rattle.petal_rules.specs.State.{State, id_of, is_in, link_cmp, live}
+use Rattle.petal_rules.specs.Store.{Store, cell_cmp}
 use Rattle.petal_rules.specs.World.{Setting, World, chosen_log, server_state}
 use Rattle.petal_rules.specs.Writes.{pending_on}
-use Rattle.petal_rules.proofs.CellTables.{cell_cmp_same}
 use Rattle.petal_rules.proofs.ListLemmas.{in_later}
 use Rattle.petal_rules.proofs.Tests.{by_bool, is_the_one, none_some, same_or_apart, same_some, some_or_none, true_false}
-use Rattle.law_log.proofs.Flags.{same_id}
 use Rattle.law_state.specs.Homes.{stage_at}
 use Rattle.law_state.specs.Firm.{Firm}
 use Rattle.law_state.specs.Places.{IsCaughtBy, By_caught, By_join, By_leave, StaysSo}
@@ -47,7 +37,6 @@ use Rattle.law_state.proofs.Ages.{in_once}
 use Rattle.law_state.proofs.Cells.{link_led_by}
 use Rattle.law_state.proofs.Grown.{alone_not_both}
 use Rattle.law_state.proofs.Joins.{both_before}
-use Rattle.law_state.proofs.Links.{either_false}
 use Rattle.law_state.proofs.Steady.{front_plain, log_steady}
 use Rattle.law_state.proofs.Touching.{log_entry_stays, log_touched}
 use Rattle.law_steps.specs.Ready.{Rests}
@@ -57,200 +46,15 @@ use Rattle.law_steps.proofs.Minds.{held_as_flag}
 use Rattle.law_steps.proofs.Resting.{row_named}
 use Rattle.law_copies.specs.Good.{Good, IsUnheard}
 use Rattle.law_copies.specs.Pair.{HaveMarks}
-use Rattle.law_copies.specs.Steps.{IsBare, KeepsCell}
 use Rattle.law_copies.specs.Visits.{AliveIn, IsLinked, place_by, with_stores}
 use Rattle.law_copies.proofs.Fresh.{IsFresh}
 use Rattle.law_copies.proofs.Later.{same_only}
 use Rattle.law_copies.proofs.Marking.{same_have}
-use Rattle.law_copies.proofs.Onward.{IsOnward, onward_by}
-use Rattle.law_copies.proofs.Pacing.{IsPaced}
 use Rattle.law_copies.proofs.Places.{below_at, linked_alive, place_of_later, place_touched, place_untouched, places_up, rows_later, state_next}
 use Rattle.law_copies.proofs.Standing.{cell_map}
 use Rattle.law_copies.proofs.Working.{above_none}
-
--- ### What an entry leaves of a server's own part
-
--- all that concerns the cell and its link is as before
-pub record KeepsAll (own to : Own) (row : LinkRow) (cell : Cell) : Type 0 where
-  pub keeps : KeepsCell cell own to
-  pub next : to.pairs.next ≡ own.pairs.next
-  pub pages : at link_cmp to.copies.progress (id_of row) ≡ at link_cmp own.copies.progress (id_of row)
-  -- and no copy is new
-  pub copies : (q : Cell) (copy : Copying) → copying_on to q ≡ Some copy → copying_on own q ≡ Some copy
-
--- the copies of the link go on by that
-pub keeps_onward : (links : ℕ) (own to : Own) (row : LinkRow) (cell : Cell) → KeepsAll own to row cell
-    → IsPaced row own to × IsOnward links row cell own to
-keeps_onward links own to row cell all =
-    let paced : IsPaced row own to = record {
-      paged = ap (λ p. (unwrap_or p no_progress).paged) all.pages;
-      after = ap (λ p. (unwrap_or p no_progress).after) all.pages;
-      flag = ap (λ p. option_map_or (λ (x : Progress). x.caught) p false) all.pages;
-    } in (
-      paced,
-      onward_by links row cell own to paced (ap (λ p. (unwrap_or p no_progress).copied) all.pages)
-          (λ later copy lt on is. inl (copy, all.copies (cell_at row later) copy is)),
-    )
-
--- an entry leaves this of a server's part, whose chains and marks stay as they are
-pub record IsCrossed (state : State) (entry : Command) (old new : Own) : Type 0 where
-  pub pairs : new.pairs ≡ (crossed state entry old).pairs
-  pub copies : new.copies ≡ (crossed state entry old).copies
-  pub chains : new.store.chains ≡ old.store.chains
-  pub marks : new.store.marks ≡ old.store.marks
-
-cond_none : {X : Type 0} (b : Bool) (o : Option X) → o ≡ None → cond b o None ≡ None
-cond_none true o none = none
-cond_none false o none = refl
-
--- a cell that is not dead with the entry doesn't die by it
-lives_on : (state : State) (entry : Command) (cell : Cell) → stage_at state cell ≤ stage_at (after state entry) cell
-    → stage_at (after state entry) cell < 4 → dies state entry cell ≡ false
-lives_on state entry cell up alive = by_bool (live state cell)
-    (λ on.
-    let born = (live_stage state cell on).0 in
-    let lives_then : live (after state entry) cell ≡ true = stage_live (after state entry) cell (omega arith) alive in
-    ap (λ b. live state cell && not b) lives_then ∙ ap (λ b. b && false) on)
-    (λ off. ap (λ b. b && not (live (after state entry) cell)) off)
-
--- one that is live and doesn't die is live then
-live_then : (state : State) (entry : Command) (cell : Cell) → dies state entry cell ≡ false → live state cell ≡ true
-    → live (after state entry) cell ≡ true
-live_then state entry cell stays on = by_bool (live (after state entry) cell) (λ t. t)
-    (λ off. true_false (ap (λ b. live state cell && not b) off ∙ ap (λ b. b && true) on) stays)
-
-module _ (state : State) (entry : Command) (own : Own) where
-  cells_left : {X : Type 0} (t : Table Cell X) (cell : Cell)
-      → at cell_cmp (filter (λ row. not (ends_cell state entry row.0)) t) cell ≡ cond (not (ends_cell state entry cell)) (at cell_cmp t cell) None
-  cells_left t cell = at-where cell_cmp t (λ k. not (ends_cell state entry k)) cell
-      (λ k tie. ap (λ q. not (ends_cell state entry q)) (sym (cell_cmp_same cell k tie)))
-
-  links_left : (id : LinkId) → at link_cmp (crossed state entry own).copies.progress id ≡ cond (not (ends_link state entry id))
-      (at link_cmp own.copies.progress id) None
-  links_left id = at-where link_cmp own.copies.progress (λ k. not (ends_link state entry k)) id
-      (λ k tie. ap (λ q. not (ends_link state entry q)) (sym (same_id id k (ap is_eq tie))))
-
-  cell_gone : {X : Type 0} (t : Table Cell X) (cell : Cell) → ends_cell state entry cell ≡ true
-      → at cell_cmp (filter (λ row. not (ends_cell state entry row.0)) t) cell ≡ None
-  cell_gone t cell on = cells_left t cell ∙ ap (λ b. cond (not b) (at cell_cmp t cell) None) on
-
-  cell_stays : {X : Type 0} (t : Table Cell X) (cell : Cell) → ends_cell state entry cell ≡ false
-      → at cell_cmp (filter (λ row. not (ends_cell state entry row.0)) t) cell ≡ at cell_cmp t cell
-  cell_stays t cell off = cells_left t cell ∙ ap (λ b. cond (not b) (at cell_cmp t cell) None) off
-
-  -- what was not there is not
-  cell_never : {X : Type 0} (t : Table Cell X) (cell : Cell) → at cell_cmp t cell ≡ None
-      → at cell_cmp (filter (λ row. not (ends_cell state entry row.0)) t) cell ≡ None
-  cell_never t cell none = cells_left t cell ∙ cond_none (not (ends_cell state entry cell)) (at cell_cmp t cell) none
-
-  link_never : (row : LinkRow) → progress_on own row ≡ no_progress → progress_on (crossed state entry own) row ≡ no_progress
-  link_never row none =
-      ap (λ o. unwrap_or o no_progress) (links_left (id_of row)) ∙ either (not (ends_link state entry (id_of row)))
-    where
-      either : (b : Bool) → unwrap_or (cond b (at link_cmp own.copies.progress (id_of row)) None) no_progress ≡ no_progress
-      either true = none
-      either false = refl
-
-  -- what is left was there, and the cell doesn't die
-  cell_left : {X : Type 0} (t : Table Cell X) (q : Cell) (x : X) → at cell_cmp (filter (λ row. not (ends_cell state entry row.0)) t) q ≡ Some x
-      → (at cell_cmp t q ≡ Some x) × (ends_cell state entry q ≡ false)
-  cell_left t q x is = by_bool (ends_cell state entry q)
-      (λ on. none_some (cell_gone t q on) is)
-      (λ off. (sym (cell_stays t q off) ∙ is, off))
-
-  copy_left : (q : Cell) (copy : Copying) → copying_on (crossed state entry own) q ≡ Some copy → copying_on own q ≡ Some copy
-  copy_left q copy is = (cell_left own.copies.pending q copy is).0
-
-  -- a last copy that is left is of a cell that is live then
-  pub last_left : ((q : Cell) (last : LastCopy) → last_copy own q ≡ Some last → live state q ≡ true) → (q : Cell) (last : LastCopy)
-      → last_copy (crossed state entry own) q ≡ Some last → live (after state entry) q ≡ true
-  last_left copied q last is =
-      let was = cell_left own.copies.last q last is in
-      live_then state entry q (either_false (touches_cell state entry q) (dies state entry q) was.1).1 (copied q last was.0)
-
-  -- a cell that the entry touches is new to it
-  pub touched_fresh : (cell : Cell) (row : LinkRow) → cell_link state cell ≡ Some row → touches state entry row ≡ true
-      → IsFresh (crossed state entry own) row cell
-  touched_fresh cell row is on =
-      let touched : touches_cell state entry cell ≡ true = ap (λ o. option_map_or (touches state entry) o false) is ∙ on in
-      let link : touches_link state entry (id_of row) ≡ true = ap (λ o. option_map_or (touches state entry) o false) (row_named state cell row is) ∙ on in
-      let ends : ends_cell state entry cell ≡ true = ap (λ b. b || dies state entry cell) touched in
-      let ends_too : ends_link state entry (id_of row) ≡ true = ap (λ b. b || is_none (link_named (after state entry) (id_of row))) link in
-      record {
-        last = cell_gone own.pairs.last cell ends;
-        copying = cell_gone own.copies.pending cell ends;
-        last_copy = cell_gone own.copies.last cell ends;
-        pages = ap (λ o. unwrap_or o no_progress) (links_left (id_of row) ∙ ap (λ b. cond (not b) (at link_cmp own.copies.progress (id_of row)) None) ends_too);
-      }
-
-  -- one that it does not touch is as before, where the cell doesn't die, and its link stays
-  pub untouched_keeps : (cell : Cell) (row : LinkRow) → cell_link state cell ≡ Some row → touches state entry row ≡ false → dies state entry cell ≡ false
-      → link_named (after state entry) (id_of row) ≡ Some row → KeepsAll own (crossed state entry own) row cell
-  untouched_keeps cell row is off stays named =
-      let away : ends_cell state entry cell ≡ false =
-      ap (λ b. b || dies state entry cell) (ap (λ o. option_map_or (touches state entry) o false) is ∙ off) ∙ stays in
-      let link : ends_link state entry (id_of row) ≡ false =
-      ap (λ b. b || is_none (link_named (after state entry) (id_of row)))
-      (ap (λ o. option_map_or (touches state entry) o false) (row_named state cell row is) ∙ off) ∙ ap is_none named in
-      record {
-        keeps = record {
-          rest = record {
-            chain = refl;
-            pending = refl;
-            copying = cell_stays own.copies.pending cell away;
-            last = cell_stays own.copies.last cell away;
-            followed = cell_stays own.pairs.last cell away;
-          };
-          marks = λ kind. refl;
-        };
-        next = refl;
-        pages = links_left (id_of row) ∙ ap (λ b. cond (not b) (at link_cmp own.copies.progress (id_of row)) None) link;
-        copies = copy_left;
-      }
-
-  -- what is so of that is so of what the entry leaves
-  module _ (new : Own) (left : IsCrossed state entry own new) where
-    pub left_fresh : (row : LinkRow) (cell : Cell) → IsFresh (crossed state entry own) row cell → IsFresh new row cell
-    left_fresh row cell fresh = record {
-      last = ap (λ (p : Pairs). at cell_cmp p.last cell) left.pairs ∙ fresh.last;
-      copying = ap (λ (c : Copies). at cell_cmp c.pending cell) left.copies ∙ fresh.copying;
-      last_copy = ap (λ (c : Copies). at cell_cmp c.last cell) left.copies ∙ fresh.last_copy;
-      pages = ap (λ (c : Copies). unwrap_or (at link_cmp c.progress (id_of row)) no_progress) left.copies ∙ fresh.pages;
-    }
-
-    pub left_keeps : (row : LinkRow) (cell : Cell) → KeepsAll own (crossed state entry own) row cell → KeepsAll own new row cell
-    left_keeps row cell all = record {
-      keeps = record {
-        rest = record {
-          chain = ap (λ t. chain_in t cell) left.chains;
-          pending = ap (λ (p : Pairs). at cell_cmp p.pending cell) left.pairs ∙ all.keeps.rest.pending;
-          copying = ap (λ (c : Copies). at cell_cmp c.pending cell) left.copies ∙ all.keeps.rest.copying;
-          last = ap (λ (c : Copies). at cell_cmp c.last cell) left.copies ∙ all.keeps.rest.last;
-          followed = ap (λ (p : Pairs). at cell_cmp p.last cell) left.pairs ∙ all.keeps.rest.followed;
-        };
-        marks = λ kind. ap (has_mark (mark_on kind cell)) left.marks;
-      };
-      next = ap (λ (p : Pairs). p.next) left.pairs ∙ all.next;
-      pages = ap (λ (c : Copies). at link_cmp c.progress (id_of row)) left.copies ∙ all.pages;
-      copies = λ q copy is. all.copies q copy (ap (λ (c : Copies). at cell_cmp c.pending q) (sym left.copies) ∙ is);
-    }
-
-    pub left_copied : ((q : Cell) (last : LastCopy) → last_copy own q ≡ Some last → live state q ≡ true) → (q : Cell) (last : LastCopy)
-        → last_copy new q ≡ Some last → live (after state entry) q ≡ true
-    left_copied copied q last is = last_left copied q last (ap (λ (c : Copies). at cell_cmp c.last q) (sym left.copies) ∙ is)
-
-    -- a cell of which there was nothing, and nothing was heard
-    pub left_unheard : (later : State) (cell : Cell) → IsBare own cell → at cell_cmp own.pairs.last cell ≡ None
-        → (cell_link later cell ≡ None → (row : LinkRow) → row.map ≡ cell.map → progress_on own row ≡ no_progress) → IsUnheard later new cell
-    left_unheard later cell bare last pages = record {
-      bare = record {
-        chain = ap (λ t. chain_in t cell) left.chains ∙ bare.chain;
-        marks = λ kind. ap (has_mark (mark_on kind cell)) left.marks ∙ bare.marks kind;
-      };
-      last = ap (λ (p : Pairs). at cell_cmp p.last cell) left.pairs ∙ cell_never own.pairs.last cell last;
-      pages = λ none row same. ap (λ (c : Copies). unwrap_or (at link_cmp c.progress (id_of row)) no_progress) left.copies
-          ∙ link_never row (pages none row same);
-    }
+use Rattle.law_copies.proofs.LeftByEntry.{KeepsAll, IsCrossed, lives_on, cell_never, link_never}
+use Rattle.law_copies.proofs.LeftByEntry.{touched_fresh, untouched_keeps, left_fresh, left_keeps, left_copied, left_unheard}
 
 -- ### At the server's own places
 

@@ -23,7 +23,8 @@ use Rattle.law_steps.proofs.Fronts.{front_itself, front_more, front_on}
 use Rattle.law_copies.specs.Good.{Good, store_of}
 use Rattle.law_copies.specs.Pair.{HaveMarks}
 use Rattle.law_copies.specs.Visits.{Visits, with_stores}
-use Rattle.law_copies.proofs.Growing.{AreRecounted, IsBehind, IsGrownTo, behind_on, grown_one}
+use Rattle.law_copies.proofs.Growing.{grown_one}
+use Rattle.law_copies.proofs.NextEntry.{AreRecounted, IsBehind, IsGrownTo, behind_on}
 use Rattle.law_copies.proofs.Later.{AllStarted}
 use Rattle.law_copies.proofs.Renewed.{blank_join, counts_more, counts_same}
 

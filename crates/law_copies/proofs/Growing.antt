@@ -13,7 +13,6 @@ use Rattle.petal_base.specs.declared.cell.Cell.{Cell}
 use Rattle.petal_command.specs.declared.command.Command.{Command}
 use Rattle.petal_command.specs.declared.command.Command.TheVariants.{Caught, Join, Leave}
 use Rattle.petal_history.specs.Claims.{IsPrefix}
-use Rattle.petal_history.specs.Legal.{world_after}
 use Rattle.petal_history.specs.declared.record.Record.{Record}
 use Rattle.petal_msg.specs.Kinds.{subject_of}
 use Rattle.petal_msg.specs.declared.body.Body.{Body}
@@ -22,13 +21,11 @@ use Rattle.petal_state.specs.CellState.{cell_link, serves}
 use Rattle.petal_state.specs.Command.{after, may_join, state_after}
 use Rattle.petal_state.specs.Place.{touches}
 use Rattle.petal_rules.specs.Blanked.{joins_blank}
-use Rattle.petal_rules.specs.Lists.{In}
 use Rattle.petal_rules.specs.Server.{Own}
 use Rattle.petal_rules.specs.State.{State, id_of, is_in, is_whole}
 use Rattle.petal_rules.specs.Store.{Store, cell_cmp, chain_in, is_marked, mark_on}
-use Rattle.petal_rules.specs.World.{Setting, World, blank_joins_in, server_state, start, with_store}
-use Rattle.petal_rules.proofs.ListLemmas.{in_later}
-use Rattle.petal_rules.proofs.Tests.{by_bool, none_some, number_itself, same_numbers, same_some, some_or_none, true_false}
+use Rattle.petal_rules.specs.World.{Setting, World, blank_joins_in, server_state, with_store}
+use Rattle.petal_rules.proofs.Tests.{by_bool, none_some, same_some, true_false}
 use Rattle.petal_table.proofs.Rows.{at-empty}
 use Rattle.law_log.specs.Requested.{WasStarted}
 use Rattle.law_state.specs.Homes.{stage_at}
@@ -38,11 +35,10 @@ use Rattle.law_state.specs.Rows.{IsLater, ByBoth, ByNone, ByOne}
 use Rattle.law_state.specs.Started.{is_flagged}
 use Rattle.law_state.specs.Steady.{IsSteady}
 use Rattle.law_state.proofs.Again.{left_not_both, left_row, stays_row}
-use Rattle.law_state.proofs.BlankJoins.{joins_grow}
 use Rattle.law_state.proofs.Grown.{alone_not_both, one_before}
 use Rattle.law_state.proofs.Roles.{primary_is_one, secondary_is_one}
-use Rattle.law_state.proofs.Steady.{front_plain, log_steady}
-use Rattle.law_state.proofs.Touching.{log_entry_stays, log_touched}
+use Rattle.law_state.proofs.Steady.{log_steady}
+use Rattle.law_state.proofs.Touching.{log_touched}
 use Rattle.law_steps.specs.Happens.{is_between}
 use Rattle.law_steps.specs.Ready.{IsRising}
 use Rattle.law_steps.proofs.Fronts.{front_itself, front_long, front_more, front_on}
@@ -56,42 +52,10 @@ use Rattle.law_copies.proofs.Framed.{other_is_one}
 use Rattle.law_copies.proofs.Later.{alone_not_lost, holder_is_one, other_than}
 use Rattle.law_copies.proofs.Mute.{said_mute}
 use Rattle.law_copies.proofs.NewPlaces.{beside_same, both_cover, cover_anew, in_common, new_alone, new_twins, twins_same}
-use Rattle.law_copies.proofs.Places.{alive_on, below_at, front_or_all, linked_between, links_up, other_later, place_of_later, place_touched}
-use Rattle.law_copies.proofs.Places.{place_untouched, places_up, rows_later, state_next, unborn}
-use Rattle.law_copies.proofs.Renewed.{blanked_alone, counts_more, counts_same, filled_cover, joined_not_both, joins_so, no_blank_join, no_chains}
-
--- every server has applied entries of this log alone, now and at each world on the way
-pub record IsBehind (setting : Setting) (records : List Record) (top : List Command) (w : World) : Type 0 where
-  pub now : (n : ℕ) → IsPrefix (w.servers n).log.applied top
-  pub ever : (before later : List Record) → records ≡ before ++ later → (n : ℕ)
-      → IsPrefix ((world_after setting (start setting) before).servers n).log.applied top
-
-pub behind_on : (setting : Setting) (records : List Record) (top more : List Command) (w : World) → IsPrefix top more → IsBehind setting records top w
-    → IsBehind setting records more w
-behind_on setting records top more w prefix behind = record {
-  now = λ n. front_on _ top more (behind.now n) prefix;
-  ever = λ before later is n. front_on _ top more (behind.ever before later is n) prefix;
-}
-
--- what is kept of this front of the log, with these visits and places that count
-pub record IsGrownTo (setting : Setting) (records : List Record) (w : World) (visits : Visits) (reached : Cell → ℕ) (log : List Command) : Type 0 where
-  pub good : Good setting records log w
-  pub visits_are : (n place : ℕ) (cell : Cell) → good.visits n place cell ≡ visits n place cell
-  pub reached_is : (cell : Cell) → good.reached cell ≡ reached cell
-
--- ### One entry more
-
--- the server's store is empty once the entry counts: the server is not In as itself by its own entries, and has nothing pending
-pub record IsRenewed (setting : Setting) (u : World) (n : ℕ) (store : Store) : Type 0 where
-  pub chains : store.chains ≡ []
-  pub marks : store.marks ≡ []
-  pub out : is_in (server_state setting u n) n (u.servers n).life.inc ≡ false
-  pub rested : ((u.servers n).life.running ≡ true) ⊎ (u.before_blank n ≡ None) → HaveMarks (server_state setting u n) (u.servers n).own.pairs.pending store
-
--- the stores that count once the entry does
-pub record AreRecounted (setting : Setting) (u : World) (here : State) (entry : Command) (old new : ℕ → Store) : Type 0 where
-  pub same : (n : ℕ) → joins_blank here entry n ≡ false → new n ≡ old n
-  pub renewed : (n : ℕ) → joins_blank here entry n ≡ true → IsRenewed setting u n (new n)
+use Rattle.law_copies.proofs.Places.{below_at, front_or_all, links_up, other_later}
+use Rattle.law_copies.proofs.Renewed.{blanked_alone, counts_same, filled_cover, joined_not_both, joins_so, no_blank_join, no_chains}
+use Rattle.law_copies.proofs.NextEntry.{IsBehind, IsGrownTo, AreRecounted}
+use Rattle.law_copies.proofs.NextEntry as entry_more
 
 module _ (setting : Setting) (records : List Record) (top : List Command) (entry : Command) (u : World) (old new : ℕ → Store)
     (good : Good setting records top (with_stores u old)) (behind : IsBehind setting records top u) (all : IsPlainLog setting.servers (top ++ entry ∷ []))
@@ -111,144 +75,67 @@ module _ (setting : Setting) (records : List Record) (top : List Command) (entry
   then_state = state_after setting.servers next
 
   plain_top : IsPlainLog setting.servers top
-  plain_top = front_plain setting.servers top next all (front_more top entry)
+  plain_top = entry_more.plain_top setting records top entry u old new good behind all started recounts
 
   plain_entry : IsPlain setting.servers entry
-  unfolding In
-  plain_entry = all entry (in_later entry top (entry ∷ []) (inl refl))
+  plain_entry = entry_more.plain_entry setting records top entry u old new good behind all started recounts
 
   steady_top : IsSteady here
-  steady_top = log_steady setting.servers top plain_top
+  steady_top = entry_more.steady_top setting records top entry u old new good behind all started recounts
 
-  -- the row after the entry
   row_then : (cell : Cell) (now : LinkRow) → IsLinked setting next cell now → cell_link (after here entry) cell ≡ Some now
-  row_then cell now end = ap (λ (s : State). cell_link s cell) (sym (state_next setting top entry)) ∙ end
+  row_then = entry_more.row_then setting records top entry u old new good behind all started recounts
 
   later_then : (cell : Cell) (row now : LinkRow) → IsLinked setting top cell row → IsLinked setting next cell now → IsLater row now
-  later_then cell row now is end = rows_later setting next all top next cell row now (front_more top entry) (front_itself next) is end
+  later_then = entry_more.later_then setting records top entry u old new good behind all started recounts
 
-  -- who was at a place of a cell that has a link then knew its link
-  been_linked : (n place : ℕ) (cell : Cell) (own : Own) → good.visits n place cell ≡ Some own → (now : LinkRow) → IsLinked setting next cell now
-      → (row : LinkRow) × IsLinked setting top cell row
-  been_linked n place cell own visited now end =
-      let b = good.been n place cell own visited in
-      linked_between setting next all b.front top next cell b.row now (front_on b.front _ top b.within (behind.now n)) (front_more top entry)
-      (front_itself next) b.linked end
-
-  -- and the place is not behind that by the entries so far
-  been_below : (n place : ℕ) (cell : Cell) (own : Own) (row : LinkRow) → good.visits n place cell ≡ Some own → IsLinked setting top cell row
-      → place ≤ place_by setting top row
-  been_below n place cell own row visited is =
-      let b = good.been n place cell own visited in
-      let up = places_up setting next all b.front top cell b.row row (front_on b.front _ top b.within (behind.now n)) (front_more top entry) b.linked is in
-      let at = b.at in
-      omega arith
-
-  -- ### How far a cell is
-
-  -- a cell that isn't dead then was not before
   alive_before : (cell : Cell) → AliveIn then_state cell → AliveIn here cell
-  alive_before cell alive = alive_on setting next all top next cell (front_more top entry) (front_itself next) alive
+  alive_before = entry_more.alive_before setting records top entry u old new good behind all started recounts
 
-  -- the last place is not behind that by the entries so far
   reached_below : (cell : Cell) (row : LinkRow) → IsLinked setting top cell row → good.reached cell ≤ place_by setting top row
-  reached_below cell row is = elim (good.reaching.by cell) [
-    | inl none ↦ omega (arith, none)
-    | inr r ↦ been_below r.server (good.reached cell) cell r.own row r.visited is
-  ]
+  reached_below = entry_more.reached_below setting records top entry u old new good behind all started recounts
 
-  unvisited : (n : ℕ) (place : ℕ) (cell : Cell) → ((own : Own) → good.visits n place cell ≡ Some own → ⊥) → good.visits n place cell ≡ None
-  unvisited n place cell never = elim (some_or_none (good.visits n place cell)) [ inl h ↦ absurd (never h.0 h.1) | inr none ↦ none ]
-
-  -- nobody has been at the new place of a link that the entry touches
-  unseen_new : (cell : Cell) (row now : LinkRow) → IsLinked setting top cell row → IsLinked setting next cell now → touches here entry row ≡ true
-      → (n : ℕ) → good.visits n (place_by setting next now) cell ≡ None
-  unseen_new cell row now is end on n = unvisited n (place_by setting next now) cell (λ own visited.
-      let le = been_below n (place_by setting next now) cell own row visited is in
-      let same = place_of_later setting next all top next next cell row now (front_more top entry) (front_itself next) is end in
-      let one = place_touched setting top entry row on in
-      absurd (omega arith))
-
-  -- a cell's link after the entry: as before; touched by the entry, or made by it, and then nobody has been at its place
   by_next : {B : Type 0} (cell : Cell) (now : LinkRow) → IsLinked setting next cell now
       → (IsLinked setting top cell now → place_by setting next now ≡ place_by setting top now → B)
       → ((row : LinkRow) → IsLinked setting top cell row → touches here entry row ≡ true → ((n : ℕ) → good.visits n (place_by setting next now) cell ≡ None)
       → B)
       → (stage_at here cell ≡ 0 → ((n : ℕ) → good.visits n (place_by setting next now) cell ≡ None) → B)
       → B
-  by_next cell now end still moved made = elim (some_or_none (cell_link here cell)) [
-    | inl h ↦ by_bool (touches here entry h.0)
-        (λ on. moved h.0 h.1 on (unseen_new cell h.0 now h.1 end on))
-        (λ off.
-        elim (log_entry_stays setting.servers top entry cell h.0 plain_top plain_entry h.1 off) [
-          | inl stays ↦ (
-              let same : h.0 ≡ now = same_some (sym stays.same ∙ row_then cell now end) in
-              still (subst (IsLinked setting top cell) same h.1)
-              (subst (λ r. place_by setting next r ≡ place_by setting top r) same (place_untouched setting top entry h.0 off)))
-          | inr died ↦ none_some died.0 (row_then cell now end)
-        ])
-    | inr none ↦ made (unborn setting next all top next cell now (front_more top entry) (front_itself next) none end)
-        (λ n. unvisited n (place_by setting next now) cell
-        (λ own visited. none_some none (been_linked n (place_by setting next now) cell own visited now end).1))
-  ]
-
-  -- ### Stores
+  by_next = entry_more.by_next setting records top entry u old new good behind all started recounts
 
   -- a server that comes back with nothing has a store more
   abbrev stores : ℕ → ℕ → Store
   stores n joins = if joins == blank_joins_in setting next n then new n else good.stores n joins
 
   stores_so : (n joins : ℕ) (b : Bool) → (joins == blank_joins_in setting next n) ≡ b → stores n joins ≡ (if b then new n else good.stores n joins)
-  stores_so n joins b e = ap (λ c. if c then new n else good.stores n joins) e
+  stores_so = entry_more.stores_so setting records top entry u old new good behind all started recounts
 
   next_store : (n : ℕ) → store_by setting stores next n ≡ new n
-  next_store n = stores_so n (blank_joins_in setting next n) true (number_itself (blank_joins_in setting next n))
-
-  -- at each front so far they are as they were
-  front_store : (f : List Command) (n : ℕ) → IsPrefix f top → store_by setting stores f n ≡ store_by setting good.stores f n
-  front_store f n prefix =
-      let joins = blank_joins_in setting f n in
-      let low = joins_grow setting.servers f top n prefix in
-      let high = joins_grow setting.servers top next n (front_more top entry) in
-      by_bool (joins == blank_joins_in setting next n)
-      (λ t.
-      let e = same_numbers joins (blank_joins_in setting next n) t in
-      let at_top : blank_joins_in setting top n ≡ joins = omega arith in
-      stores_so n joins true t
-      ∙ recounts.same n (by_bool (joins_blank here entry n) (λ on. let lt = counts_more setting top entry n on in absurd (omega arith)) (λ off. off))
-      ∙ sym (good.now n) ∙ ap (good.stores n) at_top)
-      (λ off. stores_so n joins false off)
+  next_store = entry_more.next_store setting records top entry u old new good behind all started recounts
 
   front_stores : (f : List Command) → IsPrefix f top → store_by setting good.stores f ≡ store_by setting stores f
-  front_stores f prefix = λ i n. sym (front_store f n prefix) i
+  front_stores = entry_more.front_stores setting records top entry u old new good behind all started recounts
 
   next_stores : new ≡ store_by setting stores next
-  next_stores = λ i n. sym (next_store n) i
+  next_stores = entry_more.next_stores setting records top entry u old new good behind all started recounts
 
   old_stores : store_by setting good.stores top ≡ old
-  old_stores = λ i n. good.now n i
+  old_stores = entry_more.old_stores setting records top entry u old new good behind all started recounts
 
-  -- a cell that is not live yet is empty at each server
   born_then : (cell : Cell) → stage_at here cell ≡ 0 → (n : ℕ) → chain_in (new n).chains cell ≡ []
-  born_then cell none n = by_bool (joins_blank here entry n) (λ on. no_chains (new n) cell (recounts.renewed n on).chains)
-      (λ off. ap (λ (s : Store). chain_in s.chains cell) (recounts.same n off) ∙ good.born cell none n)
+  born_then = entry_more.born_then setting records top entry u old new good behind all started recounts
 
   still_empty : (cell : Cell) → stage_at here cell ≡ 0 → (n m : ℕ) → chain_in (new n).chains cell ≡ chain_in (new m).chains cell
-  still_empty cell none n m = born_then cell none n ∙ sym (born_then cell none m)
-
-  -- an entry that is no Join with an empty store
-  same_all : ((server inc : ℕ) → entry ≡ Join server inc true → ⊥) → (n : ℕ) → new n ≡ old n
-  same_all never n = recounts.same n (no_blank_join here entry never n)
+  still_empty = entry_more.still_empty setting records top entry u old new good behind all started recounts
 
   no_leave : (server inc : ℕ) → entry ≡ Leave server inc → (n : ℕ) → new n ≡ old n
-  no_leave server inc is = same_all (λ s i e. let f : Leave server inc ≡ Join s i true = sym is ∙ e in absurd cc)
+  no_leave = entry_more.no_leave setting records top entry u old new good behind all started recounts
 
   no_caught : (of link holder inc other other_inc : ℕ) → entry ≡ Caught of link holder inc other other_inc → (n : ℕ) → new n ≡ old n
-  no_caught of link holder inc other other_inc is =
-      same_all (λ s i e. let f : Caught of link holder inc other other_inc ≡ Join s i true = sym is ∙ e in absurd cc)
+  no_caught = entry_more.no_caught setting records top entry u old new good behind all started recounts
 
   no_blank : (server inc : ℕ) → entry ≡ Join server inc false → (n : ℕ) → new n ≡ old n
-  no_blank server inc is = same_all (λ s i e. let f : Join server inc false ≡ Join s i true = sym is ∙ e in absurd cc)
+  no_blank = entry_more.no_blank setting records top entry u old new good behind all started recounts
 
   -- ### In Both
 

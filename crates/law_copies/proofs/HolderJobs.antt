@@ -1,14 +1,13 @@
 -- Each job of the holder of a link keeps a cell of it.
-use Rattle.std.proofs.Common.{◌≡◌, ◌≢◌, ◌≤◌, ◌<◌, ◌+◌, ◌⊎◌, ℕ, true, false, [], length, Option, Some, None, refl, sym, ap, ◌∙◌, subst, inl, inr, arith}
-use Rattle.std.specs.Prelude.{slice_get}
-use Rattle.std.specs.Ordering.{eq_by_cmp, nat_cmp}
+use Rattle.std.proofs.Common.{◌≡◌, ◌≢◌, ◌≤◌, ◌<◌, ◌+◌, ℕ, true, false, length, Option, Some, None, refl, sym, ap, ◌∙◌, subst, inl, inr, arith}
+use Rattle.std.specs.Ordering.{eq_by_cmp}
 use Rattle.busy_marks.specs.Marks.{above}
-use Rattle.busy_marks.specs.declared.marks.MarkKind.TheVariants.{Busy, Stale}
+use Rattle.busy_marks.specs.declared.marks.MarkKind.TheVariants.{Stale}
 use Rattle.global_tables.specs.Region.{link_of}
 use Rattle.global_tables.specs.declared.link.LinkRow.{LinkRow}
 use Rattle.global_tables.specs.declared.link.LinkState.TheVariants.{Both}
 use Rattle.petal_base.specs.declared.cell.Cell.{Cell}
-use Rattle.petal_base.specs.Cells.{cell_of, key_at}
+use Rattle.petal_base.specs.Cells.{key_at}
 use Rattle.petal_table.specs.Table.{at}
 use Rattle.petal_msg.specs.Kinds.{about, subject_of}
 use Rattle.petal_msg.specs.declared.body.Body.{Body}
@@ -17,29 +16,16 @@ use Rattle.petal_msg.specs.declared.copying.Copying.{Copying}
 use Rattle.petal_msg.specs.declared.copying.LastCopy.{LastCopy}
 use Rattle.petal_msg.specs.declared.copying.LinkId.{LinkId}
 use Rattle.petal_msg.specs.declared.copying.Progress.{Progress}
-use Rattle.petal_msg.specs.declared.operation.Action.{Action}
-use Rattle.petal_msg.specs.declared.operation.Action.TheVariants as action
-use Rattle.petal_msg.specs.declared.operation.Ending.TheVariants as ending
-use Rattle.petal_msg.specs.declared.operation.Pending.{Pending}
 use Rattle.petal_state.specs.CellState.{cell_link}
-use Rattle.petal_state.specs.Command.{is_alone}
-use Rattle.petal_history.specs.Claims.{IsMarked}
 use Rattle.petal_rules.specs.Copies.{begins_copy, cell_at, closes, idle_mark, same_block, turns_page as turned, with_copied, with_page}
-use Rattle.petal_rules.specs.Fills.{fill_operation}
 use Rattle.petal_rules.specs.Lists.{In}
-use Rattle.petal_rules.specs.Progress.{copying_on, has_proposed, progress_on, with_copying, with_full, with_last_copy, without_copying}
+use Rattle.petal_rules.specs.Progress.{copying_on, progress_on, with_copying, with_full, with_last_copy, without_copying}
 use Rattle.petal_rules.specs.Server.{Own, Copies, Pairs, Here, Post, Done, silent}
-use Rattle.petal_rules.specs.State.{id_of, in_both, is_second, link_cmp, link_named, live}
-use Rattle.petal_rules.specs.Store.{Store, cell_cmp, chain_in, epochs_of, is_marked, version_of, with_mark_on, with_ticket}
-use Rattle.petal_rules.specs.Writes.{acts, ends, gives_back, marks, next_stage, operation, pending_on, puts, unmarks, with_opened, without_pending}
+use Rattle.petal_rules.specs.State.{id_of, is_second, link_cmp, link_named}
+use Rattle.petal_rules.specs.Store.{cell_cmp, chain_in, epochs_of, with_mark_on}
 use Rattle.petal_rules.proofs.CellTables.{cell_gone, cell_gone_apart, cell_same}
-use Rattle.petal_rules.proofs.Tests.{by_bool, by_test, same_some, some_or_none, true_false}
-use Rattle.law_state.specs.Started.{is_flagged}
+use Rattle.petal_rules.proofs.Tests.{by_bool, same_some, some_or_none, true_false}
 use Rattle.law_log.proofs.Flags.{progress_beside, same_id}
-use Rattle.law_steps.specs.Ready.{IsRising}
-use Rattle.law_steps.specs.DidLead.{DidLead, Asks, A_slot, A_copy, A_trim, A_copied_entry, A_page, An_entry_to_move, Of_the_log, Asks_for, Repeats, Is_full}
-use Rattle.law_steps.specs.DidLead.{Opens, Marks, Puts, Gives_up, Unmarks, Closes, Opens_alone, Marks_alone, Puts_alone, Unmarks_alone, Closes_alone}
-use Rattle.law_steps.specs.DidLead.{Opens_fill, Opens_fill_alone, Has_fill, Has_no_room, Goes_on_dead, Taken}
 use Rattle.law_steps.specs.DidHolder.{DidHolder, CopyStep, Asks_to_trim, Sends, Unmarks_copied, Closes_copy, TakenCopy, Copy_as_is, Copy_trimmed, Copy_synced}
 use Rattle.law_steps.specs.DidHolder.{Asks_page, Turns_page, Begins_copy, Goes_on_copying, Finds_it_full, Tidies, IsHeldWith, first_copy}
 use Rattle.law_steps.specs.DidOther.{DidOther, first_last, TrimStep, Is_trimmed, Drops_entry, Answers_page, Is_copied_to}
@@ -47,168 +33,30 @@ use Rattle.law_steps.specs.DidOther.{Goes_on_trimming, Puts_entry, Has_entry, Ha
 use Rattle.law_steps.specs.DidSecond.{DidSecond}
 use Rattle.law_steps.specs.Did.{Did, Ignores, Refuses, By_read, By_lead, By_second, By_holder, By_other, By_filler, By_sweep}
 use Rattle.law_steps.proofs.CopyFrames.{of_holder, of_other}
-use Rattle.law_steps.proofs.Leading.{stage_live}
 use Rattle.law_steps.proofs.Letters.{one_post, posted}
-use Rattle.law_steps.proofs.Minds.{held_as_flag}
 use Rattle.law_steps.proofs.Staged.{same_cell_or_apart}
-use Rattle.law_steps.proofs.Subjects.{of_ending, of_filler, of_lead, of_read, of_second, of_sweep}
-use Rattle.law_steps.proofs.Taking.{IsTaken, taking}
+use Rattle.law_steps.proofs.Subjects.{of_filler, of_read, of_second, of_sweep}
 use Rattle.law_copies.specs.Copied.{AreCopying, IsLeft, IsTold}
 use Rattle.law_copies.specs.Steps.{HolderKeeps, IsHolding, KeepsCell}
 use Rattle.law_copies.proofs.Apart.{away}
 use Rattle.law_copies.proofs.Blocks.{on_block}
-use Rattle.law_copies.proofs.Chains.{chain_put, closed_pairs, closed_store}
+use Rattle.law_copies.proofs.Chains.{closed_pairs, closed_store}
 use Rattle.law_copies.proofs.CopyMoves as moves
-use Rattle.law_copies.proofs.Filled.{has_entry, no_entries}
+use Rattle.law_copies.proofs.Filled.{has_entry}
 use Rattle.law_copies.proofs.Frames.{copied_alike, copying_beside, keeps_itself}
 use Rattle.law_copies.proofs.HolderSteps as steps
 use Rattle.law_copies.proofs.Holding.{HolderStep, step_on}
 use Rattle.law_copies.proofs.Left.{IsNext, next_is}
-use Rattle.law_copies.proofs.Marks.{mark_kept, stale_kept}
 use Rattle.law_copies.proofs.Onward.{IsOnward, begun_onward, closed_onward, copied_itself, ended_onward, going_onward, onward_by, onward_tables}
-use Rattle.law_copies.proofs.Pacing.{IsPaced, link_itself, paced_beside, paced_copied, paced_table}
-use Rattle.law_copies.proofs.Rising.{did_rising}
-use Rattle.law_copies.proofs.Sent.{at_away, filling_not, holder_says, lead_sends, logged_not, none_in, other_says, paired_not, read_not, refused_not, untold}
-use Rattle.law_copies.proofs.Standing.{alone_not_in_both, alone_not_row, alone_not_second, cell_map, holder_not_other, idle_on}
-use Rattle.law_copies.proofs.Standing.{kept_lives, named_id, one_named, only_alone, page_on}
-use Rattle.law_copies.proofs.Working.{Away, IsHeldBy, copy_step_beside, filler_beside, holder_beside, holder_cell, lead_beside, lead_cell, other_beside}
+use Rattle.law_copies.proofs.Pacing.{IsPaced, link_itself, paced_beside, paced_copied}
+use Rattle.law_copies.proofs.Sent.{at_away, filling_not, holder_says, none_in, other_says, paired_not, read_not, refused_not, untold}
+use Rattle.law_copies.proofs.Standing.{alone_not_row, alone_not_second, cell_map, holder_not_other, idle_on}
+use Rattle.law_copies.proofs.Standing.{kept_lives, named_id, one_named, page_on}
+use Rattle.law_copies.proofs.Working.{Away, IsHeldBy, copy_step_beside, filler_beside, holder_beside, holder_cell, other_beside}
 use Rattle.law_copies.proofs.Working.{other_cell, other_held, page_cell, second_beside, second_follows, sweep_beside}
-
-module _ (heard : Body → Type 0) (here : Here) (own : Own) where
-  -- ### Numbers only grow
-
-  acts_count : (now : Own) (op : Pending) (next : Action) → now.pairs.next ≤ (acts here now op next).own.pairs.next
-  acts_count now op action.Reserve = omega arith
-  acts_count now op (action.Mark which) = omega arith
-  acts_count now op action.Put = omega arith
-  acts_count now op action.Replicate = omega arith
-  acts_count now op (action.Unmark which) = omega arith
-  acts_count now op action.Answer = let e = (of_ending here (without_pending now op.cell) op op.kind ending.Written).next in omega arith
-  acts_count now op action.Drop =
-      by_test (λ (o : Own). now.pairs.next ≤ o.pairs.next) op.stage.put (without_pending now op.cell) (gives_back (without_pending now op.cell))
-      (λ put. omega arith) (λ fresh. omega arith)
-
-  pub lead_counts : (done : Done) → DidLead heard here own done → own.pairs.next ≤ done.own.pairs.next
-  lead_counts _ (Asks_for posts h) = omega arith
-  lead_counts _ (Repeats want last h lead is e) = omega arith
-  lead_counts _ (Is_full want new no_room) = omega arith
-  lead_counts _ (Gives_up op h is reserved put) =
-      let e = (of_ending here (gives_back (without_pending own op.cell)) op op.kind ending.Full).next in omega arith
-  lead_counts _ (Opens want new both) = omega arith
-  lead_counts _ (Marks op h is both stage) = omega arith
-  lead_counts _ (Puts op is both stage) = omega arith
-  lead_counts _ (Unmarks op h is both stage) = omega arith
-  lead_counts _ (Closes op is both stage) =
-      let e = (of_ending here (without_pending own op.cell) op op.kind ending.Written).next in omega arith
-  lead_counts _ (Opens_alone want new alone) = omega arith
-  lead_counts _ (Marks_alone now op taken alone fresh) = let e = (taking own now op taken).next in omega arith
-  lead_counts _ (Puts_alone now op taken alone stale put) = let e = (taking own now op taken).next in omega arith
-  lead_counts _ (Unmarks_alone now op taken alone stale put busy) = let e = (taking own now op taken).next in omega arith
-  lead_counts _ (Closes_alone now op taken alone stale put free) =
-      let e = (of_ending here (without_pending now op.cell) op op.kind ending.Written).next in let k = (taking own now op taken).next in omega arith
-  lead_counts _ (Opens_fill moving new room both) = omega arith
-  lead_counts _ (Opens_fill_alone moving new room alone) = omega arith
-  lead_counts _ (Has_fill moving there) = omega arith
-  lead_counts _ (Has_no_room moving new no_room) = omega arith
-  lead_counts _ (Goes_on_dead now op taken off) =
-      let le = acts_count now op (next_stage here.state here.me op) in let k = (taking own now op taken).next in omega arith
+use Rattle.law_copies.proofs.HolderWrites as writes
 
 module _ (heard : Body → Type 0) (here : Here) (links : ℕ) (row : LinkRow) (vo : Option Own) (own : Own) where
-  -- ### A write on the cell
-
-  module _ (now : Own) (op : Pending) (taken : Taken own now op) (f : IsHolding heard here links row op.cell own vo) where
-    abbrev k : IsTaken own now op
-    k = taking own now op taken
-
-    abbrev idle : copying_on own op.cell ≡ None
-    idle = steps.pending_idle heard links row op.cell vo own f.old k.old k.was
-
-    abbrev unflagged : is_flagged own (id_of row) ≡ false
-    unflagged = steps.pending_unflagged heard links row op.cell vo own f.old k.old k.was
-
-    keyed : cell_of op.key ≡ op.cell
-    keyed = ap (λ (o : Pending). cell_of o.key) k.is ∙ (f.fit.ready.staged op.cell k.old k.was).keyed
-
-    taken_marks : IsMarked own.store op.cell → IsMarked now.store op.cell
-    taken_marks m = subst (λ (s : Store). IsMarked s op.cell) (sym k.store) m
-
-    -- an operation of a cell that is not dead is of a live one
-    lives : live here.state op.cell ≡ true
-    lives = stage_live here.state op.cell (f.fit.ready.staged op.cell k.old k.was).born f.alive
-
-    -- the block is marked stale, where the stage says so
-    stale_there : op.stage.stale ≡ true → is_marked now.store Stale op.cell ≡ true
-    stale_there stale =
-        let old_stale : k.old.stage.stale ≡ true = sym (ap (λ (o : Pending). o.stage.stale) k.is) ∙ stale in
-        ap (λ (s : Store). is_marked s Stale op.cell) k.store ∙ (f.fit.marks op.cell k.old lives k.was).stale old_stale
-
-    taken_chain : chain_in now.store.chains op.cell ≡ chain_in own.store.chains op.cell
-    taken_chain = ap (λ (s : Store). chain_in s.chains op.cell) k.store
-
-    taken_step : (to : Own) → to.copies ≡ now.copies → to.pairs.next ≡ now.pairs.next
-        → (IsMarked now.store op.cell → IsMarked to.store op.cell)
-        → (chain_in to.store.chains op.cell ≡ chain_in now.store.chains op.cell) ⊎ IsMarked to.store op.cell
-        → (chain_in now.store.chains op.cell ≢ [] → chain_in to.store.chains op.cell ≢ [])
-        → IsRising nat_cmp (chain_in to.store.chains op.cell) → HolderStep heard links row op.cell vo own to
-    taken_step to copies next marks chain stored rises =
-        steps.write_step heard links row op.cell vo own f.old idle unflagged to (copies ∙ k.copies)
-        (let e = next in let e' = k.next in omega arith)
-        (λ m. marks (taken_marks m)) (elim chain [ inl same ↦ inl (same ∙ taken_chain) | inr m ↦ inr m ])
-        (λ some. stored (λ none. some (sym taken_chain ∙ none))) rises
-
-    marks_at : IsRising nat_cmp (chain_in (marks now op Stale).own.store.chains op.cell)
-        → HolderStep heard links row op.cell vo own (marks now op Stale).own
-    marks_at rises = taken_step (marks now op Stale).own refl refl
-        (λ m. elim m [
-          | inl busy ↦ inl (mark_kept now.store Stale Busy op.cell op.cell busy)
-          | inr stale ↦ inr (mark_kept now.store Stale Stale op.cell op.cell stale)
-        ]) (inl refl) (λ some. some) rises
-
-    -- the cell has an entry once it is put
-    put_some : chain_in (puts now op).own.store.chains op.cell ≢ []
-    put_some none = no_entries (chain_in now.store.chains (cell_of op.key)) op.key.epoch
-        (record { version = version_of (chain_in now.store.chains op.cell) + 1; bytes = op.bytes })
-        (sym (chain_put now.store.chains (cell_of op.key) _) ∙ ap (chain_in (puts now op).own.store.chains) keyed ∙ none)
-
-    puts_at : op.stage.stale ≡ true → IsRising nat_cmp (chain_in (puts now op).own.store.chains op.cell)
-        → HolderStep heard links row op.cell vo own (puts now op).own
-    puts_at stale rises = taken_step (puts now op).own refl refl (λ m. m) (inr (inr (stale_there stale))) (λ some. put_some) rises
-
-    unmarks_at : op.stage.stale ≡ true → IsRising nat_cmp (chain_in (unmarks now op Busy).own.store.chains op.cell)
-        → HolderStep heard links row op.cell vo own (unmarks now op Busy).own
-    unmarks_at stale rises = taken_step (unmarks now op Busy).own refl refl
-        (λ m. inr (stale_kept now.store op.cell op.cell ∙ stale_there stale)) (inl refl) (λ some. some) rises
-
-    closes_at : IsRising nat_cmp (chain_in (ends here (without_pending now op.cell) op op.kind ending.Written).own.store.chains op.cell)
-        → HolderStep heard links row op.cell vo own (ends here (without_pending now op.cell) op op.kind ending.Written).own
-    closes_at rises =
-        let e = of_ending here (without_pending now op.cell) op op.kind ending.Written in
-        taken_step (ends here (without_pending now op.cell) op op.kind ending.Written).own e.copies e.next
-        (λ m. subst (λ (s : Store). IsMarked s op.cell) (sym e.store) m) (inl (ap (λ (s : Store). chain_in s.chains op.cell) e.store))
-        (λ some none. some (ap (λ (s : Store). chain_in s.chains op.cell) (sym e.store) ∙ none)) rises
-
-  gives_up_at : (op : Pending) → pending_on own op.cell ≡ Some op → (f : IsHolding heard here links row op.cell own vo)
-      → HolderStep heard links row op.cell vo own (ends here (gives_back (without_pending own op.cell)) op op.kind ending.Full).own
-  gives_up_at op is f =
-      let e = of_ending here (gives_back (without_pending own op.cell)) op op.kind ending.Full in
-      let chain : chain_in (ends here
-      (gives_back (without_pending own op.cell)) op op.kind ending.Full).own.store.chains op.cell ≡ chain_in own.store.chains op.cell =
-      ap (λ (s : Store). chain_in s.chains op.cell) e.store in
-      steps.write_step heard links row op.cell vo own f.old (steps.pending_idle heard links row op.cell vo own f.old op is)
-      (steps.pending_unflagged heard links row op.cell vo own f.old op is) _ e.copies (let n = e.next in omega arith)
-      (λ m. subst (λ (s : Store). IsMarked s op.cell) (sym e.store) m) (inl chain) (λ some none. some (sym chain ∙ none))
-      (subst (IsRising nat_cmp) (sym chain) (f.fit.rising op.cell))
-
-  opens_at : (op : Pending) → copying_on own op.cell ≡ None → has_proposed here.state own op.cell ≡ false
-      → (f : IsHolding heard here links row op.cell own vo)
-      → HolderStep heard links row op.cell vo own (marks (with_opened own op) op Stale).own
-  opens_at op uncopied unheld f = steps.write_step heard links row op.cell vo own f.old uncopied
-      (sym (held_as_flag here.state own op.cell row f.is) ∙ unheld) _ refl (omega arith)
-      (λ m. elim m [
-        | inl busy ↦ inl (mark_kept (with_ticket own.store) Stale Busy op.cell op.cell busy)
-        | inr stale ↦ inr (mark_kept (with_ticket own.store) Stale Stale op.cell op.cell stale)
-      ]) (inl refl) (λ some. some) (f.fit.rising op.cell)
-
   -- ### A copy of the cell
 
   module _ (cell : Cell) where
@@ -298,104 +146,16 @@ module _ (heard : Body → Type 0) (here : Here) (links : ℕ) (row : LinkRow) (
     abbrev Step : Done → Type 0
     Step done = HolderStep heard links row cell vo own done.own
 
-    mine : is_alone here.me row.state ≡ true
-    mine = only_alone here.me row f.whole f.held
-
     at_cell : (c : Cell) → cell ≡ c → IsHolding heard here links row c own vo
-    at_cell c e = subst (λ (q : Cell). IsHolding heard here links row q own vo) e f
-
-    not_in_both : {A : Type 0} (c : Cell) → cell ≡ c → in_both here.state c ≡ true → A
-    not_in_both c e both = alone_not_in_both here f.fit.steady cell row f.is here.me mine
-        (subst (λ (q : Cell). in_both here.state q ≡ true) (sym e) both)
+    at_cell = writes.at_cell heard here links row vo own cell f
 
     kept : (done : Done) → KeepsCell cell own done.own → own.pairs.next ≤ done.own.pairs.next → IsPaced row own done.own
         → IsOnward links row cell own done.own → Step done
-    kept done k next paced onward = steps.kept_step heard links row cell vo own f.old done.own k next paced onward
+    kept = writes.kept heard here links row vo own cell f
 
-    -- where nothing is changed of copies at the holder
     same_paced : (to : Own) → to.copies.progress ≡ own.copies.progress → to.copies.pending ≡ own.copies.pending
         → IsPaced row own to × IsOnward links row cell own to
-    same_paced to progress pending = let paced = paced_table row own to progress in
-        (paced, onward_tables links row cell own to progress pending paced)
-
-    -- ### Writes
-
-    lead_apart : (done : Done) (d : DidLead heard here own done) → Away cell (lead_cell heard here own done d) → Step done
-    lead_apart done d apart =
-        let copies = (of_lead heard here own done d).copies in
-        let paced = same_paced done.own (ap (λ (c : Copies). c.progress) copies) (ap (λ (c : Copies). c.pending) copies) in
-        kept done (lead_beside heard here own f.fit.ready done d cell apart) (lead_counts heard here own done d) paced.0 paced.1
-
-    -- at the cell of the operation, or apart from it
-    either : (c : Cell) (to : Own) → (IsHolding heard here links row c own vo → HolderStep heard links row c vo own to)
-        → (cell ≢ c → HolderStep heard links row cell vo own to) → HolderStep heard links row cell vo own to
-    either c to here_it apart = elim (same_cell_or_apart cell c) [
-      | inl e ↦ subst (λ (q : Cell). HolderStep heard links row q vo own to) (sym e) (here_it (at_cell c e))
-      | inr ne ↦ apart ne
-    ]
-
-    both_not : (c : Cell) (to : Own) → in_both here.state c ≡ true → (cell ≢ c → HolderStep heard links row cell vo own to)
-        → HolderStep heard links row cell vo own to
-    both_not c to both apart = elim (same_cell_or_apart cell c) [ inl e ↦ not_in_both c e both | inr ne ↦ apart ne ]
-
-    rises : (done : Done) → DidLead heard here own done → (c : Cell) → IsRising nat_cmp (chain_in done.own.store.chains c)
-    rises done d c = did_rising heard here own f.fit.rising done (By_lead done d) c
-
-    lead_step : (done : Done) → DidLead heard here own done → Step done
-    lead_step _ (Asks_for posts h) = lead_apart _ (Asks_for posts h) tt
-    lead_step _ (Repeats want last h lead is e) = lead_apart _ (Repeats want last h lead is e) tt
-    lead_step _ (Is_full want new no_room) = lead_apart _ (Is_full want new no_room) tt
-    lead_step _ (Gives_up op h is reserved put) = either op.cell _ (gives_up_at op is)
-        (λ ne. lead_apart _ (Gives_up op h is reserved put) ne)
-    lead_step _ (Opens want new both) = both_not want.cell _ both (λ ne. lead_apart _ (Opens want new both) ne)
-    lead_step _ (Marks op h is both stage) = both_not op.cell _ both (λ ne. lead_apart _ (Marks op h is both stage) ne)
-    lead_step _ (Puts op is both stage) = both_not op.cell _ both (λ ne. lead_apart _ (Puts op is both stage) ne)
-    lead_step _ (Unmarks op h is both stage) = both_not op.cell _ both (λ ne. lead_apart _ (Unmarks op h is both stage) ne)
-    lead_step _ (Closes op is both stage) = both_not op.cell _ both (λ ne. lead_apart _ (Closes op is both stage) ne)
-    lead_step _ (Opens_alone want new alone) =
-        either want.cell _ (opens_at (operation here own.pairs.next want) new.uncopied new.unheld) (λ ne. lead_apart _ (Opens_alone want new alone) ne)
-    lead_step _ (Marks_alone now op taken alone fresh) =
-        either op.cell _ (λ g. marks_at now op taken g (rises _ (Marks_alone now op taken alone fresh) op.cell))
-        (λ ne. lead_apart _ (Marks_alone now op taken alone fresh) ne)
-    lead_step _ (Puts_alone now op taken alone stale put) =
-        either op.cell _ (λ g. puts_at now op taken g stale (rises _ (Puts_alone now op taken alone stale put) op.cell))
-        (λ ne. lead_apart _ (Puts_alone now op taken alone stale put) ne)
-    lead_step _ (Unmarks_alone now op taken alone stale put busy) =
-        either op.cell _ (λ g. unmarks_at now op taken g stale (rises _ (Unmarks_alone now op taken alone stale put busy) op.cell))
-        (λ ne. lead_apart _ (Unmarks_alone now op taken alone stale put busy) ne)
-    lead_step _ (Closes_alone now op taken alone stale put free) =
-        either op.cell _ (λ g. closes_at now op taken g (rises _ (Closes_alone now op taken alone stale put free) op.cell))
-        (λ ne. lead_apart _ (Closes_alone now op taken alone stale put free) ne)
-    lead_step _ (Opens_fill moving new room both) = both_not (cell_of moving.key) _ both (λ ne. lead_apart _ (Opens_fill moving new room both) ne)
-    lead_step _ (Opens_fill_alone moving new room alone) =
-        either (cell_of moving.key) _ (opens_at (fill_operation here own.pairs.next moving) new.uncopied new.unheld)
-        (λ ne. lead_apart _ (Opens_fill_alone moving new room alone) ne)
-    lead_step _ (Has_fill moving there) = lead_apart _ (Has_fill moving there) tt
-    lead_step _ (Has_no_room moving new no_room) = lead_apart _ (Has_no_room moving new no_room) tt
-    lead_step _ (Goes_on_dead now op taken off) = either op.cell _ (λ g. true_false (lives now op taken g) off)
-        (λ ne. lead_apart _ (Goes_on_dead now op taken off) ne)
-
-    -- what is asked again of a copy of the cell
-    asks_told : (post : Post) → Asks here own post → (about post.body).cell ≡ Some cell → IsTold row (Some own) vo post.body
-    asks_told _ (A_slot op at is stage so) e = tt
-    asks_told _ (A_copy op at is stage so) e = tt
-    asks_told _ (A_trim c copy at is fresh so) e =
-        subst (λ (q : Cell). IsTold row (Some own) vo (body.Trim copy.op q (epochs_of (chain_in own.store.chains q)))) (sym (same_some e))
-        (moves.trim_told heard links row cell vo own f.old copy (subst (λ (q : Cell). copying_on own q ≡ Some copy) (same_some e) is) fresh)
-    asks_told _ (A_copied_entry c copy r at is trimmed there so) e =
-        subst (λ (q : Cell). IsTold row (Some own) vo (body.Sync copy.op (key_at q r.0) r.1.version copy.index r.1.bytes)) (sym (same_some e))
-        (moves.entry_told heard links row cell vo own f.old copy (subst (λ (q : Cell). copying_on own q ≡ Some copy) (same_some e) is) r trimmed
-        (subst (λ (q : Cell). slice_get (chain_in own.store.chains q) copy.index ≡ Some r) (same_some e) there))
-    asks_told _ (A_page r at on so fresh) e = tt
-    asks_told post (An_entry_to_move _ next) e =
-        untold row (Some own) vo post.body (filling_not post.body (ap (λ (p : Post). subject_of p.body) next.is))
-    asks_told post (Of_the_log _ logged) e = untold row (Some own) vo post.body (logged_not (subject_of post.body) logged)
-
-    lead_says : (done : Done) → DidLead heard here own done → Says cell done
-    lead_says done d post i e = elim (lead_sends heard here own done d post i) [
-      | inl asks ↦ subst (λ (x : Own). IsTold row (Some x) vo post.body) (sym asks.1) (asks_told post asks.0 e)
-      | inr ne ↦ untold row (Some done.own) vo post.body ne
-    ]
+    same_paced = writes.same_paced heard here links row vo own cell f
 
     -- ### Copies
 
@@ -543,11 +303,12 @@ module _ (heard : Body → Type 0) (here : Here) (links : ℕ) (row : LinkRow) (
 
     tidied_apart : (id : LinkId) (r : LinkRow) (block : ℕ) → link_named here.state id ≡ Some r → r.state ≡ Both
         → idle_mark here.state r own ≡ Some block → cell ≢ cell_at r block
-    tidied_apart id r block named both idle_is e = alone_not_row here f.fit.steady cell row f.is here.me mine (record {
-      row = r;
-      is = ap (cell_link here.state) e ∙ idle_on heard here own f.fit id r block named idle_is;
-      both = both;
-    })
+    tidied_apart id r block named both idle_is e = alone_not_row here f.fit.steady cell row f.is here.me (writes.mine heard here links row vo own cell f)
+        (record {
+          row = r;
+          is = ap (cell_link here.state) e ∙ idle_on heard here own f.fit id r block named idle_is;
+          both = both;
+        })
 
     holder_step : (done : Done) → DidHolder heard here own done → Step done × Says cell done
     holder_step _ (Asks_page id r other held fresh) = let same = same_paced own refl refl in
@@ -600,7 +361,8 @@ module _ (heard : Body → Type 0) (here : Here) (links : ℕ) (row : LinkRow) (
 
     other_step : (done : Done) → DidOther heard here own done → Step done × Says cell done
     other_step done d =
-        let apart = away (IsHeldBy heard here own) cell (λ h. holder_not_other here f.fit.steady cell row f.is mine h.holder h.held)
+        let apart = away (IsHeldBy heard here own) cell
+        (λ h. holder_not_other here f.fit.steady cell row f.is (writes.mine heard here links row vo own cell f) h.holder h.held)
         (other_cell heard here own done d) (other_held heard here own done d) in
         let copies = other_copies done d in
         let paced = same_paced done.own copies.0 copies.1 in (
@@ -614,7 +376,7 @@ module _ (heard : Body → Type 0) (here : Here) (links : ℕ) (row : LinkRow) (
         let paced = same_paced done.own (ap (λ (c : Copies). c.progress) frame.copies) (ap (λ (c : Copies). c.pending) frame.copies) in
         kept done
         (second_beside heard here own done d cell
-        (λ e. alone_not_second here f.fit.steady cell row f.is here.me mine
+        (λ e. alone_not_second here f.fit.steady cell row f.is here.me (writes.mine heard here links row vo own cell f)
         (subst (λ (c : Cell). is_second here.state here.me c ≡ true) (sym e) (second_follows heard here own done d))))
         (let e = frame.next in omega arith) paced.0 paced.1
 
@@ -629,7 +391,7 @@ module _ (heard : Body → Type 0) (here : Here) (links : ℕ) (row : LinkRow) (
           subst (λ (x : Own). HolderStep heard links row cell vo own x) (sym r.same) (itself cell own f.old),
           (λ post i e. untold row (Some done.own) vo post.body (read_not post (r.says post i))),
         )
-    did_step done (By_lead _ d) = (lead_step done d, lead_says done d)
+    did_step done (By_lead _ d) = (writes.lead_step heard here links row vo own cell f done d, writes.lead_says heard here links row vo own cell f done d)
     did_step done (By_second _ d) = (
       second_step done d,
       (λ post i e. untold row (Some done.own) vo post.body (paired_not post.body ((of_second heard here own done d).says post i))),

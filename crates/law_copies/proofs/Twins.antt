@@ -1,55 +1,40 @@
 -- What each step of one of the two servers of a cell in Both keeps of the cell.
 use Rattle.std.proofs.Common.{◌≡◌, ◌≢◌, ℕ, ◌≤◌, ◌+◌, List, [], ◌∷◌, true, Some, None, refl, ap, sym, ◌∙◌, subst, inl, inr, arith}
-use Rattle.std.specs.Prelude.{option_and_then, option_map}
+use Rattle.std.specs.Prelude.{option_and_then}
 use Rattle.std.specs.Ordering.{nat_cmp}
-use Rattle.global_tables.specs.Link.{other_of}
 use Rattle.global_tables.specs.declared.link.LinkRow.{LinkRow}
 use Rattle.global_tables.specs.declared.link.LinkState.TheVariants.{Both}
 use Rattle.petal_base.specs.declared.cell.Cell.{Cell}
 use Rattle.petal_base.specs.declared.cell.Key.{Key}
 use Rattle.petal_base.specs.Cells.{cell_of}
 use Rattle.petal_table.specs.Table.{at}
-use Rattle.petal_msg.specs.Kinds.{about, Copied, Refused, subject_of}
+use Rattle.petal_msg.specs.Kinds.{about, subject_of}
 use Rattle.petal_msg.specs.declared.body.Body.{Body}
 use Rattle.petal_msg.specs.declared.body.Body.TheVariants as body
 use Rattle.petal_msg.specs.declared.copying.Copying.{Copying}
-use Rattle.petal_msg.specs.declared.copying.LastCopy.{LastCopy}
-use Rattle.petal_msg.specs.declared.letter.Actor.{Actor}
 use Rattle.petal_msg.specs.declared.letter.Actor.TheVariants as actor
 use Rattle.petal_msg.specs.declared.operation.Action.{Action}
 use Rattle.petal_msg.specs.declared.operation.Action.TheVariants as action
 use Rattle.petal_msg.specs.declared.operation.Ending.{Ending}
 use Rattle.petal_msg.specs.declared.operation.Ending.TheVariants as ending
-use Rattle.petal_msg.specs.declared.operation.Far.{Far}
 use Rattle.petal_msg.specs.declared.operation.Far.TheVariants as far
 use Rattle.petal_msg.specs.declared.operation.Pending.{Pending}
 use Rattle.petal_state.specs.CellState.{cell_link, row_lead, state_lead}
-use Rattle.petal_state.specs.Command.{is_alone}
-use Rattle.petal_rules.specs.Copies.{cell_holder}
-use Rattle.petal_rules.specs.Lists.{In}
 use Rattle.petal_rules.specs.Progress.{copying_on, has_proposed}
-use Rattle.petal_rules.specs.State.{in_both, is_lead, is_second, is_the, leads_link, secondary}
+use Rattle.petal_rules.specs.State.{in_both, is_lead, is_the, leads_link}
 use Rattle.petal_rules.specs.Store.{Store, cell_cmp, chain_in}
-use Rattle.petal_rules.specs.Server.{Own, Here, Pairs, Post, Done, says}
+use Rattle.petal_rules.specs.Server.{Own, Here, Pairs, Post, Done}
 use Rattle.petal_rules.specs.Writes.{acts, ended, ends, follows, gives_back, is_clients, next_stage, pending_on, tells, with_last, without_pending}
 use Rattle.petal_rules.proofs.CellTables.{cell_same}
-use Rattle.petal_rules.proofs.Tests.{is_the_one, same_numbers, same_some, true_false}
+use Rattle.petal_rules.proofs.Tests.{same_numbers, same_some, true_false}
 use Rattle.law_state.specs.Steady.{IsSteady}
 use Rattle.law_state.specs.Homes.{stage_at}
-use Rattle.law_state.proofs.Alone.{second_secondary, so_both}
 use Rattle.law_steps.specs.Did.{Did, Ignores, Refuses, By_read, By_lead, By_second, By_holder, By_other, By_filler, By_sweep}
-use Rattle.law_steps.specs.DidFiller.{DidFiller}
-use Rattle.law_steps.specs.DidSweep.{DidSweep}
 use Rattle.law_steps.specs.Operations.{progress}
-use Rattle.law_steps.specs.DidRead.{DidRead}
 use Rattle.law_steps.specs.DidLead.{DidLead, Asks_for, Repeats, Is_full, Opens, Marks, Puts, Gives_up, Unmarks, Closes, Opens_alone, Marks_alone, Puts_alone}
 use Rattle.law_steps.specs.DidLead.{Unmarks_alone, Closes_alone, Opens_fill, Opens_fill_alone, Has_fill, Has_no_room, Goes_on_dead, Asks, A_slot, A_copy}
 use Rattle.law_steps.specs.DidLead.{A_trim, A_copied_entry, A_page, An_entry_to_move, Of_the_log, Taken}
 use Rattle.law_steps.specs.DidSecond.{DidSecond, with_tickets, Sets_apart, Promises, Declines, Follows}
-use Rattle.law_steps.specs.DidHolder.{DidHolder, CopyStep, Asks_to_trim, Sends, Unmarks_copied, Closes_copy, TakenCopy, Copy_as_is, Copy_trimmed, Copy_synced}
-use Rattle.law_steps.specs.DidHolder.{Asks_page, Turns_page, Begins_copy, Goes_on_copying, Finds_it_full, Tidies}
-use Rattle.law_steps.specs.DidOther.{DidOther, TrimStep, Is_trimmed, Drops_entry, Answers_page, Is_copied_to}
-use Rattle.law_steps.specs.DidOther.{Goes_on_trimming, Puts_entry, Has_entry, Has_no_slot}
 use Rattle.law_steps.specs.Ready.{IsReady}
 use Rattle.law_steps.proofs.CopyFrames.{CopyFrame, of_holder, of_other}
 use Rattle.law_steps.proofs.Filling.{Fills, Stood, Writes, did_come}
@@ -59,149 +44,34 @@ use Rattle.law_steps.proofs.Staged.{did_ready, same_cell_or_apart}
 use Rattle.law_steps.proofs.Subjects.{of_filler, of_lead, of_read, of_second, of_sweep, told_own}
 use Rattle.law_steps.proofs.Taking.{taking}
 use Rattle.law_copies.specs.BothSteps.{LacksFill, LeadKeeps, SecondKeeps, SaysKnown}
-use Rattle.law_copies.specs.Pair.{AreCopies, HaveMarks, IsRecalled, Keeps, Known, Pair, PairOk, pair_of}
+use Rattle.law_copies.specs.Pair.{AreCopies, HaveMarks, IsRecalled, Keeps, Known, PairOk, pair_of}
 use Rattle.law_copies.specs.Pair as pair
 use Rattle.law_copies.specs.Steps.{IsBare}
 use Rattle.law_copies.specs.Visits.{AliveIn}
 use Rattle.law_copies.proofs.Apart.{away}
-use Rattle.law_copies.proofs.Chains.{chain_apart, copied_chains, drop_apart, page_chains}
+use Rattle.law_copies.proofs.Chains.{chain_apart}
 use Rattle.law_copies.proofs.Lead as lead
 use Rattle.law_copies.proofs.Marking.{job_marked}
-use Rattle.law_copies.proofs.Others.{IsOther, held_by}
 use Rattle.law_copies.proofs.Rising.{AreRising, did_rising}
 use Rattle.law_copies.proofs.Second as follow
 use Rattle.law_copies.proofs.Working.{IsLedHere, lead_beside, lead_cell, lead_leads, sweep_beside}
-
--- what is said of copies, and a refusal, tell nothing of a pair
-copied_known : (pair : Pair) (said : Body) → subject_of said ≡ Copied → Known pair said
-copied_known pair (body.Reserve number cell) e = cc
-copied_known pair (body.Reserved number cell) e = cc
-copied_known pair (body.PairFull number cell) e = cc
-copied_known pair (body.Replicate number key version bytes) e = cc
-copied_known pair (body.Replicated number cell) e = cc
-copied_known pair _ e = tt
-
-refused_known : (pair : Pair) (said : Body) → subject_of said ≡ Refused → Known pair said
-refused_known pair (body.Reserve number cell) e = cc
-refused_known pair (body.Reserved number cell) e = cc
-refused_known pair (body.PairFull number cell) e = cc
-refused_known pair (body.Replicate number key version bytes) e = cc
-refused_known pair (body.Replicated number cell) e = cc
-refused_known pair _ e = tt
+use Rattle.law_copies.proofs.BesideTwins as beside
 
 module _ (heard : Body → Type 0) (here : Here) (own : Own) (steady : IsSteady here.state) (cell : Cell) (row : LinkRow)
     (is_row : cell_link here.state cell ≡ Some row) (alive : AliveIn here.state cell) (both_row : row.state ≡ Both) where
   cell_both : in_both here.state cell ≡ true
-  cell_both = so_both here.state cell row is_row both_row
-
-  -- a copy is of another cell
-  held_apart : (q : Cell) (holder : ℕ) → cell_holder here q ≡ Some holder → cell ≢ q
-  held_apart q holder held e =
-      let h = held_by here q holder held in
-      let same : h.0 ≡ row = same_some (sym h.1.is ∙ ap (cell_link here.state) (sym e) ∙ is_row) in
-      both_alone h.0 (ap (λ (r : LinkRow). r.state) same ∙ both_row) h.1
-    where
-      both_alone : (r : LinkRow) → r.state ≡ Both → {n : ℕ} → IsOther here q r n → ⊥
-      both_alone r so other = true_false other.alone (ap (is_alone (other_of here.me r)) so)
-
-  -- the chain stays in what is done of copies
-  step_chain : (now : Own) (q : Cell) (copy : Copying) (done : Done) → CopyStep here now q copy done
-      → chain_in done.own.store.chains cell ≡ chain_in now.store.chains cell
-  step_chain now q copy _ (Asks_to_trim fresh) = refl
-  step_chain now q copy _ (Sends r trimmed is) = refl
-  step_chain now q copy _ (Unmarks_copied kind synced left) = refl
-  step_chain now q copy _ (Closes_copy synced left) = ap (λ c. chain_in c cell) (copied_chains here now q)
-
-  holder_chain : (done : Done) → DidHolder heard here own done → chain_in done.own.store.chains cell ≡ chain_in own.store.chains cell
-  holder_chain _ (Asks_page id r other held fresh) = refl
-  holder_chain _ (Turns_page id r other after block h held fresh at) = ap (λ c. chain_in c cell) (page_chains own r block)
-  holder_chain done (Begins_copy id r other q _ held next step) = step_chain _ q _ done step
-  holder_chain done (Goes_on_copying q now copy _ taken step) = step_chain now q copy done step ∙ taken_chain q now copy taken
-    where
-      taken_chain : (q : Cell) (now : Own) (copy : Copying) → TakenCopy heard own q now copy → chain_in now.store.chains cell ≡ chain_in own.store.chains cell
-      taken_chain q _ _ (Copy_as_is copy is) = refl
-      taken_chain q _ _ (Copy_trimmed copy h is fresh) = refl
-      taken_chain q _ _ (Copy_synced copy h is trimmed lt) = refl
-  holder_chain _ (Finds_it_full q copy h is trimmed lt) = refl
-  holder_chain _ (Tidies id r block kind is both at left) = refl
-
-  trim_chain : (now : Own) (q : Cell) (last : LastCopy) (holder : ℕ) (done : Done) → cell ≢ q → TrimStep now q last holder done
-      → chain_in done.own.store.chains cell ≡ chain_in now.store.chains cell
-  trim_chain now q last holder _ ne (Is_trimmed none) = refl
-  trim_chain now q last holder _ ne (Drops_entry epoch epochs is) = drop_apart now.store _ cell ne
-
-  other_chain : (done : Done) → DidOther heard here own done → chain_in done.own.store.chains cell ≡ chain_in own.store.chains cell
-  other_chain _ (Answers_page id r after h is) = refl
-  other_chain done (Is_copied_to number q epochs holder _ h held newer step) = trim_chain _ q _ holder done (held_apart q holder held) step
-  other_chain done (Goes_on_trimming q holder last _ held is step) = trim_chain own q last holder done (held_apart q holder held) step
-  other_chain _ (Puts_entry entry holder last of_copy at room) =
-      chain_apart own.store.chains (cell_of entry.key) _ cell (held_apart (cell_of entry.key) holder of_copy.held)
-  other_chain _ (Has_entry entry holder last of_copy lt) = refl
-  other_chain _ (Has_no_slot entry holder last of_copy at full) = refl
+  cell_both = beside.cell_both heard here own steady cell row is_row alive both_row
 
   -- what is pending, what was followed last, and what is sent
   abbrev Says : Own → Own → List Post → Type 0
   Says first second posts = SaysKnown posts cell (pair_of first second cell)
 
-  copies_say : (first second : Own) (done : Done) → CopyFrame own done → Says first second done.posts
-  copies_say first second done frame post i of = copied_known (pair_of first second cell) post.body (frame.says post i)
-
-  read_says : (first second : Own) (done : Done) → DidRead heard here own done → Says first second done.posts
-  read_says first second done d post i of =
-      elim ((of_read heard here own done d).says post i) [
-        | inl data_of ↦ subst (Known (pair_of first second cell)) (sym data_of.is) tt
-        | inr nothing ↦ subst (Known (pair_of first second cell)) (sym nothing.is) tt
-      ]
-
-  refusal_says : (first second : Own) (to : Actor) (said : Body) → subject_of said ≡ Refused → Says first second (says own to said).posts
-  refusal_says first second to said is post i of =
-      let e = (one_post to said post i).1 in refused_known (pair_of first second cell) post.body (ap subject_of e ∙ is)
-
-  filler_says : (first second : Own) (done : Done) → DidFiller heard here own done → Says first second done.posts
-  filler_says first second done d post i of = lead.filling_known (pair_of first second cell) post.body ((of_filler heard here own done d).says post i)
-
-  sweep_says : (first second : Own) (done : Done) → DidSweep here own done → Says first second done.posts
-  sweep_says first second done d post i of = absurd ((of_sweep heard here own done d).silent post i)
-
   none_says : (first second : Own) → Says first second []
-  unfolding In
-  none_says first second post i of = absurd i
-
-  -- what is told of another cell
-  apart_says : (first second : Own) (q : Cell) (posts : List Post) (said : Body) → cell ≢ q → ((post : Post) → In post posts → post.body ≡ said)
-      → (about said).cell ≡ Some q → Says first second posts
-  apart_says first second q posts said ne all of post i is =
-      absurd (ne (same_some (sym is ∙ ap (λ b. (about b).cell) (all post i) ∙ of)))
+  none_says = beside.none_says heard here own steady cell row is_row alive both_row
 
   -- ### The first server
 
   module _ (leads : row.primary ≡ here.me) where
-    -- it follows on other cells
-    second_apart : (q : Cell) → is_second here.state here.me q ≡ true → cell ≢ q
-    second_apart q s e =
-        let two = second_secondary here.state steady q here.me (is_the_one _ here.me s) in
-        let there : secondary here.state q ≡ Some row.secondary = ap (option_map (λ (r : LinkRow). r.secondary)) (ap (cell_link here.state) (sym e) ∙ is_row) in
-        (steady.linked cell row is_row).apart (leads ∙ same_some (sym two ∙ there))
-
-    second_chain : (done : Done) → DidSecond heard here own done → chain_in done.own.store.chains cell ≡ chain_in own.store.chains cell
-    second_chain _ (Sets_apart number q tickets h s le) = refl
-    second_chain _ (Promises number q how s is) = ap (λ (o : Own). chain_in o.store.chains cell) (told_own here own q number how)
-    second_chain _ (Declines number q h s no_room) = refl
-    second_chain _ (Follows number key version bytes h s is) = chain_apart own.store.chains (cell_of key) _ cell (second_apart (cell_of key) s)
-
-    told_says : (first second new : Own) (q : Cell) (number : ℕ) (how : Far) → cell ≢ q → Says first second (tells here new q number how).posts
-    told_says first second new q number far.Reserved ne = apart_says first second q _ (body.Reserved number q) ne (λ post i. posted _ _ post i) refl
-    told_says first second new q number far.Replicated ne = apart_says first second q _ (body.Replicated number q) ne (λ post i. posted _ _ post i) refl
-
-    second_says : (first second : Own) (done : Done) → DidSecond heard here own done → Says first second done.posts
-    second_says first second _ (Sets_apart number q tickets h s le) =
-        told_says first second (with_last (with_tickets own tickets) q number far.Reserved) q number far.Reserved (second_apart q s)
-    second_says first second _ (Promises number q how s is) = told_says first second own q number how (second_apart q s)
-    second_says first second _ (Declines number q h s no_room) =
-        apart_says first second q _ (body.PairFull number q) (second_apart q s) (λ post i. posted _ _ post i) refl
-    second_says first second _ (Follows number key version bytes h s is) =
-        told_says first second (follows here own number key bytes).own (cell_of key) number far.Replicated (second_apart (cell_of key) s)
-
     module _ (second : Own) (ready : IsReady here.state here.me (has_proposed here.state own) own.pairs.pending)
         (marks : HaveMarks here.state own.pairs.pending own.store)
         (idle : (q : Cell) (copy : Copying) → copying_on own q ≡ Some copy → pending_on own q ≡ None) (rising : AreRising own.store.chains)
@@ -217,42 +87,51 @@ module _ (heard : Body → Type 0) (here : Here) (own : Own) (steady : IsSteady 
           → lead.IsKept own done.own done.posts second cell
       copied_off done chain frame = record {
         keeps = kept_off done.own chain (ap (λ t. at cell_cmp t cell) frame.pending) frame.next;
-        says = copies_say done.own second done frame;
+        says = beside.copies_say heard here own steady cell row is_row alive both_row done.own second done frame;
       }
 
       step_kept : (done : Done) → Did heard here own done → lead.IsKept own done.own done.posts second cell
       step_kept _ Ignores = record { keeps = kept_off own refl refl (omega arith); says = none_says own second }
-      step_kept _ (Refuses to said is why because) = record { keeps = kept_off own refl refl (omega arith); says = refusal_says own second to said is.refused }
+      step_kept _ (Refuses to said is why because) = record {
+        keeps = kept_off own refl refl (omega arith);
+        says = beside.refusal_says heard here own steady cell row is_row alive both_row own second to said is.refused;
+      }
       step_kept _ (By_read done d) =
           let same = (of_read heard here own done d).same in
           let next : done.own.pairs.next ≡ own.pairs.next = ap (λ (o : Own). o.pairs.next) same in
           record {
             keeps = kept_off done.own (ap (λ (o : Own). chain_in o.store.chains cell) same)
                 (ap (λ (o : Own). at cell_cmp o.pairs.pending cell) same) (omega arith);
-            says = read_says done.own second done d;
+            says = beside.read_says heard here own steady cell row is_row alive both_row done.own second done d;
           }
       step_kept _ (By_lead done d) = lead.lead_keeps heard here own ready cell row is_row alive both_row second ok known done d
       step_kept _ (By_second done d) =
           let frame = of_second heard here own done d in
           let next = frame.next in
           record {
-            keeps = kept_off done.own (second_chain done d) (ap (λ t. at cell_cmp t cell) frame.pending) (omega arith);
-            says = second_says done.own second done d;
+            keeps = kept_off done.own (beside.second_chain heard here own steady cell row is_row alive both_row leads done d)
+                (ap (λ t. at cell_cmp t cell) frame.pending) (omega arith);
+            says = beside.second_says heard here own steady cell row is_row alive both_row leads done.own second done d;
           }
-      step_kept _ (By_holder done d) = copied_off done (holder_chain done d) (of_holder heard here own done d)
-      step_kept _ (By_other done d) = copied_off done (other_chain done d) (of_other heard here own done d)
+      step_kept _ (By_holder done d) = copied_off done (beside.holder_chain heard here own steady cell row is_row alive both_row done d)
+          (of_holder heard here own done d)
+      step_kept _ (By_other done d) = copied_off done (beside.other_chain heard here own steady cell row is_row alive both_row done d)
+          (of_other heard here own done d)
       step_kept _ (By_filler done d) =
           let frame = of_filler heard here own done d in
           let next = ap (λ (p : Pairs). p.next) frame.pairs in
           record {
             keeps = kept_off done.own (ap (λ (t : Store). chain_in t.chains cell) frame.store)
                 (ap (λ (p : Pairs). at cell_cmp p.pending cell) frame.pairs) (omega arith);
-            says = filler_says done.own second done d;
+            says = beside.filler_says heard here own steady cell row is_row alive both_row done.own second done d;
           }
       step_kept _ (By_sweep done d) =
           let next = ap (λ (p : Pairs). p.next) (of_sweep heard here own done d).pairs in
           let rest = (sweep_beside heard here own done d cell alive (bare cell)).rest in
-          record { keeps = kept_off done.own rest.chain rest.pending (omega arith); says = sweep_says done.own second done d }
+          record {
+            keeps = kept_off done.own rest.chain rest.pending (omega arith);
+            says = beside.sweep_says heard here own steady cell row is_row alive both_row done.own second done d;
+          }
 
       -- an operation that is pending then rests, and its block is marked
       still_recalled : (done : Done) → Did heard here own done → (op : Pending) → at cell_cmp done.own.pairs.pending cell ≡ Some op
@@ -349,11 +228,13 @@ module _ (heard : Body → Type 0) (here : Here) (own : Own) (steady : IsSteady 
       dead_says : (second now : Own) (op : Pending) → cell_of op.key ≡ op.cell → cell ≢ op.cell → (next : Action)
           → Says first second (acts here now op next).posts
       dead_says second now op keyed ne action.Reserve =
-          apart_says first second op.cell _ (body.Reserve op.op op.cell) ne (λ post i. posted _ _ post i) refl
+          beside.apart_says heard here own steady cell row is_row alive both_row first second op.cell _ (body.Reserve op.op op.cell) ne
+          (λ post i. posted _ _ post i) refl
       dead_says second now op keyed ne (action.Mark kind) = none_says first second
       dead_says second now op keyed ne action.Put = none_says first second
       dead_says second now op keyed ne action.Replicate =
-          apart_says first second (cell_of op.key) _ (body.Replicate op.op op.key op.version op.bytes) (λ e. ne (e ∙ keyed)) (λ post i. posted _ _ post i) refl
+          beside.apart_says heard here own steady cell row is_row alive both_row first second (cell_of op.key) _
+          (body.Replicate op.op op.key op.version op.bytes) (λ e. ne (e ∙ keyed)) (λ post i. posted _ _ post i) refl
       dead_says second now op keyed ne (action.Unmark kind) = none_says first second
       dead_says second now op keyed ne action.Answer = ending_says second (without_pending now op.cell) op ending.Written
       dead_says second now op keyed ne action.Drop = none_says first second
@@ -374,7 +255,8 @@ module _ (heard : Body → Type 0) (here : Here) (own : Own) (steady : IsSteady 
       lead_says second _ (Is_full want new no_room) = ended_says second want.client want.seq ending.Full
       lead_says second _ (Gives_up op h is reserved put) = ending_says second (gives_back (without_pending own op.cell)) op ending.Full
       lead_says second _ (Opens want new both) =
-          apart_says first second want.cell _ (body.Reserve own.pairs.next want.cell) (lead_apart want.cell new.lead) (λ post i. posted _ _ post i) refl
+          beside.apart_says heard here own steady cell row is_row alive both_row first second want.cell _ (body.Reserve own.pairs.next want.cell)
+          (lead_apart want.cell new.lead) (λ post i. posted _ _ post i) refl
       lead_says second _ (Marks op h is both stage) = none_says first second
       lead_says second _ (Puts op is both stage) = none_says first second
       lead_says second _ (Unmarks op h is both stage) = none_says first second
@@ -385,7 +267,8 @@ module _ (heard : Body → Type 0) (here : Here) (own : Own) (steady : IsSteady 
       lead_says second _ (Unmarks_alone now op taken on stale put busy) = none_says first second
       lead_says second _ (Closes_alone now op taken on stale put free) = ending_says second (without_pending now op.cell) op ending.Written
       lead_says second _ (Opens_fill moving new room both) =
-          apart_says first second (cell_of moving.key) _ (body.Reserve own.pairs.next (cell_of moving.key)) (lead_apart (cell_of moving.key) new.lead)
+          beside.apart_says heard here own steady cell row is_row alive both_row first second (cell_of moving.key) _
+          (body.Reserve own.pairs.next (cell_of moving.key)) (lead_apart (cell_of moving.key) new.lead)
           (λ post i. posted _ _ post i) refl
       lead_says second _ (Opens_fill_alone moving new room on) = none_says first second
       lead_says second _ (Has_fill moving there) = λ post i of.
@@ -404,34 +287,42 @@ module _ (heard : Body → Type 0) (here : Here) (own : Own) (steady : IsSteady 
           → follow.IsSecondKept first own done.own done.posts cell
       copies_off done chain frame = record {
         keeps = follow_off done.own chain (ap (λ t. at cell_cmp t cell) frame.last);
-        says = copies_say first done.own done frame;
+        says = beside.copies_say heard here own steady cell row is_row alive both_row first done.own done frame;
       }
 
       step_follows : (done : Done) → Did heard here own done → follow.IsSecondKept first own done.own done.posts cell
       step_follows _ Ignores = record { keeps = follow_off own refl refl; says = none_says first own }
-      step_follows _ (Refuses to said is why because) = record { keeps = follow_off own refl refl; says = refusal_says first own to said is.refused }
+      step_follows _ (Refuses to said is why because) = record {
+        keeps = follow_off own refl refl;
+        says = beside.refusal_says heard here own steady cell row is_row alive both_row first own to said is.refused;
+      }
       step_follows _ (By_read done d) =
           let same = (of_read heard here own done d).same in
           record {
             keeps = follow_off done.own (ap (λ (o : Own). chain_in o.store.chains cell) same) (ap (λ (o : Own). at cell_cmp o.pairs.last cell) same);
-            says = read_says first done.own done d;
+            says = beside.read_says heard here own steady cell row is_row alive both_row first done.own done d;
           }
       step_follows _ (By_lead done d) = record {
         keeps = follow_off done.own (lead_chain done d) (ap (λ t. at cell_cmp t cell) (of_lead heard here own done d).last);
         says = lead_says done.own done d;
       }
       step_follows _ (By_second done d) = follow.second_keeps heard here first own cell ok known done d
-      step_follows _ (By_holder done d) = copies_off done (holder_chain done d) (of_holder heard here own done d)
-      step_follows _ (By_other done d) = copies_off done (other_chain done d) (of_other heard here own done d)
+      step_follows _ (By_holder done d) = copies_off done (beside.holder_chain heard here own steady cell row is_row alive both_row done d)
+          (of_holder heard here own done d)
+      step_follows _ (By_other done d) = copies_off done (beside.other_chain heard here own steady cell row is_row alive both_row done d)
+          (of_other heard here own done d)
       step_follows _ (By_filler done d) =
           let frame = of_filler heard here own done d in
           record {
             keeps = follow_off done.own (ap (λ (t : Store). chain_in t.chains cell) frame.store) (ap (λ (p : Pairs). at cell_cmp p.last cell) frame.pairs);
-            says = filler_says first done.own done d;
+            says = beside.filler_says heard here own steady cell row is_row alive both_row first done.own done d;
           }
       step_follows _ (By_sweep done d) =
           let rest = (sweep_beside heard here own done d cell alive (bare cell)).rest in
-          record { keeps = follow_off done.own rest.chain rest.followed; says = sweep_says first done.own done d }
+          record {
+            keeps = follow_off done.own rest.chain rest.followed;
+            says = beside.sweep_says heard here own steady cell row is_row alive both_row first done.own done d;
+          }
 
       -- ### What it has nothing of
 
@@ -472,8 +363,8 @@ module _ (heard : Body → Type 0) (here : Here) (own : Own) (steady : IsSteady 
       step_lacks _ (By_read done d) = chain_lacks done.own (ap (λ (o : Own). chain_in o.store.chains cell) (of_read heard here own done d).same)
       step_lacks _ (By_lead done d) = chain_lacks done.own (lead_chain done d)
       step_lacks _ (By_second done d) = second_lacks done d
-      step_lacks _ (By_holder done d) = chain_lacks done.own (holder_chain done d)
-      step_lacks _ (By_other done d) = chain_lacks done.own (other_chain done d)
+      step_lacks _ (By_holder done d) = chain_lacks done.own (beside.holder_chain heard here own steady cell row is_row alive both_row done d)
+      step_lacks _ (By_other done d) = chain_lacks done.own (beside.other_chain heard here own steady cell row is_row alive both_row done d)
       step_lacks _ (By_filler done d) = chain_lacks done.own (ap (λ (t : Store). chain_in t.chains cell) (of_filler heard here own done d).store)
       step_lacks _ (By_sweep done d) = chain_lacks done.own (sweep_beside heard here own done d cell alive (bare cell)).rest.chain
 

@@ -29,7 +29,7 @@ use Rattle.law_steps.specs.DidOther.{Puts_entry, Has_entry, Has_no_slot, first_l
 use Rattle.law_steps.proofs.CopyFrames.{of_holder, of_other}
 use Rattle.law_steps.proofs.Resting.{row_named}
 use Rattle.law_steps.proofs.Subjects.{of_filler, of_lead, of_read, of_second, of_sweep}
-use Rattle.law_copies.proofs.HolderJobs.{lead_counts}
+use Rattle.law_copies.proofs.HolderWrites.{lead_counts}
 use Rattle.law_copies.proofs.Standing.{named_id}
 
 -- ### Links

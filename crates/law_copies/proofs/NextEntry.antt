@@ -1,0 +1,226 @@
+-- The chosen log has one entry more: what is known of the log then, how far cells are in it, and the stores that count by it.
+use Rattle.std.proofs.Common.{◌≡◌, ◌≤◌, ◌++◌, ◌==◌, ◌⊎◌, ℕ, Bool, List, [], ◌∷◌, true, false, if◌then◌else◌}
+use Rattle.std.proofs.Common.{Some, None, refl, sym, ap, ◌∙◌, subst, inl, inr, arith}
+use Rattle.global_tables.specs.declared.link.LinkRow.{LinkRow}
+use Rattle.petal_base.specs.declared.cell.Cell.{Cell}
+use Rattle.petal_command.specs.declared.command.Command.{Command}
+use Rattle.petal_command.specs.declared.command.Command.TheVariants.{Caught, Join, Leave}
+use Rattle.petal_history.specs.Claims.{IsPrefix}
+use Rattle.petal_history.specs.Legal.{world_after}
+use Rattle.petal_history.specs.declared.record.Record.{Record}
+use Rattle.petal_state.specs.CellState.{cell_link}
+use Rattle.petal_state.specs.Command.{after, state_after}
+use Rattle.petal_state.specs.Place.{touches}
+use Rattle.petal_rules.specs.Blanked.{joins_blank}
+use Rattle.petal_rules.specs.Lists.{In}
+use Rattle.petal_rules.specs.Server.{Own}
+use Rattle.petal_rules.specs.State.{State, is_in}
+use Rattle.petal_rules.specs.Store.{Store, chain_in}
+use Rattle.petal_rules.specs.World.{Setting, World, blank_joins_in, server_state, start}
+use Rattle.petal_rules.proofs.ListLemmas.{in_later}
+use Rattle.petal_rules.proofs.Tests.{by_bool, none_some, number_itself, same_numbers, same_some, some_or_none}
+use Rattle.law_log.specs.Requested.{WasStarted}
+use Rattle.law_state.specs.Homes.{stage_at}
+use Rattle.law_state.specs.Plain.{IsPlain, IsPlainLog}
+use Rattle.law_state.specs.Rows.{IsLater}
+use Rattle.law_state.specs.Steady.{IsSteady}
+use Rattle.law_state.proofs.BlankJoins.{joins_grow}
+use Rattle.law_state.proofs.Steady.{front_plain, log_steady}
+use Rattle.law_state.proofs.Touching.{log_entry_stays}
+use Rattle.law_steps.proofs.Fronts.{front_itself, front_more, front_on}
+use Rattle.law_copies.specs.Good.{Good}
+use Rattle.law_copies.specs.Pair.{HaveMarks}
+use Rattle.law_copies.specs.Visits.{AliveIn, IsLinked, Visits, place_by, store_by, with_stores}
+use Rattle.law_copies.proofs.Places.{alive_on, linked_between, place_of_later, place_touched}
+use Rattle.law_copies.proofs.Places.{place_untouched, places_up, rows_later, state_next, unborn}
+use Rattle.law_copies.proofs.Renewed.{counts_more, no_blank_join, no_chains}
+
+-- every server has applied entries of this log alone, now and at each world on the way
+pub record IsBehind (setting : Setting) (records : List Record) (top : List Command) (w : World) : Type 0 where
+  pub now : (n : ℕ) → IsPrefix (w.servers n).log.applied top
+  pub ever : (before later : List Record) → records ≡ before ++ later → (n : ℕ)
+      → IsPrefix ((world_after setting (start setting) before).servers n).log.applied top
+
+pub behind_on : (setting : Setting) (records : List Record) (top more : List Command) (w : World) → IsPrefix top more → IsBehind setting records top w
+    → IsBehind setting records more w
+behind_on setting records top more w prefix behind = record {
+  now = λ n. front_on _ top more (behind.now n) prefix;
+  ever = λ before later is n. front_on _ top more (behind.ever before later is n) prefix;
+}
+
+-- what is kept of this front of the log, with these visits and places that count
+pub record IsGrownTo (setting : Setting) (records : List Record) (w : World) (visits : Visits) (reached : Cell → ℕ) (log : List Command) : Type 0 where
+  pub good : Good setting records log w
+  pub visits_are : (n place : ℕ) (cell : Cell) → good.visits n place cell ≡ visits n place cell
+  pub reached_is : (cell : Cell) → good.reached cell ≡ reached cell
+
+-- ### One entry more
+
+-- the server's store is empty once the entry counts: the server is not In as itself by its own entries, and has nothing pending
+pub record IsRenewed (setting : Setting) (u : World) (n : ℕ) (store : Store) : Type 0 where
+  pub chains : store.chains ≡ []
+  pub marks : store.marks ≡ []
+  pub out : is_in (server_state setting u n) n (u.servers n).life.inc ≡ false
+  pub rested : ((u.servers n).life.running ≡ true) ⊎ (u.before_blank n ≡ None) → HaveMarks (server_state setting u n) (u.servers n).own.pairs.pending store
+
+-- the stores that count once the entry does
+pub record AreRecounted (setting : Setting) (u : World) (here : State) (entry : Command) (old new : ℕ → Store) : Type 0 where
+  pub same : (n : ℕ) → joins_blank here entry n ≡ false → new n ≡ old n
+  pub renewed : (n : ℕ) → joins_blank here entry n ≡ true → IsRenewed setting u n (new n)
+
+module _ (setting : Setting) (records : List Record) (top : List Command) (entry : Command) (u : World) (old new : ℕ → Store)
+    (good : Good setting records top (with_stores u old)) (behind : IsBehind setting records top u) (all : IsPlainLog setting.servers (top ++ entry ∷ []))
+    (started : (of link holder inc other other_inc : ℕ) → entry ≡ Caught of link holder inc other other_inc
+    → WasStarted setting records holder inc top (record { map = of; link = link }))
+    (recounts : AreRecounted setting u (state_after setting.servers top) entry old new) where
+  abbrev v : World
+  v = with_stores u new
+
+  abbrev next : List Command
+  next = top ++ entry ∷ []
+
+  abbrev here : State
+  here = state_after setting.servers top
+
+  abbrev then_state : State
+  then_state = state_after setting.servers next
+
+  pub plain_top : IsPlainLog setting.servers top
+  plain_top = front_plain setting.servers top next all (front_more top entry)
+
+  pub plain_entry : IsPlain setting.servers entry
+  unfolding In
+  plain_entry = all entry (in_later entry top (entry ∷ []) (inl refl))
+
+  pub steady_top : IsSteady here
+  steady_top = log_steady setting.servers top plain_top
+
+  -- the row after the entry
+  pub row_then : (cell : Cell) (now : LinkRow) → IsLinked setting next cell now → cell_link (after here entry) cell ≡ Some now
+  row_then cell now end = ap (λ (s : State). cell_link s cell) (sym (state_next setting top entry)) ∙ end
+
+  pub later_then : (cell : Cell) (row now : LinkRow) → IsLinked setting top cell row → IsLinked setting next cell now → IsLater row now
+  later_then cell row now is end = rows_later setting next all top next cell row now (front_more top entry) (front_itself next) is end
+
+  -- who was at a place of a cell that has a link then knew its link
+  been_linked : (n place : ℕ) (cell : Cell) (own : Own) → good.visits n place cell ≡ Some own → (now : LinkRow) → IsLinked setting next cell now
+      → (row : LinkRow) × IsLinked setting top cell row
+  been_linked n place cell own visited now end =
+      let b = good.been n place cell own visited in
+      linked_between setting next all b.front top next cell b.row now (front_on b.front _ top b.within (behind.now n)) (front_more top entry)
+      (front_itself next) b.linked end
+
+  -- and the place is not behind that by the entries so far
+  been_below : (n place : ℕ) (cell : Cell) (own : Own) (row : LinkRow) → good.visits n place cell ≡ Some own → IsLinked setting top cell row
+      → place ≤ place_by setting top row
+  been_below n place cell own row visited is =
+      let b = good.been n place cell own visited in
+      let up = places_up setting next all b.front top cell b.row row (front_on b.front _ top b.within (behind.now n)) (front_more top entry) b.linked is in
+      let at = b.at in
+      omega arith
+
+  -- ### How far a cell is
+
+  -- a cell that isn't dead then was not before
+  pub alive_before : (cell : Cell) → AliveIn then_state cell → AliveIn here cell
+  alive_before cell alive = alive_on setting next all top next cell (front_more top entry) (front_itself next) alive
+
+  -- the last place is not behind that by the entries so far
+  pub reached_below : (cell : Cell) (row : LinkRow) → IsLinked setting top cell row → good.reached cell ≤ place_by setting top row
+  reached_below cell row is = elim (good.reaching.by cell) [
+    | inl none ↦ omega (arith, none)
+    | inr r ↦ been_below r.server (good.reached cell) cell r.own row r.visited is
+  ]
+
+  unvisited : (n : ℕ) (place : ℕ) (cell : Cell) → ((own : Own) → good.visits n place cell ≡ Some own → ⊥) → good.visits n place cell ≡ None
+  unvisited n place cell never = elim (some_or_none (good.visits n place cell)) [ inl h ↦ absurd (never h.0 h.1) | inr none ↦ none ]
+
+  -- nobody has been at the new place of a link that the entry touches
+  unseen_new : (cell : Cell) (row now : LinkRow) → IsLinked setting top cell row → IsLinked setting next cell now → touches here entry row ≡ true
+      → (n : ℕ) → good.visits n (place_by setting next now) cell ≡ None
+  unseen_new cell row now is end on n = unvisited n (place_by setting next now) cell (λ own visited.
+      let le = been_below n (place_by setting next now) cell own row visited is in
+      let same = place_of_later setting next all top next next cell row now (front_more top entry) (front_itself next) is end in
+      let one = place_touched setting top entry row on in
+      absurd (omega arith))
+
+  -- a cell's link after the entry: as before; touched by the entry, or made by it, and then nobody has been at its place
+  pub by_next : {B : Type 0} (cell : Cell) (now : LinkRow) → IsLinked setting next cell now
+      → (IsLinked setting top cell now → place_by setting next now ≡ place_by setting top now → B)
+      → ((row : LinkRow) → IsLinked setting top cell row → touches here entry row ≡ true → ((n : ℕ) → good.visits n (place_by setting next now) cell ≡ None)
+      → B)
+      → (stage_at here cell ≡ 0 → ((n : ℕ) → good.visits n (place_by setting next now) cell ≡ None) → B)
+      → B
+  by_next cell now end still moved made = elim (some_or_none (cell_link here cell)) [
+    | inl h ↦ by_bool (touches here entry h.0)
+        (λ on. moved h.0 h.1 on (unseen_new cell h.0 now h.1 end on))
+        (λ off.
+        elim (log_entry_stays setting.servers top entry cell h.0 plain_top plain_entry h.1 off) [
+          | inl stays ↦ (
+              let same : h.0 ≡ now = same_some (sym stays.same ∙ row_then cell now end) in
+              still (subst (IsLinked setting top cell) same h.1)
+              (subst (λ r. place_by setting next r ≡ place_by setting top r) same (place_untouched setting top entry h.0 off)))
+          | inr died ↦ none_some died.0 (row_then cell now end)
+        ])
+    | inr none ↦ made (unborn setting next all top next cell now (front_more top entry) (front_itself next) none end)
+        (λ n. unvisited n (place_by setting next now) cell
+        (λ own visited. none_some none (been_linked n (place_by setting next now) cell own visited now end).1))
+  ]
+
+  -- ### Stores
+
+  -- a server that comes back with nothing has a store more
+  abbrev stores : ℕ → ℕ → Store
+  stores n joins = if joins == blank_joins_in setting next n then new n else good.stores n joins
+
+  pub stores_so : (n joins : ℕ) (b : Bool) → (joins == blank_joins_in setting next n) ≡ b → stores n joins ≡ (if b then new n else good.stores n joins)
+  stores_so n joins b e = ap (λ c. if c then new n else good.stores n joins) e
+
+  pub next_store : (n : ℕ) → store_by setting stores next n ≡ new n
+  next_store n = stores_so n (blank_joins_in setting next n) true (number_itself (blank_joins_in setting next n))
+
+  -- at each front so far they are as they were
+  front_store : (f : List Command) (n : ℕ) → IsPrefix f top → store_by setting stores f n ≡ store_by setting good.stores f n
+  front_store f n prefix =
+      let joins = blank_joins_in setting f n in
+      let low = joins_grow setting.servers f top n prefix in
+      let high = joins_grow setting.servers top next n (front_more top entry) in
+      by_bool (joins == blank_joins_in setting next n)
+      (λ t.
+      let e = same_numbers joins (blank_joins_in setting next n) t in
+      let at_top : blank_joins_in setting top n ≡ joins = omega arith in
+      stores_so n joins true t
+      ∙ recounts.same n (by_bool (joins_blank here entry n) (λ on. let lt = counts_more setting top entry n on in absurd (omega arith)) (λ off. off))
+      ∙ sym (good.now n) ∙ ap (good.stores n) at_top)
+      (λ off. stores_so n joins false off)
+
+  pub front_stores : (f : List Command) → IsPrefix f top → store_by setting good.stores f ≡ store_by setting stores f
+  front_stores f prefix = λ i n. sym (front_store f n prefix) i
+
+  pub next_stores : new ≡ store_by setting stores next
+  next_stores = λ i n. sym (next_store n) i
+
+  pub old_stores : store_by setting good.stores top ≡ old
+  old_stores = λ i n. good.now n i
+
+  -- a cell that is not live yet is empty at each server
+  pub born_then : (cell : Cell) → stage_at here cell ≡ 0 → (n : ℕ) → chain_in (new n).chains cell ≡ []
+  born_then cell none n = by_bool (joins_blank here entry n) (λ on. no_chains (new n) cell (recounts.renewed n on).chains)
+      (λ off. ap (λ (s : Store). chain_in s.chains cell) (recounts.same n off) ∙ good.born cell none n)
+
+  pub still_empty : (cell : Cell) → stage_at here cell ≡ 0 → (n m : ℕ) → chain_in (new n).chains cell ≡ chain_in (new m).chains cell
+  still_empty cell none n m = born_then cell none n ∙ sym (born_then cell none m)
+
+  -- an entry that is no Join with an empty store
+  same_all : ((server inc : ℕ) → entry ≡ Join server inc true → ⊥) → (n : ℕ) → new n ≡ old n
+  same_all never n = recounts.same n (no_blank_join here entry never n)
+
+  pub no_leave : (server inc : ℕ) → entry ≡ Leave server inc → (n : ℕ) → new n ≡ old n
+  no_leave server inc is = same_all (λ s i e. let f : Leave server inc ≡ Join s i true = sym is ∙ e in absurd cc)
+
+  pub no_caught : (of link holder inc other other_inc : ℕ) → entry ≡ Caught of link holder inc other other_inc → (n : ℕ) → new n ≡ old n
+  no_caught of link holder inc other other_inc is =
+      same_all (λ s i e. let f : Caught of link holder inc other other_inc ≡ Join s i true = sym is ∙ e in absurd cc)
+
+  pub no_blank : (server inc : ℕ) → entry ≡ Join server inc false → (n : ℕ) → new n ≡ old n
+  no_blank server inc is = same_all (λ s i e. let f : Join server inc false ≡ Join s i true = sym is ∙ e in absurd cc)
