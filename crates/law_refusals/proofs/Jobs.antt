@@ -1,22 +1,19 @@
 -- Each kind of job refuses for a reason.
-use Rattle.std.proofs.Common.{◌≡◌, ◌≢◌, ◌≤◌, ◌<◌, ◌+◌, ℕ, List, [], ◌∷◌, Bool, true, false, Some, None, length, refl, sym, ap, ◌∙◌, subst, ◌⊎◌, inl, inr, arith}
+use Rattle.std.proofs.Common.{◌≡◌, ◌≢◌, ◌≤◌, ◌<◌, ◌+◌, ℕ, List, [], ◌∷◌, true, false, Some, None, refl, sym, ap, ◌∙◌, subst, ◌⊎◌, inl, inr, arith}
 use Rattle.std.specs.Ordering.{nat_cmp}
 use Rattle.busy_marks.specs.declared.marks.MarkKind.TheVariants.{Stale}
 use Rattle.petal_base.specs.declared.cell.Cell.{Cell}
-use Rattle.petal_base.specs.declared.cell.Key.{Key}
 use Rattle.petal_base.specs.Cells.{cell_of}
 use Rattle.petal_table.specs.Table.{Table, at, put}
 use Rattle.petal_table.proofs.Rows.{at_same, at_apart}
-use Rattle.petal_msg.specs.Kinds.{Answered, Copied, Filling, Paired, Refused, is_logged, subject_of}
+use Rattle.petal_msg.specs.Kinds.{is_logged, subject_of}
 use Rattle.petal_msg.specs.declared.body.Body.{Body}
 use Rattle.petal_msg.specs.declared.body.Body.TheVariants as body
 use Rattle.petal_msg.specs.declared.letter.Actor.TheVariants as actor
-use Rattle.petal_msg.specs.declared.letter.Letter.{Letter}
 use Rattle.petal_msg.specs.declared.operation.Action.{Action}
 use Rattle.petal_msg.specs.declared.operation.Action.TheVariants as action
 use Rattle.petal_msg.specs.declared.operation.Ending.{Ending}
 use Rattle.petal_msg.specs.declared.operation.Ending.TheVariants as ending
-use Rattle.petal_msg.specs.declared.operation.Far.{Far}
 use Rattle.petal_msg.specs.declared.operation.Far.TheVariants as far
 use Rattle.petal_msg.specs.declared.operation.Finished.{Finished}
 use Rattle.petal_msg.specs.declared.operation.OpKind.{OpKind}
@@ -28,15 +25,14 @@ use Rattle.petal_state.specs.Command.{state_after}
 use Rattle.petal_rules.specs.State.{first, second, in_both, is_in, is_second, leads_link, live}
 use Rattle.petal_rules.specs.Store.{cell_cmp}
 use Rattle.petal_rules.specs.Server.{Own, Here, Pairs, Post, Done, post_to}
-use Rattle.petal_rules.specs.Writes.{acts, ends, gives_back, is_clients, moved_as, next_stage, old_lead, operation, opened, ended}
+use Rattle.petal_rules.specs.Writes.{acts, ends, gives_back, is_clients, next_stage, old_lead, operation, opened, ended}
 use Rattle.petal_rules.specs.Writes.{pending_on, tells, with_mark_at, with_opened, without_pending}
-use Rattle.petal_rules.specs.World.{Setting, World, chosen_log, server_state}
+use Rattle.petal_rules.specs.World.{World, chosen_log}
 use Rattle.petal_rules.specs.declared.step.Step.TheVariants.{Work}
 use Rattle.petal_rules.specs.declared.step.WorkEnd.TheVariants as work_end
 use Rattle.petal_rules.proofs.CellTables.{cell_same, cell_apart}
 use Rattle.petal_rules.proofs.Tests.{by_bool, by_test, none_some, same_or_apart, same_some, true_false, is_the_one}
 use Rattle.law_state.specs.Steady.{IsSteady}
-use Rattle.law_state.specs.Firm.{Firm}
 use Rattle.law_state.proofs.Ages.{in_once}
 use Rattle.law_state.proofs.Alone.{both_row, lead_first, second_both}
 use Rattle.law_state.proofs.Cells.{both_first, both_leads}
@@ -47,7 +43,6 @@ use Rattle.law_steps.specs.DidLead.{A_trim, A_copied_entry, A_page, An_entry_to_
 use Rattle.law_steps.specs.DidSecond.{DidSecond, Sets_apart, Promises, Declines, Follows, FoundNoSlot}
 use Rattle.law_steps.specs.Did.{Did, Ignores, Refuses, By_read, By_lead, By_second, By_holder, By_other, By_filler, By_sweep}
 use Rattle.law_steps.specs.Happens.{Handled, IsSeated, own_place}
-use Rattle.law_steps.specs.Ready.{Rests}
 use Rattle.law_steps.proofs.Histories.{own_steady}
 use Rattle.law_steps.proofs.Letters.{one_post, posted}
 use Rattle.law_steps.proofs.Restages.{Restages, Was, was_same, stood, was_before, marked, has_put, unmarked, marked_alone, put_alone, unmarked_alone, was_acted}
@@ -56,132 +51,10 @@ use Rattle.law_steps.proofs.CopyFrames.{CopyFrame, of_holder, of_other}
 use Rattle.law_steps.proofs.Leading.{dead_second}
 use Rattle.law_steps.proofs.Subjects.{of_filler, of_read, of_second, of_sweep, told_own}
 use Rattle.law_steps.proofs.Taking.{IsTaken, taking}
-use Rattle.law_refusals.specs.Reasons.{HadNoSlot, At_the_lead, At_the_second, IsNumbered, Refusals}
+use Rattle.law_refusals.specs.Reasons.{HadNoSlot, At_the_lead, At_the_second, Refusals}
 use Rattle.law_steps.proofs.Fronts.{one_front}
-
-nobody : (what : Body) (post : Post) → In post (post_to None what) → ⊥
-unfolding In
-nobody what post i = i
-
--- what tells of a want of slots, or asks for one
-abbrev is_slot : Body → Bool
-is_slot (body.Reserve number cell) = true
-is_slot _ = false
-
-abbrev pub is_of_slots : Body → Bool
-is_of_slots (body.Full seq) = true
-is_of_slots (body.PairFull number cell) = true
-is_of_slots (body.Reserve number cell) = true
-is_of_slots _ = false
-
-refusal_not_full : (said : Body) → subject_of said ≡ Refused → is_of_slots said ≡ false
-refusal_not_full (body.Full seq) h = let f : Answered ≡ Refused = h in absurd cc
-refusal_not_full (body.PairFull number cell) h = let f : Paired ≡ Refused = h in absurd cc
-refusal_not_full (body.Reserve number cell) h = let f : Paired ≡ Refused = h in absurd cc
-refusal_not_full _ h = refl
-
-filling_not_full : (said : Body) → subject_of said ≡ Filling → is_of_slots said ≡ false
-filling_not_full (body.Full seq) h = let f : Answered ≡ Filling = h in absurd cc
-filling_not_full (body.PairFull number cell) h = let f : Paired ≡ Filling = h in absurd cc
-filling_not_full (body.Reserve number cell) h = let f : Paired ≡ Filling = h in absurd cc
-filling_not_full _ h = refl
-
-moved_not_full : (key : Key) (how : Ending) → is_of_slots (moved_as key how) ≡ false
-moved_not_full key ending.Written = refl
-moved_not_full key ending.Full = refl
-
-pub logged_not_full : (said : Body) → is_logged (subject_of said) ≡ true → is_of_slots said ≡ false
-logged_not_full (body.Full seq) e = true_false e refl
-logged_not_full (body.PairFull number cell) e = true_false e refl
-logged_not_full (body.Reserve number cell) e = true_false e refl
-logged_not_full _ e = refl
-
-copied_not_full : (said : Body) → subject_of said ≡ Copied → is_of_slots said ≡ false
-copied_not_full (body.Full seq) e = let f : Answered ≡ Copied = e in absurd cc
-copied_not_full (body.PairFull number cell) e = let f : Paired ≡ Copied = e in absurd cc
-copied_not_full (body.Reserve number cell) e = let f : Paired ≡ Copied = e in absurd cc
-copied_not_full _ e = refl
-
-tells_not_full : (here : Here) (new : Own) (cell : Cell) (number : ℕ) (how : Far) (post : Post) → In post (tells here new cell number how).posts
-    → is_of_slots post.body ≡ false
-tells_not_full here new cell number far.Reserved post i = ap is_of_slots (posted _ _ post i)
-tells_not_full here new cell number far.Replicated post i = ap is_of_slots (posted _ _ post i)
-
-one_client : {c d : ℕ} → actor.Client c ≡ actor.Client d → c ≡ d
-one_client e = cc
-
-full_seq : {seq other : ℕ} → body.Full seq ≡ body.Full other → seq ≡ other
-full_seq e = cc
-
--- a slot is asked for, for an operation of this number on a cell that the server leads in Both
-pub record AsksFor (setting : Setting) (w : World) (n : ℕ) (new : Own) (number : ℕ) (cell : Cell) : Type 0 where
-  pub seated : is_in (server_state setting w n) n (w.servers n).life.inc ≡ true
-  pub leads : first (server_state setting w n) cell ≡ Some n
-  pub given : number < new.pairs.next
-
--- the lead is told that there is no slot, for a letter of this server's revision that asked for one
-pub record TellsNone (S : ℕ → ℕ → Type 0) (setting : Setting) (w : World) (n : ℕ) (post : Post) (number : ℕ) (cell : Cell) : Type 0 where
-  pub letter : Letter
-  pub revision : letter.rev ≡ length (w.servers n).log.applied
-  pub asked : IsNumbered setting w letter number cell
-  pub to : post.to ≡ actor.Server asked.server
-  pub refused : (op : Pending) → at cell_cmp (w.servers asked.server).own.pairs.pending cell ≡ Some op → op.op ≡ number
-      → is_clients op.kind ≡ true → S op.client op.seq
-
--- what a job has to show: of what it remembers, of what is pending, and of what it sends
-pub record JobRefuses (S : ℕ → ℕ → Type 0) (setting : Setting) (w : World) (n : ℕ) (new : Own) (posts : List Post) : Type 0 where
-  pub finished : (c : ℕ) (last : Finished) → at nat_cmp new.pairs.finished c ≡ Some last → last.ending ≡ ending.Full
-      → (at nat_cmp (w.servers n).own.pairs.finished c ≡ Some last) ⊎ S c last.seq
-  pub next : (w.servers n).own.pairs.next ≤ new.pairs.next
-  pub pending : (cell : Cell) (op : Pending) → at cell_cmp new.pairs.pending cell ≡ Some op
-      → Was (w.servers n).own cell op ⊎ (((w.servers n).own.pairs.next ≤ op.op) × (op.op < new.pairs.next))
-  pub letters : (post : Post) (c seq : ℕ) → In post posts → post.to ≡ actor.Client c → post.body ≡ body.Full seq → S c seq
-  pub reserves : (post : Post) (number : ℕ) (cell : Cell) → In post posts → post.body ≡ body.Reserve number cell
-      → AsksFor setting w n new number cell
-  pub declined : (post : Post) (number : ℕ) (cell : Cell) → In post posts → post.body ≡ body.PairFull number cell
-      → TellsNone S setting w n post number cell
-
--- a job of a running server in a world where R holds of each request that was refused so far, which implies what is to hold after
--- the job
-pub record Scene (R S : ℕ → ℕ → Type 0) : Type 0 where
-  pub setting : Setting
-  pub w : World
-  pub firm : Firm setting w
-  pub rests : Rests setting w
-  pub n : ℕ
-  pub runs : (w.servers n).life.running ≡ true
-  pub more : (c seq : ℕ) → R c seq → S c seq
-  pub refusals : Refusals R setting w
-
--- a job that refuses nothing
-module _ (S : ℕ → ℕ → Type 0) (setting : Setting) (w : World) (n : ℕ) where
-  abbrev before : Own
-  before = (w.servers n).own
-
-  -- a job that tells nobody of slots
-  quiet : (new : Own) (posts : List Post)
-      → ((c : ℕ) (last : Finished) → at nat_cmp new.pairs.finished c ≡ Some last → last.ending ≡ ending.Full
-      → (at nat_cmp before.pairs.finished c ≡ Some last) ⊎ S c last.seq)
-      → before.pairs.next ≤ new.pairs.next
-      → ((cell : Cell) (op : Pending) → at cell_cmp new.pairs.pending cell ≡ Some op
-      → Was before cell op ⊎ ((before.pairs.next ≤ op.op) × (op.op < new.pairs.next)))
-      → ((post : Post) → In post posts → is_of_slots post.body ≡ false) → JobRefuses S setting w n new posts
-  quiet new posts finished next pending unsaid = record {
-    finished = finished;
-    next = next;
-    pending = pending;
-    letters = λ post c seq i to says. true_false (ap is_of_slots says) (unsaid post i);
-    reserves = λ post number cell i says. true_false (ap is_of_slots says) (unsaid post i);
-    declined = λ post number cell i says. true_false (ap is_of_slots says) (unsaid post i);
-  }
-
-  -- and leaves what is pending and finished
-  pub still : (posts : List Post) (new : Own) → new.pairs.finished ≡ before.pairs.finished → before.pairs.next ≤ new.pairs.next
-      → new.pairs.pending ≡ before.pairs.pending → ((post : Post) → In post posts → is_of_slots post.body ≡ false)
-      → JobRefuses S setting w n new posts
-  still posts new finished next pending unsaid = quiet new posts
-      (λ c last is how. inl (ap (λ t. at nat_cmp t c) (sym finished) ∙ is)) next
-      (λ cell op is. inl (was_same before cell op (ap (λ t. at cell_cmp t cell) (sym pending) ∙ is))) unsaid
+use Rattle.law_refusals.proofs.Slots.{nobody, is_slot, is_of_slots, refusal_not_full, filling_not_full, logged_not_full, copied_not_full, tells_not_full}
+use Rattle.law_refusals.proofs.Slots.{one_client, full_seq, AsksFor, TellsNone, JobRefuses, Scene, quiet, still}
 
 module _ (R S : ℕ → ℕ → Type 0) (scene : Scene R S) where
   abbrev w : World

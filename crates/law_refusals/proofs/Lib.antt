@@ -1,4 +1,5 @@
 pub mod Frames
+pub mod Slots
 pub mod Jobs
 pub mod Along
 pub mod Leads
@@ -6,4 +7,5 @@ pub mod Sent
 pub mod Filled
 pub mod Refused
 pub mod Copies
+pub mod StepRefusals
 pub mod Refusing

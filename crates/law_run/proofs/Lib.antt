@@ -25,16 +25,20 @@ pub mod Steps
 pub mod Freezing
 pub mod Filled
 pub mod Frames
+pub mod LeadJobs
 pub mod ServerJobs
 pub mod Says
 pub mod LogSteps
 pub mod Placed
 pub mod Contents
+pub mod PutContents
 pub mod Puts
 pub mod Reading
+pub mod Readers
 pub mod Shows
 pub mod Regions
 pub mod Aheads
+pub mod Turns
 pub mod Votes
 pub mod ServerSteps
 pub mod ClientFrames
@@ -45,4 +49,5 @@ pub mod Still
 pub mod OldReads
 pub mod NotHere
 pub mod MovesKnown
+pub mod Footings
 pub mod Running

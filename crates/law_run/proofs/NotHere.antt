@@ -49,8 +49,8 @@ use Rattle.law_run.proofs.Named.{entry_over, has_over}
 use Rattle.law_run.proofs.OldReads.{IsFoundAt, found}
 use Rattle.law_run.proofs.Overlay.{entry_there, has_below}
 use Rattle.law_run.proofs.Reading.{IsAskedAt, IsKnownRead, IsOfDisk, known_read}
-use Rattle.law_run.proofs.Shows.{AreCalm, IsReading, all_looked, entry_is, look_may, nothing_looked, now_high, now_low, of, row_has}
-use Rattle.law_run.proofs.Shows.{same_above, same_chain, serving_now, shown_none, some_is}
+use Rattle.law_run.proofs.Readers.{IsReading, entry_is, now_high, now_low, serving_now, shown_none, some_is}
+use Rattle.law_run.proofs.Shows.{AreCalm, all_looked, look_may, nothing_looked, of, row_has, same_above, same_chain}
 use Rattle.law_run.proofs.Sources.{source_here, source_stays}
 use Rattle.law_run.proofs.Steps.{LooksTold, ServerStep, frozen_same, later_world, letters, look_here}
 

@@ -40,7 +40,7 @@ use Rattle.law_run.specs.Onward.{is_held, Onward}
 use Rattle.law_moves.proofs.Chains.{NeverDead}
 use Rattle.law_run.proofs.Looks.{is_looked}
 use Rattle.law_run.proofs.Machine.{held_onward}
-use Rattle.law_run.proofs.ServerJobs.{closed_held, closed_alone}
+use Rattle.law_run.proofs.LeadJobs.{closed_held, closed_alone}
 use Rattle.law_run.proofs.Steps.{ServerStep}
 
 -- a letter ends a write as written

@@ -1,70 +1,51 @@
 -- Each kind of job shows what it has to, where the write of what it has put where it counts has had its bytes.
-use Rattle.std.proofs.Common.{◌≡◌, ◌≢◌, ◌≤◌, ◌+◌, ℕ, Bool, true, false, Some, refl, sym, ap, ◌∙◌, subst, ◌⊎◌, inl, inr, Option, None}
-use Rattle.petal_rules.specs.Fills.{fill_operation}
+use Rattle.std.proofs.Common.{◌≡◌, ◌≢◌, ℕ, true, Some, refl, sym, ap, ◌∙◌, subst, ◌⊎◌, inl, inr}
 use Rattle.law_steps.proofs.Leading.{lead_links}
 use Rattle.law_steps.specs.DidSweep.{Sweeps}
-use Rattle.petal_msg.specs.declared.operation.OpKind.TheVariants as kind
-use Rattle.petal_msg.specs.declared.operation.OpKind.{OpKind}
 use Rattle.std.specs.Ordering.{nat_cmp}
-use Rattle.busy_marks.specs.declared.marks.MarkKind.TheVariants.{Busy, Stale}
 use Rattle.global_tables.specs.declared.link.LinkRow.{LinkRow}
 use Rattle.global_tables.specs.declared.link.LinkState.TheVariants.{Both, Only}
 use Rattle.petal_base.specs.declared.cell.Cell.{Cell}
-use Rattle.petal_base.specs.declared.cell.Key.{Key}
 use Rattle.petal_base.specs.Cells.{cell_of}
-use Rattle.petal_table.specs.Table.{Table, at, put}
-use Rattle.petal_table.proofs.Rows.{at_same, at_apart}
+use Rattle.petal_table.specs.Table.{at}
 use Rattle.petal_machine.specs.Machine.{Plain}
 use Rattle.petal_msg.specs.declared.body.Body.{Body}
-use Rattle.petal_msg.specs.declared.body.Body.TheVariants as body
-use Rattle.petal_msg.specs.declared.operation.Ending.{Ending}
 use Rattle.petal_msg.specs.declared.operation.Ending.TheVariants as ending
 use Rattle.petal_msg.specs.declared.operation.Finished.{Finished}
 use Rattle.petal_msg.specs.declared.operation.Pending.{Pending}
-use Rattle.petal_msg.specs.declared.operation.Stage.{Stage}
-use Rattle.petal_rules.specs.State.{authority, in_both, is_lead, is_second, is_alone_on, live}
-use Rattle.petal_rules.specs.Store.{Chain, Store, Stored, cell_cmp, chain_in, chains_with, version_of}
+use Rattle.petal_rules.specs.State.{is_lead, is_second, live}
+use Rattle.petal_rules.specs.Store.{Chain, Store, cell_cmp, chain_in}
 use Rattle.petal_rules.specs.Server.{Own, Here, Done, Pairs}
-use Rattle.petal_rules.specs.Writes.{operation, puts, with_reserved, with_paired, with_mark_at, is_clients, gives_back, ends, without_pending}
+use Rattle.petal_rules.specs.Writes.{is_clients}
 use Rattle.petal_rules.specs.World.{chosen_state, kept}
-use Rattle.petal_rules.proofs.CellTables.{cell_same, cell_apart}
-use Rattle.petal_rules.proofs.Tests.{is_the_one, same_or_apart, same_some, true_false}
+use Rattle.petal_rules.proofs.Tests.{is_the_one, same_some, true_false}
 use Rattle.law_state.specs.Steady.{IsSteady}
-use Rattle.law_state.proofs.Alone.{alone_not_both, so_both}
 use Rattle.law_state.proofs.Cells.{led_by, second_by}
-use Rattle.law_state.proofs.Roles.{secondary_is_one}
-use Rattle.law_steps.specs.Operations.{answering, putting}
-use Rattle.law_steps.specs.DidLead.{DidLead, Taken, Asks_for, Repeats, Is_full, Gives_up, Opens, Marks, Puts, Unmarks, Closes, Opens_alone, Marks_alone}
-use Rattle.law_steps.specs.DidLead.{Puts_alone, Unmarks_alone, Closes_alone, Opens_fill, Opens_fill_alone, Has_fill, Has_no_room, Goes_on_dead}
 use Rattle.law_steps.specs.DidSecond.{DidSecond, Sets_apart, Promises, Declines, Follows}
 use Rattle.law_steps.specs.DidOther.{DidOther}
 use Rattle.law_steps.specs.Did.{Did, Ignores, Refuses, By_read, By_lead, By_second, By_holder, By_other, By_filler, By_sweep}
 use Rattle.law_steps.specs.Happens.{Handled, IsSeated, own_place}
 use Rattle.law_steps.proofs.CopyFrames.{of_holder, of_other}
 use Rattle.law_steps.proofs.Histories.{own_steady}
-use Rattle.law_steps.proofs.Restages.{stood}
 use Rattle.law_steps.proofs.Staged.{same_cell_or_apart}
-use Rattle.law_steps.proofs.Subjects.{of_read, of_second, of_ending, of_filler, of_sweep}
-use Rattle.law_steps.proofs.Taking.{taking}
+use Rattle.law_steps.proofs.Subjects.{of_read, of_second, of_filler, of_sweep}
 use Rattle.law_stores.specs.Waiting.{IsOwn}
-use Rattle.law_copies.specs.Pair.{AreCopies, PairOk, Working, far, owns_of, pair_of}
-use Rattle.law_copies.specs.Visits.{IsLinked, half, AliveIn}
-use Rattle.law_copies.proofs.Chains.{chain_apart, chain_put}
+use Rattle.law_copies.specs.Pair.{owns_of}
+use Rattle.law_copies.specs.Visits.{AliveIn}
+use Rattle.law_copies.proofs.Chains.{chain_apart}
 use Rattle.law_copies.proofs.Others.{held_not_lead}
 use Rattle.law_requests.proofs.Leads.{one_lead}
 use Rattle.law_requests.specs.Asked.{IsOpen}
 use Rattle.law_run.specs.Onward.{is_held, Onward}
-use Rattle.law_run.specs.Follow.{HasCounted, Is_told, Is_followed, Is_counted}
 use Rattle.law_moves.proofs.Chains.{Drops, NeverDead, StoresSo, Nothing_new, An_own, An_asked, A_copy, Of_the_dead, OtherStores, PutsAsked, PutsCopy, PutsOwn}
-use Rattle.law_moves.proofs.Chains.{copied_apart, did_stores, holder_chains, lead_stores, other_changes, second_stores, swept}
+use Rattle.law_moves.proofs.Chains.{copied_apart, did_stores, holder_chains, other_changes, second_stores, swept}
 use Rattle.law_run.proofs.Copies.{copied_unfollowed}
-use Rattle.law_run.proofs.Frames.{OwnFollow, kept_finished, own_counted}
-use Rattle.law_run.proofs.Entries.{not_ahead}
-use Rattle.law_run.proofs.Grounds.{Followed, dropped_same, followed}
-use Rattle.law_run.proofs.Machine.{held_onward}
-use Rattle.law_run.proofs.Seats.{IsSharing, first_ok, heard_shared, one_place_of, op_alone, op_lead, op_leads, op_seat, op_shared, peer, place_of}
-use Rattle.law_run.proofs.Seats.{shared_or_alone, shared_store, store_there, visit_here, alive_here}
+use Rattle.law_run.proofs.Frames.{OwnFollow, kept_finished}
+use Rattle.law_run.proofs.Grounds.{dropped_same, followed}
+use Rattle.law_run.proofs.Seats.{IsSharing, one_place_of, op_lead, op_leads, op_seat, place_of}
+use Rattle.law_run.proofs.Seats.{visit_here, alive_here}
 use Rattle.law_run.proofs.Steps.{ServerStep, joined_now, joined_then, kept_here, later_world, new as own_left, own_after}
+use Rattle.law_run.proofs.LeadJobs.{Held, Counted, PutHeld, was_held, lead_pending, old_finished, lead_finished}
 
 module _ (this : ServerStep) (k : Plain) where
   abbrev here : Here
@@ -76,360 +57,10 @@ module _ (this : ServerStep) (k : Plain) where
   abbrev hears : Body → Type 0
   hears = Handled this.w this.n
 
-  abbrev Held : Pending → Type 0
-  Held op = is_clients op.kind ≡ true → IsOpen (this.w.clients op.client) op.seq → is_held k op.client ≡ true
-
-  abbrev Counted : Cell → Pending → Chain → Type 0
-  Counted cell op chain = HasCounted this.setting this.w this.n cell op chain
-
   abbrev mine : Cell → Chain
   mine cell = chain_in own.store.chains cell
 
-  -- what was put where it counts has had its bytes
-  abbrev pub PutHeld : {new : Own} → StoresSo hears here own new → Type 0
-  PutHeld (Nothing_new same) = Unit {0}
-  PutHeld (An_own p) = is_clients p.op.kind ≡ true → authority (chosen_state this.setting this.w) p.op.cell ≡ Some this.n → is_held k p.op.client ≡ true
-  PutHeld (An_asked a) =
-      (f : Followed this.setting this.state this.along.steady this.w this.along.firm this.ground this.n a.number a.key a.bytes)
-      → is_clients f.putting.op.kind ≡ true → is_held k f.putting.op.client ≡ true
-  PutHeld (A_copy c) = Unit {0}
-  PutHeld (Of_the_dead d) = Unit {0}
-
   module _ (runs : (this.w.servers this.n).life.running ≡ true) (onward : Onward this.m k) (never : NeverDead here own) where
-    -- an operation that was pending
-    was_held : (cell : Cell) (op : Pending) → at cell_cmp own.pairs.pending cell ≡ Some op → Counted cell op (mine cell) → Held op
-    was_held cell op is counted clients still =
-        held_onward this.m k op.client onward (this.follow.pending this.n cell op runs is clients
-        (subst (Counted cell op) (sym (own_counted this k runs cell op is)) counted) still)
-
-    -- the same in another stage
-    recounted : (cell : Cell) (old now : Pending) (chain : Chain)
-        → (now.stage.paired ≡ true → old.stage.paired ≡ true)
-        → (now.stage.put ≡ true → old.stage.put ≡ true) → Counted cell now chain → Counted cell old chain
-    recounted cell old now chain paired put (Is_told both e) = Is_told both (paired e)
-    recounted cell old now chain paired put (Is_followed row linked both shared e same) = Is_followed row linked both shared (put e) same
-    recounted cell old now chain paired put (Is_counted e counts) = Is_counted (put e) counts
-
-    -- one that is put in the table, beside which other chains stay
-    put_lead : (t : Table Cell Pending) (chains : Table Cell Chain) (cell : Cell) (now : Pending)
-        → ((q : Cell) → q ≢ cell → at cell_cmp t q ≡ at cell_cmp own.pairs.pending q) → ((q : Cell) → q ≢ cell → chain_in chains q ≡ mine q)
-        → (Counted cell now (chain_in chains cell) → Held now) → (q : Cell) (op : Pending) → at cell_cmp (put cell_cmp t cell now) q ≡ Some op
-        → Counted q op (chain_in chains q) → Held op
-    put_lead t chains cell now others beside held q op is = elim (same_cell_or_apart q cell) [
-      | inl e ↦
-          let same : now ≡ op = same_some (sym (cell_same t cell now) ∙ ap (at cell_cmp (put cell_cmp t cell now)) (sym e) ∙ is) in
-          subst (λ (c : Cell). Counted c op (chain_in chains c) → Held op) (sym e)
-          (subst (λ (o : Pending). Counted cell o (chain_in chains cell) → Held o) same held)
-      | inr ne ↦ (λ counted. was_held q op (sym (others q ne) ∙ sym (cell_apart t cell now q ne) ∙ is) (subst (Counted q op) (beside q ne) counted))
-    ]
-
-    beside : (t : Table Cell Pending) (cell : Cell) (one : Pending) (q : Cell) → q ≢ cell → at cell_cmp (put cell_cmp t cell one) q ≡ at cell_cmp t q
-    beside t cell one q ne = cell_apart t cell one q ne
-
-    -- ### In Both
-
-    abbrev IsFirst : Pending → Type 0
-    IsFirst op = (f : LinkRow) × IsSharing this.setting this.state this.w this.along.firm this.ground this.n op.cell f
-        × (f.primary ≡ this.n)
-
-    first_of : (op : Pending) → at cell_cmp own.pairs.pending op.cell ≡ Some op → in_both here.state op.cell ≡ true → IsFirst op
-    first_of op is both =
-        let f = op_shared this.setting this.state this.w this.along.firm this.ground this.n op.cell op runs is both in
-        (f.row, f.shares, f.first)
-
-    -- what the second server has in memory of the place
-    abbrev second_of : (op : Pending) → IsFirst op → Own
-    second_of op f = peer this.setting this.state this.w this.along.firm this.ground this.n f.0.secondary op.cell f.0
-
-    -- the second server's store, by the entries at the place
-    abbrev two : (op : Pending) → IsFirst op → Chain
-    two op f = chain_in (store_there this.setting this.state this.w this.along.firm this.ground this.n f.0.secondary).chains op.cell
-
-    copies_at : (op : Pending) → at cell_cmp own.pairs.pending op.cell ≡ Some op → (f : IsFirst op) → (put : Bool) → op.stage.put ≡ put
-        → Working (mine op.cell) (two op f) (far (pair_of own (second_of op f) op.cell)) op put
-    copies_at op is f put e =
-        let ok = first_ok this.setting this.state this.w this.along.firm this.ground this.n op.cell f.0 f.1 f.2 in
-        of_half (this.ground.good.visits f.0.secondary (place_of this.setting this.state this.w this.along.firm this.ground this.n
-        f.0) op.cell) ok put e
-      where
-        store : Store
-        store = store_there this.setting this.state this.w this.along.firm this.ground this.n f.0.secondary
-
-        of_half : (visit : Option Own) → PairOk (pair_of own (half visit store) op.cell) → (put : Bool)
-            → op.stage.put ≡ put
-            → Working (mine op.cell) (two op f) (far (pair_of own (half visit store) op.cell)) op put
-        of_half None ok put e =
-            subst (Working (mine op.cell) (two op f) (far (pair_of own (half None store) op.cell)) op) e
-            (subst (AreCopies (mine op.cell) (two op f) (far (pair_of own (half None store) op.cell))) is ok.copies)
-        of_half (Some other) ok put e =
-            subst (Working (mine op.cell) (two op f) (far (pair_of own (half (Some other) store) op.cell)) op) e
-            (subst (AreCopies (mine op.cell) (two op f) (far (pair_of own (half (Some other) store) op.cell))) is ok.copies)
-
-    -- which counts, while the link is in Both by what is chosen
-    two_counts : (op : Pending) (f : IsFirst op) → in_both (chosen_state this.setting this.w) op.cell ≡ true
-        → two op f ≡ chain_in (kept this.setting this.w f.0.secondary).chains op.cell
-    two_counts op f shared =
-        ap (λ (s : Store). chain_in s.chains op.cell)
-        (shared_store this.setting this.state this.w this.along.firm this.ground this.n op.cell f.0 f.1 shared f.0.secondary
-        (secondary_is_one f.0 f.0.secondary refl))
-
-    -- how far the second server is, by a letter of its own
-    past_at : (op : Pending) → hears (body.Replicated op.op op.cell) → (f : IsFirst op)
-        → op.op + op.op + 1 ≤ far (pair_of own (second_of op f) op.cell)
-    past_at op h f =
-        heard_shared this.setting this.state this.w this.along.firm this.ground this.n op.cell f.0 f.1
-        (body.Replicated op.op op.cell) h refl
-
-    paired_held : (op : Pending) → hears (body.Replicated op.op op.cell) → at cell_cmp own.pairs.pending op.cell ≡ Some op
-        → in_both here.state op.cell ≡ true → op.stage.put ≡ true → Held op
-    paired_held op h is both put =
-        let f = first_of op is both in
-        elim (shared_or_alone this.setting this.state this.w this.along.firm this.ground this.n op.cell f.0 f.1) [
-          | inr counts ↦ was_held op.cell op is (Is_counted put counts)
-          | inl shared ↦
-              let ahead = copies_at op is f true put in
-              was_held op.cell op is (Is_followed f.0 f.1.linked f.1.both shared put (ahead.even (past_at op h f) ∙ two_counts op f shared))
-        ]
-
-    -- an operation that is put now is ahead of the second server's copy
-    put_now : (op : Pending) → at cell_cmp own.pairs.pending op.cell ≡ Some op → in_both here.state op.cell ≡ true → op.stage.put ≡ false
-        → (row : LinkRow) → IsLinked this.setting (this.w.servers this.n).log.applied op.cell row
-        → in_both (chosen_state this.setting this.w) op.cell ≡ true
-        → mine op.cell ≡ chain_in (kept this.setting this.w row.secondary).chains op.cell
-    put_now op is both put row linked shared =
-        let f = first_of op is both in
-        (copies_at op is f false put).even ∙ two_counts op f shared
-        ∙ ap (λ (r : LinkRow). chain_in (kept this.setting this.w r.secondary).chains op.cell) (same_some (sym f.1.linked ∙ linked))
-
-    -- a new operation
-    fresh_held : (cell : Cell) (op : Pending) (chain : Chain) → op.stage.paired ≡ false → op.stage.put ≡ false → Counted cell op chain → Held op
-    fresh_held cell op chain unpaired unput (Is_told both e) clients = true_false e unpaired
-    fresh_held cell op chain unpaired unput (Is_counted e counts) clients = true_false e unput
-    fresh_held cell op chain unpaired unput (Is_followed row linked both shared e same) clients = true_false e unput
-
-    -- ### Alone
-
-    not_both : {B : Type 0} (cell : Cell) → is_alone_on here.state this.n cell ≡ true → in_both here.state cell ≡ true → B
-    not_both cell alone both = true_false both (alone_not_both here.state this.n cell alone)
-
-    -- an operation that is taken up has had its bytes once it is put
-    taken_held : (now : Own) (op new : Pending) → Taken own now op → is_alone_on here.state this.n op.cell ≡ true → new.kind ≡ op.kind
-        → new.client ≡ op.client → new.seq ≡ op.seq
-        → (new.stage.put ≡ true → op.stage.put ≡ true) → (chain : Chain) → Counted op.cell new chain → Held new
-    taken_held now op new taken alone kind client seq put chain (Is_told both e) clients still = not_both op.cell alone both
-    taken_held now op new taken alone kind client seq put chain (Is_followed row linked both shared e same) clients still =
-        not_both op.cell alone (so_both here.state op.cell row linked both)
-    taken_held now op new taken alone kind client seq put chain (Is_counted e counts) clients still =
-        let t = taking own now op taken in
-        let old_put : t.old.stage.put ≡ true = ap (λ (o : Pending). o.stage.put) (sym t.is) ∙ put e in
-        let c : new.client ≡ t.old.client = client ∙ ap (λ (o : Pending). o.client) t.is in
-        let s : new.seq ≡ t.old.seq = seq ∙ ap (λ (o : Pending). o.seq) t.is in
-        let still' : IsOpen (this.w.clients t.old.client) t.old.seq = subst (IsOpen (this.w.clients t.old.client)) s
-        (subst (λ i. IsOpen (this.w.clients i) new.seq) c still) in
-        subst (λ i. is_held k i ≡ true) (sym c) (was_held op.cell t.old t.was (Is_counted old_put counts)
-        (ap (λ (o : Pending). is_clients o.kind) (sym t.is) ∙ ap is_clients (sym kind) ∙ clients) still')
-
-    others_taken : (now : Own) (op : Pending) (taken : Taken own now op) (q : Cell) → q ≢ op.cell
-        → at cell_cmp now.pairs.pending q ≡ at cell_cmp own.pairs.pending q
-    others_taken now op taken q ne = (taking own now op taken).others q ne
-
-    taken_keyed : (now : Own) (op : Pending) → Taken own now op → cell_of op.key ≡ op.cell
-    taken_keyed now op taken =
-        let t = taking own now op taken in
-        let old : at cell_cmp own.pairs.pending t.old.cell ≡ Some t.old = ap (λ (o : Pending). at cell_cmp own.pairs.pending o.cell) (sym t.is) ∙ t.was in
-        subst (λ (o : Pending). cell_of o.key ≡ o.cell) (sym t.is) ((this.ground.ready.rests.pending this.n).staged t.old.cell t.old old).keyed
-
-    chains_taken : (now : Own) (op : Pending) (taken : Taken own now op) → now.store.chains ≡ own.store.chains
-    chains_taken now op taken = λ i. ((taking own now op taken).store i).chains
-
-    still_taken : (now : Own) (op : Pending) (taken : Taken own now op) (q : Cell) → q ≢ op.cell → chain_in now.store.chains q ≡ mine q
-    still_taken now op taken q ne = ap (λ c. chain_in c q) (chains_taken now op taken)
-
-    -- beside the block that is put
-    put_beside : (chains : Table Cell Chain) (key : Key) (entry : Stored) (cell : Cell) → cell_of key ≡ cell → (q : Cell) → q ≢ cell
-        → chain_in (chains_with chains key entry) q ≡ chain_in chains q
-    put_beside chains key entry cell keyed q ne = chain_apart chains (cell_of key) _ q (λ e. ne (e ∙ keyed))
-
-    -- ### What is pending
-
-    -- an operation that is put in Both
-    puts_held : (op : Pending) (there : at cell_cmp own.pairs.pending op.cell ≡ Some op) → in_both here.state op.cell ≡ true → op.stage ≡ putting
-        → (is_clients op.kind ≡ true → authority (chosen_state this.setting this.w) op.cell ≡ Some this.n → is_held k op.client ≡ true)
-        → Counted op.cell (record op { version = version_of (mine op.cell) + 1; stage = record op.stage { put = true } })
-        (chain_in (puts own op).own.store.chains op.cell)
-        → Held (record op { version = version_of (mine op.cell) + 1; stage = record op.stage { put = true } })
-    puts_held op there both stage held (Is_told here_both e) clients still = was_held op.cell op there (Is_told here_both e) clients still
-    puts_held op there both stage held (Is_counted e counts) clients still = held clients counts
-    puts_held op there both stage held (Is_followed row linked in_it shared e same) clients still =
-        let keyed = ((this.ground.ready.rests.pending this.n).staged op.cell op there).keyed in
-        let cell = cell_of op.key in
-        let entry : Stored = record { version = version_of (mine op.cell) + 1; bytes = op.bytes } in
-        let new : chain_in (puts own op).own.store.chains cell ≡ put nat_cmp (mine cell) op.key.epoch entry = chain_put own.store.chains cell _ in
-        let equal : put nat_cmp (mine cell) op.key.epoch entry ≡ mine cell =
-        sym new ∙ ap (chain_in (puts own op).own.store.chains) keyed ∙ same
-        ∙ sym (put_now op there both (ap (λ (s : Stage). s.put) stage) row linked shared) ∙ ap mine (sym keyed) in
-        let next : entry.version ≡ version_of (mine cell) + 1 = ap (λ (c : Cell). version_of (mine c) + 1) (sym keyed) in
-        absurd (not_ahead (mine cell) op.key.epoch entry next equal)
-
-    -- what stays pending where an operation is closed by the one that holds the link alone
-    closed_pending : (now : Own) (op : Pending) → Taken own now op → is_alone_on here.state this.n op.cell ≡ true → (cell : Cell) (o : Pending)
-        → at cell_cmp now.pairs.pending cell ≡ Some o → Counted cell o (chain_in now.store.chains cell) → Held o
-    closed_pending now op taken alone cell o there = elim (same_cell_or_apart cell op.cell) [
-      | inl e ↦
-          let t = taking own now op taken in
-          let same : op ≡ o = same_some (sym t.there ∙ ap (at cell_cmp now.pairs.pending) (sym e) ∙ there) in
-          subst (λ (c : Cell). Counted c o (chain_in now.store.chains c) → Held o) (sym e)
-          (subst (λ (x : Pending). Counted op.cell x (chain_in now.store.chains op.cell) → Held x) same
-          (taken_held now op op taken alone refl refl refl (λ e. e) (chain_in now.store.chains op.cell)))
-      | inr ne ↦ (λ counted. was_held cell o (sym (others_taken now op taken cell ne) ∙ there)
-          (subst (Counted cell o) (ap (λ c. chain_in c cell) (chains_taken now op taken)) counted))
-    ]
-
-    lead_pending : (done : Done) (d : DidLead hears here own done) → PutHeld (lead_stores hears here own never done d) → (cell : Cell) (o : Pending)
-        → at cell_cmp done.own.pairs.pending cell ≡ Some o → Counted cell o (chain_in done.own.store.chains cell) → Held o
-    lead_pending _ (Asks_for posts h) held = λ cell o is. was_held cell o is
-    lead_pending _ (Repeats want last h lead there e) held = λ cell o is. was_held cell o is
-    lead_pending _ (Is_full want new no_room) held = λ cell o is. was_held cell o is
-    lead_pending _ (Gives_up op h there reserved put) held = λ cell o is counted.
-        let ended = of_ending here (gives_back (without_pending own op.cell)) op op.kind ending.Full in
-        was_held cell o (stood own.pairs.pending op.cell cell o (sym (ap (λ t. at cell_cmp t cell) ended.pending) ∙ is))
-        (subst (λ (x : Store). Counted cell o (chain_in x.chains cell)) ended.store counted)
-    lead_pending _ (Opens want new both) held =
-        put_lead own.pairs.pending own.store.chains want.cell (operation here own.pairs.next want) (λ q ne. refl) (λ q ne. refl)
-        (fresh_held want.cell (operation here own.pairs.next want) (mine want.cell) refl refl)
-    lead_pending _ (Marks op h there both stage) held =
-        put_lead (put cell_cmp own.pairs.pending op.cell (with_reserved op)) own.store.chains op.cell (with_mark_at (with_reserved op) Busy true)
-        (beside own.pairs.pending op.cell (with_reserved op)) (λ q ne. refl)
-        (λ counted. was_held op.cell op there
-        (recounted op.cell op (with_mark_at (with_reserved op) Busy true) (mine op.cell) (λ e. e) (λ e. e) counted))
-    lead_pending _ (Puts op there both stage) held =
-        let keyed = ((this.ground.ready.rests.pending this.n).staged op.cell op there).keyed in
-        put_lead own.pairs.pending (puts own op).own.store.chains op.cell
-        (record op { version = version_of (mine op.cell) + 1; stage = record op.stage { put = true } }) (λ q ne. refl)
-        (put_beside own.store.chains op.key (record { version = version_of (mine op.cell) + 1; bytes = op.bytes }) op.cell keyed)
-        (puts_held op there both stage held)
-    lead_pending _ (Unmarks op h there both stage) held =
-        put_lead (put cell_cmp own.pairs.pending op.cell (with_paired op)) own.store.chains op.cell (with_mark_at (with_paired op) Busy false)
-        (beside own.pairs.pending op.cell (with_paired op)) (λ q ne. refl)
-        (λ counted. paired_held op h there both (ap (λ (s : Stage). s.put) stage))
-    lead_pending _ (Closes op there both stage) held = λ cell o is counted.
-        let ended = of_ending here (without_pending own op.cell) op op.kind ending.Written in
-        was_held cell o (stood own.pairs.pending op.cell cell o (sym (ap (λ t. at cell_cmp t cell) ended.pending) ∙ is))
-        (subst (λ (x : Store). Counted cell o (chain_in x.chains cell)) ended.store counted)
-    lead_pending _ (Opens_alone want new alone) held =
-        let op = operation here own.pairs.next want in
-        put_lead (put cell_cmp own.pairs.pending want.cell op) own.store.chains want.cell (with_mark_at op Stale true)
-        (beside own.pairs.pending want.cell op) (λ q ne. refl)
-        (fresh_held want.cell (with_mark_at op Stale true) (mine want.cell) refl refl)
-    lead_pending _ (Marks_alone now op taken alone fresh) held =
-        put_lead now.pairs.pending now.store.chains op.cell (with_mark_at op Stale true) (others_taken now op taken) (still_taken now op taken)
-        (taken_held now op (with_mark_at op Stale true) taken alone refl refl refl (λ e. e) (chain_in now.store.chains op.cell))
-    lead_pending _ (Puts_alone now op taken alone stale put) held =
-        let t = taking own now op taken in
-        let keyed = taken_keyed now op taken in
-        put_lead now.pairs.pending (puts now op).own.store.chains op.cell
-        (record op { version = version_of (chain_in now.store.chains op.cell) + 1; stage = record op.stage { put = true } }) (others_taken now op taken)
-        (λ q ne.
-        put_beside now.store.chains op.key (record { version = version_of (chain_in now.store.chains op.cell) + 1; bytes = op.bytes }) op.cell keyed q ne
-        ∙ still_taken now op taken q ne)
-        (λ counted clients still. elim counted [
-          | Is_told both e ↦ not_both op.cell alone both
-          | Is_followed row linked both shared e same ↦ not_both op.cell alone (so_both here.state op.cell row linked both)
-          | Is_counted e counts ↦
-              subst (λ i. is_held k i ≡ true) (sym (ap (λ (o : Pending). o.client) t.is))
-              (held (ap (λ (o : Pending). is_clients o.kind) (sym t.is) ∙ clients)
-              (ap (λ (o : Pending). authority (chosen_state this.setting this.w) o.cell) (sym t.is) ∙ counts))
-        ])
-    lead_pending _ (Unmarks_alone now op taken alone stale put busy) held =
-        put_lead now.pairs.pending now.store.chains op.cell (with_mark_at op Busy false) (others_taken now op taken) (still_taken now op taken)
-        (taken_held now op (with_mark_at op Busy false) taken alone refl refl refl (λ e. e) (chain_in now.store.chains op.cell))
-    lead_pending _ (Closes_alone now op taken alone stale put free) held = λ cell o is counted.
-        let ended = of_ending here (without_pending now op.cell) op op.kind ending.Written in
-        closed_pending now op taken alone cell o (stood now.pairs.pending op.cell cell o (sym (ap (λ t. at cell_cmp t cell) ended.pending) ∙ is))
-        (subst (λ (x : Store). Counted cell o (chain_in x.chains cell)) ended.store counted)
-    lead_pending _ (Opens_fill moving new room both) held =
-        let op = fill_operation here own.pairs.next moving in
-        put_lead own.pairs.pending own.store.chains (cell_of moving.key) op (λ q ne. refl) (λ q ne. refl)
-        (fresh_held (cell_of moving.key) op (mine (cell_of moving.key)) refl refl)
-    lead_pending _ (Opens_fill_alone moving new room alone) held =
-        let op = fill_operation here own.pairs.next moving in
-        let cell = cell_of moving.key in
-        put_lead (put cell_cmp own.pairs.pending cell op) own.store.chains cell (with_mark_at op Stale true)
-        (beside own.pairs.pending cell op) (λ q ne. refl)
-        (fresh_held cell (with_mark_at op Stale true) (mine cell) refl refl)
-    lead_pending _ (Has_fill moving filled) held = λ cell o is. was_held cell o is
-    lead_pending _ (Has_no_room moving new no_room) held = λ cell o is. was_held cell o is
-    lead_pending _ (Goes_on_dead now op taken off) held = absurd (never now op taken off)
-
-    -- ### What is finished
-
-    old_finished : (c : ℕ) (last : Finished) → at nat_cmp own.pairs.finished c ≡ Some last → last.ending ≡ ending.Written → IsOpen (this.w.clients c) last.seq
-        → is_held k c ≡ true
-    old_finished = kept_finished this k onward runs own refl
-
-    -- a request of this client is finished, for want of a slot, or as written
-    finish : (t : Table ℕ Finished) (client seq : ℕ) (how : Ending) → t ≡ own.pairs.finished
-        → (how ≡ ending.Written → IsOpen (this.w.clients client) seq → is_held k client ≡ true)
-        → (c : ℕ) (last : Finished) → at nat_cmp (put nat_cmp t client (record { seq = seq; ending = how })) c ≡ Some last
-        → last.ending ≡ ending.Written → IsOpen (this.w.clients c) last.seq → is_held k c ≡ true
-    finish t client seq how same held c last is written still = elim (same_or_apart c client) [
-      | inl e ↦
-          let now : Finished = record { seq = seq; ending = how } in
-          let one : now ≡ last = same_some (sym (at_same t client now) ∙ subst (λ i. at nat_cmp (put nat_cmp t client now) i ≡ Some last) e is) in
-          subst (λ i. is_held k i ≡ true) (sym e)
-          (held (ap (λ (f : Finished). f.ending) one ∙ written)
-          (subst (IsOpen (this.w.clients client)) (sym (ap (λ (f : Finished). f.seq) one)) (subst (λ i. IsOpen (this.w.clients i) last.seq) e still)))
-      | inr ne ↦ old_finished c last (ap (λ u. at nat_cmp u c) (sym same) ∙ sym (at_apart t client _ c ne) ∙ is) written still
-    ]
-
-    -- how an operation ends
-    ends_finish : (own_then : Own) (op : Pending) (of : OpKind) (how : Ending) → own_then.pairs.finished ≡ own.pairs.finished
-        → (how ≡ ending.Written → is_clients of ≡ true → IsOpen (this.w.clients op.client) op.seq → is_held k op.client ≡ true)
-        → (c : ℕ) (last : Finished) → at nat_cmp (ends here own_then op of how).own.pairs.finished c ≡ Some last
-        → last.ending ≡ ending.Written → IsOpen (this.w.clients c) last.seq → is_held k c ≡ true
-    ends_finish own_then op kind.Write how same held = finish own_then.pairs.finished op.client op.seq how same (λ e. held e refl)
-    ends_finish own_then op kind.Fill how same held = kept_finished this k onward runs own_then same
-    ends_finish own_then op kind.Copy how same held = kept_finished this k onward runs own_then same
-
-    full_unwritten : {B : Type 0} → ending.Full ≡ ending.Written → B
-    full_unwritten e = cc
-
-    -- an operation that is closed has had its bytes
-    pub closed_held : (op : Pending) → at cell_cmp own.pairs.pending op.cell ≡ Some op → in_both here.state op.cell ≡ true → op.stage ≡ answering → Held op
-    closed_held op is both stage =
-        was_held op.cell op is (Is_told both (ap (λ (s : Stage). s.paired) stage))
-
-    pub closed_alone : (now : Own) (op : Pending) → Taken own now op → is_alone_on here.state this.n op.cell ≡ true → op.stage.put ≡ true → Held op
-    closed_alone now op taken alone put =
-        let t = taking own now op taken in
-        taken_held now op op taken alone refl refl refl (λ e. e) (mine op.cell)
-        (Is_counted put (op_alone this.setting this.state this.w this.along.firm this.ground this.n op.cell t.old runs t.was alone))
-
-    lead_finished : (done : Done) → DidLead hears here own done → (c : ℕ) (last : Finished) → at nat_cmp done.own.pairs.finished c ≡ Some last
-        → last.ending ≡ ending.Written → IsOpen (this.w.clients c) last.seq → is_held k c ≡ true
-    lead_finished _ (Asks_for posts h) = old_finished
-    lead_finished _ (Repeats want last h lead there e) = old_finished
-    lead_finished _ (Is_full want new no_room) = finish own.pairs.finished want.client want.seq ending.Full refl full_unwritten
-    lead_finished _ (Gives_up op h there reserved put) =
-        ends_finish (gives_back (without_pending own op.cell)) op op.kind ending.Full refl full_unwritten
-    lead_finished _ (Opens want new both) = old_finished
-    lead_finished _ (Marks op h there both stage) = old_finished
-    lead_finished _ (Puts op there both stage) = old_finished
-    lead_finished _ (Unmarks op h there both stage) = old_finished
-    lead_finished _ (Closes op there both stage) =
-        ends_finish (without_pending own op.cell) op op.kind ending.Written refl (λ e. closed_held op there both stage)
-    lead_finished _ (Opens_alone want new alone) = old_finished
-    lead_finished _ (Marks_alone now op taken alone fresh) = kept_finished this k onward runs now (taking own now op taken).finished
-    lead_finished _ (Puts_alone now op taken alone stale put) = kept_finished this k onward runs now (taking own now op taken).finished
-    lead_finished _ (Unmarks_alone now op taken alone stale put busy) = kept_finished this k onward runs now (taking own now op taken).finished
-    lead_finished _ (Closes_alone now op taken alone stale put free) =
-        ends_finish (without_pending now op.cell) op op.kind ending.Written (taking own now op taken).finished (λ e. closed_alone now op taken alone put)
-    lead_finished _ (Opens_fill moving new room both) = old_finished
-    lead_finished _ (Opens_fill_alone moving new room alone) = old_finished
-    lead_finished _ (Has_fill moving filled) = old_finished
-    lead_finished _ (Has_no_room moving new no_room) = old_finished
-    lead_finished _ (Goes_on_dead now op taken off) = absurd (never now op taken off)
-
     -- ### As a second server
 
     abbrev Leads : Cell → Type 0
@@ -473,11 +104,11 @@ module _ (this : ServerStep) (k : Plain) where
     -- operations that stay pending
     stays_pending : (new : Own) (s : StoresSo hears here own new) → IsNoOwn s → new.pairs.pending ≡ own.pairs.pending
         → (cell : Cell) (o : Pending)
-        → at cell_cmp new.pairs.pending cell ≡ Some o → Counted cell o (chain_in new.store.chains cell) → Held o
+        → at cell_cmp new.pairs.pending cell ≡ Some o → Counted this k cell o (chain_in new.store.chains cell) → Held this k o
     stays_pending new s none kept cell o is counted =
         let was : at cell_cmp own.pairs.pending cell ≡ Some o = sym (ap (λ t. at cell_cmp t cell) kept) ∙ is in
         let lead = op_lead this.setting this.state this.w this.along.firm this.ground this.n cell o runs was in
-        was_held cell o was (subst (Counted cell o) (led_chain new s none cell lead) counted)
+        was_held this k runs onward never cell o was (subst (Counted this k cell o) (led_chain new s none cell lead) counted)
 
     -- another server, which has put, and has the link in Both with this one
     module _ (cell : Cell) (p : ℕ) (op : Pending) (row : LinkRow)
@@ -504,7 +135,7 @@ module _ (this : ServerStep) (k : Plain) where
           (op_leads this.setting this.state this.w this.along.firm this.ground p cell op shares.runs is)
           (op_leads this.setting this.state this.w this.along.firm this.ground this.n cell o.op runs there))))
 
-      asked_second : (new : Own) (a : PutsAsked hears here own new) → PutHeld {new = new} (An_asked a) → Followed_or_held new
+      asked_second : (new : Own) (a : PutsAsked hears here own new) → PutHeld this k {new = new} (An_asked a) → Followed_or_held new
       asked_second new a held same = elim (same_cell_or_apart cell (cell_of a.key)) [
         | inr ne ↦ inl (same ∙ ap (λ c. chain_in c cell) a.chains ∙ chain_apart own.store.chains (cell_of a.key) _ cell ne)
         | inl e ↦
@@ -552,7 +183,7 @@ module _ (this : ServerStep) (k : Plain) where
           ]
 
       did_second : (new_own : Own) → own_left this ≡ new_own → joined_now this this.n ≡ joined_then this this.n
-          → (s : StoresSo hears here own new_own) → PutHeld s → Followed_now
+          → (s : StoresSo hears here own new_own) → PutHeld this k s → Followed_now
       did_second new_own is_new as_before (Nothing_new stays) held same =
           inl (same ∙ ap (λ c. chain_in c cell) (kept_here this (ap (λ (o : Own). o.store.chains) is_new ∙ stays) as_before))
       did_second new_own is_new as_before (An_own o) held same =
@@ -570,11 +201,11 @@ module _ (this : ServerStep) (k : Plain) where
 
     did_finished : (done : Done) → Did hears here own done → (c : ℕ) (last : Finished) → at nat_cmp done.own.pairs.finished c ≡ Some last
         → last.ending ≡ ending.Written → IsOpen (this.w.clients c) last.seq → is_held k c ≡ true
-    did_finished _ Ignores = old_finished
-    did_finished _ (Refuses to said is why back) = old_finished
+    did_finished _ Ignores = old_finished this k runs onward never
+    did_finished _ (Refuses to said is why back) = old_finished this k runs onward never
     did_finished _ (By_read done d) =
         kept_finished this k onward runs done.own (ap (λ (o : Own). o.pairs.finished) (of_read hears here own done d).same)
-    did_finished _ (By_lead done d) = lead_finished done d
+    did_finished _ (By_lead done d) = lead_finished this k runs onward never done d
     did_finished _ (By_second done d) = kept_finished this k onward runs done.own (of_second hears here own done d).finished
     did_finished _ (By_holder done d) = kept_finished this k onward runs done.own (of_holder hears here own done d).finished
     did_finished _ (By_other done d) = kept_finished this k onward runs done.own (of_other hears here own done d).finished
@@ -591,20 +222,20 @@ module _ (this : ServerStep) (k : Plain) where
     second_no_own done (inr apart) (Follows number key version bytes h s is) = tt
 
     other_pending : (done : Done) → DidOther hears here own done → OtherStores hears here own never done.own → (cell : Cell) (o : Pending)
-        → at cell_cmp done.own.pairs.pending cell ≡ Some o → Counted cell o (chain_in done.own.store.chains cell) → Held o
+        → at cell_cmp done.own.pairs.pending cell ≡ Some o → Counted this k cell o (chain_in done.own.store.chains cell) → Held this k o
     other_pending done d (inl same) = stays_pending done.own (Nothing_new same) tt (of_other hears here own done d).pending
     other_pending done d (inr copy) = stays_pending done.own (A_copy copy) tt (of_other hears here own done d).pending
 
     did_pending : (done : Done) (seated : IsSeated here own done) (d : Did hears here own done)
-        → PutHeld (did_stores hears here own never done seated d)
+        → PutHeld this k (did_stores hears here own never done seated d)
         → (cell : Cell) (o : Pending)
-        → at cell_cmp done.own.pairs.pending cell ≡ Some o → Counted cell o (chain_in done.own.store.chains cell) → Held o
-    did_pending _ seated Ignores held = λ cell o is. was_held cell o is
-    did_pending _ seated (Refuses to said is why back) held = λ cell o is. was_held cell o is
+        → at cell_cmp done.own.pairs.pending cell ≡ Some o → Counted this k cell o (chain_in done.own.store.chains cell) → Held this k o
+    did_pending _ seated Ignores held = λ cell o is. was_held this k runs onward never cell o is
+    did_pending _ seated (Refuses to said is why back) held = λ cell o is. was_held this k runs onward never cell o is
     did_pending _ seated (By_read done d) held =
         let same = (of_read hears here own done d).same in
         stays_pending done.own (Nothing_new (ap (λ (x : Own). x.store.chains) same)) tt (ap (λ (x : Own). x.pairs.pending) same)
-    did_pending _ seated (By_lead done d) held = lead_pending done d held
+    did_pending _ seated (By_lead done d) held = lead_pending this k runs onward never done d held
     did_pending _ seated (By_second done d) held =
         stays_pending done.own (second_stores hears here own never done seated d) (second_no_own done seated d)
         (of_second hears here own done d).pending
@@ -618,7 +249,7 @@ module _ (this : ServerStep) (k : Plain) where
         stays_pending _ (Of_the_dead (swept hears here own never what seat off)) tt refl
 
     pub did_job : (done : Done) (seated : IsSeated here own done) (d : Did hears here own done)
-        → PutHeld (did_stores hears here own never done seated d)
+        → PutHeld this k (did_stores hears here own never done seated d)
         → own_left this ≡ done.own → OwnFollow this k done.own
     did_job done seated d held is_new = record {
       finished = λ c last on. did_finished done d c last;

@@ -49,7 +49,8 @@ use Rattle.law_moves.proofs.Chains.{did_stores, NeverDead}
 use Rattle.law_run.proofs.Frames.{AreKept, As_before, Anew, OwnFollow, Runs, SaysOk, kept_own}
 use Rattle.law_run.proofs.LogSteps.{IsOfKind, Of_the_log, Of_a_boot, Of_the_rest}
 use Rattle.law_run.proofs.Looks.{is_looked, AreGrounded, who_accepts}
-use Rattle.law_run.proofs.Puts.{calm_told, joined_same, stored_told, unchanged}
+use Rattle.law_run.proofs.PutContents.{calm_told, joined_same, unchanged}
+use Rattle.law_run.proofs.Puts.{stored_told}
 use Rattle.law_requests.proofs.Stepping.{proposed_pairs}
 use Rattle.law_run.proofs.Says.{IsUnended, is_written, did_says, downs_unended, glances_unended, logged_unended, quiet_data, unended_no_data, unended_no_end}
 use Rattle.law_run.proofs.ServerJobs.{did_job}

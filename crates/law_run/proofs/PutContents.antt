@@ -1,0 +1,395 @@
+-- Where nothing is chosen: a put of the copy that counts gives a block the bytes of its write, a fill changes no content, and neither does what
+-- leaves the chains that count.
+use Rattle.std.proofs.Common.{◌≡◌, ◌≢◌, ◌<◌, ℕ, true, Some, is_some, sym, ap, ◌∙◌, subst, inl, inr, ◌&&◌, ◌||◌}
+use Rattle.std.proofs.Common.{Bool, List, Option, None, false, refl, arith}
+use Rattle.std.specs.Prelude.{option_and_then}
+use Rattle.law_steps.proofs.Staged.{same_cell_or_apart}
+use Rattle.petal_rules.specs.Lists.{In}
+use Rattle.law_moves.specs.Fills.{IsFrozen}
+use Rattle.law_state.specs.Homes.{stage_at, epoch_at}
+use Rattle.law_state.specs.Tables.{IsPlainState}
+use Rattle.law_state.specs.Disks.{AreDisks}
+use Rattle.law_run.proofs.Fills.{fill_there}
+use Rattle.law_run.proofs.Sources.{source_stays}
+use Rattle.law_run.proofs.Overlay.{IsFill, fill_same}
+use Rattle.law_run.proofs.Named.{entry_over, has_over, is_between}
+use Rattle.std.specs.Ordering.{nat_cmp}
+use Rattle.petal_base.specs.declared.cell.Cell.{Cell}
+use Rattle.petal_base.specs.declared.cell.Key.{Key}
+use Rattle.petal_base.specs.Cells.{cell_of}
+use Rattle.petal_table.specs.Table.{at, put}
+use Rattle.global_tables.specs.declared.disk.DiskRow.{DiskRow}
+use Rattle.petal_machine.specs.Machine.{Plain}
+use Rattle.petal_machine.specs.Run.{replay}
+use Rattle.petal_msg.specs.declared.body.Body.{Body}
+use Rattle.petal_msg.specs.declared.operation.Pending.{Pending}
+use Rattle.petal_state.specs.CellState.{named_cell}
+use Rattle.petal_state.specs.Command.{state_after}
+use Rattle.petal_rules.specs.State.{State, authority}
+use Rattle.petal_rules.specs.Store.{Chain, Store, Stored, cell_cmp, chain_in, chains_with, entry_at, bytes_of}
+use Rattle.petal_rules.specs.Server.{Own, Here}
+use Rattle.petal_rules.specs.World.{World, blank_joins_in, chosen_log, chosen_state, counted, kept}
+use Rattle.petal_rules.proofs.CellTables.{cell_same}
+use Rattle.petal_history.specs.Contents.{entry_before, entry_by, entry_of, first_entry, old_cell}
+use Rattle.petal_history.specs.Events.{change_by, open_write}
+use Rattle.law_steps.specs.Happens.{Handled, own_place}
+use Rattle.law_steps.specs.Ready.{IsRising}
+use Rattle.law_stores.specs.Waiting.{IsOwn}
+use Rattle.law_copies.specs.Pair.{owns_of}
+use Rattle.law_copies.specs.Visits.{AliveIn}
+use Rattle.law_copies.proofs.Chains.{chain_apart, chain_put}
+use Rattle.law_run.specs.Onward.{is_held, Onward}
+use Rattle.law_run.proofs.Along.{HasDisk, cell_comes, cell_named, content_is, disk_here, disks_now, has_content_is, named_epoch}
+use Rattle.law_run.proofs.Along.{named_high, named_map_is, one_row_of, plain_now, rows_in}
+use Rattle.law_run.proofs.Contents.{IsGiven, AreGiven, Taken, all_given, given_held, takes_of, was_kept, now_has, now_kept, StaysAt, was_has}
+use Rattle.law_run.proofs.Entries.{entry_below, entry_put}
+use Rattle.law_run.proofs.Frames.{OwnFollow, SaysOk, CountsOk}
+use Rattle.law_run.proofs.Placed.{Placed}
+use Rattle.law_run.proofs.Steps.{ServerStep, TakesTold, new, later_world, joined_now, joined_then, kept_here, own_after, frozen_same, same_entry}
+use Rattle.law_run.proofs.Takes.{block_there}
+
+module _ (this : ServerStep) (same : chosen_log this.setting (later_world this) ≡ chosen_log this.setting this.w) where
+  abbrev v : World
+  v = later_world this
+
+  abbrev own : Own
+  own = owns_of this.w this.n
+
+  abbrev here : Here
+  here = own_place this.setting this.w this.n
+
+  abbrev hears : Body → Type 0
+  hears = Handled this.w this.n
+
+  abbrev chosen : State
+  chosen = chosen_state this.setting this.w
+
+  chosen_is : chosen_state this.setting v ≡ chosen
+  chosen_is = ap (state_after this.setting.servers) same
+
+  -- as many Joins with an empty store count as before
+  pub joined_same : (i : ℕ) → joined_now this i ≡ joined_then this i
+  joined_same i = ap (λ log. blank_joins_in this.setting log i) same
+
+  rows_same : (row : DiskRow) → In row (rows_in this.setting this.w) → In row (rows_in this.setting v)
+  rows_same row h = subst (λ (s : State). In row s.disks.rows) (sym chosen_is) h
+
+  -- the entry of the cell that requests name
+  was_entry : (row : DiskRow) (epoch b : ℕ) → Option Stored
+  was_entry row epoch b = entry_of chosen (counted this.setting this.w) (named_cell row b) epoch
+
+  now_entry : (row : DiskRow) (epoch b : ℕ) → Option Stored
+  now_entry row epoch b = entry_of (chosen_state this.setting v) (counted this.setting v) (named_cell row b) epoch
+
+  -- the block's contents after the step, by what was frozen before it
+  now_is : (row : DiskRow) → In row (rows_in this.setting this.w) → (epoch b : ℕ)
+      → now_kept this row epoch b
+      ≡ bytes_of (entry_over (is_between row b) (entry_of (chosen_state this.setting v) (counted this.setting v) (named_cell row b) epoch)
+      (entry_before this.w (old_cell row b) epoch))
+  now_is row h epoch b =
+      content_is this.setting v this.next.firm row (rows_same row h) epoch b
+      ∙ ap (λ o. bytes_of (entry_over (is_between row b) (entry_of (chosen_state this.setting v) (counted this.setting v) (named_cell row b) epoch)
+      (option_and_then (λ chain. entry_at chain epoch) o))) (frozen_same this same (old_cell row b))
+
+  now_has_is : (row : DiskRow) → In row (rows_in this.setting this.w) → (epoch b : ℕ)
+      → now_has this row epoch b
+      ≡ has_over (is_between row b) (is_some (authority (chosen_state this.setting v) (named_cell row b)))
+      (entry_of (chosen_state this.setting v) (counted this.setting v) (named_cell row b) epoch) (is_some (this.w.frozen (old_cell row b)))
+  now_has_is row h epoch b =
+      has_content_is this.setting v this.next.firm row (rows_same row h) epoch b
+      ∙ ap (λ o. has_over (is_between row b) (is_some (authority (chosen_state this.setting v) (named_cell row b)))
+      (entry_of (chosen_state this.setting v) (counted this.setting v) (named_cell row b) epoch) (is_some o)) (frozen_same this same (old_cell row b))
+
+  was_is : (row : DiskRow) → In row (rows_in this.setting this.w) → (epoch b : ℕ)
+      → was_kept this row epoch b
+      ≡ bytes_of (entry_over (is_between row b) (entry_of chosen (counted this.setting this.w) (named_cell row b) epoch)
+      (entry_before this.w (old_cell row b) epoch))
+  was_is row h epoch b = content_is this.setting this.w this.along.firm row h epoch b
+
+  was_has_is : (row : DiskRow) → In row (rows_in this.setting this.w) → (epoch b : ℕ)
+      → was_has this row epoch b
+      ≡ has_over (is_between row b) (is_some (authority chosen (named_cell row b)))
+      (entry_of chosen (counted this.setting this.w) (named_cell row b) epoch) (is_some (this.w.frozen (old_cell row b)))
+  was_has_is row h epoch b = has_content_is this.setting this.w this.along.firm row h epoch b
+
+  counts_same : (cell : Cell) → is_some (authority chosen cell) ≡ is_some (authority (chosen_state this.setting v) cell)
+  counts_same cell = ap (λ s. is_some (authority s cell)) (sym chosen_is)
+
+  -- the block's content at an epoch, and whether it has one, are as before
+  pub record IsSame (row : DiskRow) (epoch b : ℕ) : Type 0 where
+    pub has : was_has this row epoch b ≡ now_has this row epoch b
+    pub bytes : was_kept this row epoch b ≡ now_kept this row epoch b
+
+  stays_by : (row : DiskRow) (epoch b : ℕ) → IsSame row epoch b → StaysAt this row epoch b
+  stays_by row epoch b k there = (k.has ∙ there, k.bytes)
+
+  -- where the entry of the cell that requests name is as before, all of it is
+  same_by : (row : DiskRow) → In row (rows_in this.setting this.w) → (epoch b : ℕ)
+      → entry_of chosen (counted this.setting this.w) (named_cell row b) epoch
+      ≡ entry_of (chosen_state this.setting v) (counted this.setting v) (named_cell row b) epoch → IsSame row epoch b
+  same_by row h epoch b e = record {
+    has = was_has_is row h epoch b
+        ∙ (λ i. has_over (is_between row b) (counts_same (named_cell row b) i) (e i) (is_some (this.w.frozen (old_cell row b))))
+        ∙ sym (now_has_is row h epoch b);
+    bytes = was_is row h epoch b
+        ∙ ap (λ o. bytes_of (entry_over (is_between row b) o (entry_before this.w (old_cell row b) epoch))) e
+        ∙ sym (now_is row h epoch b);
+  }
+
+  -- what counts is another's copy, or this server's, which has the same chain
+  pub unchanged : (row : DiskRow) → In row (rows_in this.setting this.w) → (b : ℕ)
+      → (authority chosen (named_cell row b) ≡ Some this.n
+      → chain_in (kept this.setting v this.n).chains (named_cell row b) ≡ chain_in (kept this.setting this.w this.n).chains (named_cell row b))
+      → (epoch : ℕ) → IsSame row epoch b
+  unchanged row there b h epoch = same_by row there epoch b
+      (same_entry this same (named_cell row b) epoch (authority chosen (named_cell row b)) h
+      ∙ ap (λ s. entry_of s (counted this.setting v) (named_cell row b) epoch) (sym chosen_is))
+
+  -- by the server's own store, where that counts
+  pub own_unchanged : IsOwn this.setting this.w this.n → (row : DiskRow) → In row (rows_in this.setting this.w) → (b : ℕ)
+      → (authority chosen (named_cell row b) ≡ Some this.n
+      → chain_in (new this).store.chains (named_cell row b) ≡ chain_in own.store.chains (named_cell row b))
+      → (epoch : ℕ) → IsSame row epoch b
+  own_unchanged counts row there b h = unchanged row there b (λ mine.
+      ap (λ (s : Store). chain_in s.chains (named_cell row b)) (own_after this counts (joined_same this.n))
+      ∙ h mine ∙ ap (λ (s : Store). chain_in s.chains (named_cell row b)) (sym (counts own.store)))
+
+  -- nothing counts elsewhere than before
+  pub counts : (k : Plain) → CountsOk this k
+  counts k i cell op on is clients put now still = inl (ap (λ s. authority s cell) (sym chosen_is) ∙ now)
+
+  -- no content changes
+  pub calm_given : ((row : DiskRow) → In row (rows_in this.setting this.w) → (b epoch : ℕ) → IsSame row epoch b) → AreGiven this
+  calm_given h row there b = inl (λ epoch. stays_by row epoch b (h row there b epoch))
+
+  -- a step that changes no chain
+  pub calm_told : (new this).store.chains ≡ own.store.chains → ((k : Plain) → Onward this.m k → OwnFollow this k (new this))
+      → ((k : Plain) → Onward this.m k → SaysOk this k) → TakesTold this
+  calm_told chains job says =
+      let taken = all_given this (calm_given (λ row there b. unchanged row there b (λ mine.
+      ap (λ c. chain_in c (named_cell row b)) (kept_here this chains (joined_same this.n))))) in
+      let k = replay this.m taken.es in
+      takes_of this taken (job k taken.onward) (counts k) (says k taken.onward)
+
+  -- ### A put of the copy that counts
+
+  module _ (key : Key) (entry : Stored) (epoch : epoch_at chosen (cell_of key) ≡ key.epoch)
+      (chains : (new this).store.chains ≡ chains_with own.store.chains key entry)
+      (own_counts : IsOwn this.setting this.w this.n) (mine : authority chosen (cell_of key) ≡ Some this.n) (op : Pending)
+      (bytes : entry.bytes ≡ op.bytes) (place : Placed this op (cell_of key)) where
+    abbrev chain : Chain
+    chain = put nat_cmp (chain_in own.store.chains (cell_of key)) key.epoch entry
+
+    chosen_disks : AreDisks chosen
+    chosen_disks = disks_now this.setting this.w this.along.firm
+
+    -- the key's epoch is the disk's
+    at_epoch : place.row.epoch ≡ key.epoch
+    at_epoch =
+        sym (named_epoch this.setting.servers chosen (plain_now this.setting this.w this.along.firm) chosen_disks place.row place.there place.block)
+        ∙ ap (epoch_at chosen) (sym place.at_block) ∙ epoch
+
+    -- the entry of the cell, by the server's own chain
+    now_here : (e : ℕ) → entry_of (chosen_state this.setting v) (counted this.setting v) (named_cell place.row place.block) e ≡ entry_at chain e
+    now_here e =
+        ap (λ (c : Cell). entry_by (counted this.setting v) c e (authority (chosen_state this.setting v) c)) (sym place.at_block)
+        ∙ ap (entry_by (counted this.setting v) (cell_of key) e) (ap (λ s. authority s (cell_of key)) chosen_is ∙ mine)
+        ∙ ap (λ (s : Store). entry_at (chain_in s.chains (cell_of key)) e) (own_after this own_counts (joined_same this.n))
+        ∙ ap (λ c. entry_at (chain_in c (cell_of key)) e) chains
+        ∙ ap (λ c. entry_at c e) (chain_put own.store.chains (cell_of key) chain)
+
+    was_here : (e : ℕ) → entry_of chosen (counted this.setting this.w) (named_cell place.row place.block) e
+        ≡ entry_at (chain_in own.store.chains (cell_of key)) e
+    was_here e =
+        ap (λ (c : Cell). entry_by (counted this.setting this.w) c e (authority chosen c)) (sym place.at_block)
+        ∙ ap (entry_by (counted this.setting this.w) (cell_of key) e) mine
+        ∙ ap (λ (s : Store). entry_at (chain_in s.chains (cell_of key)) e) (own_counts own.store)
+
+    rising : IsRising nat_cmp (chain_in own.store.chains (cell_of key))
+    rising = subst (λ (s : Store). IsRising nat_cmp (chain_in s.chains (cell_of key))) (own_counts own.store)
+        (this.ground.good.rising this.n (cell_of key))
+
+    entry_here : entry_of (chosen_state this.setting v) (counted this.setting v) (named_cell place.row place.block) place.row.epoch ≡ Some entry
+    entry_here =
+        ap (entry_of (chosen_state this.setting v) (counted this.setting v) (named_cell place.row place.block)) at_epoch ∙ now_here key.epoch
+        ∙ entry_put (chain_in own.store.chains (cell_of key)) key.epoch entry rising
+
+    put_here : now_kept this place.row place.row.epoch place.block ≡ op.bytes
+    put_here =
+        now_is place.row place.there place.row.epoch place.block
+        ∙ ap (λ o. bytes_of (entry_over (is_between place.row place.block) o (entry_before this.w (old_cell place.row place.block) place.row.epoch))) entry_here
+        ∙ over_first (is_between place.row place.block)
+        ∙ bytes
+      where
+        over_first : (between : Bool)
+            → bytes_of (entry_over between (Some entry) (entry_before this.w (old_cell place.row place.block) place.row.epoch)) ≡ entry.bytes
+        over_first true = refl
+        over_first false = refl
+
+    put_below : (e : ℕ) → e < place.row.epoch → StaysAt this place.row e place.block
+    put_below e lt = stays_by place.row e place.block (same_by place.row place.there e place.block
+        (was_here e
+        ∙ sym (entry_below (chain_in own.store.chains (cell_of key)) key.epoch entry e (subst (λ k. e < k) at_epoch lt))
+        ∙ sym (now_here e)))
+
+    beside : (row : DiskRow) → In row (rows_in this.setting this.w) → (b : ℕ) → named_cell row b ≢ cell_of key → (e : ℕ) → IsSame row e b
+    beside row there b ne = own_unchanged own_counts row there b (λ mine. ap (λ c. chain_in c (named_cell row b)) chains
+        ∙ chain_apart own.store.chains (cell_of key) chain (named_cell row b) ne)
+
+    given_here : IsGiven this place.row place.block
+    given_here =
+        let stored : at cell_cmp (kept this.setting v this.n).chains (named_cell place.row place.block) ≡ Some chain =
+        ap (λ (s : Store). at cell_cmp s.chains (named_cell place.row place.block)) (own_after this own_counts (joined_same this.n))
+        ∙ ap (λ c. at cell_cmp c (named_cell place.row place.block)) chains
+        ∙ ap (at cell_cmp (chains_with own.store.chains key entry)) (sym place.at_block) ∙ cell_same own.store.chains (cell_of key) chain in
+        record {
+          write = place.write;
+          within = subst (λ c. c < 9) (sym place.own) place.within;
+          under_way = ap (open_write this.w) place.own ∙ place.under_way;
+          disk_is = place.disk_is;
+          block_is = place.block_is;
+          bytes_is = place.bytes_is ∙ sym put_here;
+          below = put_below;
+          looked = block_there (change_by this.setting this.w v) this.n (named_cell place.row place.block).map place.block chain this.within stored;
+        }
+
+    pub given_put : AreGiven this
+    given_put row h b = elim (same_cell_or_apart (named_cell row b) (cell_of key)) [
+      | inr ne ↦ inl (λ e. stays_by row e b (beside row h b ne e))
+      | inl is ↦
+          let at = is ∙ place.at_block in
+          let row_is : row ≡ place.row = one_row_of chosen chosen_disks row place.row h place.there
+          (named_map_is this.setting.servers chosen (plain_now this.setting this.w this.along.firm) chosen_disks row h b)
+          (named_map_is this.setting.servers chosen (plain_now this.setting this.w this.along.firm) chosen_disks place.row place.there place.block)
+          (ap (λ (c : Cell). c.map) at) in
+          let block_is : b ≡ place.block = ap (λ (c : Cell). c.block) at in
+          inr (subst (λ (r : DiskRow). IsGiven this r b) (sym row_is) (subst (IsGiven this place.row) (sym block_is) given_here))
+    ]
+
+    -- the block has a content, since the server's copy counts
+    has_put : now_has this place.row place.row.epoch place.block ≡ true
+    has_put =
+        now_has_is place.row place.there place.row.epoch place.block
+        ∙ (λ i. has_over (is_between place.row place.block) (here i) (entry_here i) (is_some (this.w.frozen (old_cell place.row place.block))))
+        ∙ over_has (is_between place.row place.block)
+      where
+        here : is_some (authority (chosen_state this.setting v) (named_cell place.row place.block)) ≡ true
+        here = ap (λ (c : Cell). is_some (authority (chosen_state this.setting v) c)) (sym place.at_block)
+            ∙ ap is_some (ap (λ s. authority s (cell_of key)) chosen_is ∙ mine)
+
+        over_has : (between : Bool) → has_over between true (Some entry) (is_some (this.w.frozen (old_cell place.row place.block))) ≡ true
+        over_has true = refl
+        over_has false = refl
+
+    pub put_held : (taken : Taken this) → is_held (replay this.m taken.es) op.client ≡ true
+    put_held taken =
+        given_held this (replay this.m taken.es) taken.onward taken.stores place.row place.there place.block op.client place.write has_put
+        place.under_way place.disk_is place.block_is (place.bytes_is ∙ sym put_here)
+
+  -- ### A fill
+
+  -- the cell that requests name of a disk's block is not dead
+  pub named_alive : (row : DiskRow) → In row (rows_in this.setting this.w) → (b : ℕ) → AliveIn chosen (named_cell row b)
+  named_alive row there b =
+      let high = named_high this.setting.servers chosen (plain_now this.setting this.w this.along.firm)
+      (disks_now this.setting this.w this.along.firm) row there b in
+      omega (arith, high)
+
+  pub dead_apart : {B : Type 0} (row : DiskRow) → In row (rows_in this.setting this.w) → (b : ℕ) → stage_at chosen (named_cell row b) ≡ 4 → B
+  dead_apart row there b dead =
+      let high = named_high this.setting.servers chosen (plain_now this.setting this.w this.along.firm)
+      (disks_now this.setting this.w this.along.firm) row there b in
+      absurd (omega arith)
+
+  -- a fill of the copy that counts changes no content
+  module _ (key : Key) (entry : Stored) (filled : List ℕ) (bytes : entry.bytes ≡ filled)
+      (chains : (new this).store.chains ≡ chains_with own.store.chains key entry)
+      (own_counts : IsOwn this.setting this.w this.n) (mine : authority chosen (cell_of key) ≡ Some this.n)
+      (one : stage_at chosen (cell_of key) ≡ 1) (rev : ℕ) (frozen : IsFrozen this.setting this.w rev key filled)
+      (lacks : at nat_cmp (chain_in own.store.chains (cell_of key)) key.epoch ≡ None) where
+    abbrev cell : Cell
+    cell = cell_of key
+
+    abbrev was_chain : Chain
+    was_chain = chain_in own.store.chains cell
+
+    plain_chosen : IsPlainState this.setting.servers chosen
+    plain_chosen = plain_now this.setting this.w this.along.firm
+
+    disks : AreDisks chosen
+    disks = disks_now this.setting this.w this.along.firm
+
+    disk : HasDisk this.setting.servers chosen plain_chosen disks cell
+    disk = disk_here this.setting.servers chosen plain_chosen disks cell (omega (arith, one)) (omega (arith, one))
+
+    between : is_between disk.row cell.block ≡ true
+    between = cell_comes this.setting.servers chosen plain_chosen disks disk.row disk.there cell disk.has one
+
+    named : cell ≡ named_cell disk.row cell.block
+    named = cell_named this.setting.servers chosen plain_chosen disks disk.row disk.there cell disk.has (omega (arith, one)) (omega (arith, one))
+
+    -- what was frozen is of the cell of the old map
+    old_is : frozen.old ≡ old_cell disk.row cell.block
+    old_is = source_stays this.setting.servers frozen.front (chosen_log this.setting this.w) this.along.firm.plain frozen.lies cell frozen.old
+        frozen.from disk.row disk.there disk.has one
+
+    frozen_here : this.w.frozen (old_cell disk.row cell.block) ≡ Some frozen.before
+    frozen_here = ap this.w.frozen (sym old_is) ∙ frozen.frozen
+
+    is_fill : IsFill was_chain frozen.before key.epoch filled
+    is_fill = fill_there this.setting this.state this.w this.along.firm this.ground key filled one rev frozen disk.row disk.there disk.has this.n mine
+        was_chain (ap (λ (s : Store). chain_in s.chains cell) (own_counts own.store)) lacks
+
+    now_fill : (e : ℕ) → entry_of (chosen_state this.setting v) (counted this.setting v) cell e ≡ entry_at (put nat_cmp was_chain key.epoch entry) e
+    now_fill e =
+        ap (entry_by (counted this.setting v) cell e) (ap (λ s. authority s cell) chosen_is ∙ mine)
+        ∙ ap (λ (s : Store). entry_at (chain_in s.chains cell) e) (own_after this own_counts (joined_same this.n))
+        ∙ ap (λ c. entry_at (chain_in c cell) e) chains
+        ∙ ap (λ c. entry_at c e) (chain_put own.store.chains cell (put nat_cmp was_chain key.epoch entry))
+
+    was_fill : (e : ℕ) → entry_of chosen (counted this.setting this.w) cell e ≡ entry_at was_chain e
+    was_fill e =
+        ap (entry_by (counted this.setting this.w) cell e) mine
+        ∙ ap (λ (s : Store). entry_at (chain_in s.chains cell) e) (own_counts own.store)
+
+    before_fill : (e : ℕ) → entry_before this.w (old_cell disk.row cell.block) e ≡ entry_at frozen.before e
+    before_fill e = ap (option_and_then (λ chain. entry_at chain e)) frozen_here
+
+    fill_here : (e : ℕ) → IsSame disk.row e cell.block
+    fill_here e = record {
+      has = was_has_is disk.row disk.there e cell.block
+          ∙ (λ i. has_over (between i) (counts_same (named_cell disk.row cell.block) i)
+          (entry_of chosen (counted this.setting this.w) (named_cell disk.row cell.block) e) (is_some (frozen_here i)))
+          ∙ over_frozen (is_some (authority (chosen_state this.setting v) (named_cell disk.row cell.block)))
+          (entry_of chosen (counted this.setting this.w) (named_cell disk.row cell.block) e)
+          (entry_of (chosen_state this.setting v) (counted this.setting v) (named_cell disk.row cell.block) e)
+          ∙ sym (λ i. has_over (between i) (is_some (authority (chosen_state this.setting v) (named_cell disk.row cell.block)))
+          (entry_of (chosen_state this.setting v) (counted this.setting v) (named_cell disk.row cell.block) e) (is_some (frozen_here i)))
+          ∙ sym (now_has_is disk.row disk.there e cell.block);
+      bytes = was_is disk.row disk.there e cell.block
+          ∙ (λ i. bytes_of (entry_over (between i) (entry_of chosen (counted this.setting this.w) (sym named i) e) (before_fill e i)))
+          ∙ ap (λ o. bytes_of (first_entry o (entry_at frozen.before e))) (was_fill e)
+          ∙ fill_same was_chain frozen.before key.epoch entry filled bytes is_fill e
+          ∙ ap (λ o. bytes_of (first_entry o (entry_at frozen.before e))) (sym (now_fill e))
+          ∙ sym (λ i. bytes_of (entry_over (between i) (entry_of (chosen_state this.setting v) (counted this.setting v) (sym named i) e) (before_fill e i)))
+          ∙ sym (now_is disk.row disk.there e cell.block);
+    }
+      where
+        over_frozen : (c : Bool) (one other : Option Stored) → (c && (is_some one || true)) ≡ (c && (is_some other || true))
+        over_frozen true None None = refl
+        over_frozen true None (Some y) = refl
+        over_frozen true (Some x) None = refl
+        over_frozen true (Some x) (Some y) = refl
+        over_frozen false one other = refl
+
+    pub fill_given : AreGiven this
+    fill_given row h b = inl (λ e. stays_by row e b (elim (same_cell_or_apart (named_cell row b) cell) [
+      | inr ne ↦ own_unchanged own_counts row h b (λ counted. ap (λ c. chain_in c (named_cell row b)) chains
+          ∙ chain_apart own.store.chains cell _ (named_cell row b) ne) e
+      | inl is ↦
+          let at = is ∙ named in
+          let row_is : row ≡ disk.row = one_row_of chosen disks row disk.row h disk.there
+          (named_map_is this.setting.servers chosen plain_chosen disks row h b) disk.has (ap (λ (c : Cell). c.map) is) in
+          let block_is : b ≡ cell.block = ap (λ (c : Cell). c.block) is in
+          subst (λ (r : DiskRow). IsSame r e b) (sym row_is) (subst (IsSame disk.row e) (sym block_is) (fill_here e))
+    ]))
