@@ -251,7 +251,8 @@ module _ (script : Script) (sound : IsSound script) (front : List Record) (own :
     pub followed_next : HaveFollowed setting v
     followed_next m f cell row letter number key version bytes runs on lies seat linked both second low three i is of rev =
         elim (at_most_or_above (stage_at (By top) cell) 2) [
-          | inr high ↦ past_so script sound front own legal all m f cell row letter number key version bytes runs on lies seat linked both second low is of rev high i
+          | inr high ↦ past_so script sound front own legal all m f cell row letter
+              number key version bytes runs on lies seat linked both second low is of rev high i
           | inl early ↦ (
               let jumped = not_jumped script sound front own legal all cell early in
               past_now m f cell row runs on lies seat linked both second low (omega arith) letter i number key version bytes is of rev)

@@ -1,4 +1,5 @@
--- Where a region was leaving before a step, each letter that asks a second server to put is of an operation that it has followed still: none is sent from then on.
+-- Where a region was leaving before a step, each letter that asks a second server to put is of an operation that it has followed still: none is sent
+-- from then on.
 use Rattle.std.proofs.Common.{◌≡◌, ◌≤◌, ◌+◌, ◌++◌, ◌||◌, ℕ, true, false, List, [], ◌∷◌, length, Some, None}
 use Rattle.std.proofs.Common.{refl, sym, ap, ◌∙◌, subst, inl, inr, arith}
 use Rattle.std.specs.Prelude.{cond, not}
