@@ -9,5 +9,6 @@ pub mod Second
 pub mod Within
 pub mod Puts
 pub mod Sends
+pub mod KnownEntries
 pub mod Early
 pub mod Histories

@@ -29,7 +29,7 @@ use Rattle.law_moves.proofs.Knows.{Known}
 use Rattle.law_moves.proofs.Moved.{had_now}
 use Rattle.law_moves.proofs.Over.{come_over, dead_moved, facts, until_lies}
 use Rattle.law_moves.proofs.Rule.{rule_kept}
-use Rattle.law_moves.proofs.Still.{frozen_on}
+use Rattle.law_moves.proofs.EqualCopies.{frozen_on}
 use Rattle.law_moves.proofs.There.{told_already}
 use Rattle.law_moves.proofs.Worlds.{rests}
 

@@ -36,8 +36,10 @@ use Rattle.law_moves.proofs.Newer.{newest_next}
 use Rattle.law_moves.proofs.Newest.{stored_newest}
 use Rattle.law_moves.proofs.Newness.{AllNewest, start_newest}
 use Rattle.law_moves.proofs.Pending.{lacks_next, numbered_next, opened_next, puts_next, unsaid_next}
-use Rattle.law_moves.proofs.Still.{moved_now, still_next}
-use Rattle.law_moves.proofs.Telling.{asked_next, begun_next, sent_next, told_next}
+use Rattle.law_moves.proofs.EqualCopies.{moved_now}
+use Rattle.law_moves.proofs.Still.{still_next}
+use Rattle.law_moves.proofs.Remembered.{begun_next, told_next}
+use Rattle.law_moves.proofs.Telling.{asked_next, sent_next}
 use Rattle.law_moves.proofs.Then.{frozen_early}
 use Rattle.law_moves.proofs.There.{born_next, filled_next}
 use Rattle.law_moves.proofs.Visits.{unsaid_at}

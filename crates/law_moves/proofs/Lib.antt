@@ -10,6 +10,7 @@ pub mod Moved
 pub mod Rule
 pub mod Movers
 pub mod Told
+pub mod Remembered
 pub mod Telling
 pub mod Then
 pub mod Newest
@@ -23,10 +24,14 @@ pub mod Kept
 pub mod Leads
 pub mod There
 pub mod Opened
+pub mod EqualCopies
 pub mod Still
 pub mod Putting
 pub mod Pending
+pub mod StillFollowed
+pub mod SecondPlaces
 pub mod Followed
+pub mod Unsaid
 pub mod Visits
 pub mod Histories
 pub mod Afterwards

@@ -48,7 +48,7 @@ use Rattle.law_moves.proofs.Saying.{Asks_copy, Is_done, Is_done_alone, Is_neithe
 use Rattle.law_moves.proofs.Serving.{lead_serves, link_lead_serves}
 use Rattle.law_moves.proofs.Steps.{Awakes, Before, Enters, HasGone, IsJob, IsPosted, Is_blanked, Other, Posted, Raises, Rests}
 use Rattle.law_moves.proofs.Steps.{Starts_ballot, Works, chosen_on, gone, knows, part, sent}
-use Rattle.law_moves.proofs.Still.{moved_now}
+use Rattle.law_moves.proofs.EqualCopies.{moved_now}
 use Rattle.law_moves.proofs.There.{filled_key, kept_own, no_other, told_already}
 use Rattle.law_moves.proofs.Worlds.{facts_at, firm, good, own_counts, rests, steady_at, up}
 

@@ -1,36 +1,32 @@
--- Each step keeps what old leads remember, what letters of entries that move say, and what operations for them were opened for.
-use Rattle.std.proofs.Common.{◌≡◌, ◌<◌, ◌++◌, ◌&&◌, ℕ, List, [], ◌∷◌, Bool, true, false, cond, length, Option, Some, None, refl, sym, ap, ◌∙◌, subst, arith}
-use Rattle.std.specs.Prelude.{◌||◌, filter, is_some, nat_lt}
-use Rattle.std.specs.Ordering.{eq_by_cmp, is_eq, nat_cmp}
+-- Each step keeps what letters of entries that move say, and what operations for them were opened for.
+use Rattle.std.proofs.Common.{◌≡◌, ◌<◌, ◌++◌, ◌&&◌, ℕ, List, [], ◌∷◌, true, false, length, Some, refl, sym, ap, ◌∙◌, subst, arith}
+use Rattle.std.specs.Prelude.{◌||◌, nat_lt}
+use Rattle.std.specs.Ordering.{nat_cmp}
 use Rattle.std.proofs.lemmas.Bool.Decides.{nat_tests}
-use Rattle.global_tables.specs.declared.link.LinkRow.{LinkRow}
 use Rattle.petal_base.specs.Cells.{cell_of, key_at}
 use Rattle.petal_base.specs.declared.cell.Cell.{Cell}
 use Rattle.petal_base.specs.declared.cell.Key.{Key}
 use Rattle.petal_command.specs.declared.command.Command.{Command}
-use Rattle.petal_command.specs.declared.command.Command.TheVariants.{Caught}
 use Rattle.petal_msg.specs.Kinds.{subject_of}
 use Rattle.petal_msg.specs.declared.body.Body.{Body}
 use Rattle.petal_msg.specs.declared.body.Body.TheVariants as body
 use Rattle.petal_msg.specs.declared.copying.LinkId.{LinkId}
 use Rattle.petal_msg.specs.declared.letter.Letter.{Letter}
 use Rattle.petal_msg.specs.declared.operation.Pending.{Pending}
-use Rattle.petal_table.specs.Table.{Table, at, put}
-use Rattle.petal_table.proofs.Rows.{at-empty, at-where}
+use Rattle.petal_table.specs.Table.{Table, at}
+use Rattle.petal_table.proofs.Rows.{at-empty}
 use Rattle.script_lines.specs.declared.script.Script.{Script}
 use Rattle.petal_state.specs.CellState.{source}
-use Rattle.petal_state.specs.Command.{after}
-use Rattle.petal_rules.specs.Crossing.{crossed, settled_by}
+use Rattle.petal_rules.specs.Crossing.{crossed}
 use Rattle.petal_rules.specs.Fills.{comes_before}
 use Rattle.petal_rules.specs.Lists.{In}
-use Rattle.petal_rules.specs.Returns.{holds_link, proposed}
 use Rattle.petal_rules.specs.Server.{Own, Pairs, Post, Server}
-use Rattle.petal_rules.specs.State.{State, id_of, link_cmp, link_named}
+use Rattle.petal_rules.specs.State.{State, id_of, link_named}
 use Rattle.petal_rules.specs.Store.{Chain, Store, cell_cmp, chain_in}
 use Rattle.petal_rules.specs.Writes.{is_clients}
 use Rattle.petal_rules.specs.World.{Setting, World, chosen_log, server_state, setting_of}
-use Rattle.petal_rules.proofs.Settled.{by_settled, settling}
-use Rattle.petal_rules.proofs.Tests.{by_bool, none_some, number_itself, same_some, true_false}
+use Rattle.petal_rules.proofs.Settled.{settling}
+use Rattle.petal_rules.proofs.Tests.{none_some, number_itself, same_some, true_false}
 use Rattle.law_state.proofs.Links.{or_true}
 use Rattle.petal_history.specs.Claims.{IsPrefix}
 use Rattle.petal_history.specs.Legal.{IsLegal}
@@ -39,45 +35,24 @@ use Rattle.petal_history.specs.declared.record.Record.{Record}
 use Rattle.law_state.specs.Plain.{IsPlainLog}
 use Rattle.law_state.proofs.Entries.{log_plain}
 use Rattle.law_state.proofs.Steady.{front_plain, log_rev}
-use Rattle.law_log.proofs.Filling.{filled_beside, filled_here}
-use Rattle.law_log.proofs.Flags.{same_id}
 use Rattle.law_steps.specs.DidLead.{IsNextFill}
 use Rattle.law_steps.specs.Happens.{Handled, own_place}
 use Rattle.law_steps.proofs.Coming.{next_on, stage_facts}
 use Rattle.law_steps.proofs.Filling.{Fills, Is_next, Is_other, Stood, Writes, did_come, did_fills, is_fill}
-use Rattle.law_steps.proofs.Fronts.{front_more, front_on}
+use Rattle.law_steps.proofs.Fronts.{front_on}
 use Rattle.law_steps.proofs.Histories.{proposed_pairs}
-use Rattle.law_steps.proofs.Remembering.{As_before, Told_of, did_remember}
 use Rattle.law_stores.proofs.Ways.{At}
 use Rattle.law_epochs.proofs.Within.{is_of_entries}
-use Rattle.law_moves.specs.Fills.{AllFilled, Has, IsFrozen, IsOnWay, IsToldOf, WasFilled}
+use Rattle.law_moves.specs.Fills.{Has, IsFrozen, WasFilled}
 use Rattle.law_moves.specs.Left.{IsKept, IsOurs}
 use Rattle.law_moves.proofs.Frozen.{frozen_stays}
-use Rattle.law_moves.proofs.Knows.{HasBegun, HaveBegun, Known}
+use Rattle.law_moves.proofs.Knows.{Known}
 use Rattle.law_moves.proofs.Movers.{had, three, way}
 use Rattle.law_moves.proofs.NextFill.{next_is}
 use Rattle.law_moves.proofs.Steps.{Awakes, Before, Enters, HasGone, IsJob, IsPosted, Is_blanked, Other, Posted, Raises, Rests}
 use Rattle.law_moves.proofs.Steps.{Starts_ballot, Works, chosen_on, gone, knows, part, sent}
-use Rattle.law_moves.proofs.Told.{HasTold, begun_here, lift, same_frozen, told_before, told_now}
-
--- ### What is remembered
-
-holds_filled : (own : Own) (o : Option LinkRow) → (holds_link own o).filled ≡ own.filled
-holds_filled own None = refl
-holds_filled own (Some row) = refl
-
-proposed_filled : (state : State) (own : Own) (o : Option Command) → (proposed state own o).filled ≡ own.filled
-proposed_filled state own (Some (Caught of link holder inc other other_inc)) = holds_filled own (link_named state (record { map = of; link = link }))
-proposed_filled state own (Some _) = refl
-proposed_filled state own None = refl
-
--- what stands among the links that are left stood there
-was_at : (t : Table LinkId Key) (test : LinkId → Bool) (id : LinkId) (key : Key) → at link_cmp (filter (λ row. test row.0) t) id ≡ Some key
-    → at link_cmp t id ≡ Some key
-was_at t test id key is =
-    let e = at-where link_cmp t test id (λ other tie. ap test (sym (same_id id other (ap is_eq tie)))) in
-    by_bool (test id) (λ on. sym (e ∙ ap (λ b. cond b (at link_cmp t id) None) on) ∙ is)
-    (λ off. none_some (e ∙ ap (λ b. cond b (at link_cmp t id) None) off) is)
+use Rattle.law_moves.proofs.Told.{HasTold, lift, same_frozen}
+use Rattle.law_moves.proofs.Remembered.{done_told}
 
 is_lower : (a b : ℕ) → a < b → nat_lt a b ≡ true
 is_lower a b lt = grind (arith, nat_tests)
@@ -109,89 +84,6 @@ module _ (script : Script) (sound : IsSound script) (front : List Record) (own_r
 
   abbrev T : ℕ → Table LinkId Key → Type 0
   T y filled = HasTold script sound front own_record legal known y filled
-
-  entered_filled : (n : ℕ) (entry : Command) (own : Own) → own ≡ settled_by (own_place setting w n) entry (crossed (server_state setting w n) entry (Was n).own)
-      → own.filled ≡ (crossed (server_state setting w n) entry (Was n).own).filled
-  entered_filled n entry own is =
-      ap (λ (o : Own). o.filled) is
-      ∙ by_settled (λ (o : Own). o.filled ≡ (crossed (server_state setting w n) entry (Was n).own).filled) (own_place setting w n) entry
-      (crossed (server_state setting w n) entry (Was n).own) (λ store. refl)
-
-  -- after a job
-  pub done_told : (y : ℕ) (to : Server) (job : IsJob script sound front own_record legal y to) → T y job.done.own.filled
-  done_told y to job = elim (did_remember (Handled w y) (own_place setting w y) (Was y).own job.done job.did) [
-    | As_before same ↦ subst (T y) (sym same) (told_before script sound front own_record legal known y job.runs)
-    | Told_of key row heard next is ↦ subst (T y) (sym is) (told_now script sound front own_record legal known y job.runs key row heard next)
-  ]
-
-  told_by : (y : ℕ) (to : Server) → Gone y to → to.life.running ≡ true → T y to.own.filled
-  told_by y to (Rests same) runs =
-      subst (T y) (ap (λ (s : Server). s.own.filled) (sym same))
-      (told_before script sound front own_record legal known y (ap (λ (s : Server). s.life.running) (sym same) ∙ runs))
-  told_by y to (Works job) runs = subst (T y) (ap (λ (o : Own). o.filled) (sym job.own_is)) (done_told y to job)
-  told_by y to (Starts_ballot b) runs =
-      subst (T y) (sym (ap (λ (o : Own). o.filled) b.own_is ∙ proposed_filled (server_state setting w y) (Was y).own b.started))
-      (told_before script sound front own_record legal known y b.runs)
-  told_by y to (Enters e) runs =
-      subst (T y) (sym (entered_filled y e.entry to.own e.own_is))
-      (λ f old new row last lies way is. told_before script sound front own_record legal known y e.runs f old new row last lies way
-      (was_at (Was y).own.filled (λ id. is_some (link_named (after (server_state setting w y) e.entry) id)) (id_of row) last is))
-  told_by y to (Awakes asleep same) runs =
-      subst (T y) (ap (λ (s : Server). s.own.filled) (sym same)) (λ f old new row last lies way is. none_some (at-empty link_cmp (id_of row)) is)
-  told_by y to (Raises asleep same) runs = true_false (ap (λ (s : Server). s.life.running) (sym same) ∙ runs) asleep
-  told_by y to (Is_blanked asleep same) runs = true_false (ap (λ (s : Server). s.life.running) (sym same) ∙ runs) asleep
-
-  pub told_next : (y : ℕ) (f : List Command) (old new : Cell) (row : LinkRow) (last : Key) → (v.servers y).life.running ≡ true
-      → IsPrefix f (chosen_log setting v) → IsOnWay script.servers f old new row → at link_cmp (v.servers y).own.filled (id_of row) ≡ Some last
-      → AllFilled v old new (IsToldOf last old)
-  told_next y f old new row last runs = told_by y (v.servers y) (gone script sound front own_record legal y) runs f old new row last
-
-  -- ### And since when
-
-  abbrev HaveSince : List Command → Table LinkId Key → Type 0
-  HaveSince log filled = (id : LinkId) (last : Key) → at link_cmp filled id ≡ Some last → HasBegun setting log id last
-
-  since_more : (log more : List Command) (filled : Table LinkId Key) → IsPrefix log more → HaveSince log filled → HaveSince more filled
-  since_more log more filled on all id last is =
-      let b = all id last is in record { map = b.map; front = b.front; lies = front_on b.front log more b.lies on; leaves = b.leaves }
-
-  done_since : (y : ℕ) (to : Server) (job : IsJob script sound front own_record legal y to) → HaveSince (Was y).log.applied job.done.own.filled
-  done_since y to job = elim (did_remember (Handled w y) (own_place setting w y) (Was y).own job.done job.did) [
-    | As_before same ↦ subst (HaveSince (Was y).log.applied) (sym same) (known.begun y)
-    | Told_of key row heard next is ↦ subst (HaveSince (Was y).log.applied) (sym is) (λ id last there. by_bool (eq_by_cmp link_cmp id (id_of row))
-        (λ t.
-        let told : Key = record { map = row.map; block = key.block; epoch = key.epoch } in
-        let one = same_id id (id_of row) t in
-        let same : told ≡ last =
-        same_some (sym (ap (at link_cmp (put link_cmp (Was y).own.filled (id_of row) told)) one ∙ filled_here (Was y).own row told) ∙ there) in
-        subst (HasBegun setting (Was y).log.applied id) same
-        (subst (λ (i : LinkId). HasBegun setting (Was y).log.applied i told) (sym one)
-        (begun_here script sound front own_record legal known y job.runs key row heard next)))
-        (λ apart. known.begun y id last
-        (sym (filled_beside (Was y).own row (record { map = row.map; block = key.block; epoch = key.epoch }) id apart) ∙ there)))
-  ]
-
-  begun_by : (y : ℕ) (to : Server) → Gone y to → HaveSince to.log.applied to.own.filled
-  begun_by y to (Rests same) = subst (λ (s : Server). HaveSince s.log.applied s.own.filled) (sym same) (known.begun y)
-  begun_by y to (Works job) =
-      subst (λ log. HaveSince log to.own.filled) (sym job.log_is)
-      (subst (HaveSince (Was y).log.applied) (ap (λ (o : Own). o.filled) (sym job.own_is)) (done_since y to job))
-  begun_by y to (Starts_ballot b) =
-      subst (λ log. HaveSince log to.own.filled) (sym b.log_is)
-      (subst (HaveSince (Was y).log.applied)
-      (sym (ap (λ (o : Own). o.filled) b.own_is ∙ proposed_filled (server_state setting w y) (Was y).own b.started)) (known.begun y))
-  begun_by y to (Enters e) =
-      subst (λ log. HaveSince log to.own.filled) (sym e.log_is)
-      (subst (HaveSince ((Was y).log.applied ++ e.entry ∷ [])) (sym (entered_filled y e.entry to.own e.own_is)) (λ id last is.
-      since_more (Was y).log.applied ((Was y).log.applied ++ e.entry ∷ []) (Was y).own.filled (front_more (Was y).log.applied e.entry) (known.begun y) id last
-      (was_at (Was y).own.filled (λ i. is_some (link_named (after (server_state setting w y) e.entry) i)) id last is)))
-  begun_by y to (Awakes asleep same) =
-      subst (λ (s : Server). HaveSince s.log.applied s.own.filled) (sym same) (λ id last is. none_some (at-empty link_cmp id) is)
-  begun_by y to (Raises asleep same) = subst (λ (s : Server). HaveSince s.log.applied s.own.filled) (sym same) (known.begun y)
-  begun_by y to (Is_blanked asleep same) = subst (λ (s : Server). HaveSince s.log.applied s.own.filled) (sym same) (known.begun y)
-
-  pub begun_next : HaveBegun setting v
-  begun_next y = begun_by y (v.servers y) (gone script sound front own_record legal y)
 
   -- ### Letters
 
@@ -294,7 +186,7 @@ module _ (script : Script) (sound : IsSound script) (front : List Record) (own_r
             subst (λ r. IsFrozen setting v r key bytes) (sym p.rev)
             (subst (λ (k : Key). IsFrozen setting v (length (Was p.n).log.applied) k bytes) (sym key_is)
             (subst (IsFrozen setting v (length (Was p.n).log.applied) (key_at f.cell f.key.epoch)) (sym bytes_is)
-            (next_frozen p.n p.job.runs now p.post kept (subst (T p.n) (sym told) (done_told p.n p.to p.job)) f)))
+            (next_frozen p.n p.job.runs now p.post kept (subst (T p.n) (sym told) (done_told script sound front own_record legal known p.n p.to p.job)) f)))
       ]
 
   -- ### Operations

@@ -1,0 +1,179 @@
+-- A second server that runs, by a front by which it is In, at the place that the link has by that front: nobody who serves the cell has been further, and where
+-- the server has been at the place it is there.
+use Rattle.std.proofs.Common.{◌≡◌, ◌≤◌, ◌++◌, ◌==◌, ℕ, true, false, List, [], ◌∷◌, Option, Some}
+use Rattle.std.proofs.Common.{sym, ap, ◌∙◌, subst, inl, inr, arith}
+use Rattle.std.specs.Option.{option_map_or}
+use Rattle.global_tables.specs.Link.{has_server}
+use Rattle.global_tables.specs.declared.link.LinkRow.{LinkRow}
+use Rattle.global_tables.specs.declared.link.LinkState.TheVariants.{Both}
+use Rattle.petal_base.specs.declared.cell.Cell.{Cell}
+use Rattle.petal_command.specs.declared.command.Command.{Command}
+use Rattle.petal_table.specs.Table.{at}
+use Rattle.script_lines.specs.declared.script.Script.{Script}
+use Rattle.petal_state.specs.CellState.{serves}
+use Rattle.petal_state.specs.Command.{state_after}
+use Rattle.petal_state.specs.State.{inc_of}
+use Rattle.petal_rules.specs.Server.{Own}
+use Rattle.petal_rules.specs.State.{State, is_in}
+use Rattle.petal_rules.specs.Store.{cell_cmp}
+use Rattle.petal_rules.specs.World.{Setting, World, chosen_log, counted, server_state, setting_of}
+use Rattle.petal_rules.proofs.Tests.{same_some}
+use Rattle.petal_history.specs.Claims.{IsPrefix}
+use Rattle.petal_history.specs.Legal.{IsLegal}
+use Rattle.petal_history.specs.Sound.{IsSound}
+use Rattle.petal_history.specs.declared.record.Record.{Record}
+use Rattle.law_state.specs.Homes.{stage_at}
+use Rattle.law_state.specs.Places.{StaysSo}
+use Rattle.law_state.specs.Plain.{IsPlainLog}
+use Rattle.law_state.specs.Rows.{ByBoth, ByNone, ByOne}
+use Rattle.law_state.proofs.Again.{log_both_place}
+use Rattle.law_state.proofs.Ages.{up_some}
+use Rattle.law_state.proofs.Alone.{alone_row}
+use Rattle.law_state.proofs.Grown.{alone_not_both, lost_not_both}
+use Rattle.law_state.proofs.Roles.{secondary_is_one}
+use Rattle.law_state.proofs.Steady.{front_plain, log_steady}
+use Rattle.law_steps.specs.Operations.{progress}
+use Rattle.law_steps.proofs.Fronts.{front_on}
+use Rattle.law_steps.proofs.Ties.{stays_both}
+use Rattle.law_stores.proofs.Ways.{At}
+use Rattle.law_copies.specs.Good.{AreTwins, Good, pair_at}
+use Rattle.law_copies.specs.Pair.{far}
+use Rattle.law_copies.specs.Visits.{HasReached, IsLinked, half, place_by, store_by}
+use Rattle.law_copies.proofs.Later.{serves_alone}
+use Rattle.law_copies.proofs.Places.{fronts_meet, linked_between, one_place, one_row, places_up}
+use Rattle.law_moves.proofs.Steps.{knows_now}
+use Rattle.law_moves.proofs.Worlds.{good, up}
+
+module _ (script : Script) (sound : IsSound script) (front : List Record) (own : Record) (legal : IsLegal script (front ++ own ∷ [])) where
+  abbrev setting : Setting
+  setting = setting_of script
+
+  abbrev records : List Record
+  records = front ++ own ∷ []
+
+  abbrev v : World
+  v = At script records
+
+  abbrev whole : List Command
+  whole = chosen_log setting v
+
+  abbrev By : List Command → State
+  By log = state_after script.servers log
+
+  plain : IsPlainLog script.servers whole
+  plain = (knows_now script sound front own legal).plain
+
+  abbrev far_of_last : Own → Cell → ℕ
+  far_of_last o q = progress (at cell_cmp o.pairs.last q)
+
+  abbrev G : Good setting records whole (counted setting v)
+  G = good script sound records legal
+
+  -- a second server that runs, by a front by which it is In
+  module _ (m : ℕ) (f : List Command) (cell : Cell) (row : LinkRow) (runs : (v.servers m).life.running ≡ true)
+      (on : IsPrefix (v.servers m).log.applied f) (lies : IsPrefix f whole) (seat : is_in (By f) m (v.servers m).life.inc ≡ true)
+      (linked : IsLinked setting f cell row) (both : row.state ≡ Both) (second : row.secondary ≡ m) (low : stage_at (By f) cell ≤ 3)
+      (three : stage_at (By whole) cell ≡ 3) where
+    abbrev mine_now : List Command
+    mine_now = (v.servers m).log.applied
+
+    abbrev place : ℕ
+    place = place_by setting f row
+
+    abbrev visit : ℕ → Option Own
+    visit n = G.visits n place cell
+
+    one_of : has_server m row ≡ true
+    one_of = secondary_is_one row m second
+
+    -- nobody who serves the link has been further
+    pub last : G.reached cell ≤ place
+    last = elim (G.reaching.by cell) [
+      | inl none ↦ omega (arith, none)
+      | inr r ↦ elim (fronts_meet r.front f whole r.prefix lies) [
+        | inl back ↦ (
+            let le = places_up setting whole plain r.front f cell r.row row back lies r.linked linked in
+            let at_it = r.at in
+            omega arith)
+        | inr beyond ↦ by_later r beyond
+      ]
+    ]
+      where
+        by_later : (r : HasReached setting whole G.visits cell (G.reached cell)) → IsPrefix f r.front → G.reached cell ≤ place
+        by_later r beyond =
+            elim (stays_both setting v (knows_now script sound front own legal) m runs f r.front on beyond r.prefix seat cell row linked one_of
+            (ap (serves m row) both ∙ one_of) r.alive both) [
+              | inl stays ↦ (
+                  let same : place_by setting r.front r.row ≡ place = place_stays r beyond stays in
+                  let at_it = r.at in
+                  omega arith)
+              | inr alone ↦ (
+                  let a = alone_row (By r.front) m cell alone in
+                  let state = ap (λ (x : LinkRow). x.state) (same_some (sym r.linked ∙ a.is)) ∙ a.alone in
+                  let who = serves_alone m r.server r.row state r.serving in
+                  let b = G.been m (G.reached cell) cell r.own (subst (λ k. G.visits k (G.reached cell) cell ≡ Some r.own) who r.visited) in
+                  let b_f = front_on b.front mine_now f b.within on in
+                  let le = places_up setting whole plain b.front f cell b.row row b_f lies b.linked linked in
+                  let at_it = b.at in
+                  omega arith)
+            ]
+          where
+            place_stays : (r : HasReached setting whole G.visits cell (G.reached cell)) → IsPrefix f r.front
+                → StaysSo cell row (By f) (By r.front) → place_by setting r.front r.row ≡ place
+            place_stays r beyond stays =
+                elim ((log_steady script.servers f (front_plain script.servers f whole plain lies)).linked cell row linked).served [
+                  | ByBoth so first also ↦ (
+                      let inc = up_some (By f) row.primary first in
+                      let other = up_some (By f) row.secondary also in
+                      ap (place_by setting r.front) (same_some (sym r.linked ∙ stays.same))
+                      ∙ log_both_place script.servers f r.front (front_plain script.servers r.front whole plain r.prefix) beyond cell row inc.0 other.0 linked
+                      both inc.1 other.1
+                      (ap (λ o. option_map_or (λ present. present == inc.0) o false) stays.primary ∙ inc.1)
+                      (ap (λ o. option_map_or (λ present. present == other.0) o false) stays.secondary ∙ other.1))
+                  | ByOne holder other fills so pair out ↦ alone_not_both row holder so both
+                  | ByNone one other so pair out ↦ lost_not_both row so both
+                ]
+
+    pub twins : AreTwins (store_by setting G.stores f) G.visits place cell row.primary row.secondary
+    twins = (G.both f cell row lies linked both).twins (omega arith) last
+
+    abbrev far_is : ℕ
+    far_is = far (pair_at (store_by setting G.stores f) G.visits place cell row.primary row.secondary)
+
+    -- where the server was at the place, it is there
+    pub record IsThereNow : Type 0 where
+      pub linked_mine : IsLinked setting mine_now cell row
+      pub same_place : place_by setting mine_now row ≡ place
+      pub seat_mine : is_in (server_state setting v m) m (v.servers m).life.inc ≡ true
+      pub so_far : far_is ≡ far_of_last (v.servers m).own cell
+
+    pub there_so : (by : Own) → visit m ≡ Some by → IsThereNow
+    there_so by e =
+        let b = G.been m place cell by e in
+        let b_f = front_on b.front mine_now f b.within on in
+        let mine_whole = front_on mine_now f whole on lies in
+        let r = linked_between setting whole plain b.front mine_now f cell b.row row b.within on lies b.linked linked in
+        let low_place = places_up setting whole plain b.front mine_now cell b.row r.0 b.within mine_whole b.linked r.1 in
+        let high_place = places_up setting whole plain mine_now f cell r.0 row on lies r.1 linked in
+        let at_it = b.at in
+        let same_r : place_by setting mine_now r.0 ≡ place = omega arith in
+        let one = one_row setting whole plain mine_now f cell r.0 row mine_whole lies r.1 linked same_r in
+        let linked_mine : IsLinked setting mine_now cell row = r.1 ∙ ap Some (sym one) in
+        let same : place_by setting mine_now row ≡ place = ap (place_by setting mine_now) one ∙ same_r in
+        let stays = (one_place setting whole plain mine_now f cell row row mine_whole lies linked_mine linked same).secondary in
+        let seat_mine : is_in (server_state setting v m) m (v.servers m).life.inc ≡ true =
+        subst (λ k. option_map_or (λ present. present == (v.servers m).life.inc) (inc_of (By mine_now) k) false ≡ true) second
+        (ap (λ o. option_map_or (λ present. present == (v.servers m).life.inc) o false) (sym stays)
+        ∙ subst (λ k. is_in (By f) k (v.servers m).life.inc ≡ true) (sym second) seat) in
+        let le = up script sound records legal mine_now f on lies cell in
+        let here_now = G.here m cell row linked_mine seat_mine (omega arith) in
+        let by_is : by ≡ here_now.own = same_some (sym e ∙ sym (ap (λ p. G.visits m p cell) same) ∙ here_now.is) in
+        record {
+          linked_mine = linked_mine;
+          same_place = same;
+          seat_mine = seat_mine;
+          so_far = ap (λ k. progress (at cell_cmp (half (visit k) (store_by setting G.stores f k)).pairs.last cell)) second
+              ∙ ap (λ o. progress (at cell_cmp (half o (store_by setting G.stores f m)).pairs.last cell)) e
+              ∙ ap (λ (o : Own). far_of_last o cell) by_is ∙ ap (λ (o : Own). far_of_last o cell) here_now.same;
+        }
+    -- an operation that the first server had put there, and that this one has not followed
