@@ -32,7 +32,7 @@ use Rattle.law_state.proofs.Homes.{has_stage}
 use Rattle.law_state.proofs.Places.{found_at}
 use Rattle.law_steps.specs.DidLead.{IsNextFill}
 use Rattle.law_steps.proofs.Resting.{on_row, row_named}
-use Rattle.law_steps.proofs.Serving.{in_flat_map}
+use Rattle.law_steps.proofs.Asking.{in_flat_map}
 
 -- ### The next key of a link
 

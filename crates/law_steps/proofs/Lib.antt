@@ -19,10 +19,15 @@ pub mod Sending
 pub mod Fronts
 pub mod LogJobs
 pub mod Turning
+pub mod Idling
+pub mod Asking
+pub mod Balloting
 pub mod Serving
 pub mod Minds
 pub mod Resting
+pub mod StillResting
 pub mod Records
+pub mod OneWorld
 pub mod Histories
 pub mod Firms
 pub mod Remembering

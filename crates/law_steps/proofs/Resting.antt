@@ -1,12 +1,11 @@
--- What a server remembers of copies stays of links as they are in its own state: each job keeps it, and an entry drops what it touches.
-use Rattle.std.proofs.Common.{◌≡◌, ◌≤◌, ◌+◌, ◌==◌, ◌&&◌, not, ℕ, Bool, true, false, cond, if◌then◌else◌, List, [], ◌∷◌, ◌++◌, Option}
-use Rattle.std.proofs.Common.{Some, None, refl, sym, ap, ◌∙◌, subst, inl, inr, arith}
-use Rattle.std.specs.Prelude.{◌||◌, filter, is_none, length, map, nat_lt, option_and_then, unwrap_or}
+-- What a server remembers of copies stays of links as they are in its own state: each job keeps it, and each ballot.
+use Rattle.std.proofs.Common.{◌≡◌, ◌+◌, ◌==◌, ℕ, Bool, true, false, if◌then◌else◌, List, [], ◌∷◌, Option}
+use Rattle.std.proofs.Common.{Some, None, refl, sym, ap, ◌∙◌, subst, inl, inr}
+use Rattle.std.specs.Prelude.{filter, length, map, nat_lt, option_and_then, unwrap_or}
 use Rattle.std.specs.Option.{option_map_or}
-use Rattle.std.proofs.lemmas.Grind.{fold-append}
-use Rattle.std.specs.Ordering.{eq_by_cmp, is_eq}
+use Rattle.std.specs.Ordering.{eq_by_cmp}
 use Rattle.busy_marks.specs.Marks.{above, lesser}
-use Rattle.global_tables.specs.Link.{is_link, link_at, other_of}
+use Rattle.global_tables.specs.Link.{is_link, link_at}
 use Rattle.global_tables.specs.Map.{tuple_of}
 use Rattle.global_tables.specs.Region.{link_of}
 use Rattle.global_tables.specs.declared.link.LinkRow.{LinkRow}
@@ -24,36 +23,22 @@ use Rattle.petal_msg.specs.declared.copying.NextCopy.{NextCopy}
 use Rattle.petal_msg.specs.declared.copying.NextCopy.TheVariants.{Ask, Block, Wait, Nothing}
 use Rattle.petal_msg.specs.declared.copying.Progress.{Progress}
 use Rattle.petal_state.specs.CellState.{cell_link}
-use Rattle.petal_state.specs.Command.{after, is_alone, state_after}
-use Rattle.petal_state.specs.Place.{touches, touches_cell}
-use Rattle.petal_state.specs.State.{inc_of, is_up, start}
-use Rattle.petal_table.specs.Table.{Table, at}
-use Rattle.petal_table.proofs.Rows.{at-empty, at-where}
+use Rattle.petal_state.specs.Command.{after}
+use Rattle.petal_table.specs.Table.{at}
 use Rattle.petal_rules.specs.Copies.{begins_copy, blocks_left, cell_at, cell_holder, is_kept_on, is_link_under_way, least, marked_blocks}
 use Rattle.petal_rules.specs.Copies.{next_block, next_copy, stored_blocks, with_copied, with_page}
-use Rattle.petal_rules.specs.Crossing.{crossed, dies, ends_cell, ends_link}
 use Rattle.petal_rules.specs.Lists.{In}
 use Rattle.petal_rules.specs.Progress.{copying_on, last_copy, no_progress, progress_on, with_copying, with_full, with_last_copy, with_progress, without_copying}
 use Rattle.petal_rules.specs.Returns.{holds_link, proposed}
-use Rattle.petal_rules.specs.Server.{Own, Copies, Here, Done, no_copies}
-use Rattle.petal_rules.specs.State.{State, holder_of, id_of, is_on, is_whole, link_cmp, link_named, live, other_in}
+use Rattle.petal_rules.specs.Server.{Own, Copies, Here, Done}
+use Rattle.petal_rules.specs.State.{State, holder_of, id_of, is_on, is_whole, link_cmp, link_named, live}
 use Rattle.petal_rules.specs.Store.{Stored, cell_cmp, with_entry, with_mark_on, with_ticket}
 use Rattle.petal_rules.specs.Writes.{is_under_way}
-use Rattle.petal_rules.proofs.CellTables.{cell_apart, cell_cmp_same, cell_gone, cell_gone_apart, cell_same}
-use Rattle.petal_rules.proofs.ListLemmas.{in-append, in_former, in_later}
+use Rattle.petal_rules.proofs.CellTables.{cell_apart, cell_gone, cell_gone_apart, cell_same}
+use Rattle.petal_rules.proofs.ListLemmas.{in-append}
 use Rattle.petal_rules.proofs.Tests.{both_true, by_bool, by_test, none_some, same_numbers, same_some, some_or_none, true_false}
-use Rattle.law_state.specs.Homes.{stage_at}
-use Rattle.law_state.specs.Plain.{IsPlain, IsPlainLog}
-use Rattle.law_state.specs.Places.{StaysSo}
-use Rattle.law_state.specs.Tables.{IsPlainState}
-use Rattle.law_state.proofs.Ages.{in_up, up_some}
-use Rattle.law_state.proofs.Entries.{log_plain}
 use Rattle.law_state.proofs.Changing.{found_itself}
 use Rattle.law_state.proofs.Places.{found_at}
-use Rattle.law_state.proofs.Links.{either_false}
-use Rattle.law_state.proofs.Stages.{stage_most}
-use Rattle.law_state.proofs.Steady.{log_below}
-use Rattle.law_state.proofs.Touching.{entry_stays}
 use Rattle.law_log.proofs.Flags.{progress_beside, progress_here, same_id}
 use Rattle.law_steps.specs.DidHolder.{DidHolder, CopyStep, Asks_to_trim, Sends, Unmarks_copied, Closes_copy, TakenCopy, Copy_as_is, Copy_trimmed, Copy_synced}
 use Rattle.law_steps.specs.DidHolder.{Asks_page, Turns_page, Begins_copy, Goes_on_copying, Finds_it_full, Tidies, first_copy}
@@ -62,8 +47,6 @@ use Rattle.law_steps.specs.DidOther.{Goes_on_trimming, Puts_entry, Has_entry, Ha
 use Rattle.law_steps.specs.Did.{Did, Ignores, Refuses, By_read, By_lead, By_second, By_holder, By_other, By_filler, By_sweep}
 use Rattle.law_steps.specs.Resting.{AreResting, CopyRests, LastRests}
 use Rattle.law_steps.proofs.Staged.{same_cell_or_apart}
-use Rattle.law_steps.proofs.Fronts.{front_more}
-use Rattle.law_steps.proofs.Leading.{live_stage}
 use Rattle.law_steps.proofs.Subjects.{of_filler, of_lead, of_read, of_second, of_sweep}
 
 -- ### What is left of it
@@ -379,111 +362,3 @@ ballot_rests here own (Some (Caught of link holder inc other other_inc)) r = by 
     by (Some row) = progress_put here own r row (record (progress_on own row) { caught = true }) (λ paged. paged)
 ballot_rests here own (Some _) r = r
 ballot_rests here own None r = r
-
--- ### An entry
-
--- what an entry leaves of a table by cells is of a cell that it doesn't touch, and that doesn't die by it
-left_there : {X : Type 0} (state : State) (entry : Command) (t : Table Cell X) (cell : Cell) (x : X)
-    → at cell_cmp (filter (λ row. not (ends_cell state entry row.0)) t) cell ≡ Some x
-    → (at cell_cmp t cell ≡ Some x) × (touches_cell state entry cell ≡ false) × (dies state entry cell ≡ false)
-left_there state entry t cell x is =
-    let lies = at-where cell_cmp t (λ k. not (ends_cell state entry k)) cell
-    (λ k tie. ap (λ q. not (ends_cell state entry q)) (sym (cell_cmp_same cell k tie))) in
-    by_bool (ends_cell state entry cell)
-    (λ on. none_some (lies ∙ ap (λ b. cond (not b) (at cell_cmp t cell) None) on) is)
-    (λ off.
-    let neither = either_false (touches_cell state entry cell) (dies state entry cell) off in
-    (sym (lies ∙ ap (λ b. cond (not b) (at cell_cmp t cell) None) off) ∙ is, neither.0, neither.1))
-
--- a live cell that doesn't die by the entry is live behind it
-still_live : (before behind : Bool) → (before && not behind) ≡ false → before ≡ true → behind ≡ true
-still_live before true e on = refl
-still_live true false e on = true_false refl e
-still_live false false e on = on
-
-other_so : (state : State) (me : ℕ) (row : LinkRow) (other : ℕ) → other_in state me row ≡ Some other
-    → (is_alone me row.state ≡ true) × (is_up state (other_of me row) ≡ true) × (other_of me row ≡ other)
-other_so state me row other =
-    by_test (λ (o : Option ℕ). o ≡ Some other → (is_alone me row.state ≡ true) × (is_up state (other_of me row) ≡ true) × (other_of me row ≡ other))
-    (is_alone me row.state && is_up state (other_of me row)) (Some (other_of me row)) None
-    (λ t e. let both = both_true _ _ t in (both.0, both.1, same_some e)) (λ no e. none_some refl e)
-
-up_same : (s t : State) (n : ℕ) → inc_of t n ≡ inc_of s n → is_up s n ≡ true → is_up t n ≡ true
-up_same s t n same up = let is = up_some s n up in in_up t n is.0 (ap (λ o. option_map_or (λ present. present == is.0) o false) same ∙ is.1)
-
-pub crossed_rests : (servers : ℕ) (state : State) → IsPlainState servers state → (entry : Command) → IsPlain servers entry
-    → ((cell : Cell) → stage_at state cell ≤ stage_at (after state entry) cell) → (me : ℕ) (own : Own)
-    → AreResting state me own → AreResting (after state entry) me (crossed state entry own)
-crossed_rests servers state plain entry plain_entry grows me own r = record {
-  copying = λ cell copy is.
-      let was = left_there state entry own.copies.pending cell copy is in
-      let o = r.copying cell copy was.0 in
-      let off : touches state entry o.row ≡ false = sym (ap (λ l. option_map_or (touches state entry) l false) o.is) ∙ was.1 in
-      let alive : live (after state entry) cell ≡ true = still_live (live state cell) (live (after state entry) cell) was.2 o.live in
-      let so : StaysSo cell o.row state (after state entry) = elim (entry_stays servers state plain cell o.row o.is entry plain_entry off) [
-        | inl stays ↦ stays
-        | inr died ↦ (
-            let dead = died.1 in
-            let most = (live_stage (after state entry) cell alive).1 in
-            absurd (omega arith))
-      ] in
-      let other = other_so state me o.row o.other o.other_is in
-      let up = up_same state (after state entry) (other_of me o.row)
-      (by_test (λ n. inc_of (after state entry) n ≡ inc_of state n) (o.row.primary == me) o.row.secondary o.row.primary (λ t. so.secondary) (λ t. so.primary))
-      other.1 in
-      record {
-        row = o.row;
-        is = so.same;
-        live = alive;
-        other = o.other;
-        other_is = ap (λ b. if b then Some (other_of me o.row) else None) (λ i. other.0 i && up i) ∙ ap Some other.2;
-        paged = ap (λ p. (unwrap_or p no_progress).paged) (kept cell o.row o.is off so.same) ∙ o.paged;
-        begun = o.begun;
-      };
-  lasts = λ cell last is.
-      let was = left_there state entry own.copies.last cell last is in
-      elim (r.lasts cell last was.0) [
-        | inr dead ↦ inr (stays_dead cell dead)
-        | inl o ↦ (
-            let off : touches state entry o.row ≡ false = sym (ap (λ l. option_map_or (touches state entry) l false) o.is) ∙ was.1 in
-            elim (entry_stays servers state plain cell o.row o.is entry plain_entry off) [
-              | inl so ↦ inl (record { row = o.row; is = so.same; holder = o.holder; held = o.held })
-              | inr died ↦ inr died.1
-            ])
-      ];
-}
-  where
-    stays_dead : (cell : Cell) → stage_at state cell ≡ 4 → stage_at (after state entry) cell ≡ 4
-    stays_dead cell dead =
-        let more = grows cell in
-        let most = stage_most (after state entry) cell in
-        omega arith
-
-    kept : (cell : Cell) (row : LinkRow) → cell_link state cell ≡ Some row → touches state entry row ≡ false → cell_link (after state entry) cell ≡ Some row
-        → at link_cmp (crossed state entry own).copies.progress (id_of row) ≡ at link_cmp own.copies.progress (id_of row)
-    kept cell row is off there =
-        let away : ends_link state entry (id_of row) ≡ false =
-        (λ i. option_map_or (touches state entry) (row_named state cell row is i) false || is_none (row_named (after state entry) cell row there i))
-        ∙ ap (λ b. b || false) off in
-        at-where link_cmp own.copies.progress (λ k. not (ends_link state entry k)) (id_of row)
-        (λ k tie. ap (λ q. not (ends_link state entry q)) (sym (same_id (id_of row) k (ap is_eq tie))))
-        ∙ ap (λ b. cond (not b) (at link_cmp own.copies.progress (id_of row)) None) away
-
-pub log_rests : (servers : ℕ) (log : List Command) (entry : Command) → IsPlainLog servers (log ++ entry ∷ []) → (me : ℕ) (own : Own)
-    → AreResting (state_after servers log) me own → AreResting (state_after servers (log ++ entry ∷ [])) me (crossed (state_after servers log) entry own)
-unfolding In
-log_rests servers log entry plain me own r =
-    let below = log_below servers log (log ++ entry ∷ []) plain (front_more log entry) in
-    let behind : state_after servers (log ++ entry ∷ []) ≡ after (state_after servers log) entry = fold-append after (start servers) log (entry ∷ []) in
-    subst (λ (t : State). AreResting t me (crossed (state_after servers log) entry own)) (sym behind)
-    (crossed_rests servers (state_after servers log) (log_plain servers log (λ command i. plain command (in_former command log (entry ∷ []) i))) entry
-    (plain entry (in_later entry log (entry ∷ []) (inl refl)))
-    (λ cell. subst (λ (t : State). stage_at (state_after servers log) cell ≤ stage_at t cell) behind (below.stages cell)) me own r)
-
--- ### The start
-
-pub none_rest : (state : State) (me : ℕ) (own : Own) → own.copies ≡ no_copies → AreResting state me own
-none_rest state me own e = record {
-  copying = λ cell copy is. none_some (ap (λ (c : Copies). at cell_cmp c.pending cell) e ∙ at-empty cell_cmp cell) is;
-  lasts = λ cell last is. none_some (ap (λ (c : Copies). at cell_cmp c.last cell) e ∙ at-empty cell_cmp cell) is;
-}
