@@ -5,10 +5,13 @@ pub mod Numbers
 pub mod Verdicts
 pub mod Answered
 pub mod Served
+pub mod MuteJobs
+pub mod JobSayings
 pub mod Saying
 pub mod Revisions
 pub mod Lines
 pub mod Stops
+pub mod Failing
 pub mod Glances
 pub mod Once
 pub mod Rounds
