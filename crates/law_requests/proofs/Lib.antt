@@ -9,8 +9,10 @@ pub mod Beside
 pub mod Frames
 pub mod Drained
 pub mod Ended
+pub mod LeadJobs
 pub mod Jobs
 pub mod Turns
 pub mod Turning
+pub mod Stepped
 pub mod Stepping
 pub mod Histories
