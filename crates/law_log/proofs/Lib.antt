@@ -17,6 +17,8 @@ pub mod Draining
 pub mod Moving
 pub mod Worlds
 pub mod Facts
+pub mod Queues
+pub mod OwnWants
 pub mod Servers
 pub mod Clients
 pub mod Steps

@@ -1,49 +1,34 @@
 -- Each step of a server keeps what is kept of a world.
-use Rattle.std.proofs.Common.{◌≡◌, ◌<◌, ◌≤◌, ◌+◌, ◌==◌, ◌⊎◌, inl, inr, ℕ, true, false, not, if◌then◌else◌, ◌&&◌, List, [], ◌∷◌, ◌++◌}
-use Rattle.std.proofs.Common.{length, map, Option, Some, None, refl, sym, ap, ◌∙◌, subst, arith}
-use Rattle.std.specs.Prelude.{filter, slice_get}
+use Rattle.std.proofs.Common.{◌≡◌, ◌<◌, ◌≤◌, ◌+◌, ◌==◌, ◌⊎◌, inl, inr, ℕ, true, false, not, if◌then◌else◌, List, [], ◌∷◌, ◌++◌}
+use Rattle.std.proofs.Common.{length, Option, Some, None, refl, sym, ap, ◌∙◌, subst, arith}
+use Rattle.std.specs.Prelude.{filter}
 use Rattle.std.specs.List.{range_with_len, flat_map}
-use Rattle.std.specs.Option.{option_map_or}
-use Rattle.global_tables.specs.declared.link.LinkRow.{LinkRow}
-use Rattle.petal_base.specs.declared.cell.Cell.{Cell}
 use Rattle.petal_command.specs.declared.command.Command.{Command}
-use Rattle.petal_command.specs.declared.pax.Pax.TheVariants as pax
 use Rattle.petal_msg.specs.declared.body.Body.TheVariants as body
 use Rattle.petal_msg.specs.declared.letter.Actor.TheVariants as actor
 use Rattle.petal_msg.specs.declared.letter.Letter.{Letter}
 use Rattle.petal_msg.specs.declared.copying.LinkId.{LinkId}
-use Rattle.petal_msg.specs.declared.operation.Pending.{Pending}
 use Rattle.petal_paxos.specs.Member.{In}
-use Rattle.petal_paxos.specs.Proposer.{is_in, has_majority}
 use Rattle.petal_paxos.specs.Schedule.{sent, run, begin}
 use Rattle.petal_paxos.specs.Schedule as schedule
 use Rattle.petal_paxos.specs.declared.phase.Phase.{Phase}
-use Rattle.petal_paxos.specs.declared.phase.Phase.TheVariants.{Idle, Collecting, Voting}
 use Rattle.petal_rules.specs.Agreement.{IsAskedFor, IsProposer}
-use Rattle.petal_command.specs.declared.command.Command.TheVariants.{Join}
 use Rattle.petal_paxos.specs.Kept.{inc_of}
 use Rattle.petal_paxos.proofs.Committed.{inc_committed}
 use Rattle.petal_paxos.specs.declared.record.StateRecord.TheVariants.{Inc}
-use Rattle.petal_rules.specs.Ballots.{ballot_posts, ask_posts, first_wanted, start_jobs, starts, wanted}
+use Rattle.petal_rules.specs.Ballots.{ballot_posts, ask_posts, first_wanted, starts, wanted}
 use Rattle.petal_rules.specs.Boots.{awake, blanked, boots, raised, stays, wakes}
-use Rattle.petal_rules.specs.Copies.{mend_jobs, waits_for_job}
-use Rattle.petal_rules.specs.Draining.{draining}
-use Rattle.petal_rules.specs.Fills.{moving}
-use Rattle.petal_rules.specs.Sweeping.{sweep_jobs}
-use Rattle.petal_rules.specs.Returns.{caught_links, own_join, proposed, returning}
-use Rattle.petal_state.specs.Command.{after, may_join}
-use Rattle.petal_state.specs.Place.{touches}
-use Rattle.petal_rules.specs.Crossing.{crossed_by, is_mended, jobs_by, link_jobs, stage_jobs, touches_cell}
+use Rattle.petal_rules.specs.Returns.{proposed}
+use Rattle.petal_rules.specs.Crossing.{crossed_by, jobs_by}
 use Rattle.petal_rules.specs.Entries.{applies, applies_known}
 use Rattle.petal_rules.specs.Jobs.{Acted, is_log_job, voter_of, here_of, worked, entered, crossing, job_done, down_posts, stops, is_overfull}
 use Rattle.petal_rules.specs.Jobs.{works, faults, glances, glance_sender, delivered, tick_jobs, tick_posts, ticks, log_does, does, sent_anew}
 use Rattle.petal_rules.specs.Jobs.{copies_anew, starting, own_wants, wanted_by}
 use Rattle.petal_rules.specs.Lists.{In as Among, put_at}
-use Rattle.petal_rules.specs.Log.{Log, LogDone, Voter, known, next_place, rev_of}
+use Rattle.petal_rules.specs.Log.{LogDone, known, next_place, rev_of}
 use Rattle.petal_rules.specs.Posts.{Post, Sender, letters_of}
 use Rattle.petal_rules.specs.Server.{Life, Server, Own, Here, Done, sender, stopped}
-use Rattle.petal_rules.specs.State.{State, id_of, servers_of}
-use Rattle.petal_rules.specs.State.{is_in as seated}
+use Rattle.petal_rules.specs.State.{servers_of}
 use Rattle.petal_rules.specs.World.{Setting, World, MayServer, server_state, server_step, acts}
 use Rattle.petal_rules.specs.declared.job.Job.{Job}
 use Rattle.petal_rules.specs.declared.job.Job.TheVariants as job
@@ -54,81 +39,24 @@ use Rattle.petal_rules.specs.declared.step.Step.TheVariants.{Call, Deliver, Tick
 use Rattle.petal_rules.specs.declared.step.WorkEnd.{WorkEnd}
 use Rattle.petal_rules.specs.declared.step.WorkEnd.TheVariants as work_end
 use Rattle.petal_rules.proofs.ListLemmas.{in-append, put_apart, put_same}
-use Rattle.petal_rules.proofs.Tests.{number_itself, only, by_test, same_or_apart}
-use Rattle.law_log.specs.Logged.{Catches, IsBacked, IsCalledAnywhere, IsSaidBy, IsReached, IsSeenAt, IsBusyAs, IsToldBefore}
-use Rattle.law_log.specs.Logged.{Logged, MayWant, Minded, Returns, WasMinded}
-use Rattle.law_state.specs.Started.{HasFlag, is_flagged}
-use Rattle.global_tables.specs.declared.fence.Member.TheVariants as member
-use Rattle.law_state.specs.Tables.{IsPlainState}
-use Rattle.law_state.proofs.Ages.{may_by}
-use Rattle.law_state.proofs.Entries.{log_plain}
-use Rattle.law_log.proofs.Facts.{IsFair, applied_plain, as_many, told_once}
+use Rattle.petal_rules.proofs.Tests.{only, by_test, same_or_apart}
+use Rattle.law_log.specs.Logged.{IsBacked, IsBusyAs, IsCalledAnywhere, IsSaidBy, IsSeenAt, Logged, MayWant, Minded}
+use Rattle.law_state.specs.Started.{HasFlag}
+use Rattle.law_log.proofs.Facts.{IsFair, as_many, told_once}
 use Rattle.law_log.proofs.Boots.{fail_turn, no_proposer, wake_turn}
-use Rattle.law_log.proofs.Catching.{caught_among, caught_may, caught_minded, kept_proposed}
+use Rattle.law_log.proofs.Catching.{kept_proposed}
 use Rattle.law_log.proofs.Copying.{IsCalm, IsKept, kept_itself}
-use Rattle.law_log.proofs.Draining.{IsReport, report_among}
-use Rattle.law_log.proofs.Filling.{no_sweep}
 use Rattle.law_log.proofs.Handling.{calm_job, other_copies_anew}
-use Rattle.law_log.proofs.Jobs.{Outcome, applied_next, fine_wanted, one_longer, start_wants, started}
-use Rattle.law_log.proofs.Jobs.{job_done as log_job_done}
-use Rattle.law_log.proofs.Lists.{got}
-use Rattle.law_log.proofs.Moving.{IsMove, move_among}
+use Rattle.law_log.proofs.Jobs.{Outcome, applied_next, fine_wanted, job_done as log_job_done, one_longer, started}
 use Rattle.law_log.proofs.Pairs.{other_backed, other_anew}
-use Rattle.law_log.proofs.Proposing.{all_backed, first_among, said_to_all}
+use Rattle.law_log.proofs.Proposing.{first_among, said_to_all}
 use Rattle.law_log.proofs.Turns.{HasTurn, still, no_posts, stop_turn, turn_more}
 use Rattle.law_log.proofs.Worlds.{Acts, Goes, IsLaterLife, KeepsStarted, Remembers, may_more, same_life, server_goes, server_sends, started_same}
-
--- ### Queues
-
-job_here : (x : Job) (xs : List Job) → Among x (x ∷ xs)
-unfolding Among
-job_here x xs = inl refl
-
-job_there : (x y : Job) (xs : List Job) → Among x xs → Among x (y ∷ xs)
-unfolding Among
-job_there x y xs h = inr h
-
-start_only : (phase : Phase) (wants : List Command) (letter : Letter) → Among (job.Letter letter) (start_jobs phase wants) → ⊥
-unfolding Among
-start_only Idle (want ∷ wants) letter (inl e) = let f : job.Letter letter ≡ job.Start = e in absurd cc
-start_only Idle (want ∷ wants) letter (inr h) = h
-start_only Idle [] letter h = h
-start_only (Collecting place ballot want heard best) wants letter h = h
-start_only (Voting place ballot command heard) wants letter h = h
-
-letter_is : (a b : Letter) → job.Letter a ≡ job.Letter b → a ≡ b
-letter_is a b e = cc
-
--- the next place is reached: what is applied before it was told
-reached_next : {Was : Minded} (setting : Setting) (w : World) (l : Logged Was setting w) (n : ℕ)
-    → IsReached (run setting.servers l.events begin) (next_place (w.servers n).log)
-reached_next setting w l n = record {
-  starts = omega arith;
-  told = λ i lt.
-      let at = got (w.servers n).log.applied i (omega arith) in
-      (at.0, (l.is.servers n).told (i + 1) at.0 ((l.is.servers n).applied i at.0 at.1));
-}
-
--- its own Join is all that a server wants so that it returns
-pub join_only : {A : Type 0} (state : State) (me inc : ℕ) (fresh : _) (c : Command)
-    → (may_join (slice_get state.view.members me) inc ≡ true → c ≡ Join me inc fresh → A) → Among c (own_join state me inc fresh) → A
-unfolding Among
-join_only {A} state me inc fresh c so h = by_test (λ (xs : List Command). Among c xs → A) (may_join (slice_get state.view.members me) inc) _ _
-    (λ e i. elim i [ inl is ↦ so e is | inr none ↦ absurd none ]) (λ e i. absurd i) h
-
--- which is of an incarnation behind the first
-join_later : (servers : ℕ) (state : State) → IsPlainState servers state → (me inc : ℕ) → may_join (slice_get state.view.members me) inc ≡ true → 1 < inc
-join_later servers state p me inc may =
-    let was = may_by (slice_get state.view.members me) inc may in
-    let low : 1 ≤ was.0 = p.members me (member.Out was.0) was.1 in
-    let lt = was.2 in
-    omega arith
+pub use Rattle.law_log.proofs.OwnWants.{join_only}
+use Rattle.law_log.proofs.OwnWants.{good_own, reached_next}
+use Rattle.law_log.proofs.Queues.{ballot_backed, job_here, job_there, letter_is, no_command, no_jobs, stages_only, tick_only}
 
 -- ### Ballots in mind
-
--- what a server has in mind of a ballot that an incarnation of it started for a Caught
-abbrev IsMinded : (inc rev : ℕ) → LinkId → Server → Type 0
-IsMinded inc rev id server = (inc < server.life.inc) ⊎ ((inc ≡ server.life.inc) × HasFlag server rev id)
 
 -- it keeps them in mind, where it applies no entry, or else needs to no more
 minds_on : (before to : Server) → before.life.inc ≡ to.life.inc → length before.log.applied < length to.log.applied → KeepsStarted before to
@@ -164,69 +92,6 @@ minds_crossed : (here : Here) (server : Server) (queue : List Job)
     (record server { log = (applies server.log).log; own = crossed_by here (known server.log (next_place server.log)) server.own; queue = queue })
 unfolding applies
 minds_crossed here server queue = minds_entry here server queue (known server.log (next_place server.log))
-
--- a ballot that starts applies nothing
-start_applied : (voter : Voter) (log : Log) (wants : List Command) → (starts voter log wants).log.applied ≡ log.applied
-unfolding starts
-start_applied voter log wants = (start_wants voter log (first_wanted log.phase (rev_of log) wants)).applied
-
--- ### A tick
-
-ballot_backed : (p : schedule.World) (n : ℕ) (voter : Voter) (phase : Phase) → IsAskedFor p n voter.servers phase → (post : Post)
-    → Among post (ballot_posts voter phase)
-    → IsBacked p (λ c. ⊥) (λ said. In (sent n said) p.letters) post.body
-ballot_backed p n voter Idle a post i = no_posts post i
-ballot_backed p n voter (Collecting place ballot want heard best) a post i =
-    all_backed p (λ c. ⊥) n (pax.Prepare place ballot) (filter (λ n. not (is_in heard n)) (range_with_len 0 voter.servers)) a post i
-ballot_backed p n voter (Voting place ballot command heard) a post i =
-    by_test (λ (posts : List Post). Among post posts → IsBacked p (λ c. ⊥) (λ said. In (sent n said) p.letters) post.body)
-    (has_majority voter.servers heard) _ _
-    (λ e i. all_backed p (λ c. ⊥) n (pax.Chosen place command) (range_with_len 0 voter.servers) (a.1 e) post i)
-    (λ e i. all_backed p (λ c. ⊥) n (pax.Accept place ballot command) (filter (λ n. not (is_in heard n)) (range_with_len 0 voter.servers)) a.0 post i) i
-
-no_command : {A : Type 0} (c : Command) → Among c [] → A
-unfolding Among
-no_command c h = absurd h
-
-no_jobs : {A : Type 0} (letter : Letter) → Among (job.Letter letter) [] → A
-unfolding Among
-no_jobs letter h = absurd h
-
-no_mend : {A : Type 0} (rows : List LinkRow) (letter : Letter) → Among (job.Letter letter) (map (λ (row : LinkRow). job.Mend (id_of row)) rows) → A
-unfolding Among
-no_mend [] letter h = absurd h
-no_mend (row ∷ rows) letter (inl e) = let f : job.Letter letter ≡ job.Mend (id_of row) = e in absurd cc
-no_mend (row ∷ rows) letter (inr h) = no_mend rows letter h
-
--- nor among the jobs of a tick
-tick_only : (here : Here) (server : Server) (letter : Letter) → Among (job.Letter letter) (tick_jobs here server) → ⊥
-tick_only here server letter h =
-    elim (in-append (job.Letter letter) (start_jobs server.log.phase (wanted_by here server))
-    (if seated here.state here.me here.inc then mend_jobs here server.own ++ sweep_jobs here server.own else []) h) [
-      | inl start ↦ start_only server.log.phase (wanted_by here server) letter start
-      | inr other ↦ by_test (λ (xs : List Job). Among (job.Letter letter) xs → ⊥) (seated here.state here.me here.inc)
-          (mend_jobs here server.own ++ sweep_jobs here server.own) []
-          (λ e i. elim (in-append (job.Letter letter) (mend_jobs here server.own) (sweep_jobs here server.own) i) [
-            | inl mend ↦ no_mend (filter (λ row. waits_for_job here server.own row row.state) here.state.links) letter mend
-            | inr sweep ↦ no_sweep here server.own letter sweep
-          ])
-          (λ e i. no_jobs letter i) other
-    ]
-
--- no letter is among the stages that follow an entry up
-no_stage : {A : Type 0} (rows : List (Cell × Pending)) (letter : Letter) → Among (job.Letter letter) (map (λ (row : Cell × Pending). job.Stage row.0) rows) → A
-unfolding Among
-no_stage [] letter h = absurd h
-no_stage (row ∷ rows) letter (inl e) = let f : job.Letter letter ≡ job.Stage row.0 = e in absurd cc
-no_stage (row ∷ rows) letter (inr h) = no_stage rows letter h
-
-stages_only : {A : Type 0} (state : State) (me : ℕ) (entry : Option Command) (own : Own) (letter : Letter)
-    → Among (job.Letter letter) (jobs_by state me entry own) → A
-stages_only state me None own letter h = no_jobs letter h
-stages_only state me (Some entry) own letter h = elim (in-append (job.Letter letter) (stage_jobs state entry own) (link_jobs state entry me) h) [
-  | inl stage ↦ no_stage (filter (λ row. touches_cell state entry row.0) own.pairs.pending) letter stage
-  | inr mend ↦ no_mend (filter (λ row. touches state entry row && is_mended (after state entry) me row row.state) (after state entry).links) letter mend
-]
 
 module _ {Was : Minded} (setting : Setting) (fair : IsFair setting) (w : World) (l : Logged Was setting w) (n stamp : ℕ) (what : Step)
     (member : n < setting.servers) where
@@ -510,116 +375,6 @@ module _ {Was : Minded} (setting : Setting) (fair : IsFair setting) (w : World) 
     starts_to = let done = starts (voter_of here) (w.servers n).log (wanted_by here (w.servers n)) in
         left done (proposed here.state (w.servers n).own started_for) (rest ++ done.jobs)
 
-    own_plain : IsPlainState setting.servers here.state
-    own_plain = log_plain setting.servers _ (applied_plain setting w fair l n)
-
-    applied_told : IsToldBefore P (next_place (w.servers n).log) (w.servers n).log.applied
-    applied_told = record { many = refl; told = λ i d e. (l.is.servers n).told (i + 1) d ((l.is.servers n).applied i d e) }
-
-    -- a Caught is behind the entries that it has applied, and it has it in mind
-    good_caught : Remembers Was setting.servers n (w.servers n) starts_to → seated here.state n here.inc ≡ true → (c : Command) → started_for ≡ Some c
-        → Among c (caught_links here (w.servers n).own) → Good starts_to (next_place (w.servers n).log) c
-    good_caught remembers seat c first_is h =
-        let caught = caught_among here (w.servers n).own c h in
-        let found = own_plain.found caught.row caught.there in
-        let flagged : is_flagged (proposed here.state (w.servers n).own started_for) (id_of caught.row) ≡ true =
-        ap (λ o. is_flagged (proposed here.state (w.servers n).own o) (id_of caught.row)) first_is ∙ caught_minded here (w.servers n).own c caught found in (
-          inr (record {
-            front = (w.servers n).log.applied;
-            told = applied_told;
-            is = subst (Returns setting.servers (put_at w.servers n starts_to) (w.servers n).log.applied) (sym caught.is) (record {
-              may = caught_may here (w.servers n).own c caught found;
-              holds = seat;
-              joins = ap (λ o. option_map_or (λ present. present == caught.inc) o false) caught.joins ∙ number_itself caught.inc;
-              started = subst (λ (x : Server). IsMinded here.inc (length (w.servers n).log.applied) (id_of caught.row) x) (sym (put_same w.servers n starts_to))
-                  (inr (
-                    refl,
-                    record {
-                      reached = (let e = ap length (start_applied (voter_of here) (w.servers n).log (wanted_by here (w.servers n))) in
-                          omega arith);
-                      flagged = λ e. flagged;
-                    },
-                  ));
-            });
-            was = subst (WasMinded Was (w.servers n).log.applied) (sym caught.is)
-                (subst (λ (front : List Command). Was n here.inc front (Catches (id_of caught.row)))
-                (start_applied (voter_of here) (w.servers n).log (wanted_by here (w.servers n))) (remembers.catches (id_of caught.row) flagged));
-          }),
-          reached_next setting w l n,
-        )
-
-    -- a Join acts behind the entries that it has applied
-    good_join : Remembers Was setting.servers n (w.servers n) starts_to → (c : Command) → may_join (slice_get here.state.view.members n) here.inc ≡ true
-        → c ≡ Join n here.inc (w.servers n).own.store.fresh → Good starts_to (next_place (w.servers n).log) c
-    good_join remembers c may is = (
-      inr (record {
-        front = (w.servers n).log.applied;
-        told = applied_told;
-        is = subst (Returns setting.servers (put_at w.servers n starts_to) (w.servers n).log.applied) (sym is) (record {
-          may = may;
-          later = join_later setting.servers here.state own_plain n here.inc may;
-          begun = subst (λ (x : Server). here.inc ≤ x.life.inc) (sym (put_same w.servers n starts_to)) (omega arith);
-        });
-        was = subst (WasMinded Was (w.servers n).log.applied) (sym is) (remembers.waits runs);
-      }),
-      reached_next setting w l n,
-    )
-
-    -- what it wants so that it, or its links, return
-    good_return : Remembers Was setting.servers n (w.servers n) starts_to → (c : Command) → started_for ≡ Some c → Among c (returning here (w.servers n).own)
-        → Good starts_to (next_place (w.servers n).log) c
-    good_return remembers c first_is h =
-        by_test (λ (xs : List Command). Among c xs → Good starts_to (next_place (w.servers n).log) c) (seated here.state here.me here.inc)
-        (caught_links here (w.servers n).own) (own_join here.state here.me here.inc (w.servers n).own.store.fresh)
-        (λ seat. good_caught remembers seat c first_is)
-        (λ out i. join_only here.state n here.inc (w.servers n).own.store.fresh c (λ may is. good_join remembers c may is) i) h
-
-    -- a report counts behind the entries that it has applied
-    good_report : Remembers Was setting.servers n (w.servers n) starts_to → (c : Command) → IsReport here (w.servers n).own c
-        → Good starts_to (next_place (w.servers n).log) c
-    good_report remembers c report = (
-      inr (record {
-        front = (w.servers n).log.applied;
-        told = applied_told;
-        is = subst (Returns setting.servers (put_at w.servers n starts_to) (w.servers n).log.applied) (sym report.is)
-            (record { seated = report.seated; active = report.active; is = report.heads; number = refl; awaited = report.awaited });
-        was = subst (WasMinded Was (w.servers n).log.applied) (sym report.is) (remembers.drains runs report.drained);
-      }),
-      reached_next setting w l n,
-    )
-
-    -- a Moved is behind the entries that it has applied
-    good_moved : Remembers Was setting.servers n (w.servers n) starts_to → (c : Command) → IsMove here (w.servers n).own c
-        → Good starts_to (next_place (w.servers n).log) c
-    good_moved remembers c move =
-        let found = own_plain.found move.row move.there in (
-          inr (record {
-            front = (w.servers n).log.applied;
-            told = applied_told;
-            is = subst (Returns setting.servers (put_at w.servers n starts_to) (w.servers n).log.applied) (sym move.is)
-                (record { server = n; inc = here.inc; seated = move.seated; row = move.row; linked = found; moves = move.moves });
-            was = subst (WasMinded Was (w.servers n).log.applied) (sym move.is) (
-              n,
-              here.inc,
-              remembers.moves runs move.row move.region
-                  (record { seated = move.seated; linked = found; moves = move.moves; left = move.left }),
-            );
-          }),
-          reached_next setting w l n,
-        )
-
-    -- what it wants by its own part
-    good_own : Remembers Was setting.servers n (w.servers n) starts_to → (c : Command) → started_for ≡ Some c → Among c (own_wants here (w.servers n).own)
-        → Good starts_to (next_place (w.servers n).log) c
-    good_own remembers c first_is h =
-        elim (in-append c (returning here (w.servers n).own ++ draining here (w.servers n).own) (moving here (w.servers n).own) h) [
-          | inl former ↦ elim (in-append c (returning here (w.servers n).own) (draining here (w.servers n).own) former) [
-            | inl returns ↦ good_return remembers c first_is returns
-            | inr drains ↦ good_report remembers c (report_among here (w.servers n).own c drains)
-          ]
-          | inr moves ↦ good_moved remembers c (move_among here (w.servers n).own c moves)
-        ]
-
     start_outcome : Remembers Was setting.servers n (w.servers n) starts_to
         → AnyOutcome starts_to (starts (voter_of here) (w.servers n).log (wanted_by here (w.servers n)))
     start_outcome remembers =
@@ -632,7 +387,7 @@ module _ {Was : Minded} (setting : Setting) (fair : IsFair setting) (w : World) 
         (Good starts_to) (IsCalledAnywhere setting w) (l.is.wants n) (l.is.leaves n) (λ earlier lt. (inr (inr lt), refl)) (called_good starts_to)
         (own_wants here (w.servers n).own) c (first_among (w.servers n).log.phase (rev_of (w.servers n).log) (wants_of setting.servers) c e)) [
           | inl called ↦ called_good starts_to c called
-          | inr owns ↦ good_own remembers c
+          | inr owns ↦ good_own setting fair w l n runs rest remembers c
               (ap (λ k. first_wanted (w.servers n).log.phase (rev_of (w.servers n).log) (wants_of k)) (as_many setting w fair l n) ∙ e) owns
         ]))
 
