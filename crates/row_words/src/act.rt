@@ -65,7 +65,7 @@ pub enum Act<'a> {
     Failed(u32),
     /// So many jobs ended since a plan stopped the server, whether their commits were made or not.
     Stopped(u32),
-    /// So many of these had made their commit.
+    /// So many of all these had made their commit.
     Committed(u32),
 }
 
@@ -147,13 +147,25 @@ fn marked<'a>(verb: &str, kind: &'a str, way: &str) -> Result<Act<'a>, usize> {
     }
 }
 
-// A plan of one of a server's devices.
-fn armed<'a>(who: &str, which: &str, kind: &str, at: &str, stop: bool) -> Result<Act<'a>, usize> {
+// Whether the call of a plan fails after its work, and whether it stops the server.
+fn failure(words: &[&str]) -> Result<(bool, bool), usize> {
+    match *words {
+        [] => Ok((false, false)),
+        ["stop"] => Ok((false, true)),
+        ["late"] => Ok((true, false)),
+        ["late", "stop"] => Ok((true, true)),
+        _ => Err(6),
+    }
+}
+
+// A plan of one of a server's devices: which call fails, and how.
+fn armed<'a>(who: &str, which: &str, kind: &str, at: &str, how: &[&str]) -> Result<Act<'a>, usize> {
+    let (late, stop) = failure(how)?;
     let plan = Plan {
         kind: calls(kind, 4)?,
         at: number(at, 5)?,
         stop,
-        late: false,
+        late,
     };
     Ok(Act::Arm(server(who, 1)?, device(which, 3)?, Some(plan)))
 }
@@ -168,8 +180,7 @@ fn step_of<'a>(who: &str, words: &[&str]) -> Result<Act<'a>, usize> {
         ["stops"] => Ok(Act::Stop(server(who, 1)?)),
         ["blanks"] => Ok(Act::Blank(server(who, 1)?)),
         ["boots"] => Ok(Act::Boot(server(who, 1)?)),
-        ["arms", which, kind, at] => armed(who, which, kind, at, false),
-        ["arms", which, kind, at, "stop"] => armed(who, which, kind, at, true),
+        ["arms", which, kind, at, ..] => armed(who, which, kind, at, &words[4..]),
         ["disarms", which] => Ok(Act::Arm(server(who, 1)?, device(which, 3)?, None)),
         ["shows", line] => Ok(Act::Show(server(who, 1)?, number(line, 3)?, 0)),
         ["shows", line, "in", round] => Ok(Act::Show(

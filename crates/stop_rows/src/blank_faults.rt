@@ -5,11 +5,12 @@ use std::alloc::Global;
 use std::test::Fail;
 use world_runs::Row;
 
-/// A device fails in the boot of server 1 behind its blank. It does so no less where the plan stops the server.
-fn failing_boot(alloc: Global, plan: &str) -> Result<(), Fail> {
+/// A device fails in the boot of server 1 behind its blank, which has raised the incarnation or not. It does so no less where the plan
+/// stops the server.
+fn failing_boot(alloc: Global, plan: &str, committed: u32) -> Result<(), Fail> {
     let steps = format!(in alloc;
-        "op calls 2; 1 stops; 1 blanks; 1 arms {plan}; failed 0; 1 boots; failed 1; stopped 0; not 1 ticks; not 1 boots; not 1 blanks;
-        not sent 2 down 1>0; 1 shows 2; seen 1>op; line 2 failed; op calls 3; 1 boots; failed 1; sent 2 down 1>0; 1 shows 3; seen 1>op; line 3 ok;
+        "op calls 2; 1 stops; 1 blanks; 1 arms {plan}; failed 0; 1 boots; failed 1; stopped 0; committed {committed};
+        not 1 ticks; not 1 boots; not 1 blanks; not sent 2 down 1>0; 1 shows 2; seen 1>op; line 2 failed; op calls 3; 1 boots; failed 1; sent 2 down 1>0; 1 shows 3; seen 1>op; line 3 ok;
         play out; line 5 ok; line 7 ok; line 9 ok; line 10 ok; line 12 fill 7"
     )?;
     let row = Row {
@@ -32,8 +33,10 @@ fn a_blank_device_fails_in_the_boot(rt: HostRuntime) -> Result<(), Fail> {
         "data sync 2 stop",
         "data sync 3",
         "data sync 4",
+        // the store is whole then, and is made anew
+        "data sync 4 late",
     ] {
-        failing_boot(rt.alloc(), plan)?;
+        failing_boot(rt.alloc(), plan, 0)?;
     }
     Ok(())
 }
@@ -47,9 +50,9 @@ fn a_state_device_fails_in_the_boot_behind_a_blank(rt: HostRuntime) -> Result<()
         "state sync 3 stop",
         "state sync 4",
     ] {
-        failing_boot(rt.alloc(), plan)?;
+        failing_boot(rt.alloc(), plan, 0)?;
     }
-    Ok(())
+    failing_boot(rt.alloc(), "state sync 4 late", 1)
 }
 
 // Line 6 is the blank. Behind it the server is started twice, should it have stopped, and each time it is waited until it is filled.
@@ -79,6 +82,14 @@ fn stops(alloc: Global, plan: &str) -> Result<(), Fail> {
     met_behind_the_boot(alloc, plan, "failed 0; stopped 1; committed 0")
 }
 
+fn fails_late(alloc: Global, plan: &str) -> Result<(), Fail> {
+    met_behind_the_boot(alloc, plan, "failed 1; stopped 0; committed 1")
+}
+
+fn stops_late(alloc: Global, plan: &str) -> Result<(), Fail> {
+    met_behind_the_boot(alloc, plan, "failed 0; stopped 1; committed 1")
+}
+
 // Behind the calls that make the store, of which the last one opens its gate, and the two syncs as it is read again.
 #[test]
 fn the_commit_of_its_own_join_is_cut_off(rt: HostRuntime) -> Result<(), Fail> {
@@ -89,6 +100,15 @@ fn the_commit_of_its_own_join_is_cut_off(rt: HostRuntime) -> Result<(), Fail> {
     stops(rt.alloc(), "write 5 stop")?;
     fails(rt.alloc(), "sync 8")?;
     stops(rt.alloc(), "sync 8 stop")
+}
+
+#[test]
+fn a_commit_of_the_fill_is_made_and_its_server_stops(rt: HostRuntime) -> Result<(), Fail> {
+    // of its own join, and of the first put of a copy
+    fails_late(rt.alloc(), "sync 8 late")?;
+    stops_late(rt.alloc(), "sync 8 late stop")?;
+    fails_late(rt.alloc(), "sync 11 late")?;
+    stops_late(rt.alloc(), "sync 11 late stop")
 }
 
 #[test]

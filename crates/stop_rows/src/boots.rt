@@ -68,16 +68,16 @@ fn two_neighbours_start_again(rt: HostRuntime) -> Result<(), Fail> {
     play(rt.alloc(), &row)
 }
 
-/// The state device of server 0, which is armed while the server is stopped, fails in such a call of the boot. It does so no less
-/// where the plan stops the server.
-fn failing_boot(alloc: Global, plan: &str) -> Result<(), Fail> {
+/// The state device of server 0, which is armed while the server is stopped, fails in such a call of the boot, which has raised the
+/// incarnation or not. It does so no less where the plan stops the server.
+fn failing_boot(alloc: Global, plan: &str, committed: u32) -> Result<(), Fail> {
     let steps = format!(in alloc;
-        "op calls 2; 0 stops; 0 shows 2; seen 0>op; wait; op calls 4; 0 arms state {plan}; 0 boots; failed 1; stopped 0; not 0 ticks; not 0 boots;
-        not sent 2 down 0>1; 0 shows 4; seen 0>op; line 4 failed; op calls 5; 0 boots; failed 1; sent 2 down 0>1; 0 shows 5; seen 0>op; line 5 ok;
+        "op calls 2; 0 stops; 0 shows 2; seen 0>op; wait; op calls 4; 0 arms state {plan}; 0 boots; failed 1; stopped 0; committed {committed};
+        not 0 ticks; not 0 boots; not sent 2 down 0>1; 0 shows 4; seen 0>op; line 4 failed; op calls 5; 0 boots; failed 1; sent 2 down 0>1; 0 shows 5; seen 0>op; line 5 ok;
         play out; line 7 ok; line 9 ok; line 11 fill 7"
     )?;
     let row = Row {
-        shows: "a device fails in a boot: the server stays stopped as the same incarnation, tells nobody, and boots for the next line",
+        shows: "a device fails in a boot: the server stays stopped, tells nobody, and boots for the next line",
         script: "servers 3 slots 4\nop stop 0\nwait\nop start 0\nop start 0\nwait\na disk vol on 0 1 2\nwait\na write vol 0 fill 7\nwait
 b read vol 0\n",
         steps: steps.as_str(),
@@ -98,7 +98,17 @@ fn boots_that_fail(rt: HostRuntime) -> Result<(), Fail> {
         "sync 3 stop",
         "sync 4 stop",
     ] {
-        failing_boot(rt.alloc(), plan)?;
+        failing_boot(rt.alloc(), plan, 0)?;
     }
     Ok(())
+}
+
+#[test]
+fn boots_that_fail_late(rt: HostRuntime) -> Result<(), Fail> {
+    // what is written and not synced is lost, and the last sync is that of the commit
+    failing_boot(rt.alloc(), "write 1 late", 0)?;
+    failing_boot(rt.alloc(), "write 2 late stop", 0)?;
+    failing_boot(rt.alloc(), "sync 3 late", 0)?;
+    failing_boot(rt.alloc(), "sync 4 late", 1)?;
+    failing_boot(rt.alloc(), "sync 4 late stop", 1)
 }

@@ -78,21 +78,21 @@ fn device_by(chance: &mut Chance) -> (ServerId, Which) {
     (server, which)
 }
 
-/// One of its first calls fails.
-fn plan_by(chance: &mut Chance, stop: bool) -> Plan {
+/// One of its first calls fails, or one of its first syncs after its work.
+fn plan_by(chance: &mut Chance, stop: bool, late: bool) -> Plan {
     Plan {
-        kind: CallKind::Any,
+        kind: if late { CallKind::Sync } else { CallKind::Any },
         at: chance.below(40).saturating_add(1) as u32,
         stop,
-        late: false,
+        late,
     }
 }
 
-fn simulate_failing(alloc: Global, seed: u32, stop: bool) -> Result<Count, Fail> {
+fn simulate_failing(alloc: Global, seed: u32, stop: bool, late: bool) -> Result<Count, Fail> {
     let mut chance = Chance::new(seed);
     let text = script_by(alloc, &mut chance)?;
     let (server, which) = device_by(&mut chance);
-    let plan = plan_by(&mut chance, stop);
+    let plan = plan_by(&mut chance, stop, late);
     let mut run = start(alloc, text.as_str())?;
     run.arm(alloc, server, which, Some(plan))?;
     simulate(alloc, seed, Habit::Even, chance, run)
@@ -102,7 +102,7 @@ fn simulate_failing(alloc: Global, seed: u32, stop: bool) -> Result<Count, Fail>
 fn worlds_whose_devices_fail(rt: HostRuntime) -> Result<(), Fail> {
     let mut all = Count::new();
     for seed in 1..21 {
-        all = all.and(simulate_failing(rt.alloc(), seed, false)?);
+        all = all.and(simulate_failing(rt.alloc(), seed, false, false)?);
     }
     assert!(rt; all.answered >= 400, "{all:?}");
     assert!(rt; all.faults >= 12, "{all:?}");
@@ -113,10 +113,54 @@ fn worlds_whose_devices_fail(rt: HostRuntime) -> Result<(), Fail> {
 fn worlds_whose_devices_stop_their_servers(rt: HostRuntime) -> Result<(), Fail> {
     let mut all = Count::new();
     for seed in 1..21 {
-        all = all.and(simulate_failing(rt.alloc(), seed, true)?);
+        all = all.and(simulate_failing(rt.alloc(), seed, true, false)?);
     }
     assert!(rt; all.answered >= 400, "{all:?}");
     assert!(rt; all.stopped_in >= 12, "{all:?}");
+    Ok(())
+}
+
+#[test]
+fn worlds_whose_devices_fail_late(rt: HostRuntime) -> Result<(), Fail> {
+    let mut all = Count::new();
+    for seed in 1..21 {
+        all = all.and(simulate_failing(rt.alloc(), seed, false, true)?);
+    }
+    assert!(rt; all.answered >= 400, "{all:?}");
+    assert!(rt; all.faults >= 6, "{all:?}");
+    assert!(rt; all.committed_jobs >= 2, "{all:?}");
+    Ok(())
+}
+
+#[test]
+fn worlds_whose_devices_stop_their_servers_late(rt: HostRuntime) -> Result<(), Fail> {
+    let mut all = Count::new();
+    for seed in 1..21 {
+        all = all.and(simulate_failing(rt.alloc(), seed, true, true)?);
+    }
+    assert!(rt; all.answered >= 400, "{all:?}");
+    assert!(rt; all.stopped_in >= 6, "{all:?}");
+    assert!(rt; all.committed_stops >= 2, "{all:?}");
+    Ok(())
+}
+
+fn simulate_struck(alloc: Global, seed: u32) -> Result<Count, Fail> {
+    let mut chance = Chance::new(seed);
+    let text = script_with_starts(alloc, &mut chance)?;
+    let run = start(alloc, text.as_str())?;
+    simulate(alloc, seed, Habit::Struck, chance, run)
+}
+
+#[test]
+fn worlds_whose_servers_are_struck_late_and_start_again(rt: HostRuntime) -> Result<(), Fail> {
+    let mut all = Count::new();
+    for seed in 1..21 {
+        all = all.and(simulate_struck(rt.alloc(), seed)?);
+    }
+    assert!(rt; all.answered >= 300, "{all:?}");
+    assert!(rt; all.committed_jobs >= 2, "{all:?}");
+    assert!(rt; all.committed_boots >= 2, "{all:?}");
+    assert!(rt; all.committed_stops >= 2, "{all:?}");
     Ok(())
 }
 

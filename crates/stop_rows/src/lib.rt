@@ -15,6 +15,8 @@ mod chances;
 #[cfg(test)]
 mod faults;
 #[cfg(test)]
+mod late_faults;
+#[cfg(test)]
 mod moves;
 #[cfg(test)]
 mod plans;

@@ -14,6 +14,11 @@ const PUT: &str =
     "a calls 2; agree; wait; a calls 4; write a>0; 0 works; reserve 0>1; 1 works; reserved 1>0; 0 works; 0 works; not sent 1 replicate 0>1; told begin;
     op calls 5; 0 stops; 0 shows 5; seen 0>op; line 5 ok";
 
+// The same, but server 0 has failed right after it has put.
+const PUT_LATE: &str =
+    "a calls 2; agree; wait; a calls 4; 0 arms data sync 5 late; write a>0; 0 works; reserve 0>1; 1 works; reserved 1>0; 0 works; failed 0; 0 works;
+    failed 1; committed 1; not sent 1 replicate 0>1; told begin; op calls 5; not 0 stops; 0 shows 5; seen 0>op; line 5 ok";
+
 // Servers 1 and 2 choose the Leave of server 0.
 const LEAVE: &str =
     "down 0>1; 1 works off; 1 ticks; 1 works off; drop prepare 1>0; prepare 1>1; prepare 1>2; 1 works off; 2 works off; promise 1>1; promise 2>1;
@@ -60,15 +65,18 @@ const SHOWN: &str =
 
 #[test]
 fn a_put_that_was_not_sent(rt: HostRuntime) -> Result<(), Fail> {
-    let steps = format!(in rt.alloc();
-        "{PUT}; {LEAVE}; {STARTS}; {JOIN}; {BALLOT_OF_0}; {COPIED}; {BALLOT_OF_1}; {ALONE}; {ASKED}; {SHOWN}"
-    )?;
-    let row = Row {
-        shows: "the other server hears of the mark of the one that returns, and its put, which never counted, is taken away",
-        script: PRIMARY_RETURNS,
-        steps: steps.as_str(),
-    };
-    play(rt.alloc(), &row)
+    for put in [PUT, PUT_LATE] {
+        let steps = format!(in rt.alloc();
+            "{put}; {LEAVE}; {STARTS}; {JOIN}; {BALLOT_OF_0}; {COPIED}; {BALLOT_OF_1}; {ALONE}; {ASKED}; {SHOWN}"
+        )?;
+        let row = Row {
+            shows: "the other server hears of the mark of the one that returns, and its put, which never counted, is taken away",
+            script: PRIMARY_RETURNS,
+            steps: steps.as_str(),
+        };
+        play(rt.alloc(), &row)?;
+    }
+    Ok(())
 }
 
 const UNHEARD: &str = "drop down 0>1; drop down 0>2";

@@ -3,7 +3,7 @@
 use crate::answers::{is_done, is_no_space, is_shown, is_unavailable};
 use crate::run::Run;
 use petal_msg::Body;
-use petal_world::{Host, Step, WorkEnd};
+use petal_world::{CommitEnd, Host, Step, WorkEnd};
 use script_lines::{Answer, Request};
 use world_told::old_reads;
 
@@ -36,6 +36,12 @@ pub struct Count {
     pub faults: usize,
     /// The jobs in which a plan stopped the server.
     pub stopped_in: usize,
+    /// The jobs that had made their commit when a device failed in them.
+    pub committed_jobs: usize,
+    /// The boots that had made theirs.
+    pub committed_boots: usize,
+    /// The jobs that had made their commit when a plan stopped the server in them.
+    pub committed_stops: usize,
     /// The jobs right after whose commit the server stopped, so that nobody got its letters.
     pub cut_jobs: usize,
     /// The boots right after which the server stopped, so that nobody heard of it.
@@ -59,6 +65,9 @@ impl Count {
             boots: 0,
             faults: 0,
             stopped_in: 0,
+            committed_jobs: 0,
+            committed_boots: 0,
+            committed_stops: 0,
             cut_jobs: 0,
             cut_boots: 0,
         }
@@ -80,6 +89,9 @@ impl Count {
             boots: self.boots.saturating_add(more.boots),
             faults: self.faults.saturating_add(more.faults),
             stopped_in: self.stopped_in.saturating_add(more.stopped_in),
+            committed_jobs: self.committed_jobs.saturating_add(more.committed_jobs),
+            committed_boots: self.committed_boots.saturating_add(more.committed_boots),
+            committed_stops: self.committed_stops.saturating_add(more.committed_stops),
             cut_jobs: self.cut_jobs.saturating_add(more.cut_jobs),
             cut_boots: self.cut_boots.saturating_add(more.cut_boots),
         }
@@ -147,5 +159,8 @@ pub fn counted<H: Host>(run: &Run<H>) -> Count {
     count.boots = steps(run, &Step::Boot(WorkEnd::Done));
     count.faults = run.failed();
     count.stopped_in = run.stopped();
+    count.committed_jobs = steps(run, &Step::Work(WorkEnd::Fault(CommitEnd::After)));
+    count.committed_boots = steps(run, &Step::Boot(WorkEnd::Fault(CommitEnd::After)));
+    count.committed_stops = steps(run, &Step::StopIn(CommitEnd::After));
     count
 }

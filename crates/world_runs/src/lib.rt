@@ -15,6 +15,7 @@ mod run;
 mod schedule;
 mod scripts;
 mod simulation;
+mod struck;
 
 pub use chance::Chance;
 pub use count::Count;

@@ -266,11 +266,11 @@ impl<H: Host> Run<H> {
             .count()
     }
 
-    /// How many of these had made their commit.
+    /// How many of all these had made their commit.
     pub fn committed(&self) -> usize {
         self.records()
             .iter()
-            .filter(|record| record.step == Step::StopIn(CommitEnd::After))
+            .filter(|record| has_committed(&record.step))
             .count()
     }
 
@@ -337,6 +337,16 @@ fn has_failed(step: &Step) -> bool {
 fn has_stopped(step: &Step) -> bool {
     match step {
         Step::StopIn(_) => true,
+        _ => false,
+    }
+}
+
+/// Whether the job or the boot had made its commit when a device failed in it, or a plan stopped the server.
+fn has_committed(step: &Step) -> bool {
+    match step {
+        Step::Work(WorkEnd::Fault(CommitEnd::After))
+        | Step::Boot(WorkEnd::Fault(CommitEnd::After))
+        | Step::StopIn(CommitEnd::After) => true,
         _ => false,
     }
 }

@@ -14,6 +14,7 @@
 //! | `1 stops` | the server stops: the operator's open line is its stop |
 //! | `1 blanks` | the stopped server gets a blank data device: the operator's open line is its blank |
 //! | `1 arms data write 3`, `1 arms state any 2 stop` | the third write of the server's data device from now on fails; the second call of its state device stops the server in it |
+//! | `1 arms data sync 3 late`, `1 arms state sync 1 late stop` | the same, but a write or a sync fails only after it has done all of its work |
 //! | `1 disarms data` | the device has no plan from now on |
 //! | `1 boots` | the stopped server boots: the operator's open line is its start, or has blanked it |
 //! | `1 shows 4` | the server is glanced at, for the operator's open line 4, which has given it each of its steps |
@@ -37,7 +38,7 @@
 //! | `made 2` | the plain machine is told so far that so many disks are made |
 //! | `failed 1` | so many jobs and boots ended so far since a device failed |
 //! | `stopped 1` | so many jobs ended so far since a plan stopped the server |
-//! | `committed 1` | so many of these had made their commit |
+//! | `committed 1` | so many of all these had made their commit |
 //! | `sent 4 write a>1` | at least so many letters of this kind and way were sent |
 //! | `owners 8 data 0>a` | the block that the last such letter brings has at least so many owners |
 //!

@@ -5,6 +5,7 @@ use crate::count::{Count, counted};
 use crate::cuts::{boot_cut_off, stop_cut_off};
 use crate::rounds::begin;
 use crate::run::{Order, Run};
+use crate::struck::{arm_running, arm_stopped};
 use petal_base::{NoMemory, OPERATOR, ServerId};
 use petal_msg::{Actor, SharedLetter};
 use petal_world::Host;
@@ -33,6 +34,9 @@ pub enum Habit {
     /// A server that is to stop does so right after the commit of a job, and nobody gets the letters of that job; or right after
     /// a boot, and nobody hears of it.
     CutOff,
+    /// Where a server is to stop, one of its devices mostly gets a plan in the place of that, by which a sync fails only after it has
+    /// synced; where one is to start, its state device gets one before the boot.
+    Struck,
     /// The first phase is over when the choices begin, several letters are handed over in one, few of them late, and ticks come
     /// when nothing waits, most of them to servers: so that what takes many ballots, as a snapshot does, comes about.
     Brisk,
@@ -44,7 +48,7 @@ impl Habit {
     fn is_brisk(self) -> bool {
         match self {
             Habit::Brisk | Habit::Long => true,
-            Habit::Even | Habit::CutOff => false,
+            Habit::Even | Habit::CutOff | Habit::Struck => false,
         }
     }
 
@@ -52,7 +56,7 @@ impl Habit {
     fn steps(self) -> usize {
         match self {
             Habit::Long => LONG,
-            Habit::Even | Habit::CutOff | Habit::Brisk => STEPS,
+            Habit::Even | Habit::CutOff | Habit::Struck | Habit::Brisk => STEPS,
         }
     }
 }
@@ -177,7 +181,27 @@ impl Choice {
         run.show(alloc, server, line, round)
     }
 
-    // The server takes the next step that the line gives it, or is cut off where that is to be.
+    // A device of the server gets a plan: in the place of its stop, mostly, or before its boot.
+    fn strike<H: Host>(
+        &mut self,
+        alloc: Global,
+        run: &mut Run<H>,
+        order: Order,
+        server: ServerId,
+    ) -> Result<bool, NoMemory> {
+        match order {
+            Order::Stop if self.chance.below(PATIENCE) > 0 => {
+                arm_running(alloc, &mut self.chance, run, server)
+            }
+            Order::Start => {
+                arm_stopped(alloc, &mut self.chance, run, server)?;
+                run.follow(alloc, order, server)
+            }
+            Order::Stop | Order::Blank => run.follow(alloc, order, server),
+        }
+    }
+
+    // The server takes the next step that the line gives it, or is cut off or struck where that is to be.
     fn follow<H: Host>(
         &mut self,
         alloc: Global,
@@ -198,6 +222,7 @@ impl Choice {
                 self.cut_boots = self.cut_boots.saturating_add(usize::from(cut));
                 Ok(cut)
             }
+            (Habit::Struck, _) => self.strike(alloc, run, order, server),
             _ => run.follow(alloc, order, server),
         }
     }

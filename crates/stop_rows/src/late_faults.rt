@@ -1,0 +1,111 @@
+//! A device fails in a sync only after it has synced: where that was the last sync of a commit, the commit is made.
+
+use memory_runs::play;
+use std::alloc::Global;
+use std::test::Fail;
+use world_runs::Row;
+
+// Of three servers, server 0 leads block 0, and server 1 is second.
+const SCRIPT: &str =
+    "servers 3 slots 4\na disk vol on 0 1 2\nwait\na write vol 0 fill 7\nwait\nb read vol 0\n";
+
+fn late_sync(alloc: Global, device: &str, at: usize, told: &str) -> Result<(), Fail> {
+    let steps = format!(in alloc;
+        "{device} sync {at} late; play out; {told}; line 2 ok; line 4 ok; line 6 fill 7"
+    )?;
+    let row = Row {
+        shows: "a device fails late, and each line is answered as if it had not",
+        script: SCRIPT,
+        steps: steps.as_str(),
+    };
+    play(alloc, &row)
+}
+
+/// Each of the first syncs of the device since the run began fails late in turn. It has made a commit, or none.
+fn each_sync(alloc: Global, device: &str, commits: &[u32]) -> Result<(), Fail> {
+    for (at, committed) in commits.iter().enumerate() {
+        let told = format!(in alloc; "failed 1; stopped 0; committed {committed}")?;
+        late_sync(alloc, device, at.saturating_add(1), told.as_str())?;
+    }
+    Ok(())
+}
+
+/// There are no more syncs than these.
+fn no_more_syncs(alloc: Global, device: &str, syncs: usize) -> Result<(), Fail> {
+    late_sync(
+        alloc,
+        device,
+        syncs.saturating_add(1),
+        "failed 0; stopped 0; committed 0",
+    )
+}
+
+// The block is marked, put, and its mark is taken away: a record behind its gate, and the gate; before a put the content.
+#[test]
+fn each_sync_of_the_leads_data_device(rt: HostRuntime) -> Result<(), Fail> {
+    let commits = [0, 1, 0, 0, 1, 0, 1];
+    each_sync(rt.alloc(), "0 arms data", &commits)?;
+    no_more_syncs(rt.alloc(), "0 arms data", commits.len())
+}
+
+#[test]
+fn each_sync_of_the_seconds_data_device(rt: HostRuntime) -> Result<(), Fail> {
+    each_sync(rt.alloc(), "1 arms data", &[0, 0, 1])?;
+    no_more_syncs(rt.alloc(), "1 arms data", 3)
+}
+
+#[test]
+fn syncs_of_the_leads_state_device(rt: HostRuntime) -> Result<(), Fail> {
+    each_sync(rt.alloc(), "0 arms state", &[0, 1, 0, 1, 0, 1])
+}
+
+#[test]
+fn syncs_of_the_seconds_state_device(rt: HostRuntime) -> Result<(), Fail> {
+    each_sync(rt.alloc(), "1 arms state", &[0, 1, 0, 1, 0, 1])
+}
+
+/// What a late write has written is lost, as it was not synced.
+#[test]
+fn writes_that_are_late(rt: HostRuntime) -> Result<(), Fail> {
+    for device in [
+        "0 arms data write 2 late",
+        "0 arms data write 5 late stop",
+        "1 arms data write 3 late",
+        "1 arms state write 2 late stop",
+    ] {
+        let steps = format!(in rt.alloc();
+            "{device}; play out; committed 0; line 2 ok; line 4 ok; line 6 fill 7"
+        )?;
+        let row = Row {
+            shows: "a write of a gate fails late, and its commit is not made",
+            script: SCRIPT,
+            steps: steps.as_str(),
+        };
+        play(rt.alloc(), &row)?;
+    }
+    Ok(())
+}
+
+#[test]
+fn stopped_after_a_put(rt: HostRuntime) -> Result<(), Fail> {
+    let rows: [Row; 2] = [
+        Row {
+            shows: "the lead is stopped right after its put, of which nobody is told: the second server puts what the client sends again",
+            script: SCRIPT,
+            steps: "a calls 2; agree; wait; a calls 4; 0 arms data sync 5 late stop; write a>0; 0 works; reserve 0>1; 1 works; reserved 1>0; 0 works;
+                stopped 0; 0 works; stopped 1; committed 1; failed 0; not 0 works; sent 1 down 0>1; sent 1 down 0>2; not sent 1 replicate 0>1; told begin;
+                agree without 0; line 4 ok; wait; b calls 6; agree without 0; line 6 fill 7; told begin take end look",
+        },
+        Row {
+            shows: "the second server is stopped right after its put, of which nobody is told: the write takes effect, and the lead goes on alone",
+            script: SCRIPT,
+            steps: "a calls 2; agree; wait; a calls 4; 1 arms data sync 3 late stop; write a>0; 0 works; reserve 0>1; 1 works; reserved 1>0; 0 works off;
+                replicate 0>1; told begin; 1 works; stopped 1; committed 1; failed 0; not sent 1 replicated 1>0; told begin; agree without 1; line 4 ok;
+                told begin take end; wait; b calls 6; agree without 1; line 6 fill 7; told begin take end look",
+        },
+    ];
+    for row in rows {
+        play(rt.alloc(), &row)?;
+    }
+    Ok(())
+}
