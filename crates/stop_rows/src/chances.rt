@@ -158,9 +158,9 @@ fn worlds_whose_servers_are_struck_late_and_start_again(rt: HostRuntime) -> Resu
         all = all.and(simulate_struck(rt.alloc(), seed)?);
     }
     assert!(rt; all.answered >= 300, "{all:?}");
-    assert!(rt; all.committed_jobs >= 2, "{all:?}");
-    assert!(rt; all.committed_boots >= 2, "{all:?}");
-    assert!(rt; all.committed_stops >= 2, "{all:?}");
+    assert!(rt; all.committed_jobs >= 3, "{all:?}");
+    assert!(rt; all.committed_boots >= 5, "{all:?}");
+    assert!(rt; all.committed_stops >= 5, "{all:?}");
     Ok(())
 }
 

@@ -97,11 +97,10 @@ fn stopped_after_a_put(rt: HostRuntime) -> Result<(), Fail> {
                 agree without 0; line 4 ok; wait; b calls 6; agree without 0; line 6 fill 7; told begin take end look",
         },
         Row {
-            shows: "the second server is stopped right after its put, of which nobody is told: the write takes effect, and the lead goes on alone",
+            shows: "the second server is stopped right after its put, of which nobody is told: the write has taken effect, and the lead goes on alone",
             script: SCRIPT,
             steps: "a calls 2; agree; wait; a calls 4; 1 arms data sync 3 late stop; write a>0; 0 works; reserve 0>1; 1 works; reserved 1>0; 0 works off;
-                replicate 0>1; told begin; 1 works; stopped 1; committed 1; failed 0; not sent 1 replicated 1>0; told begin; agree without 1; line 4 ok;
-                told begin take end; wait; b calls 6; agree without 1; line 6 fill 7; told begin take end look",
+                replicate 0>1; 1 works; stopped 1; committed 1; failed 0; not sent 1 replicated 1>0; agree without 1; line 4 ok; wait; b calls 6; agree without 1; line 6 fill 7; told begin take end look",
         },
     ];
     for row in rows {
