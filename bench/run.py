@@ -32,6 +32,12 @@ def measure(command, text):
             out = sink.read()
     return best, peak, out
 
+def beyond(total, start_up):
+    """What a run took beyond its start-up, where the two can be told apart."""
+    if total <= start_up:
+        sys.exit("a whole run took no longer than its start-up: the machine is too busy to measure on, run it again")
+    return total - start_up
+
 def time_move():
     """Moves a disk of 1,000 blocks from five servers to three."""
     empty = "servers 5 slots 1024\na disk vol on 0 1 2 3 4\nwait\n"
@@ -40,8 +46,9 @@ def time_move():
     (start_up, _, _), (written, _, _), (moved, peak, out) = (measure(PETAL, text.encode()) for text in (empty, writes, moves))
     if not out.endswith(f"{BLOCKS + 5}: ok\n{BLOCKS + 7}: ok\n".encode()):
         sys.exit("the disk was not moved")
-    times = (moved - written) / max(written - start_up, 1e-9)
-    print(f"{BLOCKS} blocks: written in {(written - start_up) * 1000:.1f} ms, moved from five servers to three in "
+    writing = beyond(written, start_up)
+    times = (moved - written) / writing
+    print(f"{BLOCKS} blocks: written in {writing * 1000:.1f} ms, moved from five servers to three in "
           f"{(moved - written) * 1000:.1f} ms, {times:.1f} times as long; peak {peak:.0f} MiB")
     if times > MOST_TIMES:
         sys.exit(f"that is more than {MOST_TIMES} times")
@@ -58,9 +65,10 @@ def main():
         for name, command in rows.items():
             start_up, _, _ = measure(command, empty)
             total, peak, out = measure(command, script)
-            results[name] = (total - start_up, out)
+            work = beyond(total, start_up)
+            results[name] = (work, out)
             print(f"{name}: {total * 1000:.1f} ms, of it {start_up * 1000:.1f} ms start-up; "
-                  f"{requests / max(total - start_up, 1e-9):,.0f} requests a second beyond start-up; peak {peak:.0f} MiB")
+                  f"{requests / work:,.0f} requests a second beyond start-up; peak {peak:.0f} MiB")
     if results["petal"][1] != results["plain C"][1]:
         sys.exit("the two programs answered differently")
     print(f"ratio beyond start-up: {results['petal'][0] / results['plain C'][0]:.1f}")
