@@ -7,13 +7,6 @@ use Rattle.block_journal.specs.Region.{Region}
 use Rattle.block_journal.proofs.Frame.{stands_once}
 use Rattle.disk_moments.specs.Moments.{LeftIn, LeftSince, Remembers, WasLeft}
 
--- a crash may leave what is there now
-pub mixes_now : (now kept : List ℕ) → length kept ≡ length now → Mixes now kept now
-mixes_now [] [] same = tt
-mixes_now [] (b ∷ kept) same = absurd (omega (arith, same))
-mixes_now (a ∷ now) [] same = absurd (omega (arith, same))
-mixes_now (a ∷ now) (b ∷ kept) same = (inl refl, mixes_now now kept (omega (arith, same)))
-
 -- what an earlier disk might have left is remembered
 pub left_earlier : {D : Type 0} (may_leave : D → List ℕ → Type 0) (between past : List D) (d : D) (c : List ℕ) → may_leave d c
     → LeftIn may_leave (between ++ d ∷ past) (length past) c

@@ -47,7 +47,6 @@ impl Remembering {
 impl Disk for Remembering {
     ghost use Rattle.std.specs.Prelude.{length};
     ghost use Rattle.std.proofs.Common.{inl, inr, refl};
-    ghost use Rattle.petal_disk.specs.Mixes.{length-Mixes};
     ghost use Rattle.disk_moments.specs.Moments.{LeftSince, Remembers, only_here, remembers_on};
 
     ghost size = { λ r. ⟦<MemDisk as Disk>⟧.size r.disk };
@@ -66,9 +65,9 @@ impl Disk for Remembering {
 
     ghost came_to = { λ first last. Remembers first.past.items first.disk last.past.items last.disk };
 
-    ghost whole = { λ r told. refl };
+    ghost whole = { λ r told. ⟦<MemDisk as Disk>⟧.whole r.disk told };
 
-    ghost left_whole = { λ r c left. length-Mixes r.disk.now.items r.disk.kept.items c left };
+    ghost left_whole = { λ r c left. ⟦<MemDisk as Disk>⟧.left_whole r.disk c left };
 
     ghost counts_now = { λ r t c le now. inl now };
 

@@ -1,7 +1,8 @@
 mod Fronts
 pub mod Keeping
 mod Kept
-mod Mixed
+pub mod Mixed
 pub mod Moments
+pub mod Padding
 pub mod Struck
 pub mod Tearing

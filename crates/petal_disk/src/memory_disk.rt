@@ -1,32 +1,56 @@
 //! A disk in memory: what was written, and what was there at the last sync. No call fails.
 
-ghost use Rattle.std.specs.Prelude.{◌≡◌, ◌≤◌, ◌+◌, length, take, drop, replicate, IfOk};
-ghost use Rattle.std.proofs.Common.{refl};
+ghost use Rattle.std.specs.Prelude.{◌≡◌, ◌≤◌, ◌+◌, ◌-◌, ◌++◌, length, take, drop, replicate, vec_capacity, IfOk};
+ghost use Rattle.std.specs.Bool.{OnTrue};
 ghost use Rattle.petal_disk.specs.Disk.{written, Only};
-ghost use Rattle.petal_disk.specs.Mixes.{Mixes, length-Mixes};
+ghost use Rattle.petal_disk.specs.Mixes.{Mixes};
+ghost use Rattle.petal_disk.specs.Padded.{padded, length-padded, length-left};
 
 use crate::{Disk, Failed, NoMemory};
 use std::alloc::Global;
 
-/// A disk in memory of a fixed length, which never fails. It holds twice its length; a crash leaves what was there at the
-/// last sync.
+/// A disk in memory of a fixed length, which never fails. Room for twice its length is set apart at the start, so that no write
+/// needs more; a page of it is touched only once bytes up to there were written. A crash leaves what was there at the last sync.
 #[derive(Drop)]
 pub struct MemDisk {
+    // the bytes up to the last that was ever written; after it all are zeros
     now: Vec<u8>,
     kept: Vec<u8>,
+    len: usize,
     // what was written since the last sync lies from low up to high
     low: usize,
     high: usize,
     ghost same_size: { length kept.items ≡ length now.items },
     ghost same_before: { take low kept.items ≡ take low now.items },
     ghost same_behind: { drop high kept.items ≡ drop high now.items },
-    ghost low_within: { low ≤ length now.items },
     ghost high_within: { high ≤ length now.items },
+    ghost within: { length now.items ≤ len },
+    ghost room_now: { len ≤ vec_capacity now },
+    ghost room_kept: { len ≤ vec_capacity kept },
+}
+
+// Brings zeros into memory, up to so many bytes.
+fn grow(bytes: &mut Vec<u8>, end: usize)
+    requires { end ≤ vec_capacity bytes.old }
+    ensures items { bytes.new.items ≡ bytes.old.items ++ replicate (end - length bytes.old.items) 0 }
+    ensures room { vec_capacity bytes.old ≤ vec_capacity bytes.new }
+{
+    if bytes.len() < end {
+        let _ = bytes.resize(end, 0);
+    }
+}
+
+// Whether all are zeros.
+fn are_zeros(bytes: &[u8]) -> bool
+    ensures { OnTrue result (bytes.now ≡ replicate (length bytes.now) 0) }
+{
+    bytes.iter().all(|byte| *byte == 0)
 }
 
 fn put(into: &mut Vec<u8>, at: usize, bytes: &[u8])
     requires { at + length bytes.now ≤ length into.old.items }
-    ensures { into.new.items ≡ written into.old.items at bytes.now }
+    ensures items { into.new.items ≡ written into.old.items at bytes.now }
+    ensures room { vec_capacity into.new ≡ vec_capacity into.old }
 {
     into[at..at + bytes.len()].copy_from_slice(bytes);
 }
@@ -36,9 +60,9 @@ fn bring_over(from: &Vec<u8>, to: &mut Vec<u8>, low: usize, high: usize)
     requires size { length to.old.items ≡ length from.now.items }
     requires before { take low to.old.items ≡ take low from.now.items }
     requires behind { drop high to.old.items ≡ drop high from.now.items }
-    requires low { low ≤ length from.now.items }
     requires high { high ≤ length from.now.items }
-    ensures { to.new.items ≡ from.now.items }
+    ensures items { to.new.items ≡ from.now.items }
+    ensures room { vec_capacity to.new ≡ vec_capacity to.old }
 {
     if low < high {
         put(to, low, &from[low..high]);
@@ -46,7 +70,7 @@ fn bring_over(from: &Vec<u8>, to: &mut Vec<u8>, low: usize, high: usize)
 }
 
 impl MemDisk {
-    /// A disk of zeros, which a crash leaves too. It takes all its memory here.
+    /// A disk of zeros, which a crash leaves too. It sets all its memory apart here.
     pub fn new(alloc: Global, len: u64) -> Result<Self, NoMemory>
         ensures size { IfOk result (λ disk. ⟦<MemDisk as Disk>⟧.size disk ≡ len) }
         ensures seen { IfOk result (λ disk. ⟦<MemDisk as Disk>⟧.seen disk ≡ replicate len 0) }
@@ -54,8 +78,9 @@ impl MemDisk {
     {
         let len = len as usize;
         Ok(MemDisk {
-            now: vec![in alloc; 0; len]?,
-            kept: vec![in alloc; 0; len]?,
+            now: Vec::with_capacity(alloc, len)?,
+            kept: Vec::with_capacity(alloc, len)?,
+            len,
             low: len,
             high: 0,
         })
@@ -63,25 +88,25 @@ impl MemDisk {
 }
 
 impl Disk for MemDisk {
-    ghost size = { λ m. length m.now.items };
+    ghost size = { λ m. m.len };
 
     ghost told = { Unit {0} };
 
-    ghost seen = { λ m. m.now.items };
+    ghost seen = { λ m. padded m.now.items m.len };
 
-    ghost may_leave = { λ m c. Mixes m.now.items m.kept.items c };
+    ghost may_leave = { λ m c. Mixes (padded m.now.items m.len) (padded m.kept.items m.len) c };
 
     ghost moment = { λ m. 0 };
 
-    ghost left_since = { λ m t c. Mixes m.now.items m.kept.items c };
+    ghost left_since = { λ m t c. Mixes (padded m.now.items m.len) (padded m.kept.items m.len) c };
 
     ghost faults = { λ m. 0 };
 
     ghost came_to = { λ first last. Unit {0} };
 
-    ghost whole = { λ m _. refl };
+    ghost whole = { λ m _. length-padded m.now.items m.len m.within };
 
-    ghost left_whole = { λ m c left. length-Mixes m.now.items m.kept.items c left };
+    ghost left_whole = { λ m c left. length-left m.now.items m.kept.items m.len c m.within left };
 
     ghost counts_now = { λ m t c le now. now };
 
@@ -92,18 +117,31 @@ impl Disk for MemDisk {
     ghost goes_on = { λ first mid last a b. tt };
 
     fn len(&self) -> u64 {
-        self.now.len() as u64
+        self.len as u64
     }
 
     fn read(&mut self, at: u64, into: &mut [u8]) -> Result<(), Failed> {
         let at = at as usize;
-        into.copy_from_slice(&self.now[at..at + into.len()]);
+        let there = self.now.len();
+        if at + into.len() <= there {
+            into.copy_from_slice(&self.now[at..at + into.len()]);
+            return Ok(());
+        }
+        into.fill(0);
+        if at < there {
+            into[..there - at].copy_from_slice(&self.now[at..]);
+        }
         Ok(())
     }
 
     fn write_at(&mut self, at: u64, bytes: &[u8]) -> Result<(), Failed> {
         let at = at as usize;
         let end = at + bytes.len();
+        if self.now.len() <= at && are_zeros(bytes) {
+            return Ok(());
+        }
+        grow(&mut self.now, end);
+        grow(&mut self.kept, end);
         put(&mut self.now, at, bytes);
         self.low = self.low.min(at);
         self.high = self.high.max(end);
@@ -112,14 +150,14 @@ impl Disk for MemDisk {
 
     fn sync(&mut self) -> Result<(), Failed> {
         bring_over(&self.now, &mut self.kept, self.low, self.high);
-        self.low = self.now.len();
+        self.low = self.len;
         self.high = 0;
         Ok(())
     }
 
     fn crash(&mut self) {
         bring_over(&self.kept, &mut self.now, self.low, self.high);
-        self.low = self.now.len();
+        self.low = self.len;
         self.high = 0;
     }
 }

@@ -8,7 +8,7 @@ use Rattle.memory_server.proofs.Casting.{cast_more}
 use Rattle.memory_server.proofs.cast.started.Goals as goal
 
 abbrev fits : ℕ → Mounted (Planned MemDisk) → Type 0
-fits slots server = length server.store.disk.disk.now.items ≡ slot_start slots
+fits slots server = server.store.disk.disk.len ≡ slot_start slots
 
 pub loop-me-preserved : goal.loop-me-preserved
 loop-me-preserved c =

@@ -8,4 +8,4 @@ use Rattle.memory_server.proofs.cast.started.Given as goal
 
 abbrev pub invariant-loop-me : goal.invariant-loop-me
 invariant-loop-me l = (map site_of l.members ≡ map (first_site l.servers l.slots) (range_with_len 0 l.me))
-    × All (λ server. length server.store.disk.disk.now.items ≡ slot_start l.slots) l.members
+    × All (λ server. server.store.disk.disk.len ≡ slot_start l.slots) l.members

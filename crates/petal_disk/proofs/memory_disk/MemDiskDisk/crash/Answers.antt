@@ -1,22 +1,25 @@
-use Rattle.std.proofs.Common.{◌≡◌, List, ℕ, subst, sym}
+use Rattle.std.proofs.Common.{◌≡◌, List, ℕ, subst, sym, ap}
 use Rattle.petal_disk.specs.Mixes.{Mixes}
+use Rattle.petal_disk.specs.Padded.{padded}
 use Rattle.petal_disk.proofs.Mixed.{mixes_same, mixes_kept}
+use Rattle.petal_disk.proofs.Padding.{same_padded}
 use Rattle.petal_disk.proofs.memory_disk.MemDiskDisk.crash.Goals as goal
 
 pub returns-clause-left : goal.returns-clause-left
 returns-clause-left c _ =
     let old = c.args.self.now in
-    let same : c.bring_over.new.to.items ≡ old.kept.items = c.bring_over.ensures in
-    subst (Mixes old.now.items old.kept.items) (sym same) (mixes_kept old.now.items old.kept.items old.same_size)
+    let same : padded c.bring_over.new.to.items old.len ≡ padded old.kept.items old.len = ap (λ (l : List ℕ). padded l old.len) c.bring_over.ensures.items in
+    subst (Mixes (padded old.now.items old.len) (padded old.kept.items old.len)) (sym same) (mixes_kept _ _ (same_padded old.now.items old.kept.items old.len old.same_size))
 
 pub returns-clause-kept : goal.returns-clause-kept
 returns-clause-kept c _ left m =
-    let same : c.bring_over.new.to.items ≡ c.args.self.now.kept.items = c.bring_over.ensures in
-    mixes_same _ left (subst (λ (k : List ℕ). Mixes c.bring_over.new.to.items k left) (sym same) m)
+    let old = c.args.self.now in
+    let same : padded c.bring_over.new.to.items old.len ≡ padded old.kept.items old.len = ap (λ (l : List ℕ). padded l old.len) c.bring_over.ensures.items in
+    mixes_same _ left (subst (λ (k : List ℕ). Mixes (padded c.bring_over.new.to.items old.len) k left) (sym same) m)
 
 pub returns-clause-crash : goal.returns-clause-crash
 returns-clause-crash c left m =
     let old = c.args.self.now in
-    let same : c.bring_over.new.to.items ≡ old.kept.items = c.bring_over.ensures in
-    let all = mixes_same _ left (subst (λ (k : List ℕ). Mixes k old.kept.items left) same m) in
-    subst (Mixes old.now.items old.kept.items) (sym all) (mixes_kept old.now.items old.kept.items old.same_size)
+    let same : padded c.bring_over.new.to.items old.len ≡ padded old.kept.items old.len = ap (λ (l : List ℕ). padded l old.len) c.bring_over.ensures.items in
+    let all = mixes_same _ left (subst (λ (k : List ℕ). Mixes k (padded old.kept.items old.len) left) same m) in
+    subst (Mixes (padded old.now.items old.len) (padded old.kept.items old.len)) (sym all) (mixes_kept _ _ (same_padded old.now.items old.kept.items old.len old.same_size))
