@@ -35,7 +35,7 @@ use Rattle.law_steps.proofs.Letters.{one_post}
 use Rattle.law_steps.proofs.Letters.{said as said_in}
 use Rattle.law_steps.proofs.LogJobs.{LogFrame, letter_frame_of, start_frame_of, applied_entry, applied_none}
 use Rattle.law_steps.proofs.Turning.{client_turns}
-use Rattle.law_causes.proofs.MuteJobs.{IsMute, AreMute, none_mute, logged_mute}
+use Rattle.law_causes.proofs.Mute.{IsMute, AreMute, none_mute, logged_mute}
 use Rattle.law_causes.proofs.JobSayings.{tick_mute, IsTold, Mute_post, Rev_post, job_tells}
 
 -- ### Clients
