@@ -405,20 +405,13 @@ module _ {Was : Minded} (setting : Setting) (fair : IsFair setting) (w : World) 
   does_job : Runs → (first : Job) (rest : List Job) → (w.servers n).queue ≡ first ∷ rest
       → Remembers Was setting.servers n (w.servers n) (job_done here (w.servers n) first rest).server → Did (job_done here (w.servers n) first rest)
   does_job runs job.Apply rest is remembers = crosses runs job.Apply rest is
-  does_job runs (job.Letter letter) rest is remembers = either runs (job.Letter letter) rest is
-  does_job runs (job.Stage cell) rest is remembers = either runs (job.Stage cell) rest is
-  does_job runs (job.Mend link) rest is remembers = either runs (job.Mend link) rest is
-  does_job runs job.Sweep rest is remembers = either runs job.Sweep rest is
   does_job runs job.Start rest is remembers = starts_one runs job.Start rest is remembers
+  does_job runs first rest is remembers = either runs first rest is
 
   life_kept : Runs → (first : Job) (rest : List Job) → (job_done here (w.servers n) first rest).server.life.running ≡ true
-  life_kept runs job.Apply rest = runs
   life_kept runs (job.Letter letter) rest =
       by_test (λ (acted : Acted). acted.server.life.running ≡ true) (is_log_job (job.Letter letter)) _ _ (λ e. runs) (λ e. runs)
-  life_kept runs (job.Stage cell) rest = runs
-  life_kept runs (job.Mend link) rest = runs
-  life_kept runs job.Sweep rest = runs
-  life_kept runs job.Start rest = runs
+  life_kept runs _ rest = runs
 
   works_on : Runs → (jobs : List Job) → (w.servers n).queue ≡ jobs → Remembers Was setting.servers n (w.servers n) (works here (w.servers n) jobs).server
       → GoesBy (works here (w.servers n) jobs)

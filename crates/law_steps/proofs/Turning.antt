@@ -597,10 +597,4 @@ client_turns setting w c Tick may =
     let client = w.clients c in
     let state = client_state setting w c in
     goes_on setting.servers setting.lines w c _ (asking_quiet state c client client.asked _ (where_quiet state c client client.asked refl))
-client_turns setting w c (Work end) may = absurd may
-client_turns setting w c (StopIn end) may = absurd may
-client_turns setting w c Stop may = absurd may
-client_turns setting w c Blank may = absurd may
-client_turns setting w c (Boot end) may = absurd may
-client_turns setting w c (Arm which plan) may = absurd may
-client_turns setting w c (Glance line round) may = absurd may
+client_turns setting w c _ may = absurd may
