@@ -35,7 +35,7 @@ use Rattle.petal_rules.specs.Clients.{answers, hears, hears_of, heard, hears_any
 use Rattle.petal_rules.specs.Clients.{judged, judged_by, takes_entry, takes_all, then_goes_out, takes_entries, next_entries, ticked}
 use Rattle.petal_rules.specs.World.{Setting, World, MayClient, client_state, client_step, calls, line_in, next_line}
 use Rattle.petal_rules.specs.declared.step.Step.{Step}
-use Rattle.petal_rules.specs.declared.step.Step.TheVariants.{Call, Deliver, Tick, Work, StopIn, Stop, Blank, Boot, Arm, Glance}
+use Rattle.petal_rules.specs.declared.step.Step.TheVariants.{Call, Deliver, Tick}
 use Rattle.petal_rules.proofs.ListLemmas.{in-append}
 use Rattle.petal_rules.proofs.Tests.{by_bool, by_test, both_true, same_numbers, only}
 use Rattle.law_state.proofs.Steady.{log_rev}
