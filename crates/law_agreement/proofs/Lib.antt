@@ -1,5 +1,4 @@
 pub mod Quorum
-pub mod Members
 pub mod Facts
 pub mod Later
 pub mod Moves

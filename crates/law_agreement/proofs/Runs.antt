@@ -20,7 +20,7 @@ use Rattle.law_agreement.proofs.Facts.{promised, HasPromised, IsGreatestBelow, H
 use Rattle.law_agreement.proofs.Later.{later_cast}
 use Rattle.law_agreement.proofs.Moves.{keep_later, cast_in, one_server, not_in_nobody, Origin, HasOrigin, Promises, Casts, Sends, Turns, Asks}
 use Rattle.law_agreement.proofs.Moves.{Learns, Raises, move_holds, Leads, Still, goes, last, keeps}
-use Rattle.law_agreement.proofs.Members.{in_nil, in_here, in_there, put_at_cases, in_got}
+use Rattle.petal_paxos.proofs.Members.{in_nil, in_here, in_there, put_at_cases, in_got}
 use Rattle.law_agreement.proofs.Quorum.{meet}
 
 -- tests

@@ -9,7 +9,7 @@ use Rattle.petal_paxos.specs.Member.{In, put}
 use Rattle.petal_paxos.specs.Proposer.{nobody, to_propose}
 use Rattle.petal_paxos.specs.Schedule.{Vote, World, Event, Starts, Handed, Stops, Boots, happens, run, begin, IsChosen, IsWanted}
 use Rattle.law_agreement.proofs.Facts.{SomeoneCast, Asked, Holds}
-use Rattle.law_agreement.proofs.Members.{in_nil, in_cons, in_there}
+use Rattle.petal_paxos.proofs.Members.{in_nil, in_cons, in_there}
 use Rattle.law_agreement.proofs.Moves.{at_put, Origin, HasOrigin, IsMove, Promises, Casts, Sends, Turns, Asks, Learns, Raises, keeps}
 use Rattle.law_agreement.proofs.Runs.{moves, happens_holds, run_holds, begin_holds, meets}
 

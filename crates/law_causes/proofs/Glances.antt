@@ -41,7 +41,7 @@ use Rattle.law_causes.specs.Glances.{IsGlance, Tells}
 use Rattle.law_causes.specs.Lines.{AsksToBoot}
 use Rattle.law_causes.proofs.Answered.{IsOpenFor}
 use Rattle.law_causes.proofs.Lines.{asks_to_boot, line_of, open_for}
-use Rattle.law_causes.proofs.MuteJobs.{IsMute, is_mute}
+use Rattle.law_causes.proofs.Mute.{IsMute, is_mute}
 use Rattle.law_causes.proofs.Saying.{Mute, Rev, Sight, server_says, client_says}
 use Rattle.law_causes.proofs.Failing.{seen_failed, ending_not, reason_not, not_read, not_written, not_judged, glanced_at, due_once, AnsweredAs, seen_as}
 use Rattle.law_causes.proofs.Failing.{told_by, boots_named, done_booted, boot_why}

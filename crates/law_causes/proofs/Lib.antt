@@ -5,7 +5,7 @@ pub mod Numbers
 pub mod Verdicts
 pub mod Answered
 pub mod Served
-pub mod MuteJobs
+pub mod Mute
 pub mod JobSayings
 pub mod Saying
 pub mod Revisions

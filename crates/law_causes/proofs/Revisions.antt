@@ -20,7 +20,7 @@ use Rattle.law_state.proofs.Steady.{log_rev}
 use Rattle.law_steps.specs.Ready.{AreFirm, Rests}
 use Rattle.law_steps.proofs.Histories.{rests_next, firm_now, start_rests}
 use Rattle.law_causes.specs.Reasons.{IsOtherRev, HasReason}
-use Rattle.law_causes.proofs.MuteJobs.{IsMute, is_mute}
+use Rattle.law_causes.proofs.Mute.{IsMute, is_mute}
 use Rattle.law_causes.proofs.Saying.{Mute, Rev, Sight, TellsRev, server_says, client_says}
 
 -- ### Steps

@@ -286,10 +286,4 @@ client_rounds setting w c (Deliver letter) may = letter_rounds w (client_state s
     (w.clients c) letter may.sent may.own letter.body refl
 client_rounds setting w c Tick may =
     let r = where_rounded (client_state setting w c) c (w.clients c) (w.clients c).asked refl in Quiet r.0 (λ asked is settle. r.1)
-client_rounds setting w c (Work end) may = absurd may
-client_rounds setting w c (StopIn end) may = absurd may
-client_rounds setting w c Stop may = absurd may
-client_rounds setting w c Blank may = absurd may
-client_rounds setting w c (Boot end) may = absurd may
-client_rounds setting w c (Arm which plan) may = absurd may
-client_rounds setting w c (Glance line round) may = absurd may
+client_rounds setting w c _ may = absurd may

@@ -35,7 +35,7 @@ use Rattle.law_steps.proofs.Letters.{one_post}
 use Rattle.law_steps.proofs.Letters.{said as said_in}
 use Rattle.law_steps.proofs.LogJobs.{LogFrame, letter_frame_of, start_frame_of, applied_entry, applied_none}
 use Rattle.law_steps.proofs.Turning.{client_turns}
-use Rattle.law_causes.proofs.MuteJobs.{IsMute, AreMute, none_mute, logged_mute}
+use Rattle.law_causes.proofs.Mute.{IsMute, AreMute, none_mute, logged_mute}
 use Rattle.law_causes.proofs.JobSayings.{tick_mute, IsTold, Mute_post, Rev_post, job_tells}
 
 -- ### Clients
@@ -161,15 +161,13 @@ module _ (here : Here) (server : Server) (stamp : ℕ) (letter : Letter) where
       by_test (Tells (job.Letter heard ∷ rest)) (is_log_job (job.Letter heard)) _ _
       (λ t. entered_tells (job.Letter heard ∷ rest) (job.Letter heard) rest _ (letter_frame_of (voter_of here) server.log heard))
       (λ t. pair_tells (job.Letter heard) rest)
-  done_tells (job.Stage cell) rest = pair_tells (job.Stage cell) rest
-  done_tells (job.Mend id) rest = pair_tells (job.Mend id) rest
-  done_tells job.Sweep rest = pair_tells job.Sweep rest
   done_tells job.Start rest =
       entered_tells (job.Start ∷ rest) job.Start rest (starts (voter_of here) server.log (wanted_by here server))
       (start_frame_of (voter_of here) server.log (wanted_by here server))
   done_tells job.Apply rest = λ is i.
       no_letter stamp letter
       (subst (λ posts. In letter (stamped stamp (letters_of (sender here) 0 posts))) (applied_silent (known server.log (next_place server.log)) refl) i)
+  done_tells first rest = pair_tells first rest
 
   works_tells : (queue : List Job) → Tells queue (works here server queue)
   works_tells [] = λ is i. no_letter stamp letter i

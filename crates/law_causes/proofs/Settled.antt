@@ -49,7 +49,7 @@ use Rattle.law_steps.proofs.Turning.{client_turns}
 use Rattle.law_causes.specs.Settles.{HasFoundFull, HasGlanceAt, HasSettled, HasShown, WasSettled, runs_as}
 use Rattle.law_causes.proofs.Lines.{open_for}
 use Rattle.law_causes.proofs.Rounds.{HasSight, IsRounded, Keeps, Quiet, Rounds, Sees, Starts, client_rounds}
-use Rattle.law_causes.proofs.MuteJobs.{IsMute, is_mute}
+use Rattle.law_causes.proofs.Mute.{IsMute, is_mute}
 use Rattle.law_causes.proofs.Saying.{Mute, Rev, Sight, server_says, client_says}
 
 -- ### A round that has shown each server

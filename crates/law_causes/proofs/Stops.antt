@@ -43,11 +43,7 @@ job_runs : (here : Here) (server : Server) (first : Job) (rest : List Job)
     → (job_done here server first rest).server.life.running ≡ server.life.running
 job_runs here server (job.Letter letter) rest =
     by_test (λ (a : Acted). a.server.life.running ≡ server.life.running) (is_log_job (job.Letter letter)) _ _ (λ t. refl) (λ t. refl)
-job_runs here server (job.Stage cell) rest = refl
-job_runs here server (job.Mend id) rest = refl
-job_runs here server job.Sweep rest = refl
-job_runs here server job.Apply rest = refl
-job_runs here server job.Start rest = refl
+job_runs here server _ rest = refl
 
 module _ (setting : Setting) (w : World) (n : ℕ) (told : MayStop w n → IsReasonToStop setting w n Stop) (ran : (w.servers n).life.running ≡ true) where
   abbrev here : Here
@@ -70,15 +66,13 @@ module _ (setting : Setting) (w : World) (n : ℕ) (told : MayStop w n → IsRea
   server_why (Call line) may = absurd may
   server_why (Deliver letter) may =
       by_test (Why (Deliver letter)) server.life.running _ _ (λ on. true_false ran) (λ off. true_false ran)
-  server_why Tick may = true_false ran
   server_why (Work work_end.Done) may = works_why server.queue refl
   server_why (Work (work_end.Fault end)) may = λ rests. Device_failed end refl
   server_why (StopIn end) may = λ rests. Device_stopped end refl
   server_why Stop may = λ rests. told may
   server_why Blank may = true_false ran may.rests
   server_why (Boot end) may = true_false ran may.rests
-  server_why (Arm which plan) may = true_false ran
-  server_why (Glance line round) may = true_false ran
+  server_why _ may = true_false ran
 
   -- a server stops in a step of its own
   step_why : (who : Actor) (what : Step) (stamp : ℕ) → MayActor who what setting w → ((step who what setting w stamp).world.servers n).life.running ≡ false

@@ -30,10 +30,10 @@ use Rattle.law_steps.specs.DidFiller.{DidFiller}
 use Rattle.law_steps.specs.DidSweep.{DidSweep}
 use Rattle.law_steps.specs.DidRead.{DidRead}
 use Rattle.law_steps.specs.DidSecond.{DidSecond, with_tickets, Sets_apart, Promises, Declines, Follows}
-use Rattle.law_steps.specs.DidHolder.{DidHolder, CopyStep, Asks_to_trim, Sends, Unmarks_copied, Closes_copy, TakenCopy, Copy_as_is, Copy_trimmed, Copy_synced}
-use Rattle.law_steps.specs.DidHolder.{Asks_page, Turns_page, Begins_copy, Goes_on_copying, Finds_it_full, Tidies}
-use Rattle.law_steps.specs.DidOther.{DidOther, TrimStep, Is_trimmed, Drops_entry, Answers_page, Is_copied_to}
-use Rattle.law_steps.specs.DidOther.{Goes_on_trimming, Puts_entry, Has_entry, Has_no_slot}
+use Rattle.law_steps.specs.DidHolder.{DidHolder, CopyStep, Closes_copy, TakenCopy, Copy_as_is, Copy_trimmed, Copy_synced}
+use Rattle.law_steps.specs.DidHolder.{Turns_page, Begins_copy, Goes_on_copying}
+use Rattle.law_steps.specs.DidOther.{DidOther, TrimStep, Is_trimmed, Drops_entry, Is_copied_to}
+use Rattle.law_steps.specs.DidOther.{Goes_on_trimming, Puts_entry}
 use Rattle.law_steps.proofs.CopyFrames.{CopyFrame}
 use Rattle.law_steps.proofs.Letters.{one_post, posted}
 use Rattle.law_steps.proofs.Subjects.{of_filler, of_read, of_sweep, told_own}
@@ -79,13 +79,10 @@ module _ (heard : Body → Type 0) (here : Here) (own : Own) (steady : IsSteady 
   -- the chain stays in what is done of copies
   step_chain : (now : Own) (q : Cell) (copy : Copying) (done : Done) → CopyStep here now q copy done
       → chain_in done.own.store.chains cell ≡ chain_in now.store.chains cell
-  step_chain now q copy _ (Asks_to_trim fresh) = refl
-  step_chain now q copy _ (Sends r trimmed is) = refl
-  step_chain now q copy _ (Unmarks_copied kind synced left) = refl
   step_chain now q copy _ (Closes_copy synced left) = ap (λ c. chain_in c cell) (copied_chains here now q)
+  step_chain now q copy _ _ = refl
 
   pub holder_chain : (done : Done) → DidHolder heard here own done → chain_in done.own.store.chains cell ≡ chain_in own.store.chains cell
-  holder_chain _ (Asks_page id r other held fresh) = refl
   holder_chain _ (Turns_page id r other after block h held fresh at) = ap (λ c. chain_in c cell) (page_chains own r block)
   holder_chain done (Begins_copy id r other q _ held next step) = step_chain _ q _ done step
   holder_chain done (Goes_on_copying q now copy _ taken step) = step_chain now q copy done step ∙ taken_chain q now copy taken
@@ -94,8 +91,7 @@ module _ (heard : Body → Type 0) (here : Here) (own : Own) (steady : IsSteady 
       taken_chain q _ _ (Copy_as_is copy is) = refl
       taken_chain q _ _ (Copy_trimmed copy h is fresh) = refl
       taken_chain q _ _ (Copy_synced copy h is trimmed lt) = refl
-  holder_chain _ (Finds_it_full q copy h is trimmed lt) = refl
-  holder_chain _ (Tidies id r block kind is both at left) = refl
+  holder_chain _ _ = refl
 
   trim_chain : (now : Own) (q : Cell) (last : LastCopy) (holder : ℕ) (done : Done) → cell ≢ q → TrimStep now q last holder done
       → chain_in done.own.store.chains cell ≡ chain_in now.store.chains cell
@@ -103,13 +99,11 @@ module _ (heard : Body → Type 0) (here : Here) (own : Own) (steady : IsSteady 
   trim_chain now q last holder _ ne (Drops_entry epoch epochs is) = drop_apart now.store _ cell ne
 
   pub other_chain : (done : Done) → DidOther heard here own done → chain_in done.own.store.chains cell ≡ chain_in own.store.chains cell
-  other_chain _ (Answers_page id r after h is) = refl
   other_chain done (Is_copied_to number q epochs holder _ h held newer step) = trim_chain _ q _ holder done (held_apart q holder held) step
   other_chain done (Goes_on_trimming q holder last _ held is step) = trim_chain own q last holder done (held_apart q holder held) step
   other_chain _ (Puts_entry entry holder last of_copy at room) =
       chain_apart own.store.chains (cell_of entry.key) _ cell (held_apart (cell_of entry.key) holder of_copy.held)
-  other_chain _ (Has_entry entry holder last of_copy lt) = refl
-  other_chain _ (Has_no_slot entry holder last of_copy at full) = refl
+  other_chain _ _ = refl
 
   -- what is pending, what was followed last, and what is sent
   abbrev Says : Own → Own → List Post → Type 0
@@ -156,10 +150,9 @@ module _ (heard : Body → Type 0) (here : Here) (own : Own) (steady : IsSteady 
         (steady.linked cell row is_row).apart (leads ∙ same_some (sym two ∙ there))
 
     pub second_chain : (done : Done) → DidSecond heard here own done → chain_in done.own.store.chains cell ≡ chain_in own.store.chains cell
-    second_chain _ (Sets_apart number q tickets h s le) = refl
     second_chain _ (Promises number q how s is) = ap (λ (o : Own). chain_in o.store.chains cell) (told_own here own q number how)
-    second_chain _ (Declines number q h s no_room) = refl
     second_chain _ (Follows number key version bytes h s is) = chain_apart own.store.chains (cell_of key) _ cell (second_apart (cell_of key) s)
+    second_chain _ _ = refl
 
     told_says : (first second new : Own) (q : Cell) (number : ℕ) (how : Far) → cell ≢ q → Says first second (tells here new q number how).posts
     told_says first second new q number far.Reserved ne = apart_says first second q _ (body.Reserved number q) ne (λ post i. posted _ _ post i) refl

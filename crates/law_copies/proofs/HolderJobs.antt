@@ -28,8 +28,8 @@ use Rattle.petal_rules.proofs.Tests.{by_bool, same_some, some_or_none, true_fals
 use Rattle.law_log.proofs.Flags.{progress_beside, same_id}
 use Rattle.law_steps.specs.DidHolder.{DidHolder, CopyStep, Asks_to_trim, Sends, Unmarks_copied, Closes_copy, TakenCopy, Copy_as_is, Copy_trimmed, Copy_synced}
 use Rattle.law_steps.specs.DidHolder.{Asks_page, Turns_page, Begins_copy, Goes_on_copying, Finds_it_full, Tidies, IsHeldWith, first_copy}
-use Rattle.law_steps.specs.DidOther.{DidOther, first_last, TrimStep, Is_trimmed, Drops_entry, Answers_page, Is_copied_to}
-use Rattle.law_steps.specs.DidOther.{Goes_on_trimming, Puts_entry, Has_entry, Has_no_slot}
+use Rattle.law_steps.specs.DidOther.{DidOther, first_last, TrimStep, Is_trimmed, Drops_entry, Is_copied_to}
+use Rattle.law_steps.specs.DidOther.{Goes_on_trimming}
 use Rattle.law_steps.specs.DidSecond.{DidSecond}
 use Rattle.law_steps.specs.Did.{Did, Ignores, Refuses, By_read, By_lead, By_second, By_holder, By_other, By_filler, By_sweep}
 use Rattle.law_steps.proofs.CopyFrames.{of_holder, of_other}
@@ -256,12 +256,10 @@ module _ (heard : Body → Type 0) (here : Here) (links : ℕ) (row : LinkRow) (
     taken_paged c _ _ (Copy_synced copy h is trimmed lt) = let r = f.fit.resting.copying c copy is in (r.row, r.is, r.paged)
 
     step_paced : (now : Own) (c : Cell) (copy : Copying) (done : Done) → CopyStep here now c copy done → IsPaced row now done.own
-    step_paced now c copy _ (Asks_to_trim fresh) = record { paged = refl; after = refl; flag = refl }
-    step_paced now c copy _ (Sends r trimmed there) = record { paged = refl; after = refl; flag = refl }
-    step_paced now c copy _ (Unmarks_copied kind synced left) = record { paged = refl; after = refl; flag = refl }
     step_paced now c copy _ (Closes_copy synced left) =
         let p = paced_copied (cell_link here.state c) (without_copying now c) c.block row in
         record { paged = p.paged; after = p.after; flag = p.flag }
+    step_paced now c copy _ _ = record { paged = refl; after = refl; flag = refl }
 
     -- a copy of another cell is taken up
     taken_apart : (c : Cell) → cell ≢ c → (now : Own) (copy : Copying) → TakenCopy heard own c now copy
@@ -274,8 +272,6 @@ module _ (heard : Body → Type 0) (here : Here) (links : ℕ) (row : LinkRow) (
     step_apart : (c : Cell) → cell ≢ c → (now : Own) → AreCopying links row cell (Some now) vo → (copy : Copying) → copying_on now c ≡ Some copy
         → (of : LinkRow) → cell_link here.state c ≡ Some of → (progress_on now of).paged ≡ true → (done : Done)
         → CopyStep here now c copy done → HolderStep heard links row cell vo now done.own
-    step_apart c ne now old copy is of of_is paged _ (Asks_to_trim fresh) = itself cell now old
-    step_apart c ne now old copy is of of_is paged _ (Sends r trimmed there) = itself cell now old
     step_apart c ne now old copy is of of_is paged _ (Unmarks_copied kind synced left) =
         steps.kept_step heard links row cell vo now old _ (copy_step_beside heard here own now c copy _ cell ne (Unmarks_copied kind synced left))
         (omega arith) (record { paged = refl; after = refl; flag = refl })
@@ -285,6 +281,7 @@ module _ (heard : Body → Type 0) (here : Here) (links : ℕ) (row : LinkRow) (
         steps.kept_step heard links row cell vo now old _ (copy_step_beside heard here own now c copy _ cell ne (Closes_copy synced left))
         (let e = ap (λ (p : Pairs). p.next) (closed_pairs here now c) in omega arith) (step_paced now c copy _ (Closes_copy synced left))
         (record { late = onward.late; yet = onward.yet; others = onward.others; page = onward.page })
+    step_apart c ne now old copy is of of_is paged _ _ = itself cell now old
 
     goes_apart : (c : Cell) → cell ≢ c → (now : Own) (copy : Copying) (done : Done) → TakenCopy heard own c now copy
         → CopyStep here now c copy done → Step done
@@ -351,13 +348,10 @@ module _ (heard : Body → Type 0) (here : Here) (links : ℕ) (row : LinkRow) (
     trim_copies now c last holder _ (Drops_entry epoch epochs left) = (refl, refl)
 
     other_copies : (done : Done) → DidOther heard here own done → KeepsCopies own done.own
-    other_copies _ (Answers_page id r after h is) = (refl, refl)
     other_copies done (Is_copied_to number c epochs holder _ h held newer step) =
         trim_copies (with_last_copy own c (first_last number epochs)) c (first_last number epochs) holder done step
     other_copies done (Goes_on_trimming c holder last _ held is step) = trim_copies own c last holder done step
-    other_copies _ (Puts_entry entry holder last of at room) = (refl, refl)
-    other_copies _ (Has_entry entry holder last of lt) = (refl, refl)
-    other_copies _ (Has_no_slot entry holder last of at full) = (refl, refl)
+    other_copies _ _ = (refl, refl)
 
     other_step : (done : Done) → DidOther heard here own done → Step done × Says cell done
     other_step done d =

@@ -26,7 +26,7 @@ use Rattle.petal_rules.specs.Writes.{acts, ends, gives_back, marks, next_stage, 
 use Rattle.petal_rules.proofs.Tests.{by_test, same_some, true_false}
 use Rattle.law_state.specs.Started.{is_flagged}
 use Rattle.law_steps.specs.Ready.{IsRising}
-use Rattle.law_steps.specs.DidLead.{DidLead, Asks, A_slot, A_copy, A_trim, A_copied_entry, A_page, An_entry_to_move, Of_the_log, Asks_for, Repeats, Is_full}
+use Rattle.law_steps.specs.DidLead.{DidLead, Asks, A_trim, A_copied_entry, An_entry_to_move, Of_the_log, Asks_for, Repeats, Is_full}
 use Rattle.law_steps.specs.DidLead.{Opens, Marks, Puts, Gives_up, Unmarks, Closes, Opens_alone, Marks_alone, Puts_alone, Unmarks_alone, Closes_alone}
 use Rattle.law_steps.specs.DidLead.{Opens_fill, Opens_fill_alone, Has_fill, Has_no_room, Goes_on_dead, Taken}
 use Rattle.law_steps.specs.Did.{By_lead}
@@ -66,29 +66,18 @@ module _ (heard : Body → Type 0) (here : Here) (own : Own) where
       (λ put. omega arith) (λ fresh. omega arith)
 
   pub lead_counts : (done : Done) → DidLead heard here own done → own.pairs.next ≤ done.own.pairs.next
-  lead_counts _ (Asks_for posts h) = omega arith
-  lead_counts _ (Repeats want last h lead is e) = omega arith
-  lead_counts _ (Is_full want new no_room) = omega arith
   lead_counts _ (Gives_up op h is reserved put) =
       let e = (of_ending here (gives_back (without_pending own op.cell)) op op.kind ending.Full).next in omega arith
-  lead_counts _ (Opens want new both) = omega arith
-  lead_counts _ (Marks op h is both stage) = omega arith
-  lead_counts _ (Puts op is both stage) = omega arith
-  lead_counts _ (Unmarks op h is both stage) = omega arith
   lead_counts _ (Closes op is both stage) =
       let e = (of_ending here (without_pending own op.cell) op op.kind ending.Written).next in omega arith
-  lead_counts _ (Opens_alone want new alone) = omega arith
   lead_counts _ (Marks_alone now op taken alone fresh) = let e = (taking own now op taken).next in omega arith
   lead_counts _ (Puts_alone now op taken alone stale put) = let e = (taking own now op taken).next in omega arith
   lead_counts _ (Unmarks_alone now op taken alone stale put busy) = let e = (taking own now op taken).next in omega arith
   lead_counts _ (Closes_alone now op taken alone stale put free) =
       let e = (of_ending here (without_pending now op.cell) op op.kind ending.Written).next in let k = (taking own now op taken).next in omega arith
-  lead_counts _ (Opens_fill moving new room both) = omega arith
-  lead_counts _ (Opens_fill_alone moving new room alone) = omega arith
-  lead_counts _ (Has_fill moving there) = omega arith
-  lead_counts _ (Has_no_room moving new no_room) = omega arith
   lead_counts _ (Goes_on_dead now op taken off) =
       let le = acts_count now op (next_stage here.state here.me op) in let k = (taking own now op taken).next in omega arith
+  lead_counts _ _ = omega arith
 
 module _ (heard : Body → Type 0) (here : Here) (links : ℕ) (row : LinkRow) (vo : Option Own) (own : Own) where
   -- ### A write on the cell
@@ -273,8 +262,6 @@ module _ (heard : Body → Type 0) (here : Here) (links : ℕ) (row : LinkRow) (
 
     -- what is asked again of a copy of the cell
     asks_told : (post : Post) → Asks here own post → (about post.body).cell ≡ Some cell → IsTold row (Some own) vo post.body
-    asks_told _ (A_slot op at is stage so) e = tt
-    asks_told _ (A_copy op at is stage so) e = tt
     asks_told _ (A_trim c copy at is fresh so) e =
         subst (λ (q : Cell). IsTold row (Some own) vo (body.Trim copy.op q (epochs_of (chain_in own.store.chains q)))) (sym (same_some e))
         (moves.trim_told heard links row cell vo own f.old copy (subst (λ (q : Cell). copying_on own q ≡ Some copy) (same_some e) is) fresh)
@@ -282,10 +269,10 @@ module _ (heard : Body → Type 0) (here : Here) (links : ℕ) (row : LinkRow) (
         subst (λ (q : Cell). IsTold row (Some own) vo (body.Sync copy.op (key_at q r.0) r.1.version copy.index r.1.bytes)) (sym (same_some e))
         (moves.entry_told heard links row cell vo own f.old copy (subst (λ (q : Cell). copying_on own q ≡ Some copy) (same_some e) is) r trimmed
         (subst (λ (q : Cell). slice_get (chain_in own.store.chains q) copy.index ≡ Some r) (same_some e) there))
-    asks_told _ (A_page r at on so fresh) e = tt
     asks_told post (An_entry_to_move _ next) e =
         untold row (Some own) vo post.body (filling_not post.body (ap (λ (p : Post). subject_of p.body) next.is))
     asks_told post (Of_the_log _ logged) e = untold row (Some own) vo post.body (logged_not (subject_of post.body) logged)
+    asks_told _ _ e = tt
 
     pub lead_says : (done : Done) → DidLead heard here own done → Says cell done
     lead_says done d post i e = elim (lead_sends heard here own done d post i) [

@@ -34,7 +34,7 @@ use Rattle.law_state.proofs.Alone.{both_not_alone, so_both}
 use Rattle.law_steps.specs.Operations.{waiting, putting, copying}
 use Rattle.law_steps.specs.DidLead.{DidLead, Asks_for, Repeats, Is_full, Opens, Marks, Puts, Gives_up, Unmarks, Closes, Opens_alone, Marks_alone, Puts_alone}
 use Rattle.law_steps.specs.DidLead.{Unmarks_alone, Closes_alone, Opens_fill, Opens_fill_alone, Has_fill, Has_no_room, Goes_on_dead, Asks, A_slot, A_copy}
-use Rattle.law_steps.specs.DidLead.{A_trim, A_copied_entry, A_page, An_entry_to_move, Of_the_log, Taken}
+use Rattle.law_steps.specs.DidLead.{An_entry_to_move, Of_the_log, Taken}
 use Rattle.law_steps.specs.Ready.{IsReady}
 use Rattle.law_steps.proofs.Leading.{stage_live}
 use Rattle.law_steps.proofs.Letters.{one_post, posted}
@@ -192,12 +192,10 @@ module _ (heard : Body → Type 0) (here : Here) (own : Own) (ready : IsReady he
         key_is = refl;
         bytes_is = refl;
       })
-  asks_known _ (A_trim q copy to is fresh e) of = tt
-  asks_known _ (A_copied_entry q copy entry to is trimmed got e) of = tt
-  asks_known _ (A_page other to there e fresh) of = tt
   asks_known _ (An_entry_to_move post next) of =
       filling_known (pair_of own second_own cell) post.body (ap (λ (p : Post). subject_of p.body) next.is)
   asks_known post (Of_the_log _ e) of = logged_known (pair_of own second_own cell) post.body e
+  asks_known _ _ of = tt
 
   -- ### Its own operations
 

@@ -31,13 +31,13 @@ use Rattle.petal_rules.proofs.CellTables.{cell_same, cell_apart, cell_gone, cell
 use Rattle.petal_rules.proofs.Tests.{by_test, not_true, same_some, none_some, some_or_none, true_false}
 use Rattle.petal_history.specs.Claims.{IsMarked}
 use Rattle.law_state.specs.Steady.{IsSteady}
-use Rattle.law_steps.specs.DidLead.{DidLead, Asks_for, Repeats, Is_full, Opens, Marks, Puts, Gives_up, Unmarks, Closes, Opens_alone, Marks_alone, Puts_alone}
-use Rattle.law_steps.specs.DidLead.{Unmarks_alone, Closes_alone, Opens_fill, Opens_fill_alone, Has_fill, Has_no_room, Goes_on_dead, Taken}
-use Rattle.law_steps.specs.DidSecond.{DidSecond, Sets_apart, Promises, Declines, Follows}
+use Rattle.law_steps.specs.DidLead.{DidLead, Is_full, Opens, Marks, Puts, Gives_up, Unmarks, Closes, Opens_alone, Marks_alone, Puts_alone}
+use Rattle.law_steps.specs.DidLead.{Unmarks_alone, Closes_alone, Opens_fill, Opens_fill_alone, Goes_on_dead, Taken}
+use Rattle.law_steps.specs.DidSecond.{DidSecond, Promises, Follows}
 use Rattle.law_steps.specs.DidHolder.{DidHolder, CopyStep, Asks_to_trim, Sends, Unmarks_copied, Closes_copy, TakenCopy, Copy_as_is, Copy_trimmed, Copy_synced}
-use Rattle.law_steps.specs.DidHolder.{first_copy, Asks_page, Turns_page, Begins_copy, Goes_on_copying, Finds_it_full, Tidies}
-use Rattle.law_steps.specs.DidOther.{DidOther, TrimStep, Is_trimmed, Drops_entry, Answers_page, Is_copied_to}
-use Rattle.law_steps.specs.DidOther.{Goes_on_trimming, Puts_entry, Has_entry, Has_no_slot}
+use Rattle.law_steps.specs.DidHolder.{first_copy, Turns_page, Begins_copy, Goes_on_copying, Tidies}
+use Rattle.law_steps.specs.DidOther.{DidOther, TrimStep, Is_trimmed, Drops_entry, Is_copied_to}
+use Rattle.law_steps.specs.DidOther.{Goes_on_trimming, Puts_entry}
 use Rattle.law_steps.specs.Did.{Did, Ignores, Refuses, By_read, By_lead, By_second, By_holder, By_other, By_filler, By_sweep}
 use Rattle.law_steps.specs.Ready.{IsReady}
 use Rattle.law_steps.proofs.Leading.{led_by_link}
@@ -336,8 +336,6 @@ module _ (heard : Body → Type 0) (here : Here) (own : Own) (steady : IsSteady 
   written e = true_false refl e
 
   lead_marked : (done : Done) → DidLead heard here own done → M done.own
-  lead_marked _ (Asks_for posts h) = same_store own have refl refl
-  lead_marked _ (Repeats want last h lead is e) = same_store own have refl refl
   lead_marked _ (Is_full want new no_room) = same_store _ have refl refl
   lead_marked _ (Gives_up op h is reserved put) =
       ending_marked (gives_back (without_pending own op.cell)) op ending.Full (gone_have here.state own.pairs.pending own.store op.cell have) refl refl
@@ -378,10 +376,9 @@ module _ (heard : Body → Type 0) (here : Here) (own : Own) (steady : IsSteady 
   lead_marked _ (Opens_fill moving new room both) =
       same_store _ (opened_marked (fill_operation here own.pairs.next moving) refl refl (λ fill. new.lacks)).0 refl refl
   lead_marked _ (Opens_fill_alone moving new room on) = (opened_marked (fill_operation here own.pairs.next moving) refl refl (λ fill. new.lacks)).1
-  lead_marked _ (Has_fill moving there) = same_store own have refl refl
-  lead_marked _ (Has_no_room moving new no_room) = same_store own have refl refl
   lead_marked done (Goes_on_dead now op taken off) = kept_marked _
       (λ q on. lead_beside heard here own ready _ (Goes_on_dead now op taken off) q (λ e. true_false (ap (live here.state) (sym e) ∙ on) off))
+  lead_marked _ _ = same_store own have refl refl
 
   -- ### The second server's jobs
 
@@ -393,9 +390,8 @@ module _ (heard : Body → Type 0) (here : Here) (own : Own) (steady : IsSteady 
       follows_not : (cell : Cell) → leads_link here.state here.me cell ≡ true → is_second here.state here.me cell ≡ true → ⊥
       follows_not cell leads s =
           let b = led_by_link here.state here.me cell leads in leads_not_second here steady cell b.0 b.1 leads s
-  second_marked _ (Sets_apart number c tickets h s le) = same_store _ have refl refl
   second_marked _ (Promises number c how s is) = still (tells here own c number how).own (told_own here own c number how)
-  second_marked _ (Declines number c h s no_room) = same_store _ have refl refl
+  second_marked _ _ = same_store _ have refl refl
 
   -- ### Copies
 
@@ -435,15 +431,14 @@ module _ (heard : Body → Type 0) (here : Here) (own : Own) (steady : IsSteady 
       (λ q. finds_by own.store _ q refl (λ kind there. mark_kept own.store Stale kind (cell_at row block) q there)) have) refl
 
   holder_marked : (done : Done) → DidHolder heard here own done → M done.own
-  holder_marked _ (Asks_page id row other held fresh) = same_store _ have refl refl
   holder_marked _ (Turns_page id row other after block h held fresh at) = page_marked row block
   holder_marked done (Begins_copy id row other cell _ held next step) =
       step_marked (begins_copy own cell) cell (first_copy own.pairs.next) done refl refl (λ f. let g : false ≡ true = f in absurd cc) step
   holder_marked done (Goes_on_copying cell now copy _ taken step) =
       let t = taken_up cell now copy taken in step_marked now cell copy done t.store t.pending (λ f. t.free) step
-  holder_marked _ (Finds_it_full cell copy h is trimmed lt) = same_store _ have refl refl
   holder_marked _ (Tidies id row block kind is both at left) =
       quiet here own _ (unmarked_have here.state own.pairs.pending own.store kind (cell_at row block) (idle_free here.state row own block at) have) refl
+  holder_marked _ _ = same_store _ have refl refl
 
   trim_pairs : (now : Own) (cell : Cell) (last : LastCopy) (holder : ℕ) (done : Done) → TrimStep now cell last holder done
       → done.own.pairs.pending ≡ now.pairs.pending
@@ -457,7 +452,6 @@ module _ (heard : Body → Type 0) (here : Here) (own : Own) (steady : IsSteady 
       apart_marked done.own cell same keeps (λ leads. held_not_leading here steady cell holder held leads)
 
   other_marked : (done : Done) → DidOther heard here own done → M done.own
-  other_marked _ (Answers_page id row after h is) = same_store _ have refl refl
   other_marked done (Is_copied_to number cell epochs holder _ h held newer step) =
       let d : DidOther heard here own done = Is_copied_to number cell epochs holder _ h held newer step in
       other_at done d cell holder held (trim_pairs _ cell _ holder done step) (λ q ne. other_beside heard here own done d q ne)
@@ -467,8 +461,7 @@ module _ (heard : Body → Type 0) (here : Here) (own : Own) (steady : IsSteady 
   other_marked _ (Puts_entry entry holder last of_copy at room) =
       other_at _ (Puts_entry entry holder last of_copy at room) (cell_of entry.key) holder of_copy.held refl
       (λ q ne. other_beside heard here own _ (Puts_entry entry holder last of_copy at room) q ne)
-  other_marked _ (Has_entry entry holder last of_copy lt) = same_store _ have refl refl
-  other_marked _ (Has_no_slot entry holder last of_copy at full) = same_store _ have refl refl
+  other_marked _ _ = same_store _ have refl refl
 
   pub job_marked : (done : Done) → Did heard here own done → M done.own
   job_marked _ Ignores = same_store own have refl refl

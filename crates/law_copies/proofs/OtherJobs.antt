@@ -21,9 +21,9 @@ use Rattle.petal_rules.specs.State.{is_on, is_second}
 use Rattle.petal_rules.specs.Store.{Store, chain_in, is_marked}
 use Rattle.petal_rules.proofs.Tests.{same_some}
 use Rattle.law_state.proofs.Alone.{IsBothRow}
-use Rattle.law_steps.specs.DidLead.{DidLead, Asks, A_slot, A_copy, A_trim, A_copied_entry, A_page, An_entry_to_move, Of_the_log}
+use Rattle.law_steps.specs.DidLead.{DidLead, Asks, A_trim, A_copied_entry, An_entry_to_move, Of_the_log}
 use Rattle.law_steps.specs.DidHolder.{DidHolder}
-use Rattle.law_steps.specs.DidOther.{DidOther, IsOfCopy, first_last, TrimStep, Is_trimmed, Drops_entry, Answers_page, Is_copied_to}
+use Rattle.law_steps.specs.DidOther.{OtherReply, Replies, DidOther, IsOfCopy, first_last, TrimStep, Is_trimmed, Drops_entry, Is_copied_to}
 use Rattle.law_steps.specs.DidOther.{Goes_on_trimming, Puts_entry, Has_entry, Has_no_slot}
 use Rattle.law_steps.specs.DidSecond.{DidSecond}
 use Rattle.law_steps.specs.Did.{Did, Ignores, Refuses, By_read, By_lead, By_second, By_holder, By_other, By_filler, By_sweep}
@@ -166,16 +166,14 @@ module _ (heard : Body → Type 0) (here : Here) (links : ℕ) (row : LinkRow) (
     beside done k says = kept_here links row cell vh own f.old done k says
 
     asks_told : (to : Own) (post : Post) → Asks here own post → (about post.body).cell ≡ Some cell → IsTold row vh (Some to) post.body
-    asks_told to _ (A_slot op at is stage so) e = tt
-    asks_told to _ (A_copy op at is stage so) e = tt
     asks_told to _ (A_trim c copy at is fresh so) e = absurd
         (no_holder (subst (IsHeldHere here) (same_some e) (copying_held heard here own f.fit c copy is)))
     asks_told to _ (A_copied_entry c copy r at is trimmed there so) e = absurd
         (no_holder (subst (IsHeldHere here) (same_some e) (copying_held heard here own f.fit c copy is)))
-    asks_told to _ (A_page r at on so fresh) e = tt
     asks_told to post (An_entry_to_move _ next) e =
         untold row vh (Some to) post.body (filling_not post.body (ap (λ (p : Post). subject_of p.body) next.is))
     asks_told to post (Of_the_log _ logged) e = untold row vh (Some to) post.body (logged_not (subject_of post.body) logged)
+    asks_told to _ _ e = tt
 
     lead_here : (done : Done) → DidLead heard here own done → KeepsHere links row cell vh own done
     lead_here done d = beside done
@@ -209,8 +207,24 @@ module _ (heard : Body → Type 0) (here : Here) (links : ℕ) (row : LinkRow) (
     other_apart done d apart = beside done (other_beside heard here own done d cell apart)
         (λ post i e. at_away cell (other_cell heard here own done d) (other_says heard here own done d post i cell e) apart)
 
+    -- what it answers about no cell
+    reply_here : (to : Option ℕ) (said : Body) → OtherReply heard here own to said → KeepsHere links row cell vh own (says_to own to said)
+    reply_here _ _ (Has_entry entry holder last of lt) = elim (same_cell_or_apart cell (cell_of entry.key)) [
+      | inl e ↦ subst (λ (x : Cell). IsFollowing heard here links row x vh own
+          → KeepsHere links row x vh own (says_to own (Some holder) (body.Synced entry.op (cell_of entry.key) entry.index))) (sym e)
+          (λ g. has_here entry holder last g of lt) f
+      | inr ne ↦ other_apart _ (Replies _ _ (Has_entry entry holder last of lt)) ne
+    ]
+    reply_here _ _ (Has_no_slot entry holder last of at full) = elim (same_cell_or_apart cell (cell_of entry.key)) [
+      | inl e ↦ subst (λ (x : Cell). IsFollowing heard here links row x vh own
+          → KeepsHere links row x vh own (says_to own (Some holder) (body.SyncFull entry.op (cell_of entry.key)))) (sym e)
+          (λ g. full_here entry holder last g of) f
+      | inr ne ↦ other_apart _ (Replies _ _ (Has_no_slot entry holder last of at full)) ne
+    ]
+    reply_here to said reply = other_apart (says_to own to said) (Replies to said reply) tt
+
     other_here : (done : Done) → DidOther heard here own done → KeepsHere links row cell vh own done
-    other_here _ (Answers_page id r after h is) = other_apart _ (Answers_page id r after h is) tt
+    other_here _ (Replies to said reply) = reply_here to said reply
     other_here done (Is_copied_to number c epochs holder _ h held newer step) = elim (same_cell_or_apart cell c) [
       | inl e ↦ copied_to cell f number epochs holder done (subst (λ (x : Cell). heard (body.Trim number x epochs)) (sym e) h)
           (λ last is. newer last (subst (λ (x : Cell). last_copy own x ≡ Some last) e is))
@@ -228,18 +242,6 @@ module _ (heard : Body → Type 0) (here : Here) (links : ℕ) (row : LinkRow) (
           → KeepsHere links row x vh own (puts_entry own entry last holder true)) (sym e)
           (λ g. puts_here entry holder last g of at) f
       | inr ne ↦ other_apart _ (Puts_entry entry holder last of at room) ne
-    ]
-    other_here _ (Has_entry entry holder last of lt) = elim (same_cell_or_apart cell (cell_of entry.key)) [
-      | inl e ↦ subst (λ (x : Cell). IsFollowing heard here links row x vh own
-          → KeepsHere links row x vh own (says_to own (Some holder) (body.Synced entry.op (cell_of entry.key) entry.index))) (sym e)
-          (λ g. has_here entry holder last g of lt) f
-      | inr ne ↦ other_apart _ (Has_entry entry holder last of lt) ne
-    ]
-    other_here _ (Has_no_slot entry holder last of at full) = elim (same_cell_or_apart cell (cell_of entry.key)) [
-      | inl e ↦ subst (λ (x : Cell). IsFollowing heard here links row x vh own
-          → KeepsHere links row x vh own (says_to own (Some holder) (body.SyncFull entry.op (cell_of entry.key)))) (sym e)
-          (λ g. full_here entry holder last g of) f
-      | inr ne ↦ other_apart _ (Has_no_slot entry holder last of at full) ne
     ]
 
     here_by : (done : Done) → Did heard here own done → KeepsHere links row cell vh own done

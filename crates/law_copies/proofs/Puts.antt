@@ -18,13 +18,13 @@ use Rattle.petal_rules.specs.Server.{Own, Here, Done}
 use Rattle.petal_rules.specs.Store.{Chain, Store, Stored, cell_cmp, chain_in, without_entry}
 use Rattle.petal_rules.specs.Writes.{acts, ends, gives_back, next_stage, tells, without_pending}
 use Rattle.petal_rules.proofs.Tests.{by_test}
-use Rattle.law_steps.specs.DidLead.{DidLead, Asks_for, Repeats, Is_full, Opens, Marks, Puts, Gives_up, Unmarks, Closes, Opens_alone, Marks_alone, Puts_alone}
-use Rattle.law_steps.specs.DidLead.{Unmarks_alone, Closes_alone, Opens_fill, Opens_fill_alone, Has_fill, Has_no_room, Goes_on_dead, Taken}
-use Rattle.law_steps.specs.DidSecond.{DidSecond, Sets_apart, Promises, Declines, Follows}
-use Rattle.law_steps.specs.DidHolder.{DidHolder, CopyStep, Asks_to_trim, Sends, Unmarks_copied, Closes_copy, TakenCopy, Copy_as_is, Copy_trimmed, Copy_synced}
-use Rattle.law_steps.specs.DidHolder.{Asks_page, Turns_page, Begins_copy, Goes_on_copying, Finds_it_full, Tidies}
-use Rattle.law_steps.specs.DidOther.{DidOther, TrimStep, Is_trimmed, Drops_entry, Answers_page, Is_copied_to}
-use Rattle.law_steps.specs.DidOther.{Goes_on_trimming, Puts_entry, Has_entry, Has_no_slot}
+use Rattle.law_steps.specs.DidLead.{DidLead, Puts, Gives_up, Closes, Marks_alone, Puts_alone}
+use Rattle.law_steps.specs.DidLead.{Unmarks_alone, Closes_alone, Goes_on_dead, Taken}
+use Rattle.law_steps.specs.DidSecond.{DidSecond, Promises, Follows}
+use Rattle.law_steps.specs.DidHolder.{DidHolder, CopyStep, Closes_copy, TakenCopy, Copy_as_is, Copy_trimmed, Copy_synced}
+use Rattle.law_steps.specs.DidHolder.{Turns_page, Begins_copy, Goes_on_copying}
+use Rattle.law_steps.specs.DidOther.{DidOther, TrimStep, Is_trimmed, Drops_entry, Is_copied_to}
+use Rattle.law_steps.specs.DidOther.{Goes_on_trimming, Puts_entry}
 use Rattle.law_steps.specs.DidSweep.{DidSweep, Sweeps}
 use Rattle.law_steps.specs.Did.{Did, Ignores, Refuses, By_read, By_lead, By_second, By_holder, By_other, By_filler, By_sweep}
 use Rattle.law_steps.proofs.Subjects.{of_ending, of_filler, of_read, told_own}
@@ -58,39 +58,26 @@ module _ (P : Table Cell Chain → Type 0)
       (λ fresh. kept)
 
   lead_keeps : (done : Done) → DidLead heard here own done → P done.own.store.chains
-  lead_keeps _ (Asks_for posts h) = all
-  lead_keeps _ (Repeats want last h lead is e) = all
-  lead_keeps _ (Is_full want new no_room) = all
   lead_keeps _ (Gives_up op h is reserved put) = ending_chains (gives_back (without_pending own op.cell)) op ending.Full all
-  lead_keeps _ (Opens want new both) = all
-  lead_keeps _ (Marks op h is both stage) = all
   lead_keeps _ (Puts op is both stage) = puts own.store.chains (cell_of op.key) op.key.epoch _ all
-  lead_keeps _ (Unmarks op h is both stage) = all
   lead_keeps _ (Closes op is both stage) = ending_chains (without_pending own op.cell) op ending.Written all
-  lead_keeps _ (Opens_alone want new on) = all
   lead_keeps _ (Marks_alone now op taken on fresh) = taken_chains now op taken
   lead_keeps _ (Puts_alone now op taken on stale put) = puts now.store.chains (cell_of op.key) op.key.epoch _ (taken_chains now op taken)
   lead_keeps _ (Unmarks_alone now op taken on stale put busy) = taken_chains now op taken
   lead_keeps _ (Closes_alone now op taken on stale put free) = ending_chains (without_pending now op.cell) op ending.Written (taken_chains now op taken)
-  lead_keeps _ (Opens_fill moving new room both) = all
-  lead_keeps _ (Opens_fill_alone moving new room on) = all
-  lead_keeps _ (Has_fill moving there) = all
-  lead_keeps _ (Has_no_room moving new no_room) = all
   lead_keeps _ (Goes_on_dead now op taken off) = acts_chains now op (next_stage here.state here.me op) (taken_chains now op taken)
+  lead_keeps _ _ = all
 
   second_keeps : (done : Done) → DidSecond heard here own done → P done.own.store.chains
-  second_keeps _ (Sets_apart number cell tickets h s le) = all
   second_keeps _ (Promises number cell how s is) = same (tells here own cell number how).own
       (ap (λ (o : Own). o.store.chains) (told_own here own cell number how))
-  second_keeps _ (Declines number cell h s no_room) = all
   second_keeps _ (Follows number key version bytes h s is) = puts own.store.chains (cell_of key) key.epoch _ all
+  second_keeps _ _ = all
 
   step_keeps : (now : Own) (cell : Cell) (copy : Copying) (done : Done) → CopyStep here now cell copy done → P now.store.chains
       → P done.own.store.chains
-  step_keeps now cell copy _ (Asks_to_trim fresh) kept = kept
-  step_keeps now cell copy _ (Sends row trimmed is) kept = kept
-  step_keeps now cell copy _ (Unmarks_copied kind synced left) kept = kept
   step_keeps now cell copy _ (Closes_copy synced left) kept = subst P (sym (copied_chains here now cell)) kept
+  step_keeps now cell copy _ _ kept = kept
 
   taken_copy : (cell : Cell) (now : Own) (copy : Copying) → TakenCopy heard own cell now copy → P now.store.chains
   taken_copy cell _ _ (Copy_as_is copy is) = all
@@ -98,12 +85,10 @@ module _ (P : Table Cell Chain → Type 0)
   taken_copy cell _ _ (Copy_synced copy h is trimmed lt) = all
 
   holder_keeps : (done : Done) → DidHolder heard here own done → P done.own.store.chains
-  holder_keeps _ (Asks_page id row other held fresh) = all
   holder_keeps _ (Turns_page id row other after block h held fresh at) = subst P (sym (page_chains own row block)) all
   holder_keeps done (Begins_copy id row other cell _ held next step) = step_keeps _ cell _ done step all
   holder_keeps done (Goes_on_copying cell now copy _ taken step) = step_keeps now cell copy done step (taken_copy cell now copy taken)
-  holder_keeps _ (Finds_it_full cell copy h is trimmed lt) = all
-  holder_keeps _ (Tidies id row block kind is both idle left) = all
+  holder_keeps _ _ = all
 
   trim_keeps : (now : Own) (cell : Cell) (last : LastCopy) (holder : ℕ) (done : Done) → TrimStep now cell last holder done → now.store ≡ own.store
       → P done.own.store.chains
@@ -111,12 +96,10 @@ module _ (P : Table Cell Chain → Type 0)
   trim_keeps now cell last holder _ (Drops_entry epoch epochs is) e = drops now.store _ (same now (ap (λ (s : Store). s.chains) e))
 
   other_keeps : (done : Done) → DidOther heard here own done → P done.own.store.chains
-  other_keeps _ (Answers_page id row after h is) = all
   other_keeps done (Is_copied_to number cell epochs holder _ h held newer step) = trim_keeps _ cell _ holder done step refl
   other_keeps done (Goes_on_trimming cell holder last _ held is step) = trim_keeps own cell last holder done step refl
   other_keeps _ (Puts_entry entry holder last of_copy at room) = puts own.store.chains (cell_of entry.key) entry.key.epoch entry.stored all
-  other_keeps _ (Has_entry entry holder last of_copy lt) = all
-  other_keeps _ (Has_no_slot entry holder last of_copy at full) = all
+  other_keeps _ _ = all
 
   sweep_keeps : (done : Done) → DidSweep here own done → P done.own.store.chains
   sweep_keeps _ (Sweeps (dead.Key key) seated next off) = drops own.store key all

@@ -22,18 +22,18 @@ use Rattle.petal_msg.specs.declared.operation.Pending.{Pending}
 use Rattle.petal_state.specs.CellState.{cell_link}
 use Rattle.petal_rules.specs.Copies.{begins_copy, least, marked_blocks, page_wanted}
 use Rattle.petal_rules.specs.Lists.{In}
-use Rattle.petal_rules.specs.Server.{Own, Here, Post, Done, post_to}
+use Rattle.petal_rules.specs.Server.{Own, Here, Post, Done, post_to, says_to}
 use Rattle.petal_rules.specs.State.{holder_of, link_named, live}
 use Rattle.petal_rules.specs.Store.{chain_in, epochs_of}
 use Rattle.petal_rules.specs.Writes.{acts, ended, ends, gives_back, moved_as, next_stage, without_pending}
 use Rattle.petal_rules.proofs.Tests.{none_some, same_some, true_false}
-use Rattle.law_steps.specs.DidLead.{DidLead, Asks, A_slot, A_copy, A_trim, A_copied_entry, A_page, An_entry_to_move, Of_the_log, Asks_for, Repeats, Is_full}
-use Rattle.law_steps.specs.DidLead.{Opens, Marks, Puts, Gives_up, Unmarks, Closes, Opens_alone, Marks_alone, Puts_alone, Unmarks_alone, Closes_alone}
-use Rattle.law_steps.specs.DidLead.{Opens_fill, Opens_fill_alone, Has_fill, Has_no_room, Goes_on_dead}
-use Rattle.law_steps.specs.DidHolder.{DidHolder, CopyStep, Asks_to_trim, Sends, Unmarks_copied, Closes_copy, Asks_page, Turns_page}
-use Rattle.law_steps.specs.DidHolder.{Begins_copy, Goes_on_copying, Finds_it_full, Tidies, first_copy}
-use Rattle.law_steps.specs.DidOther.{DidOther, first_last, TrimStep, Is_trimmed, Drops_entry, Answers_page, Is_copied_to}
-use Rattle.law_steps.specs.DidOther.{Goes_on_trimming, Puts_entry, Has_entry, Has_no_slot}
+use Rattle.law_steps.specs.DidLead.{DidLead, Asks, An_entry_to_move, Of_the_log, Asks_for, Repeats, Is_full}
+use Rattle.law_steps.specs.DidLead.{Opens, Gives_up, Closes, Closes_alone}
+use Rattle.law_steps.specs.DidLead.{Opens_fill, Has_fill, Has_no_room, Goes_on_dead}
+use Rattle.law_steps.specs.DidHolder.{DidHolder, CopyStep, Asks_to_trim, Sends, Asks_page}
+use Rattle.law_steps.specs.DidHolder.{Begins_copy, Goes_on_copying, first_copy}
+use Rattle.law_steps.specs.DidOther.{OtherReply, Replies, DidOther, first_last, TrimStep, Is_trimmed, Drops_entry, Answers_page, Is_copied_to}
+use Rattle.law_steps.specs.DidOther.{Goes_on_trimming, Puts_entry}
 use Rattle.law_steps.specs.Did.{Did, Ignores, Refuses, By_read, By_lead, By_second, By_holder, By_other, By_filler, By_sweep}
 use Rattle.law_steps.proofs.Letters.{one_post, posted}
 use Rattle.law_steps.proofs.Resting.{among_least}
@@ -119,6 +119,10 @@ abbrev pub IsAt : Cell → Option Cell → Type 0
 IsAt q None = ⊥
 IsAt q (Some cell) = q ≡ cell
 
+pub at_cell : (q : Cell) (o : Option Cell) → o ≡ Some q → IsAt q o
+at_cell q None e = none_some refl e
+at_cell q (Some cell) e = sym (same_some e)
+
 pub at_away : {A : Type 0} (q : Cell) (o : Option Cell) → IsAt q o → Away q o → A
 at_away q None here_it away_it = absurd here_it
 at_away q (Some cell) here_it away_it = absurd (away_it here_it)
@@ -156,23 +160,16 @@ module _ (heard : Body → Type 0) (here : Here) (own : Own) where
   lead_sends _ (Gives_up op h is reserved put) post i = inr (ending_sends (gives_back (without_pending own op.cell)) op op.kind ending.Full post i)
   lead_sends _ (Opens want new both) post i = inr
       (paired_not post.body (ap subject_of (posted _ (body.Reserve own.pairs.next want.cell) post i)))
-  lead_sends _ (Marks op h is both stage) post i = none_in post i
-  lead_sends _ (Puts op is both stage) post i = none_in post i
-  lead_sends _ (Unmarks op h is both stage) post i = none_in post i
   lead_sends _ (Closes op is both stage) post i = inr (ending_sends (without_pending own op.cell) op op.kind ending.Written post i)
-  lead_sends _ (Opens_alone want new alone) post i = none_in post i
-  lead_sends _ (Marks_alone now op taken alone fresh) post i = none_in post i
-  lead_sends _ (Puts_alone now op taken alone stale put) post i = none_in post i
-  lead_sends _ (Unmarks_alone now op taken alone stale put busy) post i = none_in post i
   lead_sends _ (Closes_alone now op taken alone stale put free) post i = inr
       (ending_sends (without_pending now op.cell) op op.kind ending.Written post i)
   lead_sends _ (Opens_fill moving new room both) post i = inr
       (paired_not post.body (ap subject_of (posted _ (body.Reserve own.pairs.next (cell_of moving.key)) post i)))
-  lead_sends _ (Opens_fill_alone moving new room alone) post i = none_in post i
   lead_sends _ (Has_fill moving there) post i = inr (filling_not post.body (ap subject_of (posted _ (body.Filled moving.key) post i)))
   lead_sends _ (Has_no_room moving new no_room) post i = inr
       (filling_not post.body (ap subject_of (posted _ (body.FillFull moving.key) post i)))
   lead_sends _ (Goes_on_dead now op taken off) post i = inr (acts_sends now op (next_stage here.state here.me op) post i)
+  lead_sends _ _ post i = none_in post i
 
   -- ### Holders and other servers
 
@@ -192,20 +189,17 @@ module _ (heard : Body → Type 0) (here : Here) (own : Own) where
       (posted _ (body.Trim copy.op cell (epochs_of (chain_in now.store.chains cell))) post i) refl e
   step_says now cell copy _ (Sends row trimmed is) post i q e =
       said_at post _ cell q (posted _ (body.Sync copy.op (key_at cell row.0) row.1.version copy.index row.1.bytes) post i) refl e
-  step_says now cell copy _ (Unmarks_copied kind synced left) post i q e = none_in post i
-  step_says now cell copy _ (Closes_copy synced left) post i q e = none_in post i
+  step_says now cell copy _ _ post i q e = none_in post i
 
   pub holder_says : (done : Done) (d : DidHolder heard here own done) (post : Post) → In post done.posts → (q : Cell)
       → (about post.body).cell ≡ Some q
       → IsAt q (holder_cell heard here own done d)
   holder_says _ (Asks_page id row other held fresh) post i q e = said_none post _ q
       (posted (Some other) (page_wanted own row) post i) refl e
-  holder_says _ (Turns_page id row other after block h held fresh at) post i q e = none_in post i
   holder_says done (Begins_copy id row other cell _ held next step) post i q e =
       step_says (begins_copy own cell) cell (first_copy own.pairs.next) done step post i q e
   holder_says done (Goes_on_copying cell now copy _ taken step) post i q e = step_says now cell copy done step post i q e
-  holder_says _ (Finds_it_full cell copy h is trimmed lt) post i q e = none_in post i
-  holder_says _ (Tidies id row block kind is both idle left) post i q e = none_in post i
+  holder_says _ _ post i q e = none_in post i
 
   trim_says : (now : Own) (cell : Cell) (last : LastCopy) (holder : ℕ) (done : Done) → TrimStep now cell last holder done → (post : Post)
       → In post done.posts
@@ -216,19 +210,13 @@ module _ (heard : Body → Type 0) (here : Here) (own : Own) where
   pub other_says : (done : Done) (d : DidOther heard here own done) (post : Post) → In post done.posts → (q : Cell)
       → (about post.body).cell ≡ Some q
       → IsAt q (other_cell heard here own done d)
-  other_says _ (Answers_page id row after h is) post i q e =
-      said_none post (body.Hello row.map row.link after (least (filter (above after) (marked_blocks here.state row own)))) q
-      (posted _ _ post i) refl e
+  other_says _ (Replies to said reply) post i q e = at_cell q (about said).cell (ap (λ (b : Body). (about b).cell) (sym (posted to said post i)) ∙ e)
   other_says done (Is_copied_to number cell epochs holder _ h held newer step) post i q e =
       said_at post _ cell q (trim_says _ cell (first_last number epochs) holder done step post i) refl e
   other_says done (Goes_on_trimming cell holder last _ held is step) post i q e = said_at post _ cell q
       (trim_says own cell last holder done step post i) refl e
   other_says _ (Puts_entry entry holder last of_copy at room) post i q e =
       said_at post _ (cell_of entry.key) q (posted (Some holder) (body.Synced entry.op (cell_of entry.key) entry.index) post i) refl e
-  other_says _ (Has_entry entry holder last of_copy lt) post i q e =
-      said_at post _ (cell_of entry.key) q (posted (Some holder) (body.Synced entry.op (cell_of entry.key) entry.index) post i) refl e
-  other_says _ (Has_no_slot entry holder last of_copy at full) post i q e =
-      said_at post _ (cell_of entry.key) q (posted (Some holder) (body.SyncFull entry.op (cell_of entry.key)) post i) refl e
 
   -- ### Pages
 
@@ -250,13 +238,9 @@ module _ (heard : Body → Type 0) (here : Here) (own : Own) where
   copied_page post ne f = absurd (ne (page_copied post.body f))
 
   asks_no_page : {A : Type 0} (post : Post) → Asks here own post → is_page post.body ≡ true → A
-  asks_no_page _ (A_slot op to is stage so) f = true_false f refl
-  asks_no_page _ (A_copy op to is stage so) f = true_false f refl
-  asks_no_page _ (A_trim cell copy to is fresh so) f = true_false f refl
-  asks_no_page _ (A_copied_entry cell copy row to is trimmed at so) f = true_false f refl
-  asks_no_page _ (A_page row to on so fresh) f = true_false f refl
   asks_no_page post (An_entry_to_move _ next) f = copied_page post (filling_not post.body (ap (λ (p : Post). subject_of p.body) next.is)) f
   asks_no_page post (Of_the_log _ logged) f = copied_page post (logged_not (subject_of post.body) logged) f
+  asks_no_page _ _ f = true_false f refl
 
   step_no_page : {A : Type 0} (now : Own) (cell : Cell) (copy : Copying) (done : Done) → CopyStep here now cell copy done → (post : Post)
       → In post done.posts → is_page post.body ≡ true → A
@@ -264,22 +248,19 @@ module _ (heard : Body → Type 0) (here : Here) (own : Own) where
       (posted _ (body.Trim copy.op cell (epochs_of (chain_in now.store.chains cell))) post i) refl
   step_no_page now cell copy _ (Sends row trimmed is) post i =
       no_page post _ (posted _ (body.Sync copy.op (key_at cell row.0) row.1.version copy.index row.1.bytes) post i) refl
-  step_no_page now cell copy _ (Unmarks_copied kind synced left) post i = none_in post i
-  step_no_page now cell copy _ (Closes_copy synced left) post i = none_in post i
+  step_no_page now cell copy _ _ post i = none_in post i
 
   holder_no_page : {A : Type 0} (done : Done) → DidHolder heard here own done → (post : Post) → In post done.posts
       → is_page post.body ≡ true → A
   holder_no_page _ (Asks_page id row other held fresh) post i = no_page post _ (posted (Some other) (page_wanted own row) post i) refl
-  holder_no_page _ (Turns_page id row other after block h held fresh at) post i = none_in post i
   holder_no_page done (Begins_copy id row other cell _ held next step) post i =
       step_no_page (begins_copy own cell) cell (first_copy own.pairs.next) done step post i
   holder_no_page done (Goes_on_copying cell now copy _ taken step) post i = step_no_page now cell copy done step post i
-  holder_no_page _ (Finds_it_full cell copy h is trimmed lt) post i = none_in post i
-  holder_no_page _ (Tidies id row block kind is both idle left) post i = none_in post i
+  holder_no_page _ _ post i = none_in post i
 
-  other_page : (done : Done) → DidOther heard here own done → (post : Post) → In post done.posts → is_page post.body ≡ true
-      → IsAnswered done post.body
-  other_page _ (Answers_page id row after h named) post i f = record {
+  reply_page : (to : Option ℕ) (said : Body) → OtherReply heard here own to said → (post : Post) → In post (post_to to said) → is_page post.body ≡ true
+      → IsAnswered (says_to own to said) post.body
+  reply_page _ _ (Answers_page id row after h named) post i f = record {
     id = id;
     row = row;
     after = after;
@@ -289,16 +270,17 @@ module _ (heard : Body → Type 0) (here : Here) (own : Own) where
     is = posted _ (body.Hello row.map row.link after (least (filter (above after) (marked_blocks here.state row own)))) post i;
     same = refl;
   }
+  reply_page to said _ post i f = no_page post said (posted to said post i) refl f
+
+  other_page : (done : Done) → DidOther heard here own done → (post : Post) → In post done.posts → is_page post.body ≡ true
+      → IsAnswered done post.body
+  other_page _ (Replies to said reply) post i f = reply_page to said reply post i f
   other_page done (Is_copied_to number cell epochs holder _ h held newer step) post i f =
       no_page post _ (trim_says _ cell (first_last number epochs) holder done step post i) refl f
   other_page done (Goes_on_trimming cell holder last _ held is step) post i f = no_page post _
       (trim_says own cell last holder done step post i) refl f
   other_page _ (Puts_entry entry holder last of_copy at room) post i f =
       no_page post _ (posted (Some holder) (body.Synced entry.op (cell_of entry.key) entry.index) post i) refl f
-  other_page _ (Has_entry entry holder last of_copy lt) post i f =
-      no_page post _ (posted (Some holder) (body.Synced entry.op (cell_of entry.key) entry.index) post i) refl f
-  other_page _ (Has_no_slot entry holder last of_copy at full) post i f =
-      no_page post _ (posted (Some holder) (body.SyncFull entry.op (cell_of entry.key)) post i) refl f
 
   page_answered : (done : Done) → Did heard here own done → (post : Post) → In post done.posts → is_page post.body ≡ true
       → IsAnswered done post.body

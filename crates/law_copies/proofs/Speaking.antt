@@ -28,12 +28,12 @@ use Rattle.petal_rules.specs.Writes.{acts, ended, ends, follows, gives_back, mov
 use Rattle.petal_rules.proofs.Tests.{by_bool, none_some, same_some, true_false}
 use Rattle.law_state.proofs.Cells.{dead_second}
 use Rattle.law_steps.specs.Did.{Did, Ignores, Refuses, By_read, By_lead, By_second, By_holder, By_other, By_filler, By_sweep}
-use Rattle.law_steps.specs.DidLead.{DidLead, Asks_for, Repeats, Is_full, Opens, Marks, Puts, Gives_up, Unmarks, Closes, Opens_alone, Marks_alone, Puts_alone}
-use Rattle.law_steps.specs.DidLead.{Unmarks_alone, Closes_alone, Opens_fill, Opens_fill_alone, Has_fill, Has_no_room, Goes_on_dead, Asks, A_slot, A_copy}
+use Rattle.law_steps.specs.DidLead.{DidLead, Asks_for, Repeats, Is_full, Opens, Gives_up, Closes}
+use Rattle.law_steps.specs.DidLead.{Closes_alone, Opens_fill, Has_fill, Has_no_room, Goes_on_dead, Asks, A_slot, A_copy}
 use Rattle.law_steps.specs.DidLead.{A_trim, A_copied_entry, A_page, An_entry_to_move, Of_the_log}
 use Rattle.law_steps.specs.DidSecond.{DidSecond, with_tickets, Sets_apart, Promises, Declines, Follows}
 use Rattle.law_steps.specs.DidHolder.{DidHolder, CopyStep, Asks_to_trim, Sends, Unmarks_copied, Closes_copy, TakenCopy, Copy_as_is, Copy_trimmed, Copy_synced}
-use Rattle.law_steps.specs.DidHolder.{first_copy, Asks_page, Turns_page, Begins_copy, Goes_on_copying, Finds_it_full, Tidies}
+use Rattle.law_steps.specs.DidHolder.{first_copy, Asks_page, Turns_page, Begins_copy, Goes_on_copying}
 use Rattle.law_steps.specs.DidOther.{DidOther}
 use Rattle.law_steps.specs.Happens.{is_between}
 use Rattle.law_steps.proofs.Leading.{lead_links}
@@ -142,25 +142,18 @@ module _ (heard : Body → Type 0) (here : Here) (own : Own) where
     lead_say _ (Opens want new both) post i e =
         so_of want.cell (led_spoken want.cell new.lead) (body.Reserve own.pairs.next want.cell) post.body
         (posted _ (body.Reserve own.pairs.next want.cell) post i) refl e
-    lead_say _ (Marks op h is both stage) post i e = none_in post i
-    lead_say _ (Puts op is both stage) post i e = none_in post i
-    lead_say _ (Unmarks op h is both stage) post i e = none_in post i
     lead_say _ (Closes op is both stage) post i e = inl (ending_mute here (without_pending own op.cell) op op.kind ending.Written post i)
-    lead_say _ (Opens_alone want new alone) post i e = none_in post i
-    lead_say _ (Marks_alone now op taken alone fresh) post i e = none_in post i
-    lead_say _ (Puts_alone now op taken alone stale put) post i e = none_in post i
-    lead_say _ (Unmarks_alone now op taken alone stale put busy) post i e = none_in post i
     lead_say _ (Closes_alone now op taken alone stale put free) post i e =
         inl (ending_mute here (without_pending now op.cell) op op.kind ending.Written post i)
     lead_say _ (Opens_fill moving new room both) post i e =
         so_of (cell_of moving.key) (led_spoken (cell_of moving.key) new.lead) (body.Reserve own.pairs.next (cell_of moving.key)) post.body
         (posted _ (body.Reserve own.pairs.next (cell_of moving.key)) post i) refl e
-    lead_say _ (Opens_fill_alone moving new room alone) post i e = none_in post i
     lead_say _ (Has_fill moving there) post i e =
         inl (ap (λ (b : Body). is_between (subject_of b)) (posted _ (body.Filled moving.key) post i))
     lead_say _ (Has_no_room moving new no_room) post i e =
         inl (ap (λ (b : Body). is_between (subject_of b)) (posted _ (body.FillFull moving.key) post i))
     lead_say _ (Goes_on_dead now op taken off) post i e = acts_say now op off (next_stage here.state here.me op) post i
+    lead_say _ _ post i e = none_in post i
 
     told_say : (new : Own) (cell : Cell) (number : ℕ) (how : Far) → is_second here.state here.me cell ≡ true → Says (tells here new cell number how).posts
     told_say new cell number far.Reserved so post i e =
@@ -199,13 +192,11 @@ module _ (heard : Body → Type 0) (here : Here) (own : Own) where
         by : (done : Done) (d : DidHolder heard here own done) (post : Post) → In post done.posts → IsAt q (holder_cell heard here own done d)
             → (is_between (subject_of post.body) ≡ false) ⊎ IsSpoken q
         by _ (Asks_page id row other held fresh) post i at = absurd at
-        by _ (Turns_page id row other after block h held fresh same) post i at = none_in post i
         by _ (Begins_copy id row other cell _ held_with next step) post i at =
             inr (held cell at (next_is here.state id row own held_with.is cell next).lives (begun_held heard here own fit id row other cell held_with next))
         by _ (Goes_on_copying cell now copy _ taken step) post i at =
             inr (held cell at (taken_lives heard here own fit cell now copy taken) (taken_held heard here own fit cell now copy taken))
-        by _ (Finds_it_full cell copy h is trimmed lt) post i at = none_in post i
-        by _ (Tidies id row block kind is both found left) post i at = none_in post i
+        by _ _ post i at = none_in post i
 
     pub did_say : (done : Done) → Did heard here own done → Says done.posts
     did_say _ Ignores post i e = none_in post i
@@ -275,13 +266,11 @@ module _ (heard : Body → Type 0) (here : Here) (own : Own) where
         taken_last cell _ _ (Copy_synced copy h is trimmed lt) = refl
 
         holder_last : (done : Done) → DidHolder heard here own done → last_copy done.own q ≡ last_copy own q
-        holder_last _ (Asks_page id row other held fresh) = refl
         holder_last _ (Turns_page id row other after None h held fresh at) = refl
         holder_last _ (Turns_page id row other after (Some block) h held fresh at) = refl
         holder_last done (Begins_copy id row other cell _ held next step) = step_last (begins_copy own cell) cell (first_copy own.pairs.next) done step
         holder_last done (Goes_on_copying cell now copy _ taken step) = step_last now cell copy done step ∙ taken_last cell now copy taken
-        holder_last _ (Finds_it_full cell copy h is trimmed lt) = refl
-        holder_last _ (Tidies id row block kind is both found left) = refl
+        holder_last _ _ = refl
     did_copied _ (By_other done d) last is = other_copied done d last is
     did_copied _ (By_filler done d) last is =
         same_copied done.own (ap (λ (t : Table Cell LastCopy). at cell_cmp t q) (of_filler heard here own done d).last) last is

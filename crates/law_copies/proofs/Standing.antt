@@ -19,6 +19,7 @@ use Rattle.petal_state.specs.State.{is_up}
 use Rattle.petal_rules.specs.Copies.{Entry, cell_at, cell_holder, idle_mark, marked_blocks, next_copy}
 use Rattle.petal_rules.specs.Writes.{is_under_way}
 use Rattle.petal_rules.specs.Progress.{copying_on}
+use Rattle.petal_msg.specs.Kinds.{about}
 use Rattle.petal_rules.specs.Server.{Own, Here, Done}
 use Rattle.petal_rules.specs.State.{State, holder_of, id_of, in_both, is_second, leads_link, link_named, live, other_in, second}
 use Rattle.petal_rules.proofs.Tests.{both_true, by_test, is_the_one, none_some, same_numbers, same_or_apart, same_some, true_false}
@@ -29,7 +30,7 @@ use Rattle.law_state.proofs.Cells.{link_led_by, second_by}
 use Rattle.law_state.proofs.Places.{found_at}
 use Rattle.law_steps.specs.DidHolder.{DidHolder, TakenCopy, Copy_as_is, Copy_trimmed, Copy_synced, Asks_page, Turns_page, Begins_copy}
 use Rattle.law_steps.specs.DidHolder.{Goes_on_copying, Finds_it_full, Tidies, IsHeldWith}
-use Rattle.law_steps.specs.DidOther.{DidOther, IsOfCopy, Answers_page, Is_copied_to, Goes_on_trimming, Puts_entry, Has_entry, Has_no_slot}
+use Rattle.law_steps.specs.DidOther.{OtherReply, Replies, DidOther, IsOfCopy, Is_copied_to, Goes_on_trimming, Puts_entry, Has_entry, Has_no_slot}
 use Rattle.law_steps.proofs.Leading.{stage_live}
 use Rattle.law_steps.proofs.Resting.{among_least, on_row, row_named}
 use Rattle.law_copies.specs.Steps.{IsFit}
@@ -239,10 +240,13 @@ module _ (heard : Body → Type 0) (here : Here) (own : Own) (fit : IsFit heard 
   holder_lives _ (Finds_it_full cell copy h is trimmed lt) = copying_lives cell copy is
   holder_lives _ (Tidies id row block kind is both idle left) = idle_lives id row block is idle
 
+  reply_lives : (to : Option ℕ) (said : Body) → OtherReply heard here own to said → IsSo (λ c. live here.state c ≡ true) (about said).cell
+  reply_lives _ _ (Has_entry entry holder last of lt) = entry_lives entry holder last of
+  reply_lives _ _ (Has_no_slot entry holder last of at full) = entry_lives entry holder last of
+  reply_lives _ _ _ = tt
+
   pub other_lives : (done : Done) (d : DidOther heard here own done) → IsSo (λ c. live here.state c ≡ true) (other_cell heard here own done d)
-  other_lives _ (Answers_page id row after h is) = tt
+  other_lives _ (Replies to said reply) = reply_lives to said reply
   other_lives _ (Is_copied_to number cell epochs holder _ h held newer step) = fit.lives (body.Trim number cell epochs) h refl cell refl
   other_lives _ (Goes_on_trimming cell holder last _ held is step) = fit.copied cell last is
   other_lives _ (Puts_entry entry holder last of at room) = entry_lives entry holder last of
-  other_lives _ (Has_entry entry holder last of lt) = entry_lives entry holder last of
-  other_lives _ (Has_no_slot entry holder last of at full) = entry_lives entry holder last of

@@ -31,9 +31,9 @@ use Rattle.law_state.specs.Steady.{IsSteady}
 use Rattle.law_state.specs.Homes.{stage_at}
 use Rattle.law_steps.specs.Did.{Did, Ignores, Refuses, By_read, By_lead, By_second, By_holder, By_other, By_filler, By_sweep}
 use Rattle.law_steps.specs.Operations.{progress}
-use Rattle.law_steps.specs.DidLead.{DidLead, Asks_for, Repeats, Is_full, Opens, Marks, Puts, Gives_up, Unmarks, Closes, Opens_alone, Marks_alone, Puts_alone}
-use Rattle.law_steps.specs.DidLead.{Unmarks_alone, Closes_alone, Opens_fill, Opens_fill_alone, Has_fill, Has_no_room, Goes_on_dead, Asks, A_slot, A_copy}
-use Rattle.law_steps.specs.DidLead.{A_trim, A_copied_entry, A_page, An_entry_to_move, Of_the_log, Taken}
+use Rattle.law_steps.specs.DidLead.{DidLead, Asks_for, Repeats, Is_full, Opens, Gives_up, Closes}
+use Rattle.law_steps.specs.DidLead.{Closes_alone, Opens_fill, Has_fill, Has_no_room, Goes_on_dead, Asks, A_slot, A_copy}
+use Rattle.law_steps.specs.DidLead.{An_entry_to_move, Of_the_log, Taken}
 use Rattle.law_steps.specs.DidSecond.{DidSecond, with_tickets, Sets_apart, Promises, Declines, Follows}
 use Rattle.law_steps.specs.Ready.{IsReady}
 use Rattle.law_steps.proofs.CopyFrames.{CopyFrame, of_holder, of_other}
@@ -242,12 +242,10 @@ module _ (heard : Body → Type 0) (here : Here) (own : Own) (steady : IsSteady 
       asks_say : (second : Own) (post : Post) → Asks here own post → (about post.body).cell ≡ Some cell → Known (pair_of first second cell) post.body
       asks_say second _ (A_slot op to is stage e) of = absurd (op_apart op is (sym (same_some of)))
       asks_say second _ (A_copy op to is stage e) of = absurd (op_apart op is (sym (sym (ready.staged op.cell op is).keyed ∙ same_some of)))
-      asks_say second _ (A_trim q copy to is fresh e) of = tt
-      asks_say second _ (A_copied_entry q copy entry to is trimmed got e) of = tt
-      asks_say second _ (A_page other to there e fresh) of = tt
       asks_say second _ (An_entry_to_move post next) of =
           lead.filling_known (pair_of first second cell) post.body (ap (λ (p : Post). subject_of p.body) next.is)
       asks_say second post (Of_the_log _ e) of = lead.logged_known (pair_of first second cell) post.body e
+      asks_say second _ _ of = tt
 
       lead_says : (second : Own) (done : Done) → DidLead heard here own done → Says first second done.posts
       lead_says second _ (Asks_for posts h) = λ post i of. asks_say second post (h post i) of
@@ -257,26 +255,19 @@ module _ (heard : Body → Type 0) (here : Here) (own : Own) (steady : IsSteady 
       lead_says second _ (Opens want new both) =
           beside.apart_says heard here own steady cell row is_row alive both_row first second want.cell _ (body.Reserve own.pairs.next want.cell)
           (lead_apart want.cell new.lead) (λ post i. posted _ _ post i) refl
-      lead_says second _ (Marks op h is both stage) = none_says first second
-      lead_says second _ (Puts op is both stage) = none_says first second
-      lead_says second _ (Unmarks op h is both stage) = none_says first second
       lead_says second _ (Closes op is both stage) = ending_says second (without_pending own op.cell) op ending.Written
-      lead_says second _ (Opens_alone want new on) = none_says first second
-      lead_says second _ (Marks_alone now op taken on fresh) = none_says first second
-      lead_says second _ (Puts_alone now op taken on stale put) = none_says first second
-      lead_says second _ (Unmarks_alone now op taken on stale put busy) = none_says first second
       lead_says second _ (Closes_alone now op taken on stale put free) = ending_says second (without_pending now op.cell) op ending.Written
       lead_says second _ (Opens_fill moving new room both) =
           beside.apart_says heard here own steady cell row is_row alive both_row first second (cell_of moving.key) _
           (body.Reserve own.pairs.next (cell_of moving.key)) (lead_apart (cell_of moving.key) new.lead)
           (λ post i. posted _ _ post i) refl
-      lead_says second _ (Opens_fill_alone moving new room on) = none_says first second
       lead_says second _ (Has_fill moving there) = λ post i of.
           subst (Known (pair_of first second cell)) (sym (posted _ (body.Filled moving.key) post i)) tt
       lead_says second _ (Has_no_room moving new no_room) = λ post i of.
           subst (Known (pair_of first second cell)) (sym (posted _ (body.FillFull moving.key) post i)) tt
       lead_says second _ (Goes_on_dead now op taken dead) =
           dead_says second now op (taken_keyed now op taken) (taken_apart now op taken) (next_stage here.state here.me op)
+      lead_says second _ _ = none_says first second
 
       follow_off : (new : Own) → chain_in new.store.chains cell ≡ chain_in own.store.chains cell
           → at cell_cmp new.pairs.last cell ≡ at cell_cmp own.pairs.last cell

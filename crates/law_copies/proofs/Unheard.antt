@@ -22,10 +22,10 @@ use Rattle.law_log.proofs.Flags.{progress_beside, same_id}
 use Rattle.law_state.specs.Tables.{IsPlainState}
 use Rattle.law_state.proofs.Steady.{linked}
 use Rattle.law_steps.specs.Did.{Did, Ignores, Refuses, By_read, By_lead, By_second, By_holder, By_other, By_filler, By_sweep}
-use Rattle.law_steps.specs.DidHolder.{DidHolder, CopyStep, Asks_to_trim, Sends, Unmarks_copied, Closes_copy, TakenCopy, Copy_as_is, Copy_trimmed, Copy_synced}
-use Rattle.law_steps.specs.DidHolder.{Asks_page, Turns_page, Begins_copy, Goes_on_copying, Finds_it_full, Tidies, first_copy}
-use Rattle.law_steps.specs.DidOther.{DidOther, TrimStep, Is_trimmed, Drops_entry, Answers_page, Is_copied_to, Goes_on_trimming}
-use Rattle.law_steps.specs.DidOther.{Puts_entry, Has_entry, Has_no_slot, first_last}
+use Rattle.law_steps.specs.DidHolder.{DidHolder, CopyStep, Closes_copy, TakenCopy, Copy_as_is, Copy_trimmed, Copy_synced}
+use Rattle.law_steps.specs.DidHolder.{Turns_page, Begins_copy, Goes_on_copying, first_copy}
+use Rattle.law_steps.specs.DidOther.{DidOther, TrimStep, Is_trimmed, Drops_entry, Is_copied_to, Goes_on_trimming}
+use Rattle.law_steps.specs.DidOther.{first_last}
 use Rattle.law_steps.proofs.CopyFrames.{of_holder, of_other}
 use Rattle.law_steps.proofs.Resting.{row_named}
 use Rattle.law_steps.proofs.Subjects.{of_filler, of_lead, of_read, of_second, of_sweep}
@@ -64,9 +64,6 @@ module _ (heard : Body → Type 0) (here : Here) (own : Own) (row : LinkRow)
   table_same to same = ap (λ (c : Copies). progress_on (record own { copies = c }) row) same
 
   step_pages : (now : Own) → P now → (cell : Cell) (copy : Copying) (done : Done) → CopyStep here now cell copy done → P done.own
-  step_pages now p cell copy _ (Asks_to_trim fresh) = p
-  step_pages now p cell copy _ (Sends entry trimmed is) = p
-  step_pages now p cell copy _ (Unmarks_copied kind synced left) = p
   step_pages now p cell copy _ (Closes_copy synced left) = by (cell_link here.state cell) refl ∙ p
     where
       by : (o : Option LinkRow) → cell_link here.state cell ≡ o → progress_on (with_copied o (without_copying now cell) cell.block) row ≡ progress_on now row
@@ -75,9 +72,9 @@ module _ (heard : Body → Type 0) (here : Here) (own : Own) (row : LinkRow)
           (λ t. progress_beside (without_copying now cell) of (record (progress_on now of) { copied = Some cell.block }) row
           (apart (id_of of) of (row_named here.state cell of e)))
           (λ f. refl)
+  step_pages now p cell copy _ _ = p
 
   holder_pages : (done : Done) → DidHolder heard here own done → P done.own
-  holder_pages _ (Asks_page id of other held fresh) = refl
   holder_pages _ (Turns_page id of other after None h held fresh at) =
       progress_beside own of (record (progress_on own of) { paged = true }) row (apart id of held.is)
   holder_pages _ (Turns_page id of other after (Some block) h held fresh at) =
@@ -89,21 +86,17 @@ module _ (heard : Body → Type 0) (here : Here) (own : Own) (row : LinkRow)
       taken_pages _ _ (Copy_as_is copy is) = refl
       taken_pages _ _ (Copy_trimmed copy h is fresh) = refl
       taken_pages _ _ (Copy_synced copy h is trimmed lt) = refl
-  holder_pages _ (Finds_it_full cell copy h is trimmed lt) = refl
-  holder_pages _ (Tidies id of block kind named both idle left) = refl
+  holder_pages _ _ = refl
 
   trim_pages : (now : Own) → P now → (cell : Cell) (last : LastCopy) (holder : ℕ) (done : Done) → TrimStep now cell last holder done → P done.own
   trim_pages now p cell last holder _ (Is_trimmed none) = p
   trim_pages now p cell last holder _ (Drops_entry epoch epochs is) = p
 
   other_pages : (done : Done) → DidOther heard here own done → P done.own
-  other_pages _ (Answers_page id of after h is) = refl
   other_pages done (Is_copied_to number cell epochs holder _ h held newer step) =
       trim_pages (with_last_copy own cell (first_last number epochs)) refl cell (first_last number epochs) holder done step
   other_pages done (Goes_on_trimming cell holder last _ held is step) = trim_pages own refl cell last holder done step
-  other_pages _ (Puts_entry entry holder last of_copy at room) = refl
-  other_pages _ (Has_entry entry holder last of_copy lt) = refl
-  other_pages _ (Has_no_slot entry holder last of_copy at full) = refl
+  other_pages _ _ = refl
 
   pub did_pages : (done : Done) → Did heard here own done → P done.own
   did_pages _ Ignores = refl

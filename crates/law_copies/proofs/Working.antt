@@ -22,6 +22,7 @@ use Rattle.petal_msg.specs.declared.operation.Pending.{Pending}
 use Rattle.petal_state.specs.CellState.{cell_link}
 use Rattle.petal_rules.specs.Copies.{begins_copy, cell_at, cell_holder, with_page}
 use Rattle.petal_rules.specs.Progress.{has_proposed, progress_on, with_last_copy, without_copying}
+use Rattle.petal_msg.specs.Kinds.{about}
 use Rattle.petal_rules.specs.Server.{Own, Here, Done}
 use Rattle.petal_rules.specs.Fills.{fill_operation}
 use Rattle.petal_rules.specs.State.{is_lead, is_second, leads_link, live}
@@ -32,12 +33,12 @@ use Rattle.petal_rules.specs.Writes.{with_paired, with_pending, with_reserved, w
 use Rattle.petal_rules.proofs.Tests.{by_test, same_or_apart, true_false}
 use Rattle.law_state.specs.Homes.{stage_at}
 use Rattle.law_steps.specs.Ready.{IsReady}
-use Rattle.law_steps.specs.DidLead.{DidLead, Asks_for, Repeats, Is_full, Opens, Marks, Puts, Gives_up, Unmarks, Closes, Opens_alone, Marks_alone, Puts_alone}
-use Rattle.law_steps.specs.DidLead.{Unmarks_alone, Closes_alone, Opens_fill, Opens_fill_alone, Has_fill, Has_no_room, Goes_on_dead, Taken}
+use Rattle.law_steps.specs.DidLead.{DidLead, Is_full, Opens, Marks, Puts, Gives_up, Unmarks, Closes, Opens_alone, Marks_alone, Puts_alone}
+use Rattle.law_steps.specs.DidLead.{Unmarks_alone, Closes_alone, Opens_fill, Opens_fill_alone, Goes_on_dead, Taken}
 use Rattle.law_steps.specs.DidSecond.{DidSecond, Sets_apart, Promises, Declines, Follows, with_tickets}
-use Rattle.law_steps.specs.DidHolder.{DidHolder, CopyStep, Asks_to_trim, Sends, Unmarks_copied, Closes_copy, TakenCopy, Copy_as_is, Copy_trimmed, Copy_synced}
+use Rattle.law_steps.specs.DidHolder.{DidHolder, CopyStep, Unmarks_copied, Closes_copy, TakenCopy, Copy_as_is, Copy_trimmed, Copy_synced}
 use Rattle.law_steps.specs.DidHolder.{Asks_page, Turns_page, Begins_copy, Goes_on_copying, Finds_it_full, Tidies, first_copy}
-use Rattle.law_steps.specs.DidOther.{DidOther, first_last, TrimStep, Is_trimmed, Drops_entry, Answers_page, Is_copied_to}
+use Rattle.law_steps.specs.DidOther.{OtherReply, Replies, DidOther, first_last, TrimStep, Is_trimmed, Drops_entry, Is_copied_to}
 use Rattle.law_steps.specs.DidOther.{Goes_on_trimming, Puts_entry, Has_entry, Has_no_slot}
 use Rattle.law_steps.specs.DidFiller.{DidFiller}
 use Rattle.law_steps.specs.DidSweep.{DidSweep, Sweeps, cell_swept}
@@ -73,9 +74,6 @@ module _ (heard : Body → Type 0) (here : Here) (own : Own) where
   -- ### Leads
 
   abbrev pub lead_cell : (done : Done) → DidLead heard here own done → Option Cell
-  lead_cell _ (Asks_for posts h) = None
-  lead_cell _ (Repeats want last h lead is e) = None
-  lead_cell _ (Is_full want new no_room) = None
   lead_cell _ (Gives_up op h is reserved put) = Some op.cell
   lead_cell _ (Opens want new both) = Some want.cell
   lead_cell _ (Marks op h is both stage) = Some op.cell
@@ -89,9 +87,8 @@ module _ (heard : Body → Type 0) (here : Here) (own : Own) where
   lead_cell _ (Closes_alone now op taken alone stale put free) = Some op.cell
   lead_cell _ (Opens_fill moving new room both) = Some (cell_of moving.key)
   lead_cell _ (Opens_fill_alone moving new room alone) = Some (cell_of moving.key)
-  lead_cell _ (Has_fill moving there) = None
-  lead_cell _ (Has_no_room moving new no_room) = None
   lead_cell _ (Goes_on_dead now op taken off) = Some op.cell
+  lead_cell _ _ = None
 
   -- the cell has been live, and while it is, the server leads its link
   pub record IsLedHere (cell : Cell) : Type 0 where
@@ -119,9 +116,6 @@ module _ (heard : Body → Type 0) (here : Here) (own : Own) where
 
     -- the server leads it
     pub lead_leads : (done : Done) (d : DidLead heard here own done) → IsSo IsLedHere (lead_cell done d)
-    lead_leads _ (Asks_for posts h) = tt
-    lead_leads _ (Repeats want last h lead is e) = tt
-    lead_leads _ (Is_full want new no_room) = tt
     lead_leads _ (Gives_up op h is reserved put) = op_leads op is
     lead_leads _ (Opens want new both) = led_here want.cell new.lead
     lead_leads _ (Marks op h is both stage) = op_leads op is
@@ -135,9 +129,8 @@ module _ (heard : Body → Type 0) (here : Here) (own : Own) where
     lead_leads _ (Closes_alone now op taken alone stale put free) = taken_leads now op taken
     lead_leads _ (Opens_fill moving new room both) = led_here (cell_of moving.key) new.lead
     lead_leads _ (Opens_fill_alone moving new room alone) = led_here (cell_of moving.key) new.lead
-    lead_leads _ (Has_fill moving there) = tt
-    lead_leads _ (Has_no_room moving new no_room) = tt
     lead_leads _ (Goes_on_dead now op taken off) = taken_leads now op taken
+    lead_leads _ _ = tt
 
     taken_beside : (now : Own) (op : Pending) (q : Cell) → q ≢ op.cell → Taken own now op → KeepsCell q own now
     taken_beside now op q ne taken =
@@ -233,8 +226,6 @@ module _ (heard : Body → Type 0) (here : Here) (own : Own) where
 
     -- and leaves each other one
     pub lead_beside : (done : Done) (d : DidLead heard here own done) (q : Cell) → Away q (lead_cell done d) → KeepsCell q own done.own
-    lead_beside _ (Asks_for posts h) q ne = keeps_itself q own
-    lead_beside _ (Repeats want last h lead is e) q ne = keeps_itself q own
     lead_beside _ (Is_full want new no_room) q ne =
         keeps_alike q own _ (record { pending = refl; followed = refl; copying = refl; last = refl; chains = refl; marks = refl })
     lead_beside _ (Gives_up op h is reserved put) q ne =
@@ -264,10 +255,9 @@ module _ (heard : Body → Type 0) (here : Here) (own : Own) where
     lead_beside _ (Opens_fill_alone moving new room alone) q ne =
         let op = fill_operation here own.pairs.next moving in
         keeps_on q own (with_opened own op) _ (opened_beside op q ne) (marks_beside (with_opened own op) op q ne Stale)
-    lead_beside _ (Has_fill moving there) q ne = keeps_itself q own
-    lead_beside _ (Has_no_room moving new no_room) q ne = keeps_itself q own
     lead_beside _ (Goes_on_dead now op taken off) q ne =
         keeps_on q own now _ (taken_beside now op q ne taken) (acts_beside now op q ne (taken_key now op taken) (next_stage here.state here.me op))
+    lead_beside _ _ q ne = keeps_itself q own
 
   -- ### Second servers
 
@@ -319,8 +309,6 @@ module _ (heard : Body → Type 0) (here : Here) (own : Own) where
 
   pub copy_step_beside : (now : Own) (cell : Cell) (copy : Copying) (done : Done) (q : Cell) → q ≢ cell → CopyStep here now cell copy done
       → KeepsCell q now done.own
-  copy_step_beside now cell copy _ q ne (Asks_to_trim fresh) = keeps_itself q now
-  copy_step_beside now cell copy _ q ne (Sends row trimmed is) = keeps_itself q now
   copy_step_beside now cell copy _ q ne (Unmarks_copied kind synced left) = unmarked_beside now cell q ne kind
   copy_step_beside now cell copy _ q ne (Closes_copy synced left) =
       let gone = without_copying now cell in
@@ -334,6 +322,7 @@ module _ (heard : Body → Type 0) (here : Here) (own : Own) where
         chains = same.chains;
         marks = same.marks;
       }))
+  copy_step_beside now cell copy _ q ne _ = keeps_itself q now
 
   begins_beside : (cell q : Cell) → q ≢ cell → KeepsCell q own (begins_copy own cell)
   begins_beside cell q ne =
@@ -368,25 +357,26 @@ module _ (heard : Body → Type 0) (here : Here) (own : Own) where
   -- ### Other servers
 
   abbrev pub other_cell : (done : Done) → DidOther heard here own done → Option Cell
-  other_cell _ (Answers_page id row after h is) = None
+  other_cell _ (Replies to said reply) = (about said).cell
   other_cell _ (Is_copied_to number cell epochs holder _ h held newer step) = Some cell
   other_cell _ (Goes_on_trimming cell holder last _ held is step) = Some cell
   other_cell _ (Puts_entry entry holder last of_copy at room) = Some (cell_of entry.key)
-  other_cell _ (Has_entry entry holder last of_copy lt) = Some (cell_of entry.key)
-  other_cell _ (Has_no_slot entry holder last of_copy at full) = Some (cell_of entry.key)
 
   -- another server holds its link
   pub record IsHeldBy (cell : Cell) : Type 0 where
     pub holder : ℕ
     pub held : cell_holder here cell ≡ Some holder
 
+  reply_held : (to : Option ℕ) (said : Body) → OtherReply heard here own to said → IsSo IsHeldBy (about said).cell
+  reply_held _ _ (Has_entry entry holder last of_copy lt) = record { holder = holder; held = of_copy.held }
+  reply_held _ _ (Has_no_slot entry holder last of_copy at full) = record { holder = holder; held = of_copy.held }
+  reply_held _ _ _ = tt
+
   pub other_held : (done : Done) (d : DidOther heard here own done) → IsSo IsHeldBy (other_cell done d)
-  other_held _ (Answers_page id row after h is) = tt
+  other_held _ (Replies to said reply) = reply_held to said reply
   other_held _ (Is_copied_to number cell epochs holder _ h held newer step) = record { holder = holder; held = held }
   other_held _ (Goes_on_trimming cell holder last _ held is step) = record { holder = holder; held = held }
   other_held _ (Puts_entry entry holder last of_copy at room) = record { holder = holder; held = of_copy.held }
-  other_held _ (Has_entry entry holder last of_copy lt) = record { holder = holder; held = of_copy.held }
-  other_held _ (Has_no_slot entry holder last of_copy at full) = record { holder = holder; held = of_copy.held }
 
   trim_beside : (now : Own) (cell : Cell) (last : LastCopy) (holder : ℕ) (done : Done) (q : Cell) → q ≢ cell
       → TrimStep now cell last holder done
@@ -395,7 +385,6 @@ module _ (heard : Body → Type 0) (here : Here) (own : Own) where
   trim_beside now cell last holder _ q ne (Drops_entry epoch epochs is) = dropped_beside now cell q ne (key_at cell epoch) refl
 
   pub other_beside : (done : Done) (d : DidOther heard here own done) (q : Cell) → Away q (other_cell done d) → KeepsCell q own done.own
-  other_beside _ (Answers_page id row after h is) q ne = keeps_itself q own
   other_beside done (Is_copied_to number cell epochs holder _ h held newer step) q ne =
       let new : Own = with_last_copy own cell (first_last number epochs) in
       keeps_on q own new _ (last_beside own cell q ne (first_last number epochs))
@@ -408,8 +397,7 @@ module _ (heard : Body → Type 0) (here : Here) (own : Own) where
       (record { pending = refl; followed = refl; copying = refl; last = refl; chains = refl; marks = refl }))
       (keeps_on q apart put _ (entry_beside apart (cell_of entry.key) q ne entry.key entry.stored refl)
       (last_beside put (cell_of entry.key) q ne (record last { index = last.index + 1 })))
-  other_beside _ (Has_entry entry holder last of_copy lt) q ne = keeps_itself q own
-  other_beside _ (Has_no_slot entry holder last of_copy at full) q ne = keeps_itself q own
+  other_beside _ _ q ne = keeps_itself q own
 
   -- ### Fillers and sweeps
 

@@ -61,39 +61,26 @@ module _ (bound : Cell → ℕ → Type 0) (heard : Body → Type 0) (here : Her
       (λ fresh. taken_kept now op taken)
 
   lead_kept : (done : Done) → DidLead heard here own done → Kept done.own
-  lead_kept _ (Asks_for posts h) = all
-  lead_kept _ (Repeats want last h lead is e) = all
-  lead_kept _ (Is_full want new no_room) = all
   lead_kept _ (Gives_up op h is reserved put) = ends_kept (gives_back (without_pending own op.cell)) op op.kind Full all
-  lead_kept _ (Opens want new both) = all
-  lead_kept _ (Marks op h is both stage) = all
   lead_kept _ (Puts op is both stage) = put_within bound own.store.chains op.key _ all (pending op.cell op is)
-  lead_kept _ (Unmarks op h is both stage) = all
   lead_kept _ (Closes op is both stage) = ends_kept (without_pending own op.cell) op op.kind Written all
-  lead_kept _ (Opens_alone want new on) = all
   lead_kept _ (Marks_alone now op taken on fresh) = taken_kept now op taken
   lead_kept _ (Puts_alone now op taken on stale put) =
       put_within bound now.store.chains op.key _ (taken_kept now op taken) (taken_key now op taken)
   lead_kept _ (Unmarks_alone now op taken on stale put busy) = taken_kept now op taken
   lead_kept _ (Closes_alone now op taken on stale put free) = ends_kept (without_pending now op.cell) op op.kind Written (taken_kept now op taken)
-  lead_kept _ (Opens_fill moving new room both) = all
-  lead_kept _ (Opens_fill_alone moving new room alone) = all
-  lead_kept _ (Has_fill moving filled) = all
-  lead_kept _ (Has_no_room moving new no_room) = all
   lead_kept _ (Goes_on_dead now op taken off) = acts_kept now op taken (next_stage here.state here.me op)
+  lead_kept _ _ = all
 
   second_kept : (done : Done) → DidSecond heard here own done → Kept done.own
-  second_kept _ (Sets_apart number cell tickets h s le) = all
   second_kept _ (Promises number cell how s is) = same (tells here own cell number how).own
       (ap (λ (o : Own). o.store.chains) (told_own here own cell number how))
-  second_kept _ (Declines number cell h s no_room) = all
   second_kept _ (Follows number key version bytes h s is) = put_within bound own.store.chains key _ all (told _ h)
+  second_kept _ _ = all
 
   step_kept : (now : Own) (cell : Cell) (copy : Copying) (done : Done) → CopyStep here now cell copy done → Kept now → Kept done.own
-  step_kept now cell copy _ (Asks_to_trim fresh) kept = kept
-  step_kept now cell copy _ (Sends row trimmed is) kept = kept
-  step_kept now cell copy _ (Unmarks_copied kind synced left) kept = kept
   step_kept now cell copy _ (Closes_copy synced left) kept = subst (AreWithin bound) (sym (copied_chains here now cell)) kept
+  step_kept now cell copy _ _ kept = kept
 
   pub copy_kept : (cell : Cell) (now : Own) (copy : Copying) → TakenCopy heard own cell now copy → Kept now
   copy_kept cell _ _ (Copy_as_is copy is) = all
@@ -101,12 +88,10 @@ module _ (bound : Cell → ℕ → Type 0) (heard : Body → Type 0) (here : Her
   copy_kept cell _ _ (Copy_synced copy h is trimmed lt) = all
 
   holder_kept : (done : Done) → DidHolder heard here own done → Kept done.own
-  holder_kept _ (Asks_page id row other held fresh) = all
   holder_kept _ (Turns_page id row other after block h held fresh at) = subst (AreWithin bound) (sym (page_chains own row block)) all
   holder_kept done (Begins_copy id row other cell _ held next step) = step_kept _ cell _ done step all
   holder_kept done (Goes_on_copying cell now copy _ taken step) = step_kept now cell copy done step (copy_kept cell now copy taken)
-  holder_kept _ (Finds_it_full cell copy h is trimmed lt) = all
-  holder_kept _ (Tidies id row block kind is both idle left) = all
+  holder_kept _ _ = all
 
   trim_kept : (now : Own) (cell : Cell) (last : LastCopy) (holder : ℕ) (done : Done) → TrimStep now cell last holder done → now.store ≡ own.store
       → Kept done.own
@@ -114,13 +99,11 @@ module _ (bound : Cell → ℕ → Type 0) (heard : Body → Type 0) (here : Her
   trim_kept now cell last holder _ (Drops_entry epoch epochs is) e = drop_within bound now.store _ (same now (ap (λ (s : Store). s.chains) e))
 
   other_kept : (done : Done) → DidOther heard here own done → Kept done.own
-  other_kept _ (Answers_page id row after h is) = all
   other_kept done (Is_copied_to number cell epochs holder _ h held newer step) = trim_kept _ cell _ holder done step refl
   other_kept done (Goes_on_trimming cell holder last _ held is step) = trim_kept own cell last holder done step refl
   other_kept _ (Puts_entry entry holder last of_copy at room) =
       put_within bound own.store.chains entry.key entry.stored all (told _ of_copy.said)
-  other_kept _ (Has_entry entry holder last of_copy lt) = all
-  other_kept _ (Has_no_slot entry holder last of_copy at full) = all
+  other_kept _ _ = all
 
   sweep_kept : (done : Done) → DidSweep here own done → Kept done.own
   sweep_kept _ (Sweeps (dead.Key key) seat next off) = drop_within bound own.store key all

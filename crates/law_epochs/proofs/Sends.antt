@@ -1,5 +1,5 @@
 -- What is so of each entry of a server, of what it has pending and of what it moves is so of the keys that it tells of in each job.
-use Rattle.std.proofs.Common.{◌≡◌, ◌⊎◌, ℕ, false, List, Some, refl, ap, sym, ◌∙◌, subst, inl, inr}
+use Rattle.std.proofs.Common.{◌≡◌, ◌⊎◌, ℕ, false, List, Option, Some, refl, ap, sym, ◌∙◌, subst, inl, inr}
 use Rattle.std.specs.Prelude.{filter, slice_get}
 use Rattle.busy_marks.specs.Marks.{above}
 use Rattle.petal_base.specs.declared.cell.Cell.{Cell}
@@ -33,7 +33,7 @@ use Rattle.law_steps.specs.DidFiller.{IsNextKey, Is_filled, Is_out_of_slots, fil
 use Rattle.law_steps.specs.DidSecond.{DidSecond, with_tickets, Sets_apart, Promises, Declines, Follows}
 use Rattle.law_steps.specs.DidHolder.{DidHolder, CopyStep, Asks_to_trim, Sends, Unmarks_copied, Closes_copy, Asks_page, Turns_page}
 use Rattle.law_steps.specs.DidHolder.{Begins_copy, Goes_on_copying, Finds_it_full, Tidies}
-use Rattle.law_steps.specs.DidOther.{DidOther, TrimStep, Is_trimmed, Drops_entry, Answers_page, Is_copied_to}
+use Rattle.law_steps.specs.DidOther.{OtherReply, Replies, DidOther, TrimStep, Is_trimmed, Drops_entry, Answers_page, Is_copied_to}
 use Rattle.law_steps.specs.DidOther.{Goes_on_trimming, Puts_entry, Has_entry, Has_no_slot}
 use Rattle.law_steps.specs.Did.{Did, Ignores, Refuses, By_read, By_lead, By_second, By_holder, By_other, By_filler, By_sweep}
 use Rattle.law_steps.proofs.Letters.{one_post, posted}
@@ -83,13 +83,11 @@ module _ (bound : Cell → ℕ → Type 0) (heard : Body → Type 0) (here : Her
       let there = at_key (chain_in now.store.chains cell) index row is in kept cell row.0 there.0 there.1
 
   asks_said : (post : Post) → Asks here own post → E post.body
-  asks_said _ (A_slot op to is stage so) = tt
   asks_said _ (A_copy op to is stage so) = pending op.cell op is
-  asks_said _ (A_trim cell copy to is fresh so) = tt
   asks_said _ (A_copied_entry cell copy row to is trimmed spot so) = entry_said own all cell copy.index row spot
-  asks_said _ (A_page row to on so fresh) = tt
   asks_said post (An_entry_to_move _ next) = moves own post (inl refl) next
   asks_said post (Of_the_log _ logged) = mute post (logged_none (subject_of post.body) logged)
+  asks_said _ _ = tt
 
   ended_said : (seq : ℕ) (how : Ending) → E (ended seq how)
   ended_said seq ending.Written = tt
@@ -125,20 +123,13 @@ module _ (bound : Cell → ℕ → Type 0) (heard : Body → Type 0) (here : Her
   lead_said _ (Is_full want new no_room) post i = as_said post _ (one_post _ _ post i).1 (ended_said want.seq ending.Full)
   lead_said _ (Gives_up op h is reserved put) post i = ends_said (gives_back (without_pending own op.cell)) op op.kind ending.Full post i
   lead_said _ (Opens want new both) post i = as_said post _ (posted _ (body.Reserve own.pairs.next want.cell) post i) tt
-  lead_said _ (Marks op h is both stage) post i = none_in post i
-  lead_said _ (Puts op is both stage) post i = none_in post i
-  lead_said _ (Unmarks op h is both stage) post i = none_in post i
   lead_said _ (Closes op is both stage) post i = ends_said (without_pending own op.cell) op op.kind ending.Written post i
-  lead_said _ (Opens_alone want new alone) post i = none_in post i
-  lead_said _ (Marks_alone now op taken alone fresh) post i = none_in post i
-  lead_said _ (Puts_alone now op taken alone stale put) post i = none_in post i
-  lead_said _ (Unmarks_alone now op taken alone stale put busy) post i = none_in post i
   lead_said _ (Closes_alone now op taken alone stale put free) post i = ends_said (without_pending now op.cell) op op.kind ending.Written post i
   lead_said _ (Opens_fill moving new room both) post i = as_said post _ (posted _ _ post i) tt
-  lead_said _ (Opens_fill_alone moving new room alone) post i = none_in post i
   lead_said _ (Has_fill moving filled) post i = as_said post _ (posted _ _ post i) tt
   lead_said _ (Has_no_room moving new no_room) post i = as_said post _ (posted _ _ post i) tt
   lead_said _ (Goes_on_dead now op taken off) post i = acts_said now op taken (next_stage here.state here.me op) post i
+  lead_said _ _ post i = none_in post i
 
   tells_said : (new : Own) (cell : Cell) (number : ℕ) (how : Far) → AreSaid (tells here new cell number how).posts
   tells_said new cell number far.Reserved post i = as_said post _ (posted _ (body.Reserved number cell) post i) tt
@@ -159,33 +150,29 @@ module _ (bound : Cell → ℕ → Type 0) (heard : Body → Type 0) (here : Her
   step_said now cell copy _ kept (Sends row trimmed is) post i =
       as_said post _ (posted _ (body.Sync copy.op (key_at cell row.0) row.1.version copy.index row.1.bytes) post i)
       (entry_said now kept cell copy.index row is)
-  step_said now cell copy _ kept (Unmarks_copied kind synced left) post i = none_in post i
-  step_said now cell copy _ kept (Closes_copy synced left) post i = none_in post i
+  step_said now cell copy _ kept _ post i = none_in post i
 
   holder_said : (done : Done) → DidHolder heard here own done → AreSaid done.posts
   holder_said _ (Asks_page id row other held fresh) post i = as_said post _ (posted (Some other) (page_wanted own row) post i) tt
-  holder_said _ (Turns_page id row other after block h held fresh spot) post i = none_in post i
   holder_said done (Begins_copy id row other cell _ held next step) post i = step_said (begins_copy own cell) cell _ done all step post i
   holder_said done (Goes_on_copying cell now copy _ taken step) post i =
       step_said now cell copy done (copy_kept bound heard here own all pending told cell now copy taken) step post i
-  holder_said _ (Finds_it_full cell copy h is trimmed lt) post i = none_in post i
-  holder_said _ (Tidies id row block kind is both idle left) post i = none_in post i
+  holder_said _ _ post i = none_in post i
 
   trim_said : (now : Own) (cell : Cell) (last : LastCopy) (holder : ℕ) (done : Done) → TrimStep now cell last holder done → AreSaid done.posts
   trim_said now cell last holder _ (Is_trimmed none) post i = as_said post _ (posted (Some holder) (body.Trimmed last.op cell) post i) tt
   trim_said now cell last holder _ (Drops_entry epoch epochs is) post i = none_in post i
 
+  reply_said : (to : Option ℕ) (said : Body) → OtherReply heard here own to said → E said
+  reply_said _ _ (Answers_page id row after h named) = tt
+  reply_said _ _ _ = tt
+
   other_said : (done : Done) → DidOther heard here own done → AreSaid done.posts
-  other_said _ (Answers_page id row after h named) post i =
-      as_said post _ (posted _ (body.Hello row.map row.link after (least (filter (above after) (marked_blocks here.state row own)))) post i) tt
+  other_said _ (Replies to said reply) post i = as_said post said (posted to said post i) (reply_said to said reply)
   other_said done (Is_copied_to number cell epochs holder _ h held newer step) post i = trim_said _ cell _ holder done step post i
   other_said done (Goes_on_trimming cell holder last _ held is step) post i = trim_said own cell last holder done step post i
   other_said _ (Puts_entry entry holder last of_copy spot room) post i =
       as_said post _ (posted (Some holder) (body.Synced entry.op (cell_of entry.key) entry.index) post i) tt
-  other_said _ (Has_entry entry holder last of_copy lt) post i =
-      as_said post _ (posted (Some holder) (body.Synced entry.op (cell_of entry.key) entry.index) post i) tt
-  other_said _ (Has_no_slot entry holder last of_copy spot full) post i =
-      as_said post _ (posted (Some holder) (body.SyncFull entry.op (cell_of entry.key)) post i) tt
 
   pub did_said : (done : Done) → Did heard here own done → AreSaid done.posts
   did_said _ Ignores post i = none_in post i

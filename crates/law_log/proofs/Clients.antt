@@ -1,5 +1,5 @@
 -- Each step of a client keeps what is kept of a world.
-use Rattle.std.proofs.Common.{◌≡◌, ◌<◌, ◌≤◌, ◌+◌, ◌-◌, ◌⊎◌, inl, inr, ℕ, Bool, true, false, zero, suc, ◌==◌, ◌&&◌, List, [], ◌∷◌, ◌++◌}
+use Rattle.std.proofs.Common.{true≢false, ◌≡◌, ◌<◌, ◌≤◌, ◌+◌, ◌-◌, ◌⊎◌, inl, inr, ℕ, Bool, true, false, zero, suc, ◌==◌, ◌&&◌, List, [], ◌∷◌, ◌++◌}
 use Rattle.std.proofs.Common.{length, drop, Option, Some, None, refl, sym, ap, ◌∙◌, subst, arith}
 use Rattle.std.specs.Prelude.{slice_get, ⊤, nat_le, not, map, if◌then◌else◌}
 use Rattle.std.proofs.lemmas.Bool.Decides.{nat_tests}
@@ -36,7 +36,7 @@ use Rattle.petal_rules.proofs.ListLemmas.{in-append}
 use Rattle.petal_rules.proofs.Tests.{only, by_test, same_some, none_some}
 use Rattle.law_log.specs.Logged.{IsOpen}
 use Rattle.law_log.proofs.Lists.{at_last}
-use Rattle.law_log.proofs.Pairs.{IsOther, posted_other}
+use Rattle.law_log.proofs.Pairs.{IsDated, posted_dated}
 use Rattle.law_log.proofs.Turns.{no_posts}
 
 -- what a client posts: no letter of a ballot, no News and no Down, and a command only of its open request
@@ -47,12 +47,12 @@ IsClients Own (body.Pax said) = ⊥
 IsClients Own (body.News after commands) = ⊥
 IsClients Own _ = ⊤
 
-other_clients : (Own : Command → Type 0) (what : Body) → IsOther what → IsClients Own what
-other_clients Own (body.Down server inc) h = absurd h
-other_clients Own (body.Propose command) h = absurd h
-other_clients Own (body.Pax said) h = absurd h
-other_clients Own (body.News after commands) h = absurd h
-other_clients Own _ h = tt
+dated_clients : (Own : Command → Type 0) (what : Body) → IsDated what → IsClients Own what
+dated_clients Own (body.Down server inc) h = absurd (true≢false h)
+dated_clients Own (body.Propose command) h = absurd (true≢false h)
+dated_clients Own (body.Pax said) h = absurd (true≢false h)
+dated_clients Own (body.News after commands) h = absurd (true≢false h)
+dated_clients Own _ h = tt
 
 -- the command is of a client's request of this number
 pub record IsOf (lines : List Line) (me called : ℕ) (command : Command) : Type 0 where
@@ -74,29 +74,29 @@ pub record Reacts (Told : ℕ → Command → Type 0) (lines : List Line) (me be
 
 -- ### What is posted
 
-read_other : (state : State) (cell : Cell) (epoch : Option ℕ) (client seq turn : ℕ) (post : Post)
-    → Among post (read_posts_at state cell epoch client seq turn) → IsOther post.body
-read_other state cell None client seq turn post i = no_posts post i
-read_other state cell (Some epoch) client seq turn post i = posted_other (in_turn (readers state cell) turn) (body.Read client seq cell epoch) tt post i
+read_dated : (state : State) (cell : Cell) (epoch : Option ℕ) (client seq turn : ℕ) (post : Post)
+    → Among post (read_posts_at state cell epoch client seq turn) → IsDated post.body
+read_dated state cell None client seq turn post i = no_posts post i
+read_dated state cell (Some epoch) client seq turn post i = posted_dated (in_turn (readers state cell) turn) (body.Read client seq cell epoch) refl post i
 
-reads_other : (state : State) (o : Option DiskView) (snap : Option (List ℕ)) (client seq : ℕ) (at : Turn) (post : Post)
-    → Among post (read_posts state o snap client seq at) → IsOther post.body
-reads_other state None snap client seq at post i = no_posts post i
-reads_other state (Some disk) snap client seq at post i =
-    read_other state (cell_asked state disk at.block at.old_way) (epoch_for state disk snap) client seq at.turn post i
+reads_dated : (state : State) (o : Option DiskView) (snap : Option (List ℕ)) (client seq : ℕ) (at : Turn) (post : Post)
+    → Among post (read_posts state o snap client seq at) → IsDated post.body
+reads_dated state None snap client seq at post i = no_posts post i
+reads_dated state (Some disk) snap client seq at post i =
+    read_dated state (cell_asked state disk at.block at.old_way) (epoch_for state disk snap) client seq at.turn post i
 
-writes_other : (state : State) (o : Option DiskView) (client seq block : ℕ) (bytes : List ℕ) (post : Post)
-    → Among post (write_posts state o client seq block bytes) → IsOther post.body
-writes_other state None client seq block bytes post i = no_posts post i
-writes_other state (Some disk) client seq block bytes post i =
-    posted_other (lead state (cell_asked state disk block false)) (body.Write client seq (cell_asked state disk block false) disk.epoch bytes) tt post i
+writes_dated : (state : State) (o : Option DiskView) (client seq block : ℕ) (bytes : List ℕ) (post : Post)
+    → Among post (write_posts state o client seq block bytes) → IsDated post.body
+writes_dated state None client seq block bytes post i = no_posts post i
+writes_dated state (Some disk) client seq block bytes post i =
+    posted_dated (lead state (cell_asked state disk block false)) (body.Write client seq (cell_asked state disk block false) disk.epoch bytes) refl post i
 
-request_other : (state : State) (client seq turn : ℕ) (old_way : Bool) (asked : Request) (post : Post)
-    → Among post (posts_for state client seq turn old_way asked) → IsOther post.body
-request_other state client seq turn old_way (request.Write name block pattern) post i = writes_other state _ client seq block _ post i
-request_other state client seq turn old_way (request.Read name snap block) post i =
-    reads_other state _ snap client seq (record { block = block; turn = turn; old_way = old_way }) post i
-request_other state client seq turn old_way _ post i = no_posts post i
+request_dated : (state : State) (client seq turn : ℕ) (old_way : Bool) (asked : Request) (post : Post)
+    → Among post (posts_for state client seq turn old_way asked) → IsDated post.body
+request_dated state client seq turn old_way (request.Write name block pattern) post i = writes_dated state _ client seq block _ post i
+request_dated state client seq turn old_way (request.Read name snap block) post i =
+    reads_dated state _ snap client seq (record { block = block; turn = turn; old_way = old_way }) post i
+request_dated state client seq turn old_way _ post i = no_posts post i
 
 length_one : (xs : List Command) (x : Command) → length (xs ++ x ∷ []) ≡ length xs + 1
 length_one [] x = omega arith
@@ -167,7 +167,7 @@ module _ (Told : ℕ → Command → Type 0) (lines : List Line) (me : ℕ) (sta
           asked = λ other e. open_now client.seq (record asked { turn = asked.turn + 1; rev = state.rev; old_way = way_now state asked }) other e
               (open_as client.seq asked _ refl refl o);
         };
-        posts = λ post i. other_clients _ post.body (request_other state me asked.seq asked.turn (way_now state asked) asked.request post i);
+        posts = λ post i. dated_clients _ post.body (request_dated state me asked.seq asked.turn (way_now state asked) asked.request post i);
       }
       by (Some c) is = record {
         later = omega arith;

@@ -1,5 +1,5 @@
 -- Jobs of copies: they say nothing of the log, put no letter into the queue, and forget no Caught for which a ballot was started.
-use Rattle.std.proofs.Common.{◌≡◌, ◌==◌, ◌&&◌, not, ℕ, Bool, true, false, List, [], ◌∷◌, Option, Some, None, inl, inr}
+use Rattle.std.proofs.Common.{refl, ◌≡◌, ◌==◌, ◌&&◌, not, ℕ, Bool, true, false, List, [], ◌∷◌, Option, Some, None, inl, inr}
 use Rattle.std.specs.Prelude.{nat_lt}
 use Rattle.std.specs.List.{flat_map}
 use Rattle.global_tables.specs.declared.link.LinkRow.{LinkRow}
@@ -34,7 +34,7 @@ use Rattle.petal_rules.proofs.ListLemmas.{in-append}
 use Rattle.petal_rules.proofs.Tests.{by_test}
 use Rattle.law_state.specs.Started.{is_flagged}
 use Rattle.law_log.proofs.Flags.{flags_put}
-use Rattle.law_log.proofs.Pairs.{IsOther, IsQuiet, no_letter, only_stage, posted_other, quiet_says_to}
+use Rattle.law_log.proofs.Pairs.{IsDated, IsQuiet, no_letter, only_stage, posted_dated, quiet_says_to}
 use Rattle.law_log.proofs.Turns.{no_posts}
 
 -- what a job leaves of what it has started ballots for
@@ -51,7 +51,7 @@ kept_itself own = record { flags = λ id h. h }
 pub calm_silent : (own : Own) → IsCalm own (silent own)
 calm_silent own = record { quiet = record { posts = λ post i. no_posts post i; jobs = no_letter }; kept = kept_itself own }
 
-calm_says : (own : Own) (to : Option ℕ) (what : Body) → IsOther what → IsCalm own (says_to own to what)
+calm_says : (own : Own) (to : Option ℕ) (what : Body) → IsDated what → IsCalm own (says_to own to what)
 calm_says own to what h = record { quiet = quiet_says_to own to what h; kept = kept_itself own }
 
 only_mend : (letter : Letter) (id : LinkId) → Among (job.Letter letter) (job.Mend id ∷ []) → ⊥
@@ -84,10 +84,10 @@ calm_closes here own cell =
 
 calm_entry : (here : Here) (own : Own) (cell : Cell) (copy : Copying) (row : _) → IsCalm own (sends_entry here own cell copy row)
 calm_entry here own cell copy None = calm_silent own
-calm_entry here own cell copy (Some row) = calm_says own _ _ tt
+calm_entry here own cell copy (Some row) = calm_says own _ _ refl
 
 calm_act : (here : Here) (own : Own) (cell : Cell) (copy : Copying) (what : CopyAction) → IsCalm own (copy_acts here own cell copy what)
-calm_act here own cell copy copy_action.Trim = calm_says own _ _ tt
+calm_act here own cell copy copy_action.Trim = calm_says own _ _ refl
 calm_act here own cell copy copy_action.Sync = calm_entry here own cell copy _
 calm_act here own cell copy (copy_action.Unmark kind) = record {
   quiet = record { posts = λ post i. no_posts post i; jobs = λ letter i. only_stage letter cell i };
@@ -111,7 +111,7 @@ calm_from own from done kept calm = record {
 }
 
 calm_goes : (here : Here) (own : Own) (row : LinkRow) (other : ℕ) (next : NextCopy) → IsCalm own (goes_for here own row other next)
-calm_goes here own row other Ask = calm_says own (Some other) (page_wanted own row) tt
+calm_goes here own row other Ask = calm_says own (Some other) (page_wanted own row) refl
 calm_goes here own row other (Block cell) =
     calm_from own (begins_copy own cell) _ (record { flags = λ id h. h }) (calm_copies here (begins_copy own cell) cell)
 calm_goes here own row other Wait = calm_silent own
@@ -146,7 +146,7 @@ calm_mends here own id = calm_found here own (link_named here.state id)
 
 calm_answers : (here : Here) (own : Own) (after : Option ℕ) (row : Option LinkRow) → IsCalm own (answers_page here own after row)
 calm_answers here own after None = calm_silent own
-calm_answers here own after (Some row) = calm_says own _ _ tt
+calm_answers here own after (Some row) = calm_says own _ _ refl
 
 pub calm_hello_ask : (here : Here) (own : Own) (id : LinkId) (after : Option ℕ) → IsCalm own (on_hello_ask here own id after)
 unfolding on_hello_ask
@@ -173,7 +173,7 @@ calm_hello here own id after block = calm_hears_hello here own after block (link
 -- ### The other server
 
 calm_first : (own : Own) (cell : Cell) (number holder : ℕ) (epochs : List ℕ) → IsCalm own (trims_first own cell number holder epochs)
-calm_first own cell number holder [] = calm_says own (Some holder) (body.Trimmed number cell) tt
+calm_first own cell number holder [] = calm_says own (Some holder) (body.Trimmed number cell) refl
 calm_first own cell number holder (epoch ∷ epochs) = record {
   quiet = record { posts = λ post i. no_posts post i; jobs = λ letter i. only_stage letter cell i };
   kept = record { flags = λ id h. h };
@@ -193,7 +193,7 @@ calm_newly here own number cell epochs = let from = with_last_copy own cell (rec
     calm_from own from _ (record { flags = λ id h. h }) (calm_trims here from cell)
 
 calm_again : (own : Own) (cell : Cell) (number holder : ℕ) (epochs : List ℕ) → IsCalm own (trims_again own cell number holder epochs)
-calm_again own cell number holder [] = calm_says own (Some holder) (body.Trimmed number cell) tt
+calm_again own cell number holder [] = calm_says own (Some holder) (body.Trimmed number cell) refl
 calm_again own cell number holder (epoch ∷ epochs) = calm_silent own
 
 calm_hears_trim : (here : Here) (own : Own) (number : ℕ) (cell : Cell) (epochs : List ℕ) (holder : ℕ) (last : Option LastCopy)
@@ -214,14 +214,14 @@ calm_trim here own number cell epochs = calm_trim_of here own number cell epochs
 
 calm_puts : (own : Own) (entry : Entry) (last : LastCopy) (holder : ℕ) (room : Bool) → IsCalm own (puts_entry own entry last holder room)
 calm_puts own entry last holder true = record {
-  quiet = quiet_says_to _ (Some holder) (body.Synced entry.op (cell_of entry.key) entry.index) tt;
+  quiet = quiet_says_to _ (Some holder) (body.Synced entry.op (cell_of entry.key) entry.index) refl;
   kept = record { flags = λ id h. h };
 }
-calm_puts own entry last holder false = calm_says own (Some holder) (body.SyncFull entry.op (cell_of entry.key)) tt
+calm_puts own entry last holder false = calm_says own (Some holder) (body.SyncFull entry.op (cell_of entry.key)) refl
 
 calm_hears_entry : (own : Own) (entry : Entry) (holder : ℕ) (last : LastCopy) → IsCalm own (hears_entry own entry holder last)
 calm_hears_entry own entry holder last =
-    by_test (IsCalm own) (nat_lt entry.index last.index) _ _ (λ e. calm_says own (Some holder) (body.Synced entry.op (cell_of entry.key) entry.index) tt)
+    by_test (IsCalm own) (nat_lt entry.index last.index) _ _ (λ e. calm_says own (Some holder) (body.Synced entry.op (cell_of entry.key) entry.index) refl)
     (λ e. by_test (IsCalm own) (entry.index == last.index) _ _ (λ f. calm_puts own entry last holder _) (λ f. calm_silent own))
 
 calm_hears_sync : (own : Own) (entry : Entry) (holder : Option ℕ) (last : Option LastCopy) → IsCalm own (hears_sync own entry holder last)
@@ -274,43 +274,43 @@ calm_sync_full own number cell = calm_hears_full own number cell (copying_on own
 
 -- ### A tick
 
-other_copy : (here : Here) (own : Own) (cell : Cell) (copy : Copying) (what : CopyAction) (post : Post) → Among post (copy_awaited here own cell copy what)
-    → IsOther post.body
-other_copy here own cell copy copy_action.Trim post i = (calm_act here own cell copy copy_action.Trim).quiet.posts post i
-other_copy here own cell copy copy_action.Sync post i = (calm_act here own cell copy copy_action.Sync).quiet.posts post i
-other_copy here own cell copy (copy_action.Unmark kind) post i = no_posts post i
-other_copy here own cell copy copy_action.Close post i = no_posts post i
+dated_copy : (here : Here) (own : Own) (cell : Cell) (copy : Copying) (what : CopyAction) (post : Post) → Among post (copy_awaited here own cell copy what)
+    → IsDated post.body
+dated_copy here own cell copy copy_action.Trim post i = (calm_act here own cell copy copy_action.Trim).quiet.posts post i
+dated_copy here own cell copy copy_action.Sync post i = (calm_act here own cell copy copy_action.Sync).quiet.posts post i
+dated_copy here own cell copy (copy_action.Unmark kind) post i = no_posts post i
+dated_copy here own cell copy copy_action.Close post i = no_posts post i
 
-other_copies : (here : Here) (own : Own) (rows : List (Cell × Copying)) (post : Post)
-    → Among post (flat_map (λ (row : Cell × Copying). copy_awaited here own row.0 row.1 (copy_stage own.store row.0 row.1)) rows) → IsOther post.body
-other_copies here own [] post i = no_posts post i
-other_copies here own (row ∷ rows) post i = elim (in-append post (copy_awaited here own row.0 row.1 (copy_stage own.store row.0 row.1))
+dated_copies : (here : Here) (own : Own) (rows : List (Cell × Copying)) (post : Post)
+    → Among post (flat_map (λ (row : Cell × Copying). copy_awaited here own row.0 row.1 (copy_stage own.store row.0 row.1)) rows) → IsDated post.body
+dated_copies here own [] post i = no_posts post i
+dated_copies here own (row ∷ rows) post i = elim (in-append post (copy_awaited here own row.0 row.1 (copy_stage own.store row.0 row.1))
     (flat_map (λ (row : Cell × Copying). copy_awaited here own row.0 row.1 (copy_stage own.store row.0 row.1)) rows) i) [
-      | inl now ↦ other_copy here own row.0 row.1 (copy_stage own.store row.0 row.1) post now
-      | inr later ↦ other_copies here own rows post later
+      | inl now ↦ dated_copy here own row.0 row.1 (copy_stage own.store row.0 row.1) post now
+      | inr later ↦ dated_copies here own rows post later
     ]
 
-pub other_copy_posts : (here : Here) (own : Own) (post : Post) → Among post (copy_posts here own) → IsOther post.body
-other_copy_posts here own post i = other_copies here own own.copies.pending post i
+pub dated_copy_posts : (here : Here) (own : Own) (post : Post) → Among post (copy_posts here own) → IsDated post.body
+dated_copy_posts here own post i = dated_copies here own own.copies.pending post i
 
-other_page : (own : Own) (row : LinkRow) (other : ℕ) (next : NextCopy) (post : Post) → Among post (page_asked own row other next) → IsOther post.body
-other_page own row other Ask post i = posted_other (Some other) (page_wanted own row) tt post i
-other_page own row other (Block cell) post i = no_posts post i
-other_page own row other Wait post i = no_posts post i
-other_page own row other Nothing post i = no_posts post i
+dated_page : (own : Own) (row : LinkRow) (other : ℕ) (next : NextCopy) (post : Post) → Among post (page_asked own row other next) → IsDated post.body
+dated_page own row other Ask post i = posted_dated (Some other) (page_wanted own row) refl post i
+dated_page own row other (Block cell) post i = no_posts post i
+dated_page own row other Wait post i = no_posts post i
+dated_page own row other Nothing post i = no_posts post i
 
-other_page_for : (state : State) (own : Own) (row : LinkRow) (other : Option ℕ) (post : Post) → Among post (page_for state own row other) → IsOther post.body
-other_page_for state own row None post i = no_posts post i
-other_page_for state own row (Some other) post i = other_page own row other (next_copy state row own) post i
+dated_page_for : (state : State) (own : Own) (row : LinkRow) (other : Option ℕ) (post : Post) → Among post (page_for state own row other) → IsDated post.body
+dated_page_for state own row None post i = no_posts post i
+dated_page_for state own row (Some other) post i = dated_page own row other (next_copy state row own) post i
 
-other_pages : (here : Here) (own : Own) (rows : List LinkRow) (post : Post)
-    → Among post (flat_map (λ row. page_for here.state own row (other_in here.state here.me row)) rows) → IsOther post.body
-other_pages here own [] post i = no_posts post i
-other_pages here own (row ∷ rows) post i = elim (in-append post (page_for here.state own row (other_in here.state here.me row))
+dated_pages : (here : Here) (own : Own) (rows : List LinkRow) (post : Post)
+    → Among post (flat_map (λ row. page_for here.state own row (other_in here.state here.me row)) rows) → IsDated post.body
+dated_pages here own [] post i = no_posts post i
+dated_pages here own (row ∷ rows) post i = elim (in-append post (page_for here.state own row (other_in here.state here.me row))
     (flat_map (λ row. page_for here.state own row (other_in here.state here.me row)) rows) i) [
-      | inl now ↦ other_page_for here.state own row (other_in here.state here.me row) post now
-      | inr later ↦ other_pages here own rows post later
+      | inl now ↦ dated_page_for here.state own row (other_in here.state here.me row) post now
+      | inr later ↦ dated_pages here own rows post later
     ]
 
-pub other_page_posts : (here : Here) (own : Own) (post : Post) → Among post (page_posts here own) → IsOther post.body
-other_page_posts here own post i = other_pages here own here.state.links post i
+pub dated_page_posts : (here : Here) (own : Own) (post : Post) → Among post (page_posts here own) → IsDated post.body
+dated_page_posts here own post i = dated_pages here own here.state.links post i

@@ -31,19 +31,19 @@ use Rattle.petal_rules.proofs.ListLemmas.{in-append}
 use Rattle.petal_rules.proofs.Tests.{by_test}
 use Rattle.law_log.proofs.Copying.{IsCalm, IsKept, calm_silent}
 use Rattle.law_log.proofs.Flags.{link_cmp_total}
-use Rattle.law_log.proofs.Pairs.{IsOther, IsQuiet, no_letter, other_moved, posted_other, quiet_goes, quiet_says_to, quiet_silent}
+use Rattle.law_log.proofs.Pairs.{IsDated, IsQuiet, no_letter, dated_moved, posted_dated, quiet_goes, quiet_says_to, quiet_silent}
 use Rattle.law_log.proofs.Stores.{Keeps, kept, keeps_goes}
 use Rattle.law_log.proofs.Turns.{no_posts}
 
 -- ### The new lead
 
 quiet_opens : (here : Here) (own : Own) (moving : Moving) (room : Bool) → IsQuiet (opens_fill here own moving room)
-quiet_opens here own moving false = quiet_says_to own _ _ (other_moved moving.key ending.Full)
+quiet_opens here own moving false = quiet_says_to own _ _ (dated_moved moving.key ending.Full)
 quiet_opens here own moving true = quiet_goes here (with_opened own (fill_operation here own.pairs.next moving)) (cell_of moving.key)
 
 quiet_hears : (here : Here) (own : Own) (moving : Moving) (busy has back : Bool) → IsQuiet (hears_fill here own moving busy has back)
 quiet_hears here own moving true has back = quiet_silent own
-quiet_hears here own moving false true back = quiet_says_to own _ _ (other_moved moving.key ending.Written)
+quiet_hears here own moving false true back = quiet_says_to own _ _ (dated_moved moving.key ending.Written)
 quiet_hears here own moving false false true = quiet_silent own
 quiet_hears here own moving false false false = quiet_opens here own moving (nat_lt 0 (free_of own.store))
 
@@ -76,33 +76,33 @@ keeps_fill here own moving =
 
 -- ### The old lead
 
-other_moving : (state : State) (key : Key) (entry : Option Stored) (cell : Option Cell) (post : Post) → Among post (sends_moving state key entry cell)
-    → IsOther post.body
-other_moving state key None cell post i = no_posts post i
-other_moving state key (Some entry) None post i = no_posts post i
-other_moving state key (Some entry) (Some cell) post i = posted_other (lead state cell) (body.Fill (key_at cell key.epoch) entry.bytes) tt post i
+dated_moving : (state : State) (key : Key) (entry : Option Stored) (cell : Option Cell) (post : Post) → Among post (sends_moving state key entry cell)
+    → IsDated post.body
+dated_moving state key None cell post i = no_posts post i
+dated_moving state key (Some entry) None post i = no_posts post i
+dated_moving state key (Some entry) (Some cell) post i = posted_dated (lead state cell) (body.Fill (key_at cell key.epoch) entry.bytes) refl post i
 
-other_key : (state : State) (own : Own) (key : Option Key) (post : Post) → Among post (sends_key state own key) → IsOther post.body
-other_key state own None post i = no_posts post i
-other_key state own (Some key) post i =
-    other_moving state key (at nat_cmp (chain_in own.store.chains (cell_of key)) key.epoch) (target state (cell_of key)) post i
+dated_key : (state : State) (own : Own) (key : Option Key) (post : Post) → Among post (sends_key state own key) → IsDated post.body
+dated_key state own None post i = no_posts post i
+dated_key state own (Some key) post i =
+    dated_moving state key (at nat_cmp (chain_in own.store.chains (cell_of key)) key.epoch) (target state (cell_of key)) post i
 
-other_row : (here : Here) (own : Own) (row : LinkRow) (post : Post) → Among post (fills_row here own row) → IsOther post.body
-other_row here own row post i = other_key here.state own (fill_of here.state here.me row own) post i
+dated_row : (here : Here) (own : Own) (row : LinkRow) (post : Post) → Among post (fills_row here own row) → IsDated post.body
+dated_row here own row post i = dated_key here.state own (fill_of here.state here.me row own) post i
 
-other_rows : (here : Here) (own : Own) (rows : List LinkRow) (post : Post) → Among post (flat_map (fills_row here own) rows) → IsOther post.body
-other_rows here own [] post i = no_posts post i
-other_rows here own (row ∷ rows) post i = elim (in-append post (fills_row here own row) (flat_map (fills_row here own) rows) i) [
-  | inl now ↦ other_row here own row post now
-  | inr later ↦ other_rows here own rows post later
+dated_rows : (here : Here) (own : Own) (rows : List LinkRow) (post : Post) → Among post (flat_map (fills_row here own) rows) → IsDated post.body
+dated_rows here own [] post i = no_posts post i
+dated_rows here own (row ∷ rows) post i = elim (in-append post (fills_row here own row) (flat_map (fills_row here own) rows) i) [
+  | inl now ↦ dated_row here own row post now
+  | inr later ↦ dated_rows here own rows post later
 ]
 
 -- what a tick sends for fills
-pub other_fill_posts : (here : Here) (own : Own) (post : Post) → Among post (fill_posts here own) → IsOther post.body
-other_fill_posts here own post i = other_rows here own here.state.links post i
+pub dated_fill_posts : (here : Here) (own : Own) (post : Post) → Among post (fill_posts here own) → IsDated post.body
+dated_fill_posts here own post i = dated_rows here own here.state.links post i
 
 calm_behind : (here : Here) (own to : Own) (row : LinkRow) → IsKept own to → IsCalm own (goes_behind here to row)
-calm_behind here own to row kept = record { quiet = record { posts = other_row here to row; jobs = no_letter }; kept = kept }
+calm_behind here own to row kept = record { quiet = record { posts = dated_row here to row; jobs = no_letter }; kept = kept }
 
 calm_hears_filled : (here : Here) (own : Own) (key : Key) (o : Option LinkRow) → IsCalm own (hears_filled here own key o)
 calm_hears_filled here own key None = calm_silent own

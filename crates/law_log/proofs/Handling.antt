@@ -1,7 +1,7 @@
--- Each job of the pairs, of the copies, of fills and of sweeps is calm: it says nothing of the log, puts no letter into the queue, and forgets no
--- Caught for which a ballot was started.
+-- What is done with a letter of the pairs, and each stage, is calm: what it says is handled at its revision alone, it puts no letter into the queue,
+-- and it forgets no Caught for which a ballot was started. A job may besides tell a client of another revision.
 use Rattle.std.proofs.Common.{◌==◌, ◌++◌, not, [], ℕ, false, Option, Some, None, refl, ap, ◌∙◌, inl, inr}
-use Rattle.std.specs.Prelude.{is_some}
+use Rattle.std.specs.Prelude.{if◌then◌else◌, is_some}
 use Rattle.std.specs.Option.{option_map_or}
 use Rattle.petal_base.specs.declared.cell.Cell.{Cell}
 use Rattle.petal_msg.specs.declared.body.Body.{Body}
@@ -16,18 +16,18 @@ use Rattle.petal_rules.specs.Copies.{copy_posts, page_posts}
 use Rattle.petal_rules.specs.Fills.{fill_posts}
 use Rattle.petal_rules.specs.Lists.{In as Among}
 use Rattle.petal_rules.specs.Progress.{copying_on}
-use Rattle.petal_rules.specs.Server.{Own, Copies, Here, Post, Done}
+use Rattle.petal_rules.specs.Server.{Own, Copies, Here, Post, Done, silent}
 use Rattle.petal_rules.specs.State.{is_in, link_cmp}
 use Rattle.petal_rules.specs.Writes.{pending_on}
 use Rattle.petal_rules.specs.declared.job.Job.{Job}
 use Rattle.petal_rules.specs.declared.job.Job.TheVariants as job
 use Rattle.petal_rules.proofs.ListLemmas.{in-append}
-use Rattle.petal_rules.proofs.Tests.{by_test}
-use Rattle.law_log.proofs.Copying.{IsCalm, calm_silent, calm_copies, calm_mends, calm_hello_ask, calm_hello, calm_trims, calm_trim, calm_sync}
-use Rattle.law_log.proofs.Copying.{calm_trimmed, calm_synced, calm_sync_full, other_copy_posts, other_page_posts}
-use Rattle.law_log.proofs.Filling.{calm_fill_full, calm_filled, calm_sweeps, keeps_fill, other_fill_posts, quiet_fill}
-use Rattle.law_log.proofs.Pairs.{IsOther, IsQuiet, quiet_goes, quiet_read, quiet_write, quiet_reserve, quiet_reserved}
-use Rattle.law_log.proofs.Pairs.{quiet_pair_full, quiet_replicate, quiet_replicated, quiet_says}
+use Rattle.petal_rules.proofs.Tests.{by_test, only}
+use Rattle.law_log.proofs.Copying.{IsCalm, IsKept, kept_itself, calm_silent, calm_copies, calm_mends, calm_hello_ask, calm_hello, calm_trims, calm_trim, calm_sync}
+use Rattle.law_log.proofs.Copying.{calm_trimmed, calm_synced, calm_sync_full, dated_copy_posts, dated_page_posts}
+use Rattle.law_log.proofs.Filling.{calm_fill_full, calm_filled, calm_sweeps, keeps_fill, dated_fill_posts, quiet_fill}
+use Rattle.law_log.proofs.Pairs.{IsDated, IsOther, IsQuiet, no_letter, other_dated, quiet_goes, quiet_read, quiet_write, quiet_reserve, quiet_reserved}
+use Rattle.law_log.proofs.Pairs.{quiet_pair_full, quiet_replicate, quiet_replicated}
 use Rattle.law_log.proofs.Stores.{Keeps, kept, keeps_goes, keeps_read, keeps_write, keeps_reserve, keeps_reserved}
 use Rattle.law_log.proofs.Stores.{keeps_pair_full, keeps_replicate, keeps_replicated}
 use Rattle.law_log.proofs.Turns.{no_posts}
@@ -41,7 +41,7 @@ calm_pair own done quiet keeps = record {
   };
 }
 
-calm_handles : (here : Here) (own : Own) (what : Body) → IsCalm own (handles here own what)
+pub calm_handles : (here : Here) (own : Own) (what : Body) → IsCalm own (handles here own what)
 unfolding handles
 calm_handles here own (body.Read client seq cell epoch) =
     calm_pair own _ (quiet_read here own client seq cell epoch) (keeps_read here own client seq cell epoch)
@@ -64,44 +64,65 @@ calm_handles here own (body.Filled key) = calm_filled here own key
 calm_handles here own (body.FillFull key) = calm_fill_full here own key
 calm_handles here own _ = calm_silent own
 
-calm_wrong : (own : Own) (client : ℕ) (o : Option ℕ) → IsCalm own (wrong_rev own client o)
-calm_wrong own client None = calm_silent own
-calm_wrong own client (Some seq) = calm_pair own _ (quiet_says own _ _ tt) refl
-
-calm_elsewhere : (own : Own) (letter : Letter) (who : Actor) → IsCalm own (at_other_rev own letter who)
-calm_elsewhere own letter (actor.Server n) = calm_silent own
-calm_elsewhere own letter (actor.Client c) = calm_wrong own c (asked_by letter.body)
-
-calm_letter : (here : Here) (own : Own) (letter : Letter) → IsCalm own (on_letter here own letter)
-calm_letter here own letter =
-    by_test (IsCalm own) (not (is_in here.state here.me here.inc)) _ _ (λ e. calm_silent own)
-    (λ e. by_test (IsCalm own) (not (letter.rev == here.state.rev)) _ _ (λ f. calm_elsewhere own letter letter.from)
-    (λ f. by_test (IsCalm own) (not (is_from_in here.state letter.inc letter.from)) _ _ (λ g. calm_silent own) (λ g. calm_handles here own letter.body)))
-
-calm_stages : (here : Here) (own : Own) (cell : Cell) → IsCalm own (stages here own cell)
+pub calm_stages : (here : Here) (own : Own) (cell : Cell) → IsCalm own (stages here own cell)
 calm_stages here own cell =
     by_test (IsCalm own) (is_some (pending_on own cell)) _ _ (λ e. calm_pair own _ (quiet_goes here own cell) (keeps_goes here own cell))
     (λ e. by_test (IsCalm own) (is_some (copying_on own cell)) _ _ (λ f. calm_copies here own cell) (λ f. calm_trims here own cell))
 
-pub calm_job : (here : Here) (own : Own) (what : Job) → IsCalm own (does here own what)
+-- what a job of the pairs leaves: no letter of the log was sent or queued
+pub record IsHarmless (own : Own) (done : Done) : Type 0 where
+  pub posts : (post : Post) → Among post done.posts → IsOther post.body
+  pub jobs : (letter : Letter) → Among (job.Letter letter) done.jobs → ⊥
+  pub kept : IsKept own done.own
+
+harmless : (own : Own) (done : Done) → IsCalm own done → IsHarmless own done
+harmless own done calm = record { posts = λ post i. other_dated post.body (calm.quiet.posts post i); jobs = calm.quiet.jobs; kept = calm.kept }
+
+harmless_silent : (own : Own) → IsHarmless own (silent own)
+harmless_silent own = harmless own _ (calm_silent own)
+
+harmless_wrong : (own : Own) (client : ℕ) (o : Option ℕ) → IsHarmless own (wrong_rev own client o)
+harmless_wrong own client None = harmless_silent own
+harmless_wrong own client (Some seq) = record {
+  posts = λ post i. only (λ (x : Post). IsOther x.body) (record { to = actor.Client client; body = body.WrongRev seq }) post i refl;
+  jobs = no_letter;
+  kept = kept_itself own;
+}
+
+harmless_elsewhere : (own : Own) (letter : Letter) (who : Actor) → IsHarmless own (at_other_rev own letter who)
+harmless_elsewhere own letter (actor.Server n) = harmless_silent own
+harmless_elsewhere own letter (actor.Client c) = harmless_wrong own c (asked_by letter.body)
+
+harmless_letter : (here : Here) (own : Own) (letter : Letter) → IsHarmless own (on_letter here own letter)
+harmless_letter here own letter =
+    by_test (IsHarmless own) (not (is_in here.state here.me here.inc)) _ _ (λ e. harmless_silent own)
+    (λ e. by_test (IsHarmless own) (not (letter.rev == here.state.rev)) _ _ (λ f. harmless_elsewhere own letter letter.from)
+    (λ f. by_test (IsHarmless own) (not (is_from_in here.state letter.inc letter.from)) _ _ (λ g. harmless_silent own)
+    (λ g. harmless own _ (calm_handles here own letter.body))))
+
+-- where the server is In as itself
+pub calm_where_in : (here : Here) (own : Own) (done : Done) → IsCalm own done → IsCalm own (if is_in here.state here.me here.inc then done else silent own)
+calm_where_in here own done calm = by_test (IsCalm own) (is_in here.state here.me here.inc) _ _ (λ e. calm) (λ e. calm_silent own)
+
+pub harmless_job : (here : Here) (own : Own) (what : Job) → IsHarmless own (does here own what)
 unfolding does
-calm_job here own (job.Letter letter) = calm_letter here own letter
-calm_job here own (job.Stage cell) = by_test (IsCalm own) (is_in here.state here.me here.inc) _ _ (λ e. calm_stages here own cell) (λ e. calm_silent own)
-calm_job here own (job.Mend link) = by_test (IsCalm own) (is_in here.state here.me here.inc) _ _ (λ e. calm_mends here own link) (λ e. calm_silent own)
-calm_job here own job.Sweep = by_test (IsCalm own) (is_in here.state here.me here.inc) _ _ (λ e. calm_sweeps here own) (λ e. calm_silent own)
-calm_job here own job.Apply = calm_silent own
-calm_job here own job.Start = calm_silent own
+harmless_job here own (job.Letter letter) = harmless_letter here own letter
+harmless_job here own (job.Stage cell) = harmless own _ (calm_where_in here own _ (calm_stages here own cell))
+harmless_job here own (job.Mend link) = harmless own _ (calm_where_in here own _ (calm_mends here own link))
+harmless_job here own job.Sweep = harmless own _ (calm_where_in here own _ (calm_sweeps here own))
+harmless_job here own job.Apply = harmless_silent own
+harmless_job here own job.Start = harmless_silent own
 
 -- what a tick sends for copies and fills
-pub other_copies_anew : (here : Here) (own : Own) (post : Post) → Among post (copies_anew here own) → IsOther post.body
-other_copies_anew here own post i =
-    by_test (λ posts. Among post posts → IsOther post.body) (is_in here.state here.me here.inc)
+pub dated_copies_anew : (here : Here) (own : Own) (post : Post) → Among post (copies_anew here own) → IsDated post.body
+dated_copies_anew here own post i =
+    by_test (λ posts. Among post posts → IsDated post.body) (is_in here.state here.me here.inc)
     (copy_posts here own ++ page_posts here own ++ fill_posts here own) []
     (λ e j. elim (in-append post (copy_posts here own ++ page_posts here own) (fill_posts here own) j) [
       | inl former ↦ elim (in-append post (copy_posts here own) (page_posts here own) former) [
-        | inl copy ↦ other_copy_posts here own post copy
-        | inr page ↦ other_page_posts here own post page
+        | inl copy ↦ dated_copy_posts here own post copy
+        | inr page ↦ dated_page_posts here own post page
       ]
-      | inr fill ↦ other_fill_posts here own post fill
+      | inr fill ↦ dated_fill_posts here own post fill
     ])
     (λ e j. no_posts post j) i

@@ -413,8 +413,5 @@ module _ (servers n inc : ℕ) (small : servers ≤ 256) (member : n < servers) 
       → Left own (log_does voter log own)
   unfolding log_does
   job_done (job.Letter letter) backed = letter_done letter letter.body (backed letter refl)
-  job_done (job.Stage cell) backed = kept (job.Stage cell)
-  job_done (job.Mend link) backed = kept (job.Mend link)
-  job_done job.Sweep backed = kept job.Sweep
   job_done job.Apply backed = applied_next job.Apply
-  job_done job.Start backed = kept job.Start
+  job_done what backed = kept what

@@ -2,7 +2,7 @@
 use Rattle.std.proofs.Common.{◌≡◌, ◌≢◌, ◌<◌, ◌⊎◌, inl, inr, ℕ, zero, suc, Bool, true, false, cond, List, [], ◌∷◌, ◌++◌, length, Some, refl, sym, ap, ◌∙◌, arith}
 use Rattle.std.specs.Prelude.{filter, slice_get}
 use Rattle.petal_paxos.specs.Member.{In, put, put_at}
-use Rattle.law_agreement.proofs.Members.{put_cases, put_at_cases}
+use Rattle.petal_paxos.proofs.Members.{put_cases, put_at_cases}
 use Rattle.petal_rules.specs.Lists.{In as Among}
 use Rattle.petal_rules.proofs.Tests.{same_some, none_some}
 

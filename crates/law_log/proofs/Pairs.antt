@@ -1,12 +1,13 @@
 -- Operations of the pairs say nothing of the log, and put no letter into the queue; neither does what a tick sends for them.
-use Rattle.std.proofs.Common.{◌≡◌, ℕ, Bool, true, false, ◌==◌, ◌&&◌, not, List, [], ◌∷◌, Option, Some, None, inl, inr}
-use Rattle.std.specs.Prelude.{⊤, nat_lt}
+use Rattle.std.proofs.Common.{◌≡◌, ℕ, Bool, true, false, true≢false, ◌==◌, ◌&&◌, not, List, [], ◌∷◌, Option, Some, None, refl, inl, inr}
+use Rattle.std.specs.Prelude.{nat_lt}
 use Rattle.std.specs.List.{flat_map}
 use Rattle.petal_base.specs.declared.cell.Cell.{Cell}
 use Rattle.petal_base.specs.declared.cell.Key.{Key}
 use Rattle.petal_base.specs.Cells.{cell_of}
 use Rattle.petal_command.specs.declared.command.Command.{Command}
 use Rattle.petal_command.specs.declared.pax.Pax.{Pax}
+use Rattle.petal_msg.specs.Kinds.{about, is_logged, subject_of}
 use Rattle.petal_msg.specs.declared.body.Body.{Body}
 use Rattle.petal_msg.specs.declared.body.Body.TheVariants as body
 use Rattle.petal_msg.specs.declared.letter.Actor.{Actor}
@@ -40,23 +41,34 @@ use Rattle.petal_rules.proofs.Tests.{only, by_test}
 use Rattle.law_log.specs.Logged.{IsBacked}
 use Rattle.law_log.proofs.Turns.{no_posts}
 
--- it tells nothing of the log, but may ask
+-- it is handled at its sender's revision alone
+abbrev pub IsDated : Body → Type 0
+IsDated said = (about said).any_rev ≡ false
+
+-- it is no letter of the log
 abbrev pub IsOther : Body → Type 0
-IsOther (body.Down server inc) = ⊥
-IsOther (body.Propose command) = ⊥
-IsOther (body.Pax pax) = ⊥
-IsOther (body.News after commands) = ⊥
-IsOther _ = ⊤
+IsOther said = is_logged (subject_of said) ≡ false
+
+pub other_dated : (what : Body) → IsDated what → IsOther what
+other_dated (body.Down server inc) h = absurd (true≢false h)
+other_dated (body.Propose command) h = absurd (true≢false h)
+other_dated (body.Pax pax) h = absurd (true≢false h)
+other_dated (body.Ask rev) h = absurd (true≢false h)
+other_dated (body.News after commands) h = absurd (true≢false h)
+other_dated _ h = refl
 
 pub other_backed : (p : World) (Good : Command → Type 0) (Said : Pax → Type 0) (what : Body) → IsOther what → IsBacked p Good Said what
-other_backed p Good Said (body.Down server inc) h = absurd h
-other_backed p Good Said (body.Propose command) h = absurd h
-other_backed p Good Said (body.Pax pax) h = absurd h
-other_backed p Good Said (body.News after commands) h = absurd h
+other_backed p Good Said (body.Down server inc) h = absurd (true≢false h)
+other_backed p Good Said (body.Propose command) h = absurd (true≢false h)
+other_backed p Good Said (body.Pax pax) h = absurd (true≢false h)
+other_backed p Good Said (body.News after commands) h = absurd (true≢false h)
 other_backed p Good Said _ h = tt
 
+pub dated_backed : (p : World) (Good : Command → Type 0) (Said : Pax → Type 0) (what : Body) → IsDated what → IsBacked p Good Said what
+dated_backed p Good Said what h = other_backed p Good Said what (other_dated what h)
+
 pub record IsQuiet (done : Done) : Type 0 where
-  pub posts : (post : Post) → Among post done.posts → IsOther post.body
+  pub posts : (post : Post) → Among post done.posts → IsDated post.body
   pub jobs : (letter : Letter) → Among (job.Letter letter) done.jobs → ⊥
 
 pub no_letter : (letter : Letter) → Among (job.Letter letter) [] → ⊥
@@ -74,39 +86,39 @@ quiet_silent own = record { posts = λ post i. no_posts post i; jobs = no_letter
 quiet_stage : (own : Own) (cell : Cell) → IsQuiet (record { own = own; posts = []; jobs = job.Stage cell ∷ [] })
 quiet_stage own cell = record { posts = λ post i. no_posts post i; jobs = λ letter i. only_stage letter cell i }
 
-pub quiet_says : (own : Own) (to : Actor) (what : Body) → IsOther what → IsQuiet (says own to what)
-quiet_says own to what h = record { posts = λ post i. only (λ (x : Post). IsOther x.body) _ post i h; jobs = no_letter }
+pub quiet_says : (own : Own) (to : Actor) (what : Body) → IsDated what → IsQuiet (says own to what)
+quiet_says own to what h = record { posts = λ post i. only (λ (x : Post). IsDated x.body) _ post i h; jobs = no_letter }
 
-pub posted_other : (server : Option ℕ) (what : Body) → IsOther what → (post : Post) → Among post (post_to server what) → IsOther post.body
-posted_other None what h post i = no_posts post i
-posted_other (Some n) what h post i = only (λ (x : Post). IsOther x.body) (record { to = actor.Server n; body = what }) post i h
+pub posted_dated : (server : Option ℕ) (what : Body) → IsDated what → (post : Post) → Among post (post_to server what) → IsDated post.body
+posted_dated None what h post i = no_posts post i
+posted_dated (Some n) what h post i = only (λ (x : Post). IsDated x.body) (record { to = actor.Server n; body = what }) post i h
 
-pub quiet_says_to : (own : Own) (server : Option ℕ) (what : Body) → IsOther what → IsQuiet (says_to own server what)
-quiet_says_to own server what h = record { posts = posted_other server what h; jobs = no_letter }
+pub quiet_says_to : (own : Own) (server : Option ℕ) (what : Body) → IsDated what → IsQuiet (says_to own server what)
+quiet_says_to own server what h = record { posts = posted_dated server what h; jobs = no_letter }
 
 quiet_ending : (own : Own) (client seq : ℕ) (what : Ending) → IsQuiet (finishes own client seq what)
-quiet_ending own client seq ending.Written = quiet_says _ _ _ tt
-quiet_ending own client seq ending.Full = quiet_says _ _ _ tt
+quiet_ending own client seq ending.Written = quiet_says _ _ _ refl
+quiet_ending own client seq ending.Full = quiet_says _ _ _ refl
 
-other_ending : (seq : ℕ) (what : Ending) → IsOther (ended seq what)
-other_ending seq ending.Written = tt
-other_ending seq ending.Full = tt
+dated_ending : (seq : ℕ) (what : Ending) → IsDated (ended seq what)
+dated_ending seq ending.Written = refl
+dated_ending seq ending.Full = refl
 
-pub other_moved : (key : Key) (what : Ending) → IsOther (moved_as key what)
-other_moved key ending.Written = tt
-other_moved key ending.Full = tt
+pub dated_moved : (key : Key) (what : Ending) → IsDated (moved_as key what)
+dated_moved key ending.Written = refl
+dated_moved key ending.Full = refl
 
 -- of a fill the old lead is told
 quiet_ends : (here : Here) (own : Own) (op : Pending) (what : OpKind) (how : Ending) → IsQuiet (ends here own op what how)
 quiet_ends here own op kind.Write how = quiet_ending own op.client op.seq how
-quiet_ends here own op kind.Fill how = quiet_says_to own _ _ (other_moved op.key how)
+quiet_ends here own op kind.Fill how = quiet_says_to own _ _ (dated_moved op.key how)
 quiet_ends here own op kind.Copy how = quiet_silent own
 
 quiet_act : (here : Here) (own : Own) (op : Pending) (what : Action) → IsQuiet (acts here own op what)
-quiet_act here own op action.Reserve = quiet_says_to own _ _ tt
+quiet_act here own op action.Reserve = quiet_says_to own _ _ refl
 quiet_act here own op (action.Mark kind) = quiet_stage _ op.cell
 quiet_act here own op action.Put = quiet_stage _ op.cell
-quiet_act here own op action.Replicate = quiet_says_to own _ _ tt
+quiet_act here own op action.Replicate = quiet_says_to own _ _ refl
 quiet_act here own op (action.Unmark kind) = quiet_stage _ op.cell
 quiet_act here own op action.Answer = quiet_ends here (without_pending own op.cell) op op.kind ending.Written
 quiet_act here own op action.Drop = quiet_silent _
@@ -119,29 +131,29 @@ pub quiet_goes : (here : Here) (own : Own) (cell : Cell) → IsQuiet (goes_on he
 unfolding goes_on
 quiet_goes here own cell = quiet_next here own (pending_on own cell)
 
-other_reply : (seq : ℕ) (what : Reply) → IsOther (said seq what)
-other_reply seq (reply.Data bytes) = tt
-other_reply seq reply.NotHere = tt
-other_reply seq reply.BlockBusy = tt
-other_reply seq reply.Held = tt
+dated_reply : (seq : ℕ) (what : Reply) → IsDated (said seq what)
+dated_reply seq (reply.Data bytes) = refl
+dated_reply seq reply.NotHere = refl
+dated_reply seq reply.BlockBusy = refl
+dated_reply seq reply.Held = refl
 
 pub quiet_read : (here : Here) (own : Own) (client seq : ℕ) (cell : Cell) (epoch : ℕ) → IsQuiet (on_read here own client seq cell epoch)
 unfolding on_read
 quiet_read here own client seq cell epoch =
-    by_test IsQuiet (readable here.state here.me cell) _ _ (λ e. quiet_says own _ _ (other_reply seq (reply_to here own cell epoch))) (λ e. quiet_silent own)
+    by_test IsQuiet (readable here.state here.me cell) _ _ (λ e. quiet_says own _ _ (dated_reply seq (reply_to here own cell epoch))) (λ e. quiet_silent own)
 
 quiet_opens : (here : Here) (own : Own) (want : Wanted) (room : Bool) → IsQuiet (opens here own want room)
 quiet_opens here own want false = quiet_ending own want.client want.seq ending.Full
 quiet_opens here own want true = quiet_goes here (opened here own want) want.cell
 
 quiet_newer : (here : Here) (own : Own) (want : Wanted) (kept_back busy : Bool) → IsQuiet (takes_newer here own want kept_back busy)
-quiet_newer here own want true busy = quiet_says own _ _ tt
-quiet_newer here own want false true = quiet_says own _ _ tt
+quiet_newer here own want true busy = quiet_says own _ _ refl
+quiet_newer here own want false true = quiet_says own _ _ refl
 quiet_newer here own want false false = quiet_opens here own want _
 
 quiet_takes : (here : Here) (own : Own) (want : Wanted) (how : Standing) → IsQuiet (takes here own want how)
 quiet_takes here own want Older = quiet_silent own
-quiet_takes here own want (Again what) = quiet_says own _ _ (other_ending want.seq what)
+quiet_takes here own want (Again what) = quiet_says own _ _ (dated_ending want.seq what)
 quiet_takes here own want Newer =
     by_test IsQuiet (is_pending_for (pending_on own want.cell) want) _ _ (λ e. quiet_silent own)
     (λ e. quiet_newer here own want (is_kept_back here.state own want.cell) (is_under_way own want.cell))
@@ -178,13 +190,13 @@ unfolding on_replicated
 quiet_replicated here own number cell = quiet_hears_replicated here own number (pending_on own cell)
 
 quiet_tells : (here : Here) (own : Own) (cell : Cell) (number : ℕ) (how : Far) → IsQuiet (tells here own cell number how)
-quiet_tells here own cell number far.Reserved = quiet_says_to own _ _ tt
-quiet_tells here own cell number far.Replicated = quiet_says_to own _ _ tt
+quiet_tells here own cell number far.Reserved = quiet_says_to own _ _ refl
+quiet_tells here own cell number far.Replicated = quiet_says_to own _ _ refl
 
 quiet_reserves : (here : Here) (own : Own) (cell : Cell) (number : ℕ) (has room : Bool) → IsQuiet (reserves here own cell number has room)
 quiet_reserves here own cell number true room = quiet_tells here _ cell number far.Reserved
 quiet_reserves here own cell number false true = quiet_tells here _ cell number far.Reserved
-quiet_reserves here own cell number false false = quiet_says_to own _ _ tt
+quiet_reserves here own cell number false false = quiet_says_to own _ _ refl
 
 quiet_hears_reserve : (here : Here) (own : Own) (cell : Cell) (number : ℕ) (o : Option LastOp) → IsQuiet (hears_reserve here own cell number o)
 quiet_hears_reserve here own cell number None = quiet_reserves here own cell number false _
@@ -215,15 +227,15 @@ quiet_replicate here own number key bytes =
 
 -- ### A tick
 
-other_awaited : (here : Here) (own : Own) (op : Pending) (what : Action) (post : Post) → Among post (awaited here own op what) → IsOther post.body
-other_awaited here own op action.Reserve post i = (quiet_act here own op action.Reserve).posts post i
-other_awaited here own op action.Replicate post i = (quiet_act here own op action.Replicate).posts post i
-other_awaited here own op _ post i = no_posts post i
+dated_awaited : (here : Here) (own : Own) (op : Pending) (what : Action) (post : Post) → Among post (awaited here own op what) → IsDated post.body
+dated_awaited here own op action.Reserve post i = (quiet_act here own op action.Reserve).posts post i
+dated_awaited here own op action.Replicate post i = (quiet_act here own op action.Replicate).posts post i
+dated_awaited here own op _ post i = no_posts post i
 
-pub other_anew : (here : Here) (own : Own) (rows : List (Cell × Pending)) (post : Post) → Among post (flat_map (λ row. sent_anew here own row.1) rows)
-    → IsOther post.body
-other_anew here own [] post i = no_posts post i
-other_anew here own (row ∷ rows) post i = elim (in-append post (sent_anew here own row.1) (flat_map (λ row. sent_anew here own row.1) rows) i) [
-  | inl now ↦ other_awaited here own row.1 _ post now
-  | inr later ↦ other_anew here own rows post later
+pub dated_anew : (here : Here) (own : Own) (rows : List (Cell × Pending)) (post : Post) → Among post (flat_map (λ row. sent_anew here own row.1) rows)
+    → IsDated post.body
+dated_anew here own [] post i = no_posts post i
+dated_anew here own (row ∷ rows) post i = elim (in-append post (sent_anew here own row.1) (flat_map (λ row. sent_anew here own row.1) rows) i) [
+  | inl now ↦ dated_awaited here own row.1 _ post now
+  | inr later ↦ dated_anew here own rows post later
 ]

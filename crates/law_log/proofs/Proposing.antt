@@ -24,7 +24,7 @@ use Rattle.petal_paxos.specs.declared.phase.Heard.{Heard}
 use Rattle.petal_paxos.specs.declared.phase.Heard.TheVariants.{Nothing, Send, Refused}
 use Rattle.petal_paxos.specs.declared.phase.Heard.TheVariants.{Chosen as Decided}
 use Rattle.petal_paxos.specs.declared.record.StateRecord.TheVariants.{Promise}
-use Rattle.law_agreement.proofs.Members.{in_here, in_there}
+use Rattle.petal_paxos.proofs.Members.{in_here, in_there}
 use Rattle.law_agreement.proofs.Moves.{not_in_nobody}
 use Rattle.petal_rules.specs.Agreement.{IsTold, IsAskedFor, IsAbout, IsProposer}
 use Rattle.petal_rules.specs.Ballots.{post_of, round_of, next_round, first_wanted, starts, starts_for, starts_ballot, greatest_place}

@@ -45,10 +45,10 @@ use Rattle.law_state.specs.Started.{HasFlag}
 use Rattle.law_log.proofs.Facts.{IsFair, as_many, told_once}
 use Rattle.law_log.proofs.Boots.{fail_turn, no_proposer, wake_turn}
 use Rattle.law_log.proofs.Catching.{kept_proposed}
-use Rattle.law_log.proofs.Copying.{IsCalm, IsKept, kept_itself}
-use Rattle.law_log.proofs.Handling.{calm_job, other_copies_anew}
+use Rattle.law_log.proofs.Copying.{IsKept, kept_itself}
+use Rattle.law_log.proofs.Handling.{IsHarmless, harmless_job, dated_copies_anew}
 use Rattle.law_log.proofs.Jobs.{Outcome, applied_next, fine_wanted, job_done as log_job_done, one_longer, started}
-use Rattle.law_log.proofs.Pairs.{other_backed, other_anew}
+use Rattle.law_log.proofs.Pairs.{dated_anew, dated_backed, other_backed}
 use Rattle.law_log.proofs.Proposing.{first_among, said_to_all}
 use Rattle.law_log.proofs.Turns.{HasTurn, still, no_posts, stop_turn, turn_more}
 use Rattle.law_log.proofs.Worlds.{Acts, Goes, IsLaterLife, KeepsStarted, Remembers, may_more, same_life, server_goes, server_sends, started_same}
@@ -246,12 +246,12 @@ module _ {Was : Minded} (setting : Setting) (fair : IsFair setting) (w : World) 
             ])
             (λ post h. elim (in-append post (ballots ++ pairs ++ copies_anew here (w.servers n).own) (ask_posts (voter_of here) (w.servers n).log) h) [
               | inl former ↦ elim (in-append post (ballots ++ pairs) (copies_anew here (w.servers n).own) former) [
-                | inr copy ↦ other_backed P (λ c. ⊥) (λ said. In (sent n said) P.letters) post.body (other_copies_anew here (w.servers n).own post copy)
+                | inr copy ↦ dated_backed P (λ c. ⊥) (λ said. In (sent n said) P.letters) post.body (dated_copies_anew here (w.servers n).own post copy)
                 | inl earlier ↦ elim (in-append post ballots pairs earlier) [
                   | inl ballot ↦ ballot_backed P n (voter_of here) (w.servers n).log.phase
                       (subst (λ k. IsAskedFor P n k (w.servers n).log.phase) (sym (as_many setting w fair l n)) (l.is.busy n member).asked) post ballot
-                  | inr pair ↦ other_backed P (λ c. ⊥) (λ said. In (sent n said) P.letters) post.body
-                      (other_anew here (w.servers n).own (w.servers n).own.pairs.pending post pair)
+                  | inr pair ↦ dated_backed P (λ c. ⊥) (λ said. In (sent n said) P.letters) post.body
+                      (dated_anew here (w.servers n).own (w.servers n).own.pairs.pending post pair)
                 ]
               ]
               | inr ask ↦ only (λ (x : Post). IsBacked P (λ c. ⊥) (λ said. In (sent n said) P.letters) x.body) _ post ask tt
@@ -297,16 +297,16 @@ module _ {Was : Minded} (setting : Setting) (fair : IsFair setting) (w : World) 
       turn = subst (λ b. HasTurn setting.servers n b done.log done.posts P (Good (left done own queue))) (sym runs) out.turn;
     }
 
-    pairs_do : (done : Done) → IsCalm (w.servers n).own done → Did (worked here (w.servers n) rest done)
-    pairs_do done calm = record {
+    pairs_do : (done : Done) → IsHarmless (w.servers n).own done → Did (worked here (w.servers n) rest done)
+    pairs_do done leaves = record {
       posts = done.posts;
       letters = refl;
-      by = idle (record (w.servers n) { own = done.own; queue = rest ++ done.jobs }) done.posts refl refl calm.kept refl refl refl refl
+      by = idle (record (w.servers n) { own = done.own; queue = rest ++ done.jobs }) done.posts refl refl leaves.kept refl refl refl refl
           (λ other h. elim (in-append (job.Letter other) rest done.jobs h) [
             | inl old ↦ was_queued other old
-            | inr new ↦ absurd (calm.quiet.jobs other new)
+            | inr new ↦ absurd (leaves.jobs other new)
           ])
-          (λ post h. other_backed P (λ c. ⊥) (λ said. In (sent n said) P.letters) post.body (calm.quiet.posts post h));
+          (λ post h. other_backed P (λ c. ⊥) (λ said. In (sent n said) P.letters) post.body (leaves.posts post h));
     }
 
     backed_job : (letter : Letter) → first ≡ job.Letter letter → IsBacked P (IsCalledAnywhere setting w) (IsSaidBy P letter.from) letter.body
@@ -356,7 +356,7 @@ module _ {Was : Minded} (setting : Setting) (fair : IsFair setting) (w : World) 
           letters = refl;
           by = logs done (w.servers n).own (rest ++ done.jobs) (minds (w.servers n) to refl (kept_itself (w.servers n).own) out.applied) out (λ letter h. h);
         })
-        (λ e. pairs_do (does here (w.servers n).own first) (calm_job here (w.servers n).own first))
+        (λ e. pairs_do (does here (w.servers n).own first) (harmless_job here (w.servers n).own first))
 
     -- ### A ballot starts
 
@@ -405,20 +405,13 @@ module _ {Was : Minded} (setting : Setting) (fair : IsFair setting) (w : World) 
   does_job : Runs → (first : Job) (rest : List Job) → (w.servers n).queue ≡ first ∷ rest
       → Remembers Was setting.servers n (w.servers n) (job_done here (w.servers n) first rest).server → Did (job_done here (w.servers n) first rest)
   does_job runs job.Apply rest is remembers = crosses runs job.Apply rest is
-  does_job runs (job.Letter letter) rest is remembers = either runs (job.Letter letter) rest is
-  does_job runs (job.Stage cell) rest is remembers = either runs (job.Stage cell) rest is
-  does_job runs (job.Mend link) rest is remembers = either runs (job.Mend link) rest is
-  does_job runs job.Sweep rest is remembers = either runs job.Sweep rest is
   does_job runs job.Start rest is remembers = starts_one runs job.Start rest is remembers
+  does_job runs first rest is remembers = either runs first rest is
 
   life_kept : Runs → (first : Job) (rest : List Job) → (job_done here (w.servers n) first rest).server.life.running ≡ true
-  life_kept runs job.Apply rest = runs
   life_kept runs (job.Letter letter) rest =
       by_test (λ (acted : Acted). acted.server.life.running ≡ true) (is_log_job (job.Letter letter)) _ _ (λ e. runs) (λ e. runs)
-  life_kept runs (job.Stage cell) rest = runs
-  life_kept runs (job.Mend link) rest = runs
-  life_kept runs job.Sweep rest = runs
-  life_kept runs job.Start rest = runs
+  life_kept runs _ rest = runs
 
   works_on : Runs → (jobs : List Job) → (w.servers n).queue ≡ jobs → Remembers Was setting.servers n (w.servers n) (works here (w.servers n) jobs).server
       → GoesBy (works here (w.servers n) jobs)

@@ -132,13 +132,7 @@ module _ {Was : Minded} (setting : Setting) (w : World) (l : Logged Was setting 
   client_steps (Deliver letter) may =
       client_goes _ (hears_so Told setting.lines c (client_state setting w c) (w.clients c) fine_now letter (news_told letter may.sent))
   client_steps Tick may = client_goes _ (ticks_so Told setting.lines c (client_state setting w c) (w.clients c) fine_now)
-  client_steps (Work end) may = absurd may
-  client_steps (StopIn end) may = absurd may
-  client_steps Stop may = absurd may
-  client_steps Blank may = absurd may
-  client_steps (Boot end) may = absurd may
-  client_steps (Arm which plan) may = absurd may
-  client_steps (Glance line round) may = absurd may
+  client_steps _ may = absurd may
 
 -- ### A step, and a history
 

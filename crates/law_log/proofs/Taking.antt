@@ -12,7 +12,7 @@ use Rattle.petal_paxos.specs.Schedule.{vote, sent, World, keep, cast, learn, sen
 use Rattle.petal_paxos.specs.declared.phase.Phase.{Phase}
 use Rattle.petal_paxos.specs.declared.record.StateRecord.{StateRecord}
 use Rattle.petal_paxos.specs.declared.record.StateRecord.TheVariants.{Promise, Accepted, Chosen}
-use Rattle.law_agreement.proofs.Members.{in_cons, in_here, in_there}
+use Rattle.petal_paxos.proofs.Members.{in_cons, in_here, in_there}
 use Rattle.petal_rules.specs.Agreement.{IsTold}
 use Rattle.petal_msg.specs.declared.letter.Actor.{Actor}
 use Rattle.petal_msg.specs.declared.letter.Actor.TheVariants as actor

@@ -15,7 +15,7 @@ use Rattle.petal_paxos.specs.Schedule.{learn, send, turn, happens, run, IsWanted
 use Rattle.petal_paxos.specs.declared.phase.Phase.{Phase}
 use Rattle.petal_paxos.specs.declared.record.StateRecord.{StateRecord}
 use Rattle.petal_paxos.specs.declared.phase.Phase.TheVariants.{Idle, Collecting, Voting}
-use Rattle.law_agreement.proofs.Members.{in_cons, in_here, in_there, put_at_cases}
+use Rattle.petal_paxos.proofs.Members.{in_cons, in_here, in_there, put_at_cases}
 use Rattle.petal_rules.specs.Agreement.{IsTold, IsProposer, IsAskedFor, IsAbout}
 use Rattle.petal_rules.specs.Lists.{In as Among}
 use Rattle.petal_rules.specs.Log.{Log}

@@ -23,11 +23,7 @@ use Rattle.law_log.specs.Requested.{NoneBoots}
 job_inc : (here : Here) (server : Server) (first : Job) (rest : List Job) → (job_done here server first rest).server.life.inc ≡ server.life.inc
 job_inc here server (job.Letter letter) rest =
     by_test (λ (a : Acted). a.server.life.inc ≡ server.life.inc) (is_log_job (job.Letter letter)) _ _ (λ t. refl) (λ t. refl)
-job_inc here server (job.Stage cell) rest = refl
-job_inc here server (job.Mend link) rest = refl
-job_inc here server job.Sweep rest = refl
-job_inc here server job.Apply rest = refl
-job_inc here server job.Start rest = refl
+job_inc here server _ rest = refl
 
 works_inc : (here : Here) (server : Server) (queue : List Job) → (works here server queue).server.life.inc ≡ server.life.inc
 works_inc here server [] = refl
@@ -37,20 +33,13 @@ works_inc here server (first ∷ rest) =
 
 server_inc : (what : Step) → ((end : WorkEnd) → what ≢ Boot end) → (state : State) (me : ℕ) (server : Server)
     → (server_step what state me server).server.life.inc ≡ server.life.inc
-server_inc (Call line) other state me server = refl
 server_inc (Deliver letter) other state me server =
     by_test (λ (x : Server). x.life.inc ≡ server.life.inc) server.life.running _ _ (λ t. refl) (λ t. refl)
-server_inc Tick other state me server = refl
 server_inc (Work work_end.Done) other state me server = works_inc (here_of state me server) server server.queue
-server_inc (Work (work_end.Fault Before)) other state me server = refl
 server_inc (Work (work_end.Fault After)) other state me server = works_inc (here_of state me server) server server.queue
-server_inc (StopIn Before) other state me server = refl
 server_inc (StopIn After) other state me server = works_inc (here_of state me server) server server.queue
-server_inc Stop other state me server = refl
-server_inc Blank other state me server = refl
 server_inc (Boot end) other state me server = absurd (other end refl)
-server_inc (Arm which plan) other state me server = refl
-server_inc (Glance line round) other state me server = refl
+server_inc _ other state me server = refl
 
 step_inc : (setting : Setting) (w : World) (who : Actor) (what : Step) (stamp : ℕ) → ((end : WorkEnd) → what ≢ Boot end) → (n : ℕ)
     → ((step who what setting w stamp).world.servers n).life.inc ≡ (w.servers n).life.inc

@@ -134,32 +134,20 @@ module _ (heard : Body → Type 0) (here : Here) (own : Own) (never : NeverDead 
         bytes = ap (λ (o : Pending). o.bytes) k.is;
         chains = λ i. chains_with (k.store i).chains (k.is i).key entry;
       })
-  lead_stores _ (Asks_for posts h) = Nothing_new refl
-  lead_stores _ (Repeats want last h lead is e) = Nothing_new refl
-  lead_stores _ (Is_full want new no_room) = Nothing_new refl
   lead_stores _ (Gives_up op h is reserved put) =
       Nothing_new (ap (λ (x : Store). x.chains) (of_ending here (gives_back (without_pending own op.cell)) op op.kind Full).store)
-  lead_stores _ (Opens want new both) = Nothing_new refl
-  lead_stores _ (Marks op h is both stage) = Nothing_new refl
-  lead_stores _ (Unmarks op h is both stage) = Nothing_new refl
   lead_stores _ (Closes op is both stage) =
       Nothing_new (ap (λ (x : Store). x.chains) (of_ending here (without_pending own op.cell) op op.kind Written).store)
-  lead_stores _ (Opens_alone want new alone) = Nothing_new refl
   lead_stores _ (Marks_alone now op taken alone fresh) = Nothing_new (λ i. ((taking own now op taken).store i).chains)
   lead_stores _ (Unmarks_alone now op taken alone stale put busy) = Nothing_new (λ i. ((taking own now op taken).store i).chains)
   lead_stores _ (Closes_alone now op taken alone stale put free) =
       Nothing_new (ap (λ (x : Store). x.chains) (of_ending here (without_pending now op.cell) op op.kind Written).store
       ∙ λ i. ((taking own now op taken).store i).chains)
-  lead_stores _ (Opens_fill moving new room both) = Nothing_new refl
-  lead_stores _ (Opens_fill_alone moving new room alone) = Nothing_new refl
-  lead_stores _ (Has_fill moving filled) = Nothing_new refl
-  lead_stores _ (Has_no_room moving new no_room) = Nothing_new refl
   lead_stores _ (Goes_on_dead now op taken off) = absurd (never now op taken off)
+  lead_stores _ _ = Nothing_new refl
 
   abbrev pub second_stores : (done : Done) → IsSeated here own done → DidSecond heard here own done → S done.own
-  second_stores _ seated (Sets_apart number c tickets h s le) = Nothing_new refl
   second_stores _ seated (Promises number c how s is) = Nothing_new (ap (λ (o : Own). o.store.chains) (told_own here own c number how))
-  second_stores _ seated (Declines number c h s no_room) = Nothing_new refl
   second_stores done seated (Follows number key version bytes h s is) = seated_only done seated (λ seat.
       An_asked (record {
         number = number;
@@ -174,15 +162,14 @@ module _ (heard : Body → Type 0) (here : Here) (own : Own) (never : NeverDead 
         put = refl;
         chains = refl;
       }))
+  second_stores _ seated _ = Nothing_new refl
 
   -- ### Copies
 
   step_chains : (now : Own) (cell : Cell) (copy : Copying) (done : Done) → CopyStep here now cell copy done
       → done.own.store.chains ≡ now.store.chains
-  step_chains now cell copy _ (Asks_to_trim fresh) = refl
-  step_chains now cell copy _ (Sends row trimmed is) = refl
-  step_chains now cell copy _ (Unmarks_copied kind synced left) = refl
   step_chains now cell copy _ (Closes_copy synced left) = copied_chains here now cell
+  step_chains now cell copy _ _ = refl
 
   pub taken_chains : (cell : Cell) (now : Own) (copy : Copying) → TakenCopy heard own cell now copy → now.store.chains ≡ own.store.chains
   taken_chains cell _ _ (Copy_as_is copy is) = refl
@@ -191,12 +178,10 @@ module _ (heard : Body → Type 0) (here : Here) (own : Own) (never : NeverDead 
 
   -- the holder keeps its chains
   pub holder_chains : (done : Done) → DidHolder heard here own done → done.own.store.chains ≡ own.store.chains
-  holder_chains _ (Asks_page id row other held fresh) = refl
   holder_chains _ (Turns_page id row other after block h held fresh at) = page_chains own row block
   holder_chains done (Begins_copy id row other cell _ held next step) = step_chains _ cell _ done step
   holder_chains done (Goes_on_copying cell now copy _ taken step) = step_chains now cell copy done step ∙ taken_chains cell now copy taken
-  holder_chains _ (Finds_it_full cell copy h is trimmed lt) = refl
-  holder_chains _ (Tidies id row block kind is both idle left) = refl
+  holder_chains _ _ = refl
 
   -- nothing is stored, or the copy's
   abbrev pub OtherStores : Own → Type 0
@@ -224,7 +209,6 @@ module _ (heard : Body → Type 0) (here : Here) (own : Own) (never : NeverDead 
       })
 
   pub other_changes : (done : Done) → IsSeated here own done → DidOther heard here own done → OtherStores done.own
-  other_changes _ seated (Answers_page id row after h is) = inl refl
   other_changes done seated (Is_copied_to number cell epochs holder _ h held newer step) =
       trim_changes (with_last_copy own cell (first_last number epochs)) refl cell (first_last number epochs) holder done seated held
       (λ epoch later is chains. Is_dropped_first number epochs epoch h newer chains) step
@@ -239,8 +223,7 @@ module _ (heard : Body → Type 0) (here : Here) (own : Own) (never : NeverDead 
         seat = seat;
         how = Is_put entry last refl of_copy.said of_copy.last_is of_copy.op_is at refl;
       })
-  other_changes _ seated (Has_entry entry holder last of_copy lt) = inl refl
-  other_changes _ seated (Has_no_slot entry holder last of_copy at full) = inl refl
+  other_changes _ seated _ = inl refl
 
   abbrev pub as_stores : {new : Own} → OtherStores new → S new
   as_stores (inl same) = Nothing_new same

@@ -116,8 +116,6 @@ module _ (heard : Body → Type 0) (here : Here) (own : Own) (never : NeverDead 
   gone_own new cell q o is = stands new q o (stood own.pairs.pending cell q o is)
 
   lead_was : (done : Done) → DidLead heard here own done → (q : Cell) (op : Pending) → at cell_cmp done.own.pairs.pending q ≡ Some op → WasSo own done.own q op
-  lead_was _ (Asks_for posts h) q op there = stands own q op there
-  lead_was _ (Repeats want last h lead is e) q op there = stands own q op there
   lead_was _ (Is_full want new no_room) q op there = stands _ q op there
   lead_was done (Gives_up o h is reserved fresh) q op there =
       gone_own _ o.cell q op (ap (λ t. at cell_cmp t q) (sym (of_ending here (gives_back (without_pending own o.cell)) o o.kind Full).pending) ∙ there)
@@ -180,9 +178,8 @@ module _ (heard : Body → Type 0) (here : Here) (own : Own) (never : NeverDead 
       put_twice own.pairs.pending (cell_of moving.key) first (with_mark_at first Stale true) q op there
       (λ e same. Is_new (ap (λ (p : Pending). p.op) (sym same)) (ap (λ (p : Pending). p.stage.put) (sym same)))
       (λ ne is. stands _ q op is)
-  lead_was _ (Has_fill moving filled) q op there = stands own q op there
-  lead_was _ (Has_no_room moving new no_room) q op there = stands own q op there
   lead_was _ (Goes_on_dead now o taken off) q op there = absurd (never now o taken off)
+  lead_was _ _ q op there = stands own q op there
 
   same_table : (new : Own) → new.pairs.pending ≡ own.pairs.pending → (q : Cell) (op : Pending) → at cell_cmp new.pairs.pending q ≡ Some op → WasSo own new q op
   same_table new same q op there = stands new q op (ap (λ t. at cell_cmp t q) (sym same) ∙ there)

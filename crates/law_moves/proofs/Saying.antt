@@ -116,14 +116,11 @@ module _ (heard : Body → Type 0) (here : Here) (own : Own) (never : NeverDead 
   S done post = Says heard here own done post
 
   asks_says : (done : Done) (post : Post) → Asks here own post → S done post
-  asks_says done _ (A_slot op to is stage e) = Is_neither (refl, refl)
   asks_says done _ (A_copy op to is stage e) = Asks_copy op is stage refl
-  asks_says done _ (A_trim cell copy to is fresh e) = Is_neither (refl, refl)
-  asks_says done _ (A_copied_entry cell copy row to is trimmed f e) = Is_neither (refl, refl)
-  asks_says done _ (A_page row to there e fresh) = Is_neither (refl, refl)
   asks_says done post (An_entry_to_move _ next) =
       Is_neither (by_text post.body _ (ap (λ (p : Post). p.body) next.is) (refl, refl))
   asks_says done post (Of_the_log _ e) = Is_neither (other_subject post.body (logged_other (subject_of post.body) e))
+  asks_says done _ _ = Is_neither (refl, refl)
 
   not_written : {how : Ending} → how ≡ Full → how ≡ Written → ⊥
   not_written e f = cc
@@ -140,28 +137,21 @@ module _ (heard : Body → Type 0) (here : Here) (own : Own) (never : NeverDead 
         | inr filled ↦ absurd (not_written refl filled.written)
       ]
   lead_says _ (Opens want new both) post i = Is_neither (by_text post.body _ (posted _ _ post i) (refl, refl))
-  lead_says _ (Marks op h is both stage) post i = absurd i
-  lead_says _ (Puts op is both stage) post i = absurd i
-  lead_says _ (Unmarks op h is both stage) post i = absurd i
   lead_says _ (Closes op is both stage) post i = elim (ends_says here (without_pending own op.cell) op op.kind Written post i) [
     | inl neither ↦ Is_neither neither
     | inr filled ↦ Is_done op is both stage filled.kind filled.is
         (ap (λ t. at cell_cmp t op.cell) (of_ending here (without_pending own op.cell) op op.kind Written).pending ∙ cell_gone own.pairs.pending op.cell)
   ]
-  lead_says _ (Opens_alone want new alone) post i = absurd i
-  lead_says _ (Marks_alone now op taken alone fresh) post i = absurd i
-  lead_says _ (Puts_alone now op taken alone stale put) post i = absurd i
-  lead_says _ (Unmarks_alone now op taken alone stale put busy) post i = absurd i
   lead_says _ (Closes_alone now op taken alone stale put free) post i = elim (ends_says here (without_pending now op.cell) op op.kind Written post i) [
     | inl neither ↦ Is_neither neither
     | inr filled ↦ Is_done_alone now op taken alone put filled.kind filled.is
         (ap (λ t. at cell_cmp t op.cell) (of_ending here (without_pending now op.cell) op op.kind Written).pending ∙ cell_gone now.pairs.pending op.cell)
   ]
   lead_says _ (Opens_fill moving new room both) post i = Is_neither (by_text post.body _ (posted _ _ post i) (refl, refl))
-  lead_says _ (Opens_fill_alone moving new room alone) post i = absurd i
   lead_says _ (Has_fill moving filled) post i = Is_there moving filled (posted _ _ post i) refl
   lead_says _ (Has_no_room moving new no_room) post i = Is_neither (by_text post.body _ (posted _ _ post i) (refl, refl))
   lead_says _ (Goes_on_dead now op taken off) post i = absurd (never now op taken off)
+  lead_says _ _ post i = absurd i
 
   second_says : (done : Done) → DidSecond heard here own done → (post : Post) → In post done.posts → IsNeither post.body
   second_says _ (Sets_apart number cell tickets h s le) post i =

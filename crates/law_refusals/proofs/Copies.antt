@@ -25,7 +25,7 @@ use Rattle.petal_rules.specs.Jobs.{Acted}
 use Rattle.petal_rules.specs.Lists.{In}
 use Rattle.petal_rules.specs.Progress.{copying_on, progress_on, with_progress}
 use Rattle.petal_rules.specs.Returns.{holds_link, proposed}
-use Rattle.petal_rules.specs.Server.{Own, Copies, Here, Post, Done, Server}
+use Rattle.petal_rules.specs.Server.{Own, Copies, Here, Post, Done, Server, post_to}
 use Rattle.petal_rules.specs.State.{State, link_named}
 use Rattle.petal_rules.specs.Store.{chain_in, free_of}
 use Rattle.petal_rules.specs.World.{Setting, World, server_state, setting_of, start, step, MayActor}
@@ -42,7 +42,7 @@ use Rattle.law_steps.specs.Did.{Did, Ignores, Refuses, By_read, By_lead, By_seco
 use Rattle.law_steps.specs.DidFiller.{DidFiller, IsNextKey, Is_filled, Is_out_of_slots}
 use Rattle.law_steps.specs.DidHolder.{DidHolder, CopyStep, Asks_to_trim, Sends, Unmarks_copied, Closes_copy, TakenCopy, Copy_as_is, Copy_trimmed, Copy_synced}
 use Rattle.law_steps.specs.DidHolder.{Asks_page, Turns_page, Begins_copy, Goes_on_copying, Finds_it_full, Tidies}
-use Rattle.law_steps.specs.DidOther.{DidOther, TrimStep, IsOfCopy, Is_trimmed, Drops_entry, Answers_page, Is_copied_to}
+use Rattle.law_steps.specs.DidOther.{OtherReply, Replies, DidOther, TrimStep, IsOfCopy, Is_trimmed, Drops_entry, Answers_page, Is_copied_to}
 use Rattle.law_steps.specs.DidOther.{Goes_on_trimming, Puts_entry, Has_entry, Has_no_slot}
 use Rattle.law_steps.specs.Happens.{Handled, By_job, By_ballot, By_entry, Serving, Goes, Ends, Stays, Wakes, Fails, own_place}
 use Rattle.law_steps.specs.Ready.{AreFirm, Rests}
@@ -92,16 +92,13 @@ page_full own row before (Some block) = refl
 
 step_full : (here : Here) (own : Own) (cell : Cell) (copy : Copying) (done : Done) → CopyStep here own cell copy done → full_of done.own ≡ true
     → full_of own ≡ true
-step_full here own cell copy _ (Asks_to_trim fresh) e = e
-step_full here own cell copy _ (Sends row trimmed is) e = e
-step_full here own cell copy _ (Unmarks_copied kind synced left) e = e
 step_full here own cell copy _ (Closes_copy synced left) e = true_false e refl
+step_full here own cell copy _ _ e = e
 
 taken_full : (heard : Body → Type 0) (own : Own) (cell : Cell) (now : Own) (copy : Copying) → TakenCopy heard own cell now copy
     → full_of now ≡ full_of own
 taken_full heard own cell _ copy (Copy_as_is _ is) = refl
-taken_full heard own cell _ _ (Copy_trimmed copy h is fresh) = refl
-taken_full heard own cell _ _ (Copy_synced copy h is trimmed lt) = refl
+taken_full heard own cell _ _ _ = refl
 
 trim_full : (own : Own) (cell : Cell) (last : LastCopy) (holder : ℕ) (done : Done) → TrimStep own cell last holder done → full_of done.own ≡ full_of own
 trim_full own cell last holder _ (Is_trimmed none) = refl
@@ -121,22 +118,18 @@ module _ (heard : Body → Type 0) (here : Here) (own : Own) where
   F done = full_of done.own ≡ true → (full_of own ≡ true) ⊎ HearsNone heard here own
 
   holder_full : (done : Done) → DidHolder heard here own done → F done
-  holder_full _ (Asks_page id row other held fresh) e = inl e
   holder_full _ (Turns_page id row other after block h held fresh so) e = inl (sym (page_full own row (progress_on own row) block) ∙ e)
   holder_full done (Begins_copy id row other cell _ held next step) e = inl (step_full here _ cell _ done step e)
   holder_full done (Goes_on_copying cell now copy _ taken step) e =
       inl (sym (taken_full heard own cell now copy taken) ∙ step_full here now cell copy done step e)
   holder_full _ (Finds_it_full cell copy h is trimmed lt) e =
       inr (inl (record { cell = cell; copy = copy; said = h; copying = is; trimmed = trimmed; left = lt }))
-  holder_full _ (Tidies id row block kind is both idle left) e = inl e
+  holder_full _ _ e = inl e
 
   other_full : (done : Done) → DidOther heard here own done → full_of done.own ≡ full_of own
-  other_full _ (Answers_page id row after h is) = refl
   other_full done (Is_copied_to number cell epochs holder _ h held newer step) = trim_full _ cell _ holder done step
   other_full done (Goes_on_trimming cell holder last _ held is step) = trim_full own cell last holder done step
-  other_full _ (Puts_entry entry holder last of_copy so room) = refl
-  other_full _ (Has_entry entry holder last of_copy lt) = refl
-  other_full _ (Has_no_slot entry holder last of_copy so full) = refl
+  other_full _ _ = refl
 
   filler_full : (done : Done) → DidFiller heard here own done → F done
   filler_full _ (Is_filled key row posts h next fills) e = true_false e refl
@@ -183,36 +176,23 @@ module _ (heard : Body → Type 0) (here : Here) (own : Own) where
   step_quiet : (now : Own) (cell : Cell) (copy : Copying) (done : Done) → CopyStep here now cell copy done → (post : Post)
       → In post done.posts → is_no_leads post.body ≡ false
   unfolding In
-  step_quiet now cell copy _ (Asks_to_trim fresh) post i = ap is_no_leads (posted _ _ post i)
-  step_quiet now cell copy _ (Sends row trimmed is) post i = ap is_no_leads (posted _ _ post i)
   step_quiet now cell copy _ (Unmarks_copied kind synced left) post i = absurd i
   step_quiet now cell copy _ (Closes_copy synced left) post i = absurd i
+  step_quiet now cell copy _ _ post i = ap is_no_leads (posted _ _ post i)
 
   holder_quiet : (done : Done) → DidHolder heard here own done → (post : Post) → In post done.posts → is_no_leads post.body ≡ false
   unfolding In
   holder_quiet _ (Asks_page id row other held fresh) post i = ap is_no_leads (posted (Some other) (page_wanted own row) post i)
-  holder_quiet _ (Turns_page id row other after block h held fresh so) post i = absurd i
   holder_quiet done (Begins_copy id row other cell _ held next step) post i = step_quiet _ cell _ done step post i
   holder_quiet done (Goes_on_copying cell now copy _ taken step) post i = step_quiet now cell copy done step post i
-  holder_quiet _ (Finds_it_full cell copy h is trimmed lt) post i = absurd i
-  holder_quiet _ (Tidies id row block kind is both idle left) post i = absurd i
+  holder_quiet _ _ post i = absurd i
 
   one_full : {a b : ℕ} {c d : Cell} → body.SyncFull a c ≡ body.SyncFull b d → (a ≡ b) × (c ≡ d)
   one_full {a} {b} {c} {d} e = (cc, cc)
 
-  other_declines : (done : Done) → DidOther heard here own done → (post : Post) → In post done.posts → (number : ℕ) (cell : Cell) → Says post number cell
-      → Declines post number cell
-  unfolding In
-  other_declines _ (Answers_page id row after h is) post i number cell says = unsaid post.body number cell (ap is_no_leads (posted _ _ post i)) says
-  other_declines done (Is_copied_to k of epochs holder _ h held newer step) post i number cell says =
-      unsaid post.body number cell (trim_quiet _ of _ holder done step post i) says
-  other_declines done (Goes_on_trimming of holder last _ held is step) post i number cell says =
-      unsaid post.body number cell (trim_quiet own of last holder done step post i) says
-  other_declines _ (Puts_entry entry holder last of_copy so room) post i number cell says =
-      unsaid post.body number cell (ap is_no_leads (posted (Some holder) (body.Synced entry.op (cell_of entry.key) entry.index) post i)) says
-  other_declines _ (Has_entry entry holder last of_copy lt) post i number cell says =
-      unsaid post.body number cell (ap is_no_leads (posted (Some holder) (body.Synced entry.op (cell_of entry.key) entry.index) post i)) says
-  other_declines _ (Has_no_slot entry holder last of_copy so full) post i number cell says =
+  reply_declines : (to : Option ℕ) (said : Body) → OtherReply heard here own to said → (post : Post) → In post (post_to to said) → (number : ℕ) (cell : Cell)
+      → Says post number cell → Declines post number cell
+  reply_declines _ _ (Has_no_slot entry holder last of_copy so full) post i number cell says =
       let sent = one_post (actor.Server holder) (body.SyncFull entry.op (cell_of entry.key)) post i in
       let same = one_full (sym sent.1 ∙ says) in
       record {
@@ -226,6 +206,18 @@ module _ (heard : Body → Type 0) (here : Here) (own : Own) where
         next = so;
         none_free = full;
       }
+  reply_declines to said _ post i number cell says = unsaid post.body number cell (ap is_no_leads (posted to said post i)) says
+
+  other_declines : (done : Done) → DidOther heard here own done → (post : Post) → In post done.posts → (number : ℕ) (cell : Cell) → Says post number cell
+      → Declines post number cell
+  unfolding In
+  other_declines _ (Replies to said reply) post i number cell says = reply_declines to said reply post i number cell says
+  other_declines done (Is_copied_to k of epochs holder _ h held newer step) post i number cell says =
+      unsaid post.body number cell (trim_quiet _ of _ holder done step post i) says
+  other_declines done (Goes_on_trimming of holder last _ held is step) post i number cell says =
+      unsaid post.body number cell (trim_quiet own of last holder done step post i) says
+  other_declines _ (Puts_entry entry holder last of_copy so room) post i number cell says =
+      unsaid post.body number cell (ap is_no_leads (posted (Some holder) (body.Synced entry.op (cell_of entry.key) entry.index) post i)) says
 
   paired_quiet : (said : Body) → subject_of said ≡ Paired → is_no_leads said ≡ false
   paired_quiet (body.NotHere seq) e = let f : Refused ≡ Paired = e in absurd cc

@@ -50,17 +50,13 @@ logged_other Filling e = true_false e refl
 logged_other _ e = refl
 
 pub asks_unfilled : (here : Here) (own : Own) (post : Post) → Asks here own post → is_fill_full post.body ≡ false
-asks_unfilled here own _ (A_slot op to is stage e) = refl
-asks_unfilled here own _ (A_copy op to is stage e) = refl
-asks_unfilled here own _ (A_trim cell copy to is fresh e) = refl
-asks_unfilled here own _ (A_copied_entry cell copy row to is trimmed there e) = refl
-asks_unfilled here own _ (A_page row to i other fresh) = refl
 asks_unfilled here own post (An_entry_to_move _ next) = ap (λ (p : Post). is_fill_full p.body) next.is
 asks_unfilled here own post (Of_the_log _ e) = by (is_fill_full post.body) refl
   where
     by : (b : Bool) → is_fill_full post.body ≡ b → b ≡ false
     by true f = not_filling post.body (subject_of post.body) refl (logged_other (subject_of post.body) e) f
     by false f = refl
+asks_unfilled here own _ _ = refl
 
 ended_unfilled : (seq : ℕ) (how : Ending) → is_fill_full (ended seq how) ≡ false
 ended_unfilled seq ending.Written = refl
@@ -120,24 +116,17 @@ module _ (heard : Body → Type 0) (here : Here) (own : Own)
   lead_none _ (Gives_up op h is reserved put) post i key says =
       gives_up_none op h is (gives_back (without_pending own op.cell)) op.kind refl post i key says
   lead_none _ (Opens want new both) post i key says = unfilled post.body key says (ap is_fill_full (posted _ _ post i))
-  lead_none _ (Marks op h is both stage) post i key says = absurd i
-  lead_none _ (Puts op is both stage) post i key says = absurd i
-  lead_none _ (Unmarks op h is both stage) post i key says = absurd i
   lead_none _ (Closes op is both stage) post i key says =
       unfilled post.body key says (written_unfilled here (without_pending own op.cell) op op.kind post i)
-  lead_none _ (Opens_alone want new alone) post i key says = absurd i
-  lead_none _ (Marks_alone now op taken alone fresh) post i key says = absurd i
-  lead_none _ (Puts_alone now op taken alone stale put) post i key says = absurd i
-  lead_none _ (Unmarks_alone now op taken alone stale put busy) post i key says = absurd i
   lead_none _ (Closes_alone now op taken alone stale put free) post i key says =
       unfilled post.body key says (written_unfilled here (without_pending now op.cell) op op.kind post i)
   lead_none _ (Opens_fill moving new room both) post i key says = unfilled post.body key says (ap is_fill_full (posted _ _ post i))
-  lead_none _ (Opens_fill_alone moving new room alone) post i key says = absurd i
   lead_none _ (Has_fill moving filled) post i key says = unfilled post.body key says (ap is_fill_full (posted _ _ post i))
   lead_none _ (Has_no_room moving new no_room) post i key says =
       Has_none moving (same_key (sym (posted (old_lead here.state (cell_of moving.key)) (body.FillFull moving.key) post i) ∙ says)) new no_room
   lead_none _ (Goes_on_dead now op taken off) post i key says =
       unfilled post.body key says (acts_unfilled here now op (next_stage here.state here.me op) post i)
+  lead_none _ _ post i key says = absurd i
 
   filler_none : (done : Done) → DidFiller heard here own done → (post : Post) → In post done.posts → (key : Key) → post.body ≡ body.FillFull key → SaysNone key
   unfolding In

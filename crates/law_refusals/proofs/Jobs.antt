@@ -183,24 +183,18 @@ module _ (R S : ℕ → ℕ → Type 0) (scene : Scene R S) where
         leads = first_of op.cell (staged.leads (in_live op.cell to e)) (in_live op.cell to e) both;
         given = refusals.numbered n op.cell op is;
       }))
-  asks_slot number cell _ (A_copy op to is stage e) says = true_false (ap is_of_slots says) refl
-  asks_slot number cell _ (A_trim at_cell copy to is fresh e) says = true_false (ap is_of_slots says) refl
-  asks_slot number cell _ (A_copied_entry at_cell copy row to is trimmed there e) says = true_false (ap is_of_slots says) refl
-  asks_slot number cell _ (A_page row to i other fresh) says = true_false (ap is_of_slots says) refl
   asks_slot number cell post (An_entry_to_move _ next) says = true_false (ap is_of_slots says) (ap (λ (p : Post). is_of_slots p.body) next.is)
   asks_slot number cell _ (Of_the_log post e) says = true_false (ap is_of_slots says) (logged_not_full post.body e)
+  asks_slot number cell _ _ says = true_false (ap is_of_slots says) refl
 
   -- and nobody is told that there is none
   asks_not_full : (post : Post) → Asks here own post → (what : Body) → post.body ≡ what → (is_slot what ≡ false) → is_of_slots what ≡ true
       → ⊥
   asks_not_full _ (A_slot op to is stage e) what says other full = true_false (ap is_slot (sym says)) other
-  asks_not_full _ (A_copy op to is stage e) what says other full = true_false full (ap is_of_slots (sym says))
-  asks_not_full _ (A_trim at_cell copy to is fresh e) what says other full = true_false full (ap is_of_slots (sym says))
-  asks_not_full _ (A_copied_entry at_cell copy row to is trimmed there e) what says other full = true_false full (ap is_of_slots (sym says))
-  asks_not_full _ (A_page row to i apart fresh) what says other full = true_false full (ap is_of_slots (sym says))
   asks_not_full post (An_entry_to_move _ next) what says other full =
       true_false full (ap is_of_slots (sym says) ∙ ap (λ (p : Post). is_of_slots p.body) next.is)
   asks_not_full _ (Of_the_log post e) what says other full = true_false full (ap is_of_slots (sym says) ∙ logged_not_full post.body e)
+  asks_not_full _ _ what says other full = true_false full (ap is_of_slots (sym says))
 
   pub asks_refuses : (posts : List Post) → ((post : Post) → In post posts → Asks here own post) → J own posts
   asks_refuses posts asks = record {
@@ -468,9 +462,8 @@ module _ (R S : ℕ → ℕ → Type 0) (scene : Scene R S) where
         quiet S scene.setting w n _ [] (λ c last is how. inl is) (omega arith)
         (opens_pending (put cell_cmp own.pairs.pending cell op) cell (with_mark_at op Stale true)
         (λ q ne. cell_apart own.pairs.pending cell op q ne) refl) (λ post i. absurd i)
-    lead_refuses _ (Has_fill moving filled) seat = speaks _ (λ post i. ap is_of_slots (posted _ _ post i))
-    lead_refuses _ (Has_no_room moving new no_room) seat = speaks _ (λ post i. ap is_of_slots (posted _ _ post i))
     lead_refuses _ (Goes_on_dead now op taken off) seat = dead_refuses now op taken off
+    lead_refuses _ _ seat = speaks _ (λ post i. ap is_of_slots (posted _ _ post i))
 
     -- what a second server does leaves what is pending and finished
     quiet_second : {done : Done} → DidSecond hears here own done → ((post : Post) → In post done.posts → is_of_slots post.body ≡ false)

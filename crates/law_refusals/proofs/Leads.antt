@@ -44,13 +44,9 @@ logged_quiet (body.SyncFull number cell) e = true_false e refl
 logged_quiet _ e = refl
 
 pub asks_quiet : (here : Here) (own : Own) (post : Post) → Asks here own post → is_no_leads post.body ≡ false
-asks_quiet here own _ (A_slot op to is stage e) = refl
-asks_quiet here own _ (A_copy op to is stage e) = refl
-asks_quiet here own _ (A_trim cell copy to is fresh e) = refl
-asks_quiet here own _ (A_copied_entry cell copy row to is trimmed there e) = refl
-asks_quiet here own _ (A_page row to i other fresh) = refl
 asks_quiet here own post (An_entry_to_move _ next) = ap (λ (p : Post). is_no_leads p.body) next.is
 asks_quiet here own _ (Of_the_log post e) = logged_quiet post.body e
+asks_quiet here own _ _ = refl
 
 ended_quiet : (seq : ℕ) (how : Ending) → is_no_leads (ended seq how) ≡ false
 ended_quiet seq ending.Written = refl
@@ -85,20 +81,13 @@ lead_quiet heard here own _ (Asks_for posts h) post i = asks_quiet here own post
 lead_quiet heard here own _ (Repeats want last h lead is f) post i = ap is_no_leads (one_post _ _ post i).1 ∙ ended_quiet want.seq last.ending
 lead_quiet heard here own _ (Is_full want new no_room) post i = ap is_no_leads (one_post _ _ post i).1
 lead_quiet heard here own _ (Opens want new both) post i = ap is_no_leads (posted _ _ post i)
-lead_quiet heard here own _ (Marks op h is both stage) post i = absurd i
-lead_quiet heard here own _ (Puts op is both stage) post i = absurd i
 lead_quiet heard here own _ (Gives_up op h is reserved put) post i =
     ends_quiet here (gives_back (without_pending own op.cell)) op op.kind ending.Full post i
-lead_quiet heard here own _ (Unmarks op h is both stage) post i = absurd i
 lead_quiet heard here own _ (Closes op is both stage) post i = ends_quiet here (without_pending own op.cell) op op.kind ending.Written post i
-lead_quiet heard here own _ (Opens_alone want new alone) post i = absurd i
-lead_quiet heard here own _ (Marks_alone now op taken alone fresh) post i = absurd i
-lead_quiet heard here own _ (Puts_alone now op taken alone stale put) post i = absurd i
-lead_quiet heard here own _ (Unmarks_alone now op taken alone stale put busy) post i = absurd i
 lead_quiet heard here own _ (Closes_alone now op taken alone stale put free) post i =
     ends_quiet here (without_pending now op.cell) op op.kind ending.Written post i
 lead_quiet heard here own _ (Opens_fill moving new room both) post i = ap is_no_leads (posted _ _ post i)
-lead_quiet heard here own _ (Opens_fill_alone moving new room alone) post i = absurd i
 lead_quiet heard here own _ (Has_fill moving filled) post i = ap is_no_leads (posted _ _ post i)
 lead_quiet heard here own _ (Has_no_room moving new no_room) post i = ap is_no_leads (posted _ _ post i)
 lead_quiet heard here own _ (Goes_on_dead now op taken off) post i = acts_quiet here now op (next_stage here.state here.me op) post i
+lead_quiet heard here own _ _ post i = absurd i

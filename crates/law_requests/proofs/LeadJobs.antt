@@ -172,13 +172,9 @@ module _ (scene : Scene) (n : ℕ) (runs : (scene.w.servers n).life.running ≡ 
   speaks posts says = calm own posts (λ c. refl) (λ cell op is clients. was_same own cell op is) says
 
   asks_says : (post : Post) → Asks here own post → S own post.to post.body
-  asks_says _ (A_slot op to is stage e) = tt
-  asks_says _ (A_copy op to is stage e) = tt
-  asks_says _ (A_trim cell copy to is fresh e) = tt
-  asks_says _ (A_copied_entry cell copy row to is trimmed there e) = tt
-  asks_says _ (A_page row to i other fresh) = tt
   asks_says post (An_entry_to_move _ next) = says_any own _ post (ap (λ (p : Post). p.body) next.is) (λ to. tt)
   asks_says _ (Of_the_log post e) = nothing_said own post.to post.body (logged_untold (subject_of post.body) e)
+  asks_says _ _ = tt
 
   ended_says : (new : Own) (c seq : ℕ) (how : Ending) → Tells setting w n new c seq → S new (actor.Client c) (ended seq how)
   ended_says new c seq ending.Written t = t
@@ -486,6 +482,5 @@ module _ (scene : Scene) (n : ℕ) (runs : (scene.w.servers n).life.running ≡ 
       let two = with_mark_at op Stale true in
       fill_tells (cell_of moving.key) two _ [] refl refl (cell_same (put cell_cmp own.pairs.pending (cell_of moving.key) op) (cell_of moving.key) two)
       (λ q ne. put_put own.pairs.pending (cell_of moving.key) op two q ne) (λ post i. absurd i)
-  lead_tells _ seat (Has_fill moving filled) = speaks _ (λ post i. says_any own _ post (posted _ _ post i) (λ to. tt))
-  lead_tells _ seat (Has_no_room moving new no_room) = speaks _ (λ post i. says_any own _ post (posted _ _ post i) (λ to. tt))
   lead_tells _ seat (Goes_on_dead now op taken off) = dead_tells now op taken off (next_stage here.state here.me op)
+  lead_tells _ seat _ = speaks _ (λ post i. says_any own _ post (posted _ _ post i) (λ to. tt))

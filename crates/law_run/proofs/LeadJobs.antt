@@ -274,9 +274,6 @@ module _ (this : ServerStep) (k : Plain) where
 
     pub lead_pending : (done : Done) (d : DidLead hears here own done) → PutHeld (lead_stores hears here own never done d) → (cell : Cell) (o : Pending)
         → at cell_cmp done.own.pairs.pending cell ≡ Some o → Counted cell o (chain_in done.own.store.chains cell) → Held o
-    lead_pending _ (Asks_for posts h) held = λ cell o is. was_held cell o is
-    lead_pending _ (Repeats want last h lead there e) held = λ cell o is. was_held cell o is
-    lead_pending _ (Is_full want new no_room) held = λ cell o is. was_held cell o is
     lead_pending _ (Gives_up op h there reserved put) held = λ cell o is counted.
         let ended = of_ending here (gives_back (without_pending own op.cell)) op op.kind ending.Full in
         was_held cell o (stood own.pairs.pending op.cell cell o (sym (ap (λ t. at cell_cmp t cell) ended.pending) ∙ is))
@@ -344,9 +341,8 @@ module _ (this : ServerStep) (k : Plain) where
         put_lead (put cell_cmp own.pairs.pending cell op) own.store.chains cell (with_mark_at op Stale true)
         (beside own.pairs.pending cell op) (λ q ne. refl)
         (fresh_held cell (with_mark_at op Stale true) (mine cell) refl refl)
-    lead_pending _ (Has_fill moving filled) held = λ cell o is. was_held cell o is
-    lead_pending _ (Has_no_room moving new no_room) held = λ cell o is. was_held cell o is
     lead_pending _ (Goes_on_dead now op taken off) held = absurd (never now op taken off)
+    lead_pending _ _ held = λ cell o is. was_held cell o is
 
     -- ### What is finished
 
@@ -395,25 +391,15 @@ module _ (this : ServerStep) (k : Plain) where
 
     pub lead_finished : (done : Done) → DidLead hears here own done → (c : ℕ) (last : Finished) → at nat_cmp done.own.pairs.finished c ≡ Some last
         → last.ending ≡ ending.Written → IsOpen (this.w.clients c) last.seq → is_held k c ≡ true
-    lead_finished _ (Asks_for posts h) = old_finished
-    lead_finished _ (Repeats want last h lead there e) = old_finished
     lead_finished _ (Is_full want new no_room) = finish own.pairs.finished want.client want.seq ending.Full refl full_unwritten
     lead_finished _ (Gives_up op h there reserved put) =
         ends_finish (gives_back (without_pending own op.cell)) op op.kind ending.Full refl full_unwritten
-    lead_finished _ (Opens want new both) = old_finished
-    lead_finished _ (Marks op h there both stage) = old_finished
-    lead_finished _ (Puts op there both stage) = old_finished
-    lead_finished _ (Unmarks op h there both stage) = old_finished
     lead_finished _ (Closes op there both stage) =
         ends_finish (without_pending own op.cell) op op.kind ending.Written refl (λ e. closed_held op there both stage)
-    lead_finished _ (Opens_alone want new alone) = old_finished
     lead_finished _ (Marks_alone now op taken alone fresh) = kept_finished this k onward runs now (taking own now op taken).finished
     lead_finished _ (Puts_alone now op taken alone stale put) = kept_finished this k onward runs now (taking own now op taken).finished
     lead_finished _ (Unmarks_alone now op taken alone stale put busy) = kept_finished this k onward runs now (taking own now op taken).finished
     lead_finished _ (Closes_alone now op taken alone stale put free) =
         ends_finish (without_pending now op.cell) op op.kind ending.Written (taking own now op taken).finished (λ e. closed_alone now op taken alone put)
-    lead_finished _ (Opens_fill moving new room both) = old_finished
-    lead_finished _ (Opens_fill_alone moving new room alone) = old_finished
-    lead_finished _ (Has_fill moving filled) = old_finished
-    lead_finished _ (Has_no_room moving new no_room) = old_finished
     lead_finished _ (Goes_on_dead now op taken off) = absurd (never now op taken off)
+    lead_finished _ _ = old_finished

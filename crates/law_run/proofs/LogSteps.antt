@@ -62,10 +62,7 @@ module _ (state : State) (me : ℕ) (server : Server) where
       (worked here server rest (does here server.own (job.Letter letter)))
       (λ t. entered_kind (job.Letter letter) rest _ (letter_frame_of (voter_of here) server.log letter))
       (λ t. Of_the_rest refl)
-  job_kind (job.Stage cell) rest = Of_the_rest refl
   job_kind job.Apply rest = applied_kind rest (known server.log (next_place server.log)) refl
-  job_kind (job.Mend id) rest = Of_the_rest refl
-  job_kind job.Sweep rest = Of_the_rest refl
   job_kind job.Start rest =
       let wants = wanted_by here server in
       let first = first_wanted server.log.phase (rev_of server.log) wants in
@@ -74,6 +71,7 @@ module _ (state : State) (me : ℕ) (server : Server) where
       Of_the_log (proposed_store here.state server.own first) (proposed_pairs here.state server.own first)
       (λ stamp letter h. let s = said (sender here) stamp 0 done.posts letter h in
       ap (λ b. is_reply (subject_of b)) s.body ∙ logged_unended s.post.body (frame.says s.post s.there))
+  job_kind _ rest = Of_the_rest refl
 
   works_kind : (queue : List Job) → K (works here server queue)
   works_kind [] = Of_the_rest refl
@@ -102,17 +100,10 @@ module _ (state : State) (me : ℕ) (server : Server) where
       (λ t. Of_the_log refl refl (λ stamp letter h. absurd h))
 
   pub step_kind : (what : Step) → K (server_step what state me server)
-  step_kind (Call line) = Of_the_rest refl
   step_kind (Deliver letter) = by_test (λ (x : Server). K (record { server = x; letters = [] })) server.life.running _ server
       (λ t. Of_the_rest refl) (λ t. Of_the_rest refl)
-  step_kind Tick = Of_the_rest refl
   step_kind (Work work_end.Done) = works_kind server.queue
-  step_kind (Work (work_end.Fault Before)) = Of_the_rest refl
   step_kind (Work (work_end.Fault After)) = stopped_kind (works here server server.queue) (works_kind server.queue)
-  step_kind (StopIn Before) = Of_the_rest refl
   step_kind (StopIn After) = stopped_kind (works here server server.queue) (works_kind server.queue)
-  step_kind Stop = Of_the_rest refl
-  step_kind Blank = Of_the_rest refl
   step_kind (Boot end) = boots_kind end
-  step_kind (Arm which plan) = Of_the_rest refl
-  step_kind (Glance line round) = Of_the_rest refl
+  step_kind _ = Of_the_rest refl

@@ -118,13 +118,9 @@ IsQuiet (By_read done d) = ⊥
 IsQuiet _ = Unit {0}
 
 asks_unended : (here : Here) (own : Own) (post : Post) → Asks here own post → IsUnended post
-asks_unended here own _ (A_slot op to is stage e) = refl
-asks_unended here own _ (A_copy op to is stage e) = refl
-asks_unended here own _ (A_trim cell copy to is fresh e) = refl
-asks_unended here own _ (A_copied_entry cell copy row to is trimmed spot e) = refl
-asks_unended here own _ (A_page row to on e fresh) = refl
 asks_unended here own _ (Of_the_log post e) = logged_unended post.body e
 asks_unended here own _ (An_entry_to_move post fill) = ap (λ (p : Post). is_reply (subject_of p.body)) fill.is
+asks_unended here own _ _ = refl
 
 ended_data : (seq : ℕ) (how : Ending) → is_looked (ended seq how) ≡ false
 ended_data seq ending.Written = refl
@@ -147,20 +143,13 @@ module _ (heard : Body → Type 0) (here : Here) (own : Own) (never : NeverDead 
   lead_data _ (Is_full want new no_room) post i = ap is_looked (one_post _ _ post i).1
   lead_data _ (Gives_up op h is reserved put) post i = ends_data here (gives_back (without_pending own op.cell)) op op.kind ending.Full post i
   lead_data _ (Opens want new both) post i = ap is_looked (posted _ _ post i)
-  lead_data _ (Marks op h is both stage) post i = absurd i
-  lead_data _ (Puts op is both stage) post i = absurd i
-  lead_data _ (Unmarks op h is both stage) post i = absurd i
   lead_data _ (Closes op is both stage) post i = ends_data here (without_pending own op.cell) op op.kind ending.Written post i
-  lead_data _ (Opens_alone want new alone) post i = absurd i
-  lead_data _ (Marks_alone now op taken alone fresh) post i = absurd i
-  lead_data _ (Puts_alone now op taken alone stale put) post i = absurd i
-  lead_data _ (Unmarks_alone now op taken alone stale put busy) post i = absurd i
   lead_data _ (Closes_alone now op taken alone stale put free) post i = ends_data here (without_pending now op.cell) op op.kind ending.Written post i
   lead_data _ (Opens_fill moving new room both) post i = ap is_looked (posted _ _ post i)
-  lead_data _ (Opens_fill_alone moving new room alone) post i = absurd i
   lead_data _ (Has_fill moving filled) post i = ap is_looked (posted _ _ post i)
   lead_data _ (Has_no_room moving new no_room) post i = ap is_looked (posted _ _ post i)
   lead_data _ (Goes_on_dead now op taken off) post i = absurd (never now op taken off)
+  lead_data _ _ post i = absurd i
 
   second_unended : (done : Done) → DidSecond heard here own done → (post : Post) → In post done.posts → IsUnended post
   second_unended done d post i = ap is_reply ((of_second heard here own done d).says post i)
@@ -256,26 +245,19 @@ module _ (this : ServerStep) (k : Plain) (runs : (this.w.servers this.n).life.ru
       ends_says (gives_back (without_pending own op.cell)) op op.kind ending.Full (λ e clients still. never_full e)
   lead_says _ (Opens want new both) =
       unwritten (post_to (second here.state want.cell) (body.Reserve own.pairs.next want.cell)) (λ post i. ap is_written (posted _ _ post i))
-  lead_says _ (Marks op h is both stage) = none_says
-  lead_says _ (Puts op is both stage) = none_says
-  lead_says _ (Unmarks op h is both stage) = none_says
   lead_says _ (Closes op is both stage) =
       ends_says (without_pending own op.cell) op op.kind ending.Written (λ e. closed_held this k runs onward never op is both stage)
-  lead_says _ (Opens_alone want new alone) = none_says
-  lead_says _ (Marks_alone now op taken alone fresh) = none_says
-  lead_says _ (Puts_alone now op taken alone stale put) = none_says
-  lead_says _ (Unmarks_alone now op taken alone stale put busy) = none_says
   lead_says _ (Closes_alone now op taken alone stale put free) =
       ends_says (without_pending now op.cell) op op.kind ending.Written (λ e. closed_alone this k runs onward never now op taken alone put)
   lead_says _ (Opens_fill moving new room both) =
       unwritten (post_to (second here.state (cell_of moving.key)) (body.Reserve own.pairs.next (cell_of moving.key)))
       (λ post i. ap is_written (posted _ _ post i))
-  lead_says _ (Opens_fill_alone moving new room alone) = none_says
   lead_says _ (Has_fill moving filled) =
       unwritten (post_to (old_lead here.state (cell_of moving.key)) (body.Filled moving.key)) (λ post i. ap is_written (posted _ _ post i))
   lead_says _ (Has_no_room moving new no_room) =
       unwritten (post_to (old_lead here.state (cell_of moving.key)) (body.FillFull moving.key)) (λ post i. ap is_written (posted _ _ post i))
   lead_says _ (Goes_on_dead now op taken off) = absurd (never now op taken off)
+  lead_says _ _ = none_says
 
   pub did_says : (done : Done) → Did hears here own done → PostsOk done.posts
   did_says _ Ignores = none_says

@@ -215,11 +215,9 @@ module _ (this : ServerStep) (k : Plain) where
 
     second_no_own : (done : Done) (seated : IsSeated here own done) (d : DidSecond hears here own done)
         → IsNoOwn (second_stores hears here own never done seated d)
-    second_no_own _ seated (Sets_apart number c tickets h s le) = tt
-    second_no_own _ seated (Promises number c how s is) = tt
-    second_no_own _ seated (Declines number c h s no_room) = tt
     second_no_own done (inl seat) (Follows number key version bytes h s is) = tt
     second_no_own done (inr apart) (Follows number key version bytes h s is) = tt
+    second_no_own _ seated _ = tt
 
     other_pending : (done : Done) → DidOther hears here own done → OtherStores hears here own never done.own → (cell : Cell) (o : Pending)
         → at cell_cmp done.own.pairs.pending cell ≡ Some o → Counted this k cell o (chain_in done.own.store.chains cell) → Held this k o

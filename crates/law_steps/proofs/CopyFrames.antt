@@ -26,8 +26,8 @@ use Rattle.law_steps.specs.Ready.{IsRising}
 use Rattle.law_steps.proofs.Tables.{put_rises, without_rises}
 use Rattle.law_steps.specs.DidHolder.{DidHolder, CopyStep, Asks_to_trim, Sends, Unmarks_copied, Closes_copy, TakenCopy, Copy_as_is, Copy_trimmed, Copy_synced}
 use Rattle.law_steps.specs.DidHolder.{Asks_page, Turns_page, Begins_copy, Goes_on_copying, Finds_it_full, Tidies}
-use Rattle.law_steps.specs.DidOther.{DidOther, first_last, TrimStep, Is_trimmed, Drops_entry, Answers_page, Is_copied_to}
-use Rattle.law_steps.specs.DidOther.{Goes_on_trimming, Puts_entry, Has_entry, Has_no_slot}
+use Rattle.law_steps.specs.DidOther.{OtherReply, Replies, DidOther, first_last, TrimStep, Is_trimmed, Drops_entry, Answers_page, Is_copied_to}
+use Rattle.law_steps.specs.DidOther.{Goes_on_trimming, Puts_entry}
 use Rattle.law_steps.proofs.Letters.{posted}
 
 pub record CopyFrame (own : Own) (done : Done) : Type 0 where
@@ -173,9 +173,14 @@ trim_frame own cell last holder _ (Is_trimmed none) = same own _ refl (λ r. ref
 trim_frame own cell last holder _ (Drops_entry epoch epochs is) = same own _ refl (λ r. refl) (λ h. h)
     (λ post i. no_posts post i) (one_stage cell)
 
+-- what it answers is of copies
+reply_copied : (heard : Body → Type 0) (here : Here) (own : Own) (to : Option ℕ) (said : Body) → OtherReply heard here own to said → subject_of said ≡ Copied
+reply_copied heard here own _ _ (Answers_page id row after h is) = refl
+reply_copied heard here own _ _ _ = refl
+
 pub of_other : (heard : Body → Type 0) (here : Here) (own : Own) (done : Done) → DidOther heard here own done → CopyFrame own done
-of_other heard here own _ (Answers_page id row after h is) = same own _ refl (λ r. refl) (λ h. h)
-    (λ post i. ap subject_of (posted _ (body.Hello row.map row.link after _) post i)) no_jobs
+of_other heard here own _ (Replies to said reply) = same own _ refl (λ r. refl) (λ h. h)
+    (λ post i. ap subject_of (posted to said post i) ∙ reply_copied heard here own to said reply) no_jobs
 of_other heard here own done (Is_copied_to number cell epochs holder _ h held newer step) =
     frame_from own (with_last_copy own cell (first_last number epochs)) done refl refl refl (omega arith) (λ r. r) (λ row. refl)
     (trim_frame (with_last_copy own cell (first_last number epochs)) cell (first_last number epochs) holder done step)
@@ -183,9 +188,3 @@ of_other heard here own done (Goes_on_trimming cell holder last _ held is step) 
 of_other heard here own _ (Puts_entry entry holder last of_copy at room) =
     same own _ refl (λ r. refl) (λ h. h)
     (λ post i. ap subject_of (posted (Some holder) (body.Synced entry.op (cell_of entry.key) entry.index) post i)) no_jobs
-of_other heard here own _ (Has_entry entry holder last of_copy lt) =
-    same own _ refl (λ r. refl) (λ h. h)
-    (λ post i. ap subject_of (posted (Some holder) (body.Synced entry.op (cell_of entry.key) entry.index) post i)) no_jobs
-of_other heard here own _ (Has_no_slot entry holder last of_copy at full) =
-    same own _ refl (λ r. refl) (λ h. h)
-    (λ post i. ap subject_of (posted (Some holder) (body.SyncFull entry.op (cell_of entry.key)) post i)) no_jobs

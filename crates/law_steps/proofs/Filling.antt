@@ -23,7 +23,7 @@ use Rattle.petal_rules.proofs.CellTables.{cell_apart, cell_same}
 use Rattle.petal_rules.proofs.Tests.{by_bool, same_some, true_false}
 use Rattle.law_steps.specs.Did.{Did, Ignores, Refuses, By_read, By_lead, By_second, By_holder, By_other, By_filler, By_sweep}
 use Rattle.law_steps.specs.DidFiller.{Is_filled, Is_out_of_slots}
-use Rattle.law_steps.specs.DidLead.{DidLead, Asks, A_slot, A_copy, A_trim, A_copied_entry, A_page, An_entry_to_move, Of_the_log, Asks_for, Repeats, Is_full}
+use Rattle.law_steps.specs.DidLead.{DidLead, Asks, An_entry_to_move, Of_the_log, Asks_for, Repeats, Is_full}
 use Rattle.law_steps.specs.DidLead.{Opens, Marks, Puts, Gives_up, Unmarks, Closes, Opens_alone, Marks_alone, Puts_alone, Unmarks_alone, Closes_alone}
 use Rattle.law_steps.specs.DidLead.{Opens_fill, Opens_fill_alone, Has_fill, Has_no_room, Goes_on_dead, IsNewFill, IsNextFill}
 use Rattle.law_steps.proofs.CopyFrames.{of_holder, of_other}
@@ -87,13 +87,9 @@ acts_other here own op action.Answer post i = ends_other here (without_pending o
 acts_other here own op action.Drop post i = absurd i
 
 asks_fill : (here : Here) (own : Own) (done : Done) → own.filled ≡ done.own.filled → (post : Post) → Asks here own post → SaysFill here own done post
-asks_fill here own done same _ (A_slot op to is stage e) = Is_other refl
-asks_fill here own done same _ (A_copy op to is stage e) = Is_other refl
-asks_fill here own done same _ (A_trim cell copy to is fresh e) = Is_other refl
-asks_fill here own done same _ (A_copied_entry cell copy row to is trimmed f e) = Is_other refl
-asks_fill here own done same _ (A_page row to there e fresh) = Is_other refl
 asks_fill here own done same post (An_entry_to_move _ next) = Is_next own refl same next
 asks_fill here own done same post (Of_the_log _ e) = Is_other (logged_said post.body e)
+asks_fill here own done same _ _ = Is_other refl
 
 -- an operation that a job opened for an entry
 pub record IsOpenedFill (heard : Body → Type 0) (here : Here) (own : Own) (cell : Cell) (op : Pending) : Type 0 where
@@ -119,20 +115,13 @@ module _ (heard : Body → Type 0) (here : Here) (own : Own) where
   lead_fills _ (Is_full want new no_room) post i = Is_other (ap is_fill (one_post _ _ post i).1)
   lead_fills _ (Gives_up op h is reserved put) post i = Is_other (ends_other here (gives_back (without_pending own op.cell)) op op.kind Full post i)
   lead_fills _ (Opens want new both) post i = Is_other (ap is_fill (posted _ _ post i))
-  lead_fills _ (Marks op h is both stage) post i = absurd i
-  lead_fills _ (Puts op is both stage) post i = absurd i
-  lead_fills _ (Unmarks op h is both stage) post i = absurd i
   lead_fills _ (Closes op is both stage) post i = Is_other (ends_other here (without_pending own op.cell) op op.kind Written post i)
-  lead_fills _ (Opens_alone want new alone) post i = absurd i
-  lead_fills _ (Marks_alone now op taken alone fresh) post i = absurd i
-  lead_fills _ (Puts_alone now op taken alone stale put) post i = absurd i
-  lead_fills _ (Unmarks_alone now op taken alone stale put busy) post i = absurd i
   lead_fills _ (Closes_alone now op taken alone stale put free) post i = Is_other (ends_other here (without_pending now op.cell) op op.kind Written post i)
   lead_fills _ (Opens_fill moving new room both) post i = Is_other (ap is_fill (posted _ _ post i))
-  lead_fills _ (Opens_fill_alone moving new room alone) post i = absurd i
   lead_fills _ (Has_fill moving filled) post i = Is_other (ap is_fill (posted _ _ post i))
   lead_fills _ (Has_no_room moving new no_room) post i = Is_other (ap is_fill (posted _ _ post i))
   lead_fills _ (Goes_on_dead now op taken off) post i = Is_other (acts_other here now op (next_stage here.state here.me op) post i)
+  lead_fills _ _ post i = absurd i
 
   pub did_fills : (done : Done) → Did heard here own done → (post : Post) → In post done.posts → SaysFill here own done post
   unfolding In
@@ -179,9 +168,6 @@ module _ (heard : Body → Type 0) (here : Here) (own : Own) where
   fill_come moving new op key bytes rev = Fills (record { moving = moving; new = new; asked = new.wanted; cell_is = refl; key = key; bytes = bytes; rev = rev })
 
   lead_come : (done : Done) → DidLead heard here own done → (q : Cell) (op : Pending) → at cell_cmp done.own.pairs.pending q ≡ Some op → H q op
-  lead_come _ (Asks_for posts h) q op there = Stood (was_same own q op there)
-  lead_come _ (Repeats want last h lead is e) q op there = Stood (was_same own q op there)
-  lead_come _ (Is_full want new no_room) q op there = Stood (was_same own q op there)
   lead_come _ (Gives_up o h is reserved put) q op there =
       Stood (was_same own q op (stood own.pairs.pending o.cell q op
       (ap (λ t. at cell_cmp t q) (sym (of_ending here (gives_back (without_pending own o.cell)) o o.kind Full).pending) ∙ there)))
@@ -207,9 +193,8 @@ module _ (heard : Body → Type 0) (here : Here) (own : Own) where
       let first = fill_operation here own.pairs.next moving in
       opened_two (cell_of moving.key) first (with_mark_at first Stale true)
       (λ o e. fill_come moving new o (ap (λ (p : Pending). p.key) e) (ap (λ (p : Pending). p.bytes) e) (ap (λ (p : Pending). p.rev) e)) q op there
-  lead_come _ (Has_fill moving filled) q op there = Stood (was_same own q op there)
-  lead_come _ (Has_no_room moving new no_room) q op there = Stood (was_same own q op there)
   lead_come _ (Goes_on_dead now o taken off) q op there = Stood (was_acted own now o taken here (next_stage here.state here.me o) q op there)
+  lead_come _ _ q op there = Stood (was_same own q op there)
 
   still_stood : (pairs : Pairs) → pairs.pending ≡ own.pairs.pending → (q : Cell) (op : Pending) → at cell_cmp pairs.pending q ≡ Some op → H q op
   still_stood pairs same q op there = Stood (was_same own q op (ap (λ t. at cell_cmp t q) (sym same) ∙ there))

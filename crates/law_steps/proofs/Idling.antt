@@ -93,8 +93,7 @@ asleep here own (job.Letter letter) out = by_test (λ (d : Done). d ≡ silent o
 asleep here own (job.Stage cell) out = by_test (λ (d : Done). d ≡ silent own) (is_in here.state here.me here.inc) _ _ (λ t. true_false t out) (λ t. refl)
 asleep here own (job.Mend link) out = by_test (λ (d : Done). d ≡ silent own) (is_in here.state here.me here.inc) _ _ (λ t. true_false t out) (λ t. refl)
 asleep here own job.Sweep out = by_test (λ (d : Done). d ≡ silent own) (is_in here.state here.me here.inc) _ _ (λ t. true_false t out) (λ t. refl)
-asleep here own job.Apply out = refl
-asleep here own job.Start out = refl
+asleep here own _ out = refl
 
 pub seated_does : (here : Here) (own : Own) (what : Job) → IsSeated here own (does here own what)
 seated_does here own what = by_bool (is_in here.state here.me here.inc) (λ t. inl t)

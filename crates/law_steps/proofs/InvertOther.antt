@@ -18,7 +18,7 @@ use Rattle.petal_rules.specs.Store.{free_of}
 use Rattle.petal_rules.proofs.CellTables.{cell_same}
 use Rattle.petal_rules.proofs.Tests.{by_test, none_some, same_numbers, same_some}
 use Rattle.law_steps.specs.Did.{Did, Ignores, By_other}
-use Rattle.law_steps.specs.DidOther.{TrimStep, Is_trimmed, Drops_entry, IsOfCopy, first_last, Answers_page, Is_copied_to}
+use Rattle.law_steps.specs.DidOther.{Replies, TrimStep, Is_trimmed, Drops_entry, IsOfCopy, first_last, Answers_page, Is_copied_to}
 use Rattle.law_steps.specs.DidOther.{Goes_on_trimming, Puts_entry, Has_entry, Has_no_slot}
 use Rattle.law_steps.proofs.InvertLead.{no_free}
 
@@ -54,7 +54,7 @@ module _ (heard : Body → Type 0) (here : Here) (own : Own) where
   did_answers : (id : LinkId) (after : Option ℕ) → heard (body.HelloAsk id.map id.link after) → (o : Option LinkRow) → link_named here.state id ≡ o
       → D (answers_page here own after o)
   did_answers id after h None e = Ignores
-  did_answers id after h (Some row) e = By_other _ (Answers_page id row after h e)
+  did_answers id after h (Some row) e = By_other _ (Replies _ _ (Answers_page id row after h e))
 
   pub did_hello_ask : (id : LinkId) (after : Option ℕ) → heard (body.HelloAsk id.map id.link after) → D (on_hello_ask here own id after)
   unfolding on_hello_ask
@@ -104,11 +104,11 @@ module _ (heard : Body → Type 0) (here : Here) (own : Own) where
   did_puts : (entry : Entry) (holder : ℕ) (last : LastCopy) → IsOfCopy heard here own entry holder last → entry.index ≡ last.index → (room : Bool)
       → nat_lt 0 (free_of own.store) ≡ room → D (puts_entry own entry last holder room)
   did_puts entry holder last of_copy at true e = By_other _ (Puts_entry entry holder last of_copy at (less 0 (free_of own.store) e))
-  did_puts entry holder last of_copy at false e = By_other _ (Has_no_slot entry holder last of_copy at (no_free (free_of own.store) e))
+  did_puts entry holder last of_copy at false e = By_other _ (Replies _ _ (Has_no_slot entry holder last of_copy at (no_free (free_of own.store) e)))
 
   did_entry : (entry : Entry) (holder : ℕ) (last : LastCopy) → IsOfCopy heard here own entry holder last → D (hears_entry own entry holder last)
   did_entry entry holder last of_copy =
-      by_test D (nat_lt entry.index last.index) _ _ (λ t. By_other _ (Has_entry entry holder last of_copy (less entry.index last.index t)))
+      by_test D (nat_lt entry.index last.index) _ _ (λ t. By_other _ (Replies _ _ (Has_entry entry holder last of_copy (less entry.index last.index t))))
       (λ past. by_test D (entry.index == last.index) _ _
       (λ same. did_puts entry holder last of_copy (same_numbers entry.index last.index same) (nat_lt 0 (free_of own.store)) refl) (λ t. Ignores))
 

@@ -25,12 +25,12 @@ use Rattle.petal_rules.specs.Writes.{acts, gives_back, next_stage, tells, withou
 use Rattle.petal_rules.proofs.Tests.{by_test}
 use Rattle.law_steps.specs.Did.{Did, Ignores, Refuses, By_read, By_lead, By_second, By_holder, By_other, By_filler, By_sweep}
 use Rattle.law_steps.specs.DidFiller.{IsNextKey, Is_filled, Is_out_of_slots}
-use Rattle.law_steps.specs.DidHolder.{DidHolder, CopyStep, Asks_to_trim, Sends, Unmarks_copied, Closes_copy, TakenCopy, Copy_as_is, Copy_trimmed, Copy_synced}
-use Rattle.law_steps.specs.DidHolder.{Asks_page, Turns_page, Begins_copy, Goes_on_copying, Finds_it_full, Tidies}
-use Rattle.law_steps.specs.DidLead.{DidLead, Asks_for, Repeats, Is_full, Opens, Marks, Puts, Gives_up, Unmarks, Closes, Opens_alone, Marks_alone, Puts_alone}
-use Rattle.law_steps.specs.DidLead.{Unmarks_alone, Closes_alone, Opens_fill, Opens_fill_alone, Has_fill, Has_no_room, Goes_on_dead}
-use Rattle.law_steps.specs.DidOther.{DidOther, TrimStep, Is_trimmed, Drops_entry, Answers_page, Is_copied_to}
-use Rattle.law_steps.specs.DidOther.{Goes_on_trimming, Puts_entry, Has_entry, Has_no_slot}
+use Rattle.law_steps.specs.DidHolder.{DidHolder, CopyStep, Closes_copy, TakenCopy, Copy_as_is}
+use Rattle.law_steps.specs.DidHolder.{Turns_page, Begins_copy, Goes_on_copying}
+use Rattle.law_steps.specs.DidLead.{DidLead, Gives_up, Closes, Marks_alone, Puts_alone}
+use Rattle.law_steps.specs.DidLead.{Unmarks_alone, Closes_alone, Goes_on_dead}
+use Rattle.law_steps.specs.DidOther.{DidOther, TrimStep, Is_trimmed, Drops_entry, Is_copied_to}
+use Rattle.law_steps.specs.DidOther.{Goes_on_trimming}
 use Rattle.law_steps.specs.DidSecond.{DidSecond, Sets_apart, Promises, Declines, Follows}
 use Rattle.law_steps.proofs.Subjects.{of_ending, of_read, of_sweep}
 use Rattle.law_steps.proofs.Taking.{taking}
@@ -70,15 +70,12 @@ page_filled own row before None = refl
 page_filled own row before (Some block) = refl
 
 step_filled : (here : Here) (own : Own) (cell : Cell) (copy : Copying) (done : Done) → CopyStep here own cell copy done → done.own.filled ≡ own.filled
-step_filled here own cell copy _ (Asks_to_trim fresh) = refl
-step_filled here own cell copy _ (Sends row trimmed is) = refl
-step_filled here own cell copy _ (Unmarks_copied which synced left) = refl
 step_filled here own cell copy _ (Closes_copy synced left) = copied_filled (cell_link here.state cell) (without_copying own cell) cell.block
+step_filled here own cell copy _ _ = refl
 
 taken_filled : (heard : Body → Type 0) (own : Own) (cell : Cell) (now : Own) (copy : Copying) → TakenCopy heard own cell now copy → now.filled ≡ own.filled
 taken_filled heard own cell _ copy (Copy_as_is _ is) = refl
-taken_filled heard own cell _ _ (Copy_trimmed old h is fresh) = refl
-taken_filled heard own cell _ _ (Copy_synced old h is trimmed lt) = refl
+taken_filled heard own cell _ _ _ = refl
 
 trim_filled : (own : Own) (cell : Cell) (last : LastCopy) (holder : ℕ) (done : Done) → TrimStep own cell last holder done → done.own.filled ≡ own.filled
 trim_filled own cell last holder _ (Is_trimmed none) = refl
@@ -86,26 +83,15 @@ trim_filled own cell last holder _ (Drops_entry epoch epochs is) = refl
 
 module _ (heard : Body → Type 0) (here : Here) (own : Own) where
   lead_filled : (done : Done) → DidLead heard here own done → done.own.filled ≡ own.filled
-  lead_filled _ (Asks_for posts h) = refl
-  lead_filled _ (Repeats want last h lead is e) = refl
-  lead_filled _ (Is_full want new no_room) = refl
   lead_filled _ (Gives_up op h is reserved put) = (of_ending here (gives_back (without_pending own op.cell)) op op.kind Full).filled
-  lead_filled _ (Opens want new both) = refl
-  lead_filled _ (Marks op h is both stage) = refl
-  lead_filled _ (Puts op is both stage) = refl
-  lead_filled _ (Unmarks op h is both stage) = refl
   lead_filled _ (Closes op is both stage) = (of_ending here (without_pending own op.cell) op op.kind Written).filled
-  lead_filled _ (Opens_alone want new alone) = refl
   lead_filled _ (Marks_alone now op taken alone fresh) = (taking own now op taken).filled
   lead_filled _ (Puts_alone now op taken alone stale put) = (taking own now op taken).filled
   lead_filled _ (Unmarks_alone now op taken alone stale put busy) = (taking own now op taken).filled
   lead_filled _ (Closes_alone now op taken alone stale put free) =
       (of_ending here (without_pending now op.cell) op op.kind Written).filled ∙ (taking own now op taken).filled
-  lead_filled _ (Opens_fill moving new room both) = refl
-  lead_filled _ (Opens_fill_alone moving new room alone) = refl
-  lead_filled _ (Has_fill moving filled) = refl
-  lead_filled _ (Has_no_room moving new no_room) = refl
   lead_filled _ (Goes_on_dead now op taken off) = acts_filled here now op (next_stage here.state here.me op) ∙ (taking own now op taken).filled
+  lead_filled _ _ = refl
 
   second_filled : (done : Done) → DidSecond heard here own done → KeepsFilled own done
   second_filled _ (Sets_apart number cell tickets h s le) = told_kept here own _ cell number far.Reserved refl
@@ -114,20 +100,15 @@ module _ (heard : Body → Type 0) (here : Here) (own : Own) where
   second_filled _ (Follows number key version bytes h s is) = told_kept here own _ _ number far.Replicated refl
 
   holder_filled : (done : Done) → DidHolder heard here own done → done.own.filled ≡ own.filled
-  holder_filled _ (Asks_page id row other held fresh) = refl
   holder_filled _ (Turns_page id row other after block h held fresh so) = page_filled own row (progress_on own row) block
   holder_filled done (Begins_copy id row other cell _ held next step) = step_filled here _ cell _ done step
   holder_filled done (Goes_on_copying cell now copy _ taken step) = step_filled here now cell copy done step ∙ taken_filled heard own cell now copy taken
-  holder_filled _ (Finds_it_full cell copy h is trimmed lt) = refl
-  holder_filled _ (Tidies id row block which is both idle left) = refl
+  holder_filled _ _ = refl
 
   other_filled : (done : Done) → DidOther heard here own done → done.own.filled ≡ own.filled
-  other_filled _ (Answers_page id row after h is) = refl
   other_filled done (Is_copied_to number cell epochs holder _ h held newer step) = trim_filled _ cell _ holder done step
   other_filled done (Goes_on_trimming cell holder last _ held is step) = trim_filled own cell last holder done step
-  other_filled _ (Puts_entry entry holder last of_copy so room) = refl
-  other_filled _ (Has_entry entry holder last of_copy lt) = refl
-  other_filled _ (Has_no_slot entry holder last of_copy so full) = refl
+  other_filled _ _ = refl
 
   pub did_remember : (done : Done) → Did heard here own done → Remembers heard here own done
   did_remember _ Ignores = As_before refl

@@ -40,10 +40,10 @@ use Rattle.petal_rules.proofs.Tests.{both_true, by_bool, by_test, none_some, sam
 use Rattle.law_state.proofs.Changing.{found_itself}
 use Rattle.law_state.proofs.Places.{found_at}
 use Rattle.law_log.proofs.Flags.{progress_beside, progress_here, same_id}
-use Rattle.law_steps.specs.DidHolder.{DidHolder, CopyStep, Asks_to_trim, Sends, Unmarks_copied, Closes_copy, TakenCopy, Copy_as_is, Copy_trimmed, Copy_synced}
+use Rattle.law_steps.specs.DidHolder.{DidHolder, CopyStep, Unmarks_copied, Closes_copy, TakenCopy, Copy_as_is, Copy_trimmed, Copy_synced}
 use Rattle.law_steps.specs.DidHolder.{Asks_page, Turns_page, Begins_copy, Goes_on_copying, Finds_it_full, Tidies, first_copy}
-use Rattle.law_steps.specs.DidOther.{DidOther, first_last, TrimStep, Is_trimmed, Drops_entry, Answers_page, Is_copied_to}
-use Rattle.law_steps.specs.DidOther.{Goes_on_trimming, Puts_entry, Has_entry, Has_no_slot}
+use Rattle.law_steps.specs.DidOther.{DidOther, first_last, TrimStep, Is_trimmed, Drops_entry, Is_copied_to}
+use Rattle.law_steps.specs.DidOther.{Goes_on_trimming, Puts_entry}
 use Rattle.law_steps.specs.Did.{Did, Ignores, Refuses, By_read, By_lead, By_second, By_holder, By_other, By_filler, By_sweep}
 use Rattle.law_steps.specs.Resting.{AreResting, CopyRests, LastRests}
 use Rattle.law_steps.proofs.Staged.{same_cell_or_apart}
@@ -275,11 +275,10 @@ module _ (here : Here) (own : Own) (r : AreResting here.state here.me own) where
 -- a step of a copy
 step_rests : (here : Here) (own : Own) (cell : Cell) (copy : Copying) (done : Done) → AreResting here.state here.me own → CopyStep here own cell copy done
     → AreResting here.state here.me done.own
-step_rests here own cell copy _ r (Asks_to_trim fresh) = r
-step_rests here own cell copy _ r (Sends row trimmed is) = r
 step_rests here own cell copy _ r (Unmarks_copied kind synced left) = resting_equal here.state here.me own _ refl r
 step_rests here own cell copy _ r (Closes_copy synced left) =
     full_put here _ (copied_put here (without_copying own cell) (copying_gone here own r cell) (cell_link here.state cell) cell.block) false
+step_rests here own cell copy _ r _ = r
 
 taken_rests : (heard : Body → Type 0) (here : Here) (own : Own) (cell : Cell) (now : Own) (copy : Copying) → AreResting here.state here.me own
     → TakenCopy heard own cell now copy → AreResting here.state here.me now
@@ -322,7 +321,6 @@ trim_rests here own cell last holder _ r (Drops_entry epoch epochs is) = resting
 
 other_rests : (heard : Body → Type 0) (here : Here) (own : Own) (done : Done) → AreResting here.state here.me own → DidOther heard here own done
     → AreResting here.state here.me done.own
-other_rests heard here own _ r (Answers_page id row after h is) = r
 other_rests heard here own done r (Is_copied_to number cell epochs holder _ h held newer step) =
     trim_rests here (with_last_copy own cell (first_last number epochs)) cell (first_last number epochs) holder done
     (last_put here own r cell (first_last number epochs) holder held) step
@@ -330,8 +328,7 @@ other_rests heard here own done r (Goes_on_trimming cell holder last _ held is s
 other_rests heard here own _ r (Puts_entry entry holder last of_copy so room) =
     let put : Own = record own { store = with_entry (with_ticket own.store) entry.key entry.stored } in
     last_put here put (resting_equal here.state here.me own put refl r) (cell_of entry.key) (record last { index = last.index + 1 }) holder of_copy.held
-other_rests heard here own _ r (Has_entry entry holder last of_copy lt) = r
-other_rests heard here own _ r (Has_no_slot entry holder last of_copy so full) = r
+other_rests heard here own _ r _ = r
 
 pub did_rests : (heard : Body → Type 0) (here : Here) (own : Own) (done : Done) → AreResting here.state here.me own → Did heard here own done
     → AreResting here.state here.me done.own

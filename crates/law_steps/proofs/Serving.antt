@@ -108,11 +108,7 @@ module _ (setting : Setting) (w : World) (rests : Rests setting w) (firm : Firm 
         at = rev ∙ log_rev setting.servers log.applied;
         is = refl;
       }
-  heard_job what rest e (job.Stage cell) is = tt
-  heard_job what rest e (job.Mend link) is = tt
-  heard_job what rest e job.Sweep is = tt
-  heard_job what rest e job.Apply is = tt
-  heard_job what rest e job.Start is = tt
+  heard_job what rest e _ is = tt
 
   -- what is left of the queue, with jobs that bring no letter but the one that was handled
   queue_left : (what : Job) (rest jobs : List Job) → server.queue ≡ what ∷ rest
@@ -177,16 +173,14 @@ module _ (setting : Setting) (w : World) (rests : Rests setting w) (firm : Firm 
   job_worked (job.Letter letter) rest e = by_test IsWorked (is_log_job (job.Letter letter)) _ _
       (λ t. entered_worked (job.Letter letter) rest e (log_does (voter_of here) log (job.Letter letter)) (letter_frame_of (voter_of here) log letter))
       (λ t. worked_worked (job.Letter letter) rest e)
-  job_worked (job.Stage cell) rest e = worked_worked (job.Stage cell) rest e
   job_worked job.Apply rest e = applied_worked rest e (known log (next_place log)) refl
-  job_worked (job.Mend link) rest e = worked_worked (job.Mend link) rest e
-  job_worked job.Sweep rest e = worked_worked job.Sweep rest e
   job_worked job.Start rest e =
       let done = starts (voter_of here) log (wanted_by here server) in
       let f = start_frame_of (voter_of here) log (wanted_by here server) in
       let started = first_wanted log.phase (rev_of log) (wanted_by here server) in
       A_ballot done.log started done.posts (rest ++ done.jobs) f.same (ballots.starts_for_it setting w rests firm n steady stamp started refl) f.says
       (queue_left job.Start rest done.jobs e f.jobs)
+  job_worked first rest e = worked_worked first rest e
 
   -- ### The step
 

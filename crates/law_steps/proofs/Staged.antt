@@ -20,8 +20,8 @@ use Rattle.petal_rules.proofs.CellTables.{cell_cmp_total, cell_same, cell_apart,
 use Rattle.law_state.specs.Homes.{stage_at}
 use Rattle.law_steps.specs.Operations.{A_fill, A_write, IsOpenedFor, IsStaged, AtRest, Waiting, Putting, Copying, Answering}
 use Rattle.law_state.proofs.Alone.{alone_not_both}
-use Rattle.law_steps.specs.DidLead.{DidLead, Asks_for, Repeats, Is_full, Opens, Marks, Puts, Gives_up, Unmarks, Closes, Opens_alone, Marks_alone, Puts_alone}
-use Rattle.law_steps.specs.DidLead.{Unmarks_alone, Closes_alone, Opens_fill, Opens_fill_alone, Has_fill, Has_no_room, Goes_on_dead, Taken}
+use Rattle.law_steps.specs.DidLead.{DidLead, Opens, Marks, Puts, Gives_up, Unmarks, Closes, Opens_alone, Marks_alone, Puts_alone}
+use Rattle.law_steps.specs.DidLead.{Unmarks_alone, Closes_alone, Opens_fill, Opens_fill_alone, Goes_on_dead, Taken}
 use Rattle.law_steps.specs.Did.{Did, Ignores, Refuses, By_read, By_lead, By_second, By_holder, By_other, By_filler, By_sweep}
 use Rattle.law_steps.specs.Ready.{IsReady, IsRising}
 use Rattle.petal_rules.proofs.Tests.{by_test, same_or_apart, same_some, none_some, true_false}
@@ -209,9 +209,6 @@ module _ (heard : Body → Type 0) (here : Here) (own : Own) (ready : IsReady he
       (λ put. taken_gone now op taken) (λ fresh. taken_gone now op taken)
 
   lead_ready : (done : Done) → DidLead heard here own done → R done.own.pairs.pending
-  lead_ready _ (Asks_for posts h) = ready
-  lead_ready _ (Repeats want last h lead is e) = ready
-  lead_ready _ (Is_full want new no_room) = ready
   lead_ready _ (Gives_up op h is reserved put) =
       subst R (sym (of_ending here (gives_back (without_pending own op.cell)) op op.kind Full).pending) (gone_ready op.cell)
   lead_ready _ (Opens want new both) =
@@ -267,9 +264,8 @@ module _ (heard : Body → Type 0) (here : Here) (own : Own) (ready : IsReady he
       put_twice_ready op op (with_mark_at op Stale true)
       (alone_staged op.cell (with_mark_at op Stale true) refl (A_fill refl refl refl) refl (live_stage here.state op.cell led.0).0
       (λ on. led.1) alone (λ on. new.unheld))
-  lead_ready _ (Has_fill moving filled) = ready
-  lead_ready _ (Has_no_room moving new no_room) = ready
   lead_ready _ (Goes_on_dead now op taken off) = dead_ready now op taken off (next_stage here.state here.me op)
+  lead_ready _ _ = ready
 
   still : (t : Table Cell Pending) → t ≡ own.pairs.pending → R t
   still t same = subst R (sym same) ready

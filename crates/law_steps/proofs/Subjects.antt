@@ -29,8 +29,8 @@ use Rattle.petal_rules.specs.Writes.{acts, ends, gives_back, next_stage, tells, 
 use Rattle.petal_rules.specs.declared.job.Job.{Job}
 use Rattle.petal_rules.specs.declared.job.Job.TheVariants as job
 use Rattle.law_steps.specs.DidRead.{DidRead, Not_here, Shows}
-use Rattle.law_steps.specs.DidLead.{DidLead, Asks_for, Repeats, Is_full, Opens, Marks, Puts, Gives_up, Unmarks, Closes, Opens_alone, Marks_alone, Puts_alone}
-use Rattle.law_steps.specs.DidLead.{Unmarks_alone, Closes_alone, Opens_fill, Opens_fill_alone, Has_fill, Has_no_room, Goes_on_dead}
+use Rattle.law_steps.specs.DidLead.{DidLead, Repeats, Marks, Puts, Gives_up, Unmarks, Closes, Opens_alone, Marks_alone, Puts_alone}
+use Rattle.law_steps.specs.DidLead.{Unmarks_alone, Closes_alone, Opens_fill_alone, Goes_on_dead}
 use Rattle.law_steps.specs.DidSecond.{DidSecond, Sets_apart, Promises, Declines, Follows}
 use Rattle.law_steps.specs.DidFiller.{DidFiller, Is_filled, Is_out_of_slots}
 use Rattle.law_steps.specs.DidSweep.{DidSweep, Sweeps}
@@ -158,12 +158,9 @@ module _ (heard : Body → Type 0) (here : Here) (own : Own) where
 
   pub of_lead : (done : Done) → DidLead heard here own done → LeadFrame own done
   unfolding In
-  of_lead _ (Asks_for posts h) = record { last = refl; copies = refl; no_letters = λ letter i. i }
   of_lead _ (Repeats want last h lead is e) = record { last = refl; copies = refl; no_letters = λ letter i. i }
-  of_lead _ (Is_full want new no_room) = record { last = refl; copies = refl; no_letters = λ letter i. i }
   of_lead _ (Gives_up op h is reserved put) =
       frame_on own (gives_back (without_pending own op.cell)) _ refl refl (ends_frame here (gives_back (without_pending own op.cell)) op op.kind Full)
-  of_lead _ (Opens want new both) = record { last = refl; copies = refl; no_letters = λ letter i. i }
   of_lead _ (Marks op h is both stage) = record { last = refl; copies = refl; no_letters = λ letter i. elim i [ inl e ↦ cc | inr none ↦ none ] }
   of_lead _ (Puts op is both stage) = record { last = refl; copies = refl; no_letters = λ letter i. elim i [ inl e ↦ cc | inr none ↦ none ] }
   of_lead _ (Unmarks op h is both stage) = record { last = refl; copies = refl; no_letters = λ letter i. elim i [ inl e ↦ cc | inr none ↦ none ] }
@@ -191,13 +188,11 @@ module _ (heard : Body → Type 0) (here : Here) (own : Own) where
   of_lead _ (Closes_alone now op taken alone stale put free) =
       frame_on own (without_pending now op.cell) _ (taking own now op taken).last (taking own now op taken).copies
       (ends_frame here (without_pending now op.cell) op op.kind Written)
-  of_lead _ (Opens_fill moving new room both) = record { last = refl; copies = refl; no_letters = λ letter i. i }
   of_lead _ (Opens_fill_alone moving new room alone) =
       record { last = refl; copies = refl; no_letters = λ letter i. elim i [ inl e ↦ cc | inr none ↦ none ] }
-  of_lead _ (Has_fill moving filled) = record { last = refl; copies = refl; no_letters = λ letter i. i }
-  of_lead _ (Has_no_room moving new no_room) = record { last = refl; copies = refl; no_letters = λ letter i. i }
   of_lead _ (Goes_on_dead now op taken off) =
       frame_on own now _ (taking own now op taken).last (taking own now op taken).copies (acts_frame here now op (next_stage here.state here.me op))
+  of_lead _ _ = record { last = refl; copies = refl; no_letters = λ letter i. i }
 
   -- what a second server tells the lead
   told : (new : Own) (cell : Cell) (number : ℕ) (how : Far) → new.pairs.pending ≡ own.pairs.pending → new.pairs.next ≡ own.pairs.next

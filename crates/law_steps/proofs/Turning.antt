@@ -35,7 +35,7 @@ use Rattle.petal_rules.specs.Clients.{answers, hears, hears_of, heard, hears_any
 use Rattle.petal_rules.specs.Clients.{judged, judged_by, takes_entry, takes_all, then_goes_out, takes_entries, next_entries, ticked}
 use Rattle.petal_rules.specs.World.{Setting, World, MayClient, client_state, client_step, calls, line_in, next_line}
 use Rattle.petal_rules.specs.declared.step.Step.{Step}
-use Rattle.petal_rules.specs.declared.step.Step.TheVariants.{Call, Deliver, Tick, Work, StopIn, Stop, Blank, Boot, Arm, Glance}
+use Rattle.petal_rules.specs.declared.step.Step.TheVariants.{Call, Deliver, Tick}
 use Rattle.petal_rules.proofs.ListLemmas.{in-append}
 use Rattle.petal_rules.proofs.Tests.{by_bool, by_test, both_true, same_numbers, only}
 use Rattle.law_state.proofs.Steady.{log_rev}
@@ -597,10 +597,4 @@ client_turns setting w c Tick may =
     let client = w.clients c in
     let state = client_state setting w c in
     goes_on setting.servers setting.lines w c _ (asking_quiet state c client client.asked _ (where_quiet state c client client.asked refl))
-client_turns setting w c (Work end) may = absurd may
-client_turns setting w c (StopIn end) may = absurd may
-client_turns setting w c Stop may = absurd may
-client_turns setting w c Blank may = absurd may
-client_turns setting w c (Boot end) may = absurd may
-client_turns setting w c (Arm which plan) may = absurd may
-client_turns setting w c (Glance line round) may = absurd may
+client_turns setting w c _ may = absurd may

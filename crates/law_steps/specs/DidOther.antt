@@ -35,11 +35,19 @@ pub record IsOfCopy (heard : Body → Type 0) (here : Here) (own : Own) (entry :
   pub last_is : last_copy own (cell_of entry.key) ≡ Some last
   pub op_is : entry.op ≡ last.op
 
+-- what the other server may have answered, and to whom, with its own part left as it was
+pub data OtherReply (heard : Body → Type 0) (here : Here) (own : Own) : Option ℕ → Body → Type 0 where
+  Answers_page : (id : LinkId) (row : LinkRow) (after : Option ℕ) → heard (body.HelloAsk id.map id.link after) → link_named here.state id ≡ Some row
+      → OtherReply heard here own (holder_of here.me row)
+      (body.Hello row.map row.link after (least (filter (above after) (marked_blocks here.state row own))))
+  Has_entry : (entry : Entry) (holder : ℕ) (last : LastCopy) → IsOfCopy heard here own entry holder last → entry.index < last.index
+      → OtherReply heard here own (Some holder) (body.Synced entry.op (cell_of entry.key) entry.index)
+  Has_no_slot : (entry : Entry) (holder : ℕ) (last : LastCopy) → IsOfCopy heard here own entry holder last → entry.index ≡ last.index → free_of own.store ≡ 0
+      → OtherReply heard here own (Some holder) (body.SyncFull entry.op (cell_of entry.key))
+
 -- what the other server may have done that handled only such letters as `heard` knows
 pub data DidOther (heard : Body → Type 0) (here : Here) (own : Own) : Done → Type 0 where
-  Answers_page : (id : LinkId) (row : LinkRow) (after : Option ℕ) → heard (body.HelloAsk id.map id.link after) → link_named here.state id ≡ Some row
-      → DidOther heard here own
-      (says_to own (holder_of here.me row) (body.Hello row.map row.link after (least (filter (above after) (marked_blocks here.state row own)))))
+  Replies : (to : Option ℕ) (said : Body) → OtherReply heard here own to said → DidOther heard here own (says_to own to said)
   Is_copied_to : (number : ℕ) (cell : Cell) (epochs : List ℕ) (holder : ℕ) (done : Done) → heard (body.Trim number cell epochs)
       → cell_holder here cell ≡ Some holder → ((last : LastCopy) → last_copy own cell ≡ Some last → last.op < number)
       → TrimStep (with_last_copy own cell (first_last number epochs)) cell (first_last number epochs) holder done → DidOther heard here own done
@@ -47,7 +55,3 @@ pub data DidOther (heard : Body → Type 0) (here : Here) (own : Own) : Done →
       → TrimStep own cell last holder done → DidOther heard here own done
   Puts_entry : (entry : Entry) (holder : ℕ) (last : LastCopy) → IsOfCopy heard here own entry holder last → entry.index ≡ last.index → 0 < free_of own.store
       → DidOther heard here own (puts_entry own entry last holder true)
-  Has_entry : (entry : Entry) (holder : ℕ) (last : LastCopy) → IsOfCopy heard here own entry holder last → entry.index < last.index
-      → DidOther heard here own (says_to own (Some holder) (body.Synced entry.op (cell_of entry.key) entry.index))
-  Has_no_slot : (entry : Entry) (holder : ℕ) (last : LastCopy) → IsOfCopy heard here own entry holder last → entry.index ≡ last.index → free_of own.store ≡ 0
-      → DidOther heard here own (says_to own (Some holder) (body.SyncFull entry.op (cell_of entry.key)))

@@ -82,42 +82,27 @@ module _ (heard : Body → Type 0) (here : Here) (own : Own) where
   act_waits now op action.Drop = up_waits now op
 
   lead_waits : (done : Done) → DidLead heard here own done → waits done.own ≡ waits own
-  lead_waits _ (Asks_for posts h) = refl
-  lead_waits _ (Repeats want last h lead is e) = refl
-  lead_waits _ (Is_full want new no_room) = refl
   lead_waits _ (Gives_up op h is reserved put) = ends_waits (gives_back (without_pending own op.cell)) op op.kind ending.Full
-  lead_waits _ (Opens want new both) = refl
-  lead_waits _ (Marks op h is both stage) = refl
-  lead_waits _ (Puts op is both stage) = refl
-  lead_waits _ (Unmarks op h is both stage) = refl
   lead_waits _ (Closes op is both stage) = ends_waits (without_pending own op.cell) op op.kind ending.Written
-  lead_waits _ (Opens_alone want new on) = refl
   lead_waits _ (Marks_alone now op taken on fresh) = taken_waits now op taken
   lead_waits _ (Puts_alone now op taken on stale put) = taken_waits now op taken
   lead_waits _ (Unmarks_alone now op taken on stale put busy) = taken_waits now op taken
   lead_waits _ (Closes_alone now op taken on stale put free) =
       ends_waits (without_pending now op.cell) op op.kind ending.Written ∙ taken_waits now op taken
-  lead_waits _ (Opens_fill moving new room both) = refl
-  lead_waits _ (Opens_fill_alone moving new room on) = refl
-  lead_waits _ (Has_fill moving there) = refl
-  lead_waits _ (Has_no_room moving new full) = refl
   lead_waits _ (Goes_on_dead now op taken dead) = act_waits now op (next_stage here.state here.me op) ∙ taken_waits now op taken
+  lead_waits _ _ = refl
 
   told_waits : (cell : Cell) (number : ℕ) (how : Far) → waits (tells here own cell number how).own ≡ waits own
   told_waits cell number far.Reserved = refl
   told_waits cell number far.Replicated = refl
 
   second_waits : (done : Done) → DidSecond heard here own done → waits done.own ≡ waits own
-  second_waits _ (Sets_apart number cell tickets h s le) = refl
   second_waits _ (Promises number cell how s is) = told_waits cell number how
-  second_waits _ (Declines number cell h s no_room) = refl
-  second_waits _ (Follows number key version bytes h s is) = refl
+  second_waits _ _ = refl
 
   copy_waits : (now : Own) (cell : Cell) (copy : Copying) (done : Done) → CopyStep here now cell copy done → waits done.own ≡ waits now
-  copy_waits now cell copy _ (Asks_to_trim fresh) = refl
-  copy_waits now cell copy _ (Sends row trimmed is) = refl
-  copy_waits now cell copy _ (Unmarks_copied kind synced left) = refl
   copy_waits now cell copy _ (Closes_copy synced left) = copied_waits _ _ cell.block
+  copy_waits now cell copy _ _ = refl
 
   copy_taken_waits : (cell : Cell) (now : Own) (copy : Copying) → TakenCopy heard own cell now copy → waits now ≡ waits own
   copy_taken_waits cell _ _ (Copy_as_is copy is) = refl
@@ -125,24 +110,19 @@ module _ (heard : Body → Type 0) (here : Here) (own : Own) where
   copy_taken_waits cell _ _ (Copy_synced copy h is trimmed lt) = refl
 
   holder_waits : (done : Done) → DidHolder heard here own done → waits done.own ≡ waits own
-  holder_waits _ (Asks_page id row other held fresh) = refl
   holder_waits _ (Turns_page id row other after block h held fresh at) = page_waits own row block
   holder_waits done (Begins_copy id row other cell _ held next step) = copy_waits _ cell _ done step
   holder_waits done (Goes_on_copying cell now copy _ taken step) = copy_waits now cell copy done step ∙ copy_taken_waits cell now copy taken
-  holder_waits _ (Finds_it_full cell copy h is trimmed lt) = refl
-  holder_waits _ (Tidies id row block kind is both idle left) = refl
+  holder_waits _ _ = refl
 
   trim_waits : (now : Own) (cell : Cell) (last : LastCopy) (holder : ℕ) (done : Done) → TrimStep now cell last holder done → waits done.own ≡ waits now
   trim_waits now cell last holder _ (Is_trimmed none) = refl
   trim_waits now cell last holder _ (Drops_entry epoch epochs is) = refl
 
   other_waits : (done : Done) → DidOther heard here own done → waits done.own ≡ waits own
-  other_waits _ (Answers_page id row after h is) = refl
   other_waits done (Is_copied_to number cell epochs holder _ h held newer step) = trim_waits _ cell _ holder done step
   other_waits done (Goes_on_trimming cell holder last _ held is step) = trim_waits own cell last holder done step
-  other_waits _ (Puts_entry entry holder last of_copy at room) = refl
-  other_waits _ (Has_entry entry holder last of_copy lt) = refl
-  other_waits _ (Has_no_slot entry holder last of_copy at full) = refl
+  other_waits _ _ = refl
 
   filler_waits : (done : Done) → DidFiller heard here own done → waits done.own ≡ waits own
   filler_waits _ (Is_filled key row posts h next only) = refl

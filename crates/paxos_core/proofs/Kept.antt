@@ -5,7 +5,7 @@ use Rattle.petal_command.specs.declared.ballot.Ballot.{Ballot}
 use Rattle.petal_command.specs.declared.command.Command.{Command}
 use Rattle.petal_paxos.specs.Member.{put}
 use Rattle.petal_paxos.specs.Acceptor.{Acceptor, rank, is_open, promise, accept}
-use Rattle.law_agreement.proofs.Members.{put_cases}
+use Rattle.petal_paxos.proofs.Members.{put_cases}
 use Rattle.petal_paxos.specs.declared.record.StateRecord.{StateRecord}
 use Rattle.petal_paxos.specs.declared.record.StateRecord.TheVariants.{Promise, Accepted}
 use Rattle.petal_paxos.specs.declared.record.Row.{Row}

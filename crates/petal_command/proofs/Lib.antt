@@ -1,2 +1,4 @@
 pub mod Spelled
 pub mod Equal
+pub mod Telling
+pub mod Alike

@@ -67,11 +67,8 @@ end_of answer.Ok = write_end.Ok
 end_of (answer.Data bytes) = write_end.Ok
 end_of answer.NoSpace = write_end.NoSpace
 end_of answer.Unavailable = write_end.Unavailable
-end_of answer.NoDisk = write_end.NoDisk
-end_of answer.NoSnap = write_end.NoDisk
-end_of answer.Exists = write_end.NoDisk
-end_of answer.Moving = write_end.NoDisk
 end_of answer.Failed = write_end.Unavailable
+end_of _ = write_end.NoDisk
 
 abbrev pub ended : Option Write → Option (ℕ × Answer) → List Event
 ended None given = []

@@ -243,17 +243,14 @@ work_posts (first ∷ rest) state n stamp server =
 
 server_posts : (what : Step) (state : State) (n stamp : ℕ) (server : Server)
     → ArePosted (actor.Server n) stamp (stamped stamp (server_step what state n server).letters)
-server_posts (Call line) state n stamp server = record { sender = sender (here_of state n server); posts = []; from = refl; are = refl }
-server_posts (Deliver letter) state n stamp server = record { sender = sender (here_of state n server); posts = []; from = refl; are = refl }
 server_posts Tick state n stamp server = record { sender = sender (here_of state n server); posts = _; from = refl; are = refl }
 server_posts (Work work_end.Done) state n stamp server = work_posts server.queue state n stamp server
 server_posts (Work (work_end.Fault end)) state n stamp server = fault_posts end (here_of state n server) server server.queue stamp
 server_posts (StopIn end) state n stamp server = fault_posts end (here_of state n server) server server.queue stamp
 server_posts Stop state n stamp server = stop_posts (here_of state n server) server stamp
-server_posts Blank state n stamp server = record { sender = sender (here_of state n server); posts = []; from = refl; are = refl }
 server_posts (Boot end) state n stamp server = boot_posts end (here_of state n server) server stamp
-server_posts (Arm which plan) state n stamp server = record { sender = sender (here_of state n server); posts = []; from = refl; are = refl }
 server_posts (Glance line round) state n stamp server = glance_posts line round (here_of state n server) server stamp
+server_posts _ state n stamp server = record { sender = sender (here_of state n server); posts = []; from = refl; are = refl }
 
 module _ (setting : Setting) (w : World) (actors : Actors) (h : Shows setting w actors) (n : ℕ) (what : Step) (stamp : ℕ) (may : MayServer what w n) where
   abbrev desk : Desk

@@ -156,14 +156,11 @@ boots_at servers n end false inc log own queue rests = boots_left servers n inc 
 pub steps_left : (servers n : ℕ) (server : Server) (what : Step) → may_take what server.life.running ≡ true → StepsLeft servers n server what
 steps_left servers n s (Call line) on = calls servers n line s.life.running s.life.inc s.log s.own s.queue
 steps_left servers n s (Deliver letter) on = receives servers n letter s.life.running s.life.inc s.log s.own s.queue
-steps_left servers n s Tick on = runs servers n s Tick on
-steps_left servers n s (Work end) on = runs servers n s (Work end) on
-steps_left servers n s (StopIn end) on = runs servers n s (StopIn end) on
-steps_left servers n s Stop on = runs servers n s Stop on
 steps_left servers n s Blank on = empties servers n s.life.running s.life.inc s.log s.own s.queue on
 steps_left servers n s (Boot end) on = boots_at servers n end s.life.running s.life.inc s.log s.own s.queue on
 steps_left servers n s (Arm which plan) on = arms servers n which plan s.life.running s.life.inc s.log s.own s.queue
 steps_left servers n s (Glance line round) on = shows servers n line round s.life.running s.life.inc s.log s.own s.queue
+steps_left servers n s what on = runs servers n s what on
 
 -- as it may each step that is allowed
 pub allowed : (w : World) (n : ℕ) (what : Step) → MayServer what w n → may_take what (w.servers n).life.running ≡ true
