@@ -52,8 +52,8 @@ use Rattle.law_copies.proofs.EachFront.{at_or_else, else_leaves, last_old, left_
 use Rattle.law_copies.proofs.EachFront.{both_kept, holds, news_here, olds_here}
 
 module _ (it : AtJob) where
-  open it use {setting, records, w, stores, v, k, server, good, firm, rests, done, job, started}
-  open then_of (step_at it) use {visits, reached, next, olds, news}
+  open it use {setting, records, w, stores, v, k, server, good, firm, done, job}
+  open then_of (step_at it) use {visits, reached, next, news}
 
   abbrev top : List Command
   top = chosen_log setting w

@@ -45,7 +45,7 @@ use Rattle.law_copies.proofs.Leaving as leaving
 use Rattle.law_copies.proofs.Leaving.{below, Same_store, Covers, Gone, Left_by}
 
 module _ (it : AtJob) where
-  open it use {setting, records, w, stores, v, k, server, good, firm, rests, done, job, started}
+  open it use {setting, records, w, stores, k, server, good, firm, done, job, started}
   open then_of (step_at it) use {visits, reached, next, olds, news}
 
   abbrev top : List Command

@@ -58,7 +58,7 @@ use Rattle.law_copies.proofs.Visited.{stored_by, visited_apart, visited_by}
 use Rattle.law_copies.proofs.AsBefore.{holder_stays, other_stays, stays_alike, IsLacking, PairGoes, goes_same}
 
 module _ (it : AtEntry) where
-  open it use {setting, records, w, stores, v, k, server, good, step, firm, left, inc, counts}
+  open it use {setting, records, w, stores, v, k, server, good, step, left, inc, counts}
   open then_of (step_of it) use {visits, reached, next as next_stores, olds, news}
 
   abbrev top : List Command
@@ -414,7 +414,8 @@ module _ (it : AtEntry) where
         → StaysLeft row cell own (news front holder)
     keeps_left lives own e beyond = elim (visit_so holder own holds e) [
       | inl was ↦ (
-          let still = (good.alone front cell row holder whole prefix is alone).stays lives own was (λ p lt. none_before (step_of it) other p cell (beyond p lt)) in (
+          let still = (good.alone front cell row holder whole prefix is alone).stays lives own was
+          (λ p lt. none_before (step_of it) other p cell (beyond p lt)) in (
             λ marked. marked_on (olds front holder) (news front holder) cell (leaves front holder cell) (still.0 marked),
             λ all copied. to_copy_on row (olds front holder) (news front holder) cell (leaves front holder cell).chain (still.1 all copied),
           ))

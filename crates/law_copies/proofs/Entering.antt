@@ -125,7 +125,8 @@ module _ (it : AtEntry) where
             in_once earlier k acts.inc (w.servers k).life.inc (subst (λ n. is_in earlier n acts.inc ≡ true) mine acts.holds) seated in
             let stands : IsPrefix (front ++ Caught row.map row.link acts.holder acts.inc (other_of acts.holder row) acts.other_inc ∷ [])
             (chosen_log setting w) =
-            subst (λ (x : Command). IsPrefix (front ++ x ∷ []) (chosen_log setting w)) acts.is (subst (λ f. IsPrefix f (chosen_log setting w)) more step.within) in
+            subst (λ (x : Command). IsPrefix (front ++ x ∷ []) (chosen_log setting w)) acts.is
+            (subst (λ f. IsPrefix f (chosen_log setting w)) more step.within) in
             let started = firm.started front row.map row.link acts.holder acts.inc (other_of acts.holder row) acts.other_inc stands in
             let mine_started = subst (λ n. HasStarted w.servers n acts.inc (length front) (id_of row)) mine started in
             elim mine_started [

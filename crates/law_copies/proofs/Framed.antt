@@ -22,6 +22,7 @@ use Rattle.law_copies.specs.Copied.{AreAlike, AreCopying, IsCovered, IsPage, IsT
 use Rattle.law_copies.specs.Good.{AloneOk, AreBeside, AreTwins, BothOk, SaidOk, pair_at}
 use Rattle.law_copies.specs.Pair.{IsRecalled, Known, PairOk, far, pair_of}
 use Rattle.law_copies.specs.Visits.{AliveIn, HasFilled, half, place_by}
+use Rattle.law_copies.proofs.Places.{has_filled_on}
 use Rattle.law_copies.proofs.Visited.{then_of}
 use Rattle.law_copies.proofs.AtStep.{AtStep}
 use Rattle.law_copies.proofs.Visited.{counted_up, none_before}
@@ -184,7 +185,7 @@ module _ (it : AtStep) where
       → HasFilled setting top later front cell holder other
   filled_on front cell holder other f =
       let now = somes holder (place_by setting f.more f.row) cell f.own f.visited in
-      record { more = f.more; within = f.within; row = f.row; linked = f.linked; joins = f.joins; own = now.0; visited = now.1 }
+      has_filled_on f f.within refl now.0 now.1
 
   pub filled_framed : (front : List Command) (cell : Cell) (holder other : ℕ)
       → chain_in (news front other).chains cell ≡ chain_in (olds front other).chains cell

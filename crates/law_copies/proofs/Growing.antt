@@ -44,6 +44,7 @@ use Rattle.law_copies.specs.Good.{AloneOk, AreBeside, AreTwins, BothOk, Good, Is
 use Rattle.law_copies.specs.Pair.{HaveMarks, Known}
 use Rattle.law_copies.specs.Steps.{AreFilled, IsBare}
 use Rattle.law_copies.specs.Visits.{AliveIn, AreReached, HasFilled, IsHere, IsLinked, Visits, place_by, store_by}
+use Rattle.law_copies.proofs.Places.{has_filled_on, reached_on}
 use Rattle.law_copies.proofs.Counts.{joins_at, store_at}
 use Rattle.law_copies.proofs.Framed.{other_is_one}
 use Rattle.law_copies.proofs.Later.{alone_not_lost, holder_is_one, other_than}
@@ -217,28 +218,12 @@ module _ (it : AtNext) where
 
   filled_on : (f : List Command) (cell : Cell) (holder other : ℕ) → HasFilled setting top good.visits f cell holder other
       → HasFilled setting next good.visits f cell holder other
-  filled_on f cell holder other h = record {
-    more = h.more;
-    within = front_on h.more top next h.within (front_more top entry);
-    row = h.row;
-    linked = h.linked;
-    joins = h.joins;
-    own = h.own;
-    visited = h.visited;
-  }
+  filled_on f cell holder other h = has_filled_on h (front_on h.more top next h.within (front_more top entry)) refl h.own h.visited
 
   -- behind as many of its Joins with an empty store
   filled_next : (cell : Cell) (holder other : ℕ) → blank_joins_in setting next other ≡ blank_joins_in setting top other
       → HasFilled setting top good.visits top cell holder other → HasFilled setting next good.visits next cell holder other
-  filled_next cell holder other same h = record {
-    more = h.more;
-    within = front_on h.more top next h.within (front_more top entry);
-    row = h.row;
-    linked = h.linked;
-    joins = h.joins ∙ sym same;
-    own = h.own;
-    visited = h.visited;
-  }
+  filled_next cell holder other same h = has_filled_on h (front_on h.more top next h.within (front_more top entry)) (sym same) h.own h.visited
 
   abbrev IsUnfilled : Cell → LinkRow → ℕ → Type 0
   IsUnfilled cell now holder =
@@ -272,13 +257,14 @@ module _ (it : AtNext) where
 
   unfilled_moved : (cell : Cell) (row now : LinkRow) (holder : ℕ) (whole : Bool) → IsLinked setting top cell row → IsLinked setting next cell now
       → touches here entry row ≡ true → AliveIn here cell → now.state ≡ Only holder whole → whole ≡ true → IsUnfilled cell now holder
-  unfilled_moved cell row now holder whole is end on alive alone all_of = elim (log_touched setting.servers top entry cell row (plain_top it) (plain_entry it) is on) [
-    | By_leave left there seats ↦
-        left_unfilled cell row now holder left.server left.inc whole is end alive left.is left.one_of
-        (same_some (sym there ∙ row_then it cell now end)) alone all_of
-    | By_join joined there apart seats ↦ joins joined.server joined.inc joined.blank joined.is joined.may joined.one_of there apart
-    | By_caught acts stays ↦ alone_not_both now holder alone (ap (λ (r : LinkRow). r.state) (same_some (sym (row_then it cell now end) ∙ stays.same)))
-  ]
+  unfilled_moved cell row now holder whole is end on alive alone all_of =
+      elim (log_touched setting.servers top entry cell row (plain_top it) (plain_entry it) is on) [
+        | By_leave left there seats ↦
+            left_unfilled cell row now holder left.server left.inc whole is end alive left.is left.one_of
+            (same_some (sym there ∙ row_then it cell now end)) alone all_of
+        | By_join joined there apart seats ↦ joins joined.server joined.inc joined.blank joined.is joined.may joined.one_of there apart
+        | By_caught acts stays ↦ alone_not_both now holder alone (ap (λ (r : LinkRow). r.state) (same_some (sym (row_then it cell now end) ∙ stays.same)))
+      ]
     where
       joins : (server inc : ℕ) (blank : Bool) → entry ≡ Join server inc blank → may_join (slice_get here.view.members server) inc ≡ true
           → has_server server row ≡ true → cell_link (after here entry) cell ≡ Some (row_joined server blank row) → row.state ≢ Both
@@ -398,18 +384,7 @@ module _ (it : AtNext) where
         (λ f p. good.reaching.below f cell row n own p) (below_next cell row n own) front prefix;
     by = λ cell. elim (good.reaching.by cell) [
       | inl none ↦ inl none
-      | inr r ↦ inr (record {
-        front = r.front;
-        prefix = front_on r.front top next r.prefix (front_more top entry);
-        row = r.row;
-        linked = r.linked;
-        alive = r.alive;
-        at = r.at;
-        server = r.server;
-        serving = r.serving;
-        own = r.own;
-        visited = r.visited;
-      })
+      | inr r ↦ inr (reached_on r (front_on r.front top next r.prefix (front_more top entry)) r.own r.visited)
     ];
   }
 
@@ -427,7 +402,8 @@ module _ (it : AtNext) where
             (s.both (alive_before it cell alive) both last of);
         alone = s.alone;
         page = λ alive holder whole after block alone told last.
-            subst (λ (t : ℕ → Store). IsPage cell (t (other_of holder row)) (good.visits (other_of holder row) place cell) after block) (front_stores it f prefix)
+            subst (λ (t : ℕ → Store). IsPage cell (t (other_of holder row)) (good.visits (other_of holder row) place cell) after block)
+            (front_stores it f prefix)
             (s.page (alive_before it cell alive) holder whole after block alone told last);
         met = s.met;
       }

@@ -3,7 +3,6 @@ use Rattle.std.proofs.Common.{◌≡◌, ◌≤◌, ◌++◌, ℕ, false, if◌t
 use Rattle.std.proofs.Common.{ap, ◌∙◌, subst, inl, inr, arith, append_assoc}
 use Rattle.std.proofs.lemmas.List.{append-nil}
 use Rattle.petal_base.specs.declared.cell.Cell.{Cell}
-use Rattle.petal_command.specs.declared.command.Command.{Command}
 use Rattle.petal_msg.specs.Kinds.{subject_of}
 use Rattle.script_lines.specs.declared.script.Script.{Script}
 use Rattle.petal_history.specs.Claims.{IsPrefix}
@@ -41,19 +40,13 @@ use Rattle.law_copies.proofs.Mute.{asked_mute}
 use Rattle.law_copies.proofs.Quiet as quiet
 use Rattle.law_copies.proofs.Quiet.{posts_mute}
 use Rattle.law_copies.proofs.Visited.{at_by, counted as reached_then, later, seen, stored}
-use Rattle.law_copies.proofs.Known.{OneMore, in_begun, known_after}
+use Rattle.law_copies.proofs.Known.{OneMore, before_of, in_begun, known_after}
 use Rattle.law_copies.proofs.ServerSteps.{GoesTo, server_goes, then_so}
 pub use Rattle.law_copies.proofs.Starting.{start_good, start_visits}
 
 module _ (it : OneMore) where
   open it use {setting, records, w, known, good, own}
-
-  abbrev top : List Command
-  top = chosen_log setting w
-
-  -- the world by the stores that count
-  abbrev before : World
-  before = counted setting w
+  open before_of it use {top, before}
 
   -- ### A blank
 

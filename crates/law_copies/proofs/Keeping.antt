@@ -1,4 +1,7 @@
 -- What a job, and a ballot that is started, keeps by itself.
+use Rattle.global_tables.specs.declared.link.LinkState.TheVariants.{Both}
+use Rattle.law_copies.specs.Visits.{AliveIn}
+use Rattle.petal_state.specs.CellState.{cell_link}
 use Rattle.std.proofs.Common.{◌≡◌, ◌≢◌, ◌≤◌, ◌+◌, ℕ, true, false, List, [], Option, Some, None, refl, sym, ap, ◌∙◌, subst, inl, arith}
 use Rattle.std.specs.Ordering.{eq_by_cmp, nat_cmp}
 use Rattle.global_tables.specs.declared.link.LinkRow.{LinkRow}
@@ -13,7 +16,7 @@ use Rattle.petal_rules.specs.Lists.{In}
 use Rattle.petal_rules.specs.Progress.{progress_on}
 use Rattle.petal_rules.specs.Returns.{holds_link, proposed}
 use Rattle.petal_rules.specs.Server.{Own, Pairs, Here, Post, Done}
-use Rattle.petal_rules.specs.State.{holder_of, id_of, link_cmp, link_named}
+use Rattle.petal_rules.specs.State.{holder_of, id_of, link_cmp, link_named, both}
 use Rattle.petal_rules.specs.Store.{Store, cell_cmp, chain_in, is_marked}
 use Rattle.petal_rules.proofs.Tests.{true_false}
 use Rattle.petal_rules.specs.World.{chosen_log, server_state}
@@ -30,6 +33,7 @@ use Rattle.law_steps.proofs.Leading.{stage_live}
 use Rattle.law_copies.specs.Copied.{links_of}
 use Rattle.law_copies.specs.Pair.{HaveMarks, IsRecalled, Keeps, PairOk, pair_of}
 use Rattle.law_copies.specs.Steps.{AreFilled, HolderKeeps, IsFollowing, IsHolding, OtherKeeps}
+use Rattle.law_copies.proofs.CellInBoth.{CellInBoth}
 use Rattle.law_copies.proofs.AtSeat.{AtSeat}
 use Rattle.law_copies.proofs.Apart.{lost_keeps, not_of_idle, unborn_bare, unborn_keeps, unlinked_keeps}
 use Rattle.law_copies.proofs.Ballots.{IsBallot, ballot_alike, ballot_keeps}
@@ -51,7 +55,7 @@ use Rattle.law_copies.proofs.Unheard.{did_next, did_pages, unlinked_apart}
 use Rattle.law_copies.proofs.AtJob.{IsKeeping}
 
 module _ (it : AtSeat) where
-  open it use {setting, records, w, stores, k, good, firm, rests, works}
+  open it use {setting, w, k, firm, rests}
 
   abbrev here : Here
   here = own_place setting w k
@@ -67,6 +71,20 @@ module _ (it : AtSeat) where
   abbrev links_at : Cell → ℕ
   links_at cell = links_of (server_state setting w k) cell.map
 
+  -- a cell whose link is in Both
+  abbrev in_both : (cell : Cell) (row : LinkRow) → cell_link here.state cell ≡ Some row → AliveIn here.state cell → row.state ≡ Both → CellInBoth
+  in_both cell row is alive both = record {
+    heard = Handled w k;
+    here = here;
+    own = own;
+    steady = seated.steady it;
+    cell = cell;
+    row = row;
+    is_row = is;
+    alive = alive;
+    both_row = both;
+  }
+
   -- ### A job
 
   pub job_keeping : (done : Done) → Did (Handled w k) here own done → IsKeeping setting w k done
@@ -79,9 +97,9 @@ module _ (it : AtSeat) where
       let idle = seated.idle_copies it in
       record {
         lead = λ cell row second is alive both leads ok known.
-            lead_step (Handled w k) here own steady cell row is alive both leads second (rests.pending k) marks idle rising fit.bare ok known done did;
+            lead_step (in_both cell row is alive both) leads second (rests.pending k) marks idle rising fit.bare ok known done did;
         second = λ cell row first is alive both follows ok known.
-            second_step (Handled w k) here own steady cell row is alive both follows first (rests.pending k) rising fit.bare ok known done did;
+            second_step (in_both cell row is alive both) follows first (rests.pending k) rising fit.bare ok known done did;
         holder = λ cell row other f. holders.holds (Handled w k) here (links_at cell) row other own cell f done did;
         other = λ cell row holder f. others.follows (Handled w k) here (links_at cell) row holder own cell f done did;
         unlinked = λ cell none alive. unlinked_keeps (Handled w k) here own fit cell alive none done did;

@@ -46,6 +46,14 @@ pub record OneMore : Type 0 where
   pub good : Good setting records (chosen_log setting w) (counted setting w)
   pub own : Record
 
+-- the log so far, and the world by the stores that count
+pub record Before : Type 0 where
+  pub top : List Command
+  pub before : World
+
+abbrev pub before_of : OneMore → Before
+before_of it = record { top = chosen_log it.setting it.w; before = counted it.setting it.w }
+
 -- an incarnation that was ever In has begun
 pub in_begun : (script : Script) (records : List Record) → IsSound script → IsLegal script records → (n inc : ℕ) (front : List Command)
     → IsPrefix front (chosen_log (setting_of script) (world_after (setting_of script) (start (setting_of script)) records))

@@ -66,7 +66,7 @@ not_copied (Some own) row block never = elim (some_or_none (progress_on own row)
 ]
 
 module _ (it : AtJob) where
-  open it use {setting, records, w, stores, v, k, server, good, firm, rests, done, job, started}
+  open it use {setting, records, w, stores, k, server, good, firm, done, job, started}
   open then_of (step_at it) use {visits, next, olds, news}
 
   abbrev pub top : List Command

@@ -26,6 +26,7 @@ pub mod HolderWrites
 pub mod HolderJobs
 pub mod Ballots
 pub mod Moves
+pub mod CellInBoth
 pub mod Lead
 pub mod Second
 pub mod Marking

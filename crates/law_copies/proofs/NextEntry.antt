@@ -32,8 +32,8 @@ use Rattle.law_copies.proofs.Places.{place_untouched, places_up, rows_later, sta
 use Rattle.law_copies.proofs.Renewed.{counts_more, no_blank_join, no_chains}
 
 module _ (it : AtNext) where
-  open it use {setting, records, top, entry, u, old, new, good, behind, all, started, recounts}
-  open next_of it use {next, here, then_state, v, stores}
+  open it use {setting, top, entry, old, new, good, behind, all, recounts}
+  open next_of it use {next, here, then_state, stores}
 
   pub plain_top : IsPlainLog setting.servers top
   plain_top = front_plain setting.servers top next all (front_more top entry)

@@ -26,7 +26,7 @@ use Rattle.petal_rules.specs.Returns.{proposed}
 use Rattle.petal_rules.specs.Server.{Own, Copies, Pairs, Server, Post, Sender, Done, no_copies, no_pairs, silent, sender, letters_of}
 use Rattle.petal_rules.specs.State.{State, id_of, is_in, link_cmp, live}
 use Rattle.petal_rules.specs.Store.{Store, cell_cmp, chain_in, mark_on}
-use Rattle.petal_rules.specs.World.{Setting, World, acts, before_blanks, blank_joins_in, chosen_log, counted, counted_by, kept}
+use Rattle.petal_rules.specs.World.{Setting, World, acts, before_blanks, blank_joins_in, counted_by, kept}
 use Rattle.petal_rules.specs.World.{server_state, stamped, start, with_store}
 use Rattle.petal_rules.specs.declared.step.Step.{Step}
 use Rattle.petal_rules.proofs.ListLemmas.{in-append, put_apart, put_same}
@@ -41,7 +41,7 @@ use Rattle.law_steps.proofs.Fronts.{front_itself, front_more}
 use Rattle.law_copies.specs.Good.{IsUnheard}
 use Rattle.law_copies.specs.Pair.{HaveMarks}
 use Rattle.law_copies.specs.Steps.{AreFilled}
-use Rattle.law_copies.proofs.Known.{OneMore}
+use Rattle.law_copies.proofs.Known.{OneMore, before_of}
 use Rattle.law_copies.proofs.AtEntry.{at_entry}
 use Rattle.law_copies.proofs.Ground.{Ground}
 use Rattle.law_copies.proofs.AtStep.{IsStep, at_step}
@@ -81,13 +81,7 @@ kept_alike f joins (Some before) a b e = by_bool (before.joins == joins)
 
 module _ (it : OneMore) where
   open it use {setting, records, w, known, good, own}
-
-  abbrev top : List Command
-  top = chosen_log setting w
-
-  -- the world by the stores that count
-  abbrev before : World
-  before = counted setting w
+  open before_of it use {top, before}
 
   -- and the world then, by the stores that count by what was chosen before
   abbrev pub GoesTo : World → Type 0
@@ -272,8 +266,14 @@ module _ (it : OneMore) where
       entry_goes : (who : Sender) (posts : List Post) → acted.letters ≡ letters_of who 0 posts
           → ((post : Post) → In post posts → is_between (subject_of post.body) ≡ false) → GoesTo then_world
       entry_goes who posts is mute then_is =
-          entries.entered_good (at_entry ground entry_step runs more entry_left inc
-          (λ seat. known.counts k acted.server.log.applied within (ap (is_in (state_in setting.servers acted.server.log) k) (sym inc) ∙ seat)))
+          entries.entered_good (at_entry ground (record {
+            step = entry_step;
+            runs = runs;
+            more = more;
+            left = entry_left;
+            inc = inc;
+            counts = λ seat. known.counts k acted.server.log.applied within (ap (is_in (state_in setting.servers acted.server.log) k) (sym inc) ∙ seat);
+          }))
           own (then_so then_world then_is) (mute_letters entry_step who posts is mute)
 
   -- what a server's own part is that has nothing in memory

@@ -26,7 +26,7 @@ use Rattle.law_steps.proofs.Fronts.{front_itself, front_on}
 use Rattle.law_steps.proofs.Records.{split_last}
 use Rattle.law_copies.specs.Visits.{AliveIn, AreReached, HasBeen, HasReached, IsHere, IsLinked, Visits, is_alive, is_at, place_by, place_on, store_by, visited}
 use Rattle.law_copies.proofs.AtStep.{AtStep}
-use Rattle.law_copies.proofs.Places.{one_row}
+use Rattle.law_copies.proofs.Places.{one_row, reached_on}
 
 -- ### Where a server is
 
@@ -307,30 +307,8 @@ module _ (it : AtStep) where
 
       old : (cell : Cell) → HasReached setting top good.visits cell (good.reached cell) → HasReached setting top later cell (good.reached cell)
       old cell r = elim (visited_by r.server (good.reached cell) cell) [
-        | inl same ↦ record {
-          front = r.front;
-          prefix = r.prefix;
-          row = r.row;
-          linked = r.linked;
-          alive = r.alive;
-          at = r.at;
-          server = r.server;
-          serving = r.serving;
-          own = r.own;
-          visited = same ∙ r.visited;
-        }
-        | inr now ↦ record {
-          front = r.front;
-          prefix = r.prefix;
-          row = r.row;
-          linked = r.linked;
-          alive = r.alive;
-          at = r.at;
-          server = r.server;
-          serving = r.serving;
-          own = server.own;
-          visited = now.is;
-        }
+        | inl same ↦ reached_on r r.prefix r.own (same ∙ r.visited)
+        | inr now ↦ reached_on r r.prefix server.own now.is
       ]
 
       either : (a b : ℕ) → (max a b ≡ a) ⊎ (max a b ≡ b)

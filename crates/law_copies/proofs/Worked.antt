@@ -30,6 +30,7 @@ use Rattle.law_copies.specs.Good.{AreBeside, AreTwins, StaysLeft, pair_at}
 use Rattle.law_copies.specs.Pair.{IsRecalled, Known, PairOk, far, pair_of}
 use Rattle.law_copies.specs.Steps.{HolderKeeps, IsLeftBy, OtherKeeps}
 use Rattle.law_copies.specs.Visits.{AliveIn, HasFilled, IsLinked, Visits, half, place_by, store_by}
+use Rattle.law_copies.proofs.Places.{has_filled_on}
 use Rattle.law_copies.proofs.AtJob.{AtJob, seat_at, step_at}
 use Rattle.law_copies.proofs.NewPlaces.{half_store}
 use Rattle.law_copies.proofs.Framed.{LeavesStore, alike_same, marks_back, store_same}
@@ -42,7 +43,7 @@ use Rattle.law_copies.proofs.Standing.{other_row}
 use Rattle.law_copies.proofs.Visited.{counted, counted_up, later, none_before, stored, stored_apart, stored_by, visited_apart, visited_here}
 
 module _ (it : AtJob) where
-  open it use {setting, records, w, stores, v, k, server, good, firm, rests, done, job}
+  open it use {setting, records, w, stores, v, k, server, good, firm, done, job}
 
   abbrev pub top : List Command
   top = chosen_log setting w
@@ -379,15 +380,7 @@ module _ (it : AtJob) where
       -- where the server's copy changed, the holder has been here
       unfilled_now : (chain_in (olds k).chains cell ≡ []) ⊎ HasFilled setting top good.visits front cell h k
           → (chain_in (news k).chains cell ≡ []) ⊎ HasFilled setting top visits front cell h k
-      unfilled_now (inr f) = inr (record {
-        more = f.more;
-        within = f.within;
-        row = f.row;
-        linked = f.linked;
-        joins = f.joins;
-        own = f.own;
-        visited = visit_apart h (place_by setting f.more f.row) cell h_apart ∙ f.visited;
-      })
+      unfilled_now (inr f) = inr (has_filled_on f f.within refl f.own (visit_apart h (place_by setting f.more f.row) cell h_apart ∙ f.visited))
       unfilled_now (inl empty) = elim keeps_other.changes [
         | inl chain ↦ inl (ap (λ (a : Store). chain_in a.chains cell) store_now ∙ chain
             ∙ ap (λ (a : Store). chain_in a.chains cell) (sym store_was) ∙ empty)
