@@ -125,7 +125,7 @@ pub record IsUnsettled (servers : ℕ) (state : State) : Type 0 where
   pub unlinked : (of link : ℕ) → owner state of ≡ None → link_at state.links of link ≡ None
   pub found : (row : LinkRow) → In row state.links → link_at state.links row.map row.link ≡ Some row
 
--- and the active fence waits for somebody
+-- a state between entries: none of its fences has all its reports, so the active one waits for somebody
 pub record IsPlainState (servers : ℕ) (state : State) : Type 0 where
   pub unsettled : IsUnsettled servers state
   pub open unsettled use {many, members, fences, made, homes, rows, names, tuples, links, unlinked, found}
