@@ -8,7 +8,7 @@ use Rattle.petal_rules.specs.State.{is_in}
 use Rattle.petal_rules.specs.World.{World, kept, server_state, setting_of, start}
 use Rattle.law_log.proofs.Histories.{history_is_firm}
 use Rattle.law_stores.proofs.Histories.{in_counts, in_own}
-use Rattle.law_copies.proofs.Seated.{IsAtWork}
+use Rattle.law_copies.proofs.AtSeat.{IsAtWork}
 
 abbrev At : Script → List Record → World
 At script records = world_after (setting_of script) (start (setting_of script)) records

@@ -7,7 +7,7 @@ use Rattle.global_tables.specs.declared.link.LinkState.TheVariants.{Both}
 use Rattle.petal_base.specs.declared.cell.Cell.{Cell}
 use Rattle.petal_base.specs.Cells.{cell_of}
 use Rattle.petal_table.specs.Table.{at}
-use Rattle.petal_msg.specs.Kinds.{about, Copied, Refused, subject_of}
+use Rattle.petal_msg.specs.Kinds.{about, Refused, subject_of}
 use Rattle.petal_msg.specs.declared.body.Body.{Body}
 use Rattle.petal_msg.specs.declared.body.Body.TheVariants as body
 use Rattle.petal_msg.specs.declared.copying.Copying.{Copying}
@@ -21,10 +21,9 @@ use Rattle.petal_rules.specs.Copies.{cell_holder}
 use Rattle.petal_rules.specs.Lists.{In}
 use Rattle.petal_rules.specs.State.{in_both, is_second, secondary}
 use Rattle.petal_rules.specs.Store.{chain_in}
-use Rattle.petal_rules.specs.Server.{Own, Here, Post, Done, says}
+use Rattle.petal_rules.specs.Server.{Own, Post, Done, says}
 use Rattle.petal_rules.specs.Writes.{follows, tells, with_last}
 use Rattle.petal_rules.proofs.Tests.{is_the_one, same_some, true_false}
-use Rattle.law_state.specs.Steady.{IsSteady}
 use Rattle.law_state.proofs.Alone.{second_secondary, so_both}
 use Rattle.law_steps.specs.DidFiller.{DidFiller}
 use Rattle.law_steps.specs.DidSweep.{DidSweep}
@@ -38,31 +37,16 @@ use Rattle.law_steps.proofs.CopyFrames.{CopyFrame}
 use Rattle.law_steps.proofs.Letters.{one_post, posted}
 use Rattle.law_steps.proofs.Subjects.{of_filler, of_read, of_sweep, told_own}
 use Rattle.law_copies.specs.BothSteps.{SaysKnown}
-use Rattle.law_copies.specs.Pair.{Known, Pair, pair_of}
-use Rattle.law_copies.specs.Visits.{AliveIn}
+use Rattle.law_copies.specs.Pair.{Known, pair_of}
+use Rattle.petal_msg.specs.Kinds.{is_paired}
+use Rattle.law_copies.proofs.CellInBoth.{CellInBoth}
+use Rattle.law_copies.proofs.Mute.{unpaired_known}
 use Rattle.law_copies.proofs.Chains.{chain_apart, copied_chains, drop_apart, page_chains}
-use Rattle.law_copies.proofs.Lead as lead
 use Rattle.law_copies.proofs.Others.{IsOther, held_by}
 
--- what is said of copies, and a refusal, tell nothing of a pair
-copied_known : (pair : Pair) (said : Body) → subject_of said ≡ Copied → Known pair said
-copied_known pair (body.Reserve number cell) e = cc
-copied_known pair (body.Reserved number cell) e = cc
-copied_known pair (body.PairFull number cell) e = cc
-copied_known pair (body.Replicate number key version bytes) e = cc
-copied_known pair (body.Replicated number cell) e = cc
-copied_known pair _ e = tt
+module _ (it : CellInBoth) where
+  open it use {heard, here, own, steady, cell, row, is_row, alive, both_row}
 
-refused_known : (pair : Pair) (said : Body) → subject_of said ≡ Refused → Known pair said
-refused_known pair (body.Reserve number cell) e = cc
-refused_known pair (body.Reserved number cell) e = cc
-refused_known pair (body.PairFull number cell) e = cc
-refused_known pair (body.Replicate number key version bytes) e = cc
-refused_known pair (body.Replicated number cell) e = cc
-refused_known pair _ e = tt
-
-module _ (heard : Body → Type 0) (here : Here) (own : Own) (steady : IsSteady here.state) (cell : Cell) (row : LinkRow)
-    (is_row : cell_link here.state cell ≡ Some row) (alive : AliveIn here.state cell) (both_row : row.state ≡ Both) where
   pub cell_both : in_both here.state cell ≡ true
   cell_both = so_both here.state cell row is_row both_row
 
@@ -110,7 +94,7 @@ module _ (heard : Body → Type 0) (here : Here) (own : Own) (steady : IsSteady 
   Says first second posts = SaysKnown posts cell (pair_of first second cell)
 
   pub copies_say : (first second : Own) (done : Done) → CopyFrame own done → Says first second done.posts
-  copies_say first second done frame post i of = copied_known (pair_of first second cell) post.body (frame.says post i)
+  copies_say first second done frame post i of = unpaired_known (pair_of first second cell) post.body (ap is_paired (frame.says post i))
 
   pub read_says : (first second : Own) (done : Done) → DidRead heard here own done → Says first second done.posts
   read_says first second done d post i of =
@@ -121,10 +105,11 @@ module _ (heard : Body → Type 0) (here : Here) (own : Own) (steady : IsSteady 
 
   pub refusal_says : (first second : Own) (to : Actor) (said : Body) → subject_of said ≡ Refused → Says first second (says own to said).posts
   refusal_says first second to said is post i of =
-      let e = (one_post to said post i).1 in refused_known (pair_of first second cell) post.body (ap subject_of e ∙ is)
+      let e = (one_post to said post i).1 in unpaired_known (pair_of first second cell) post.body (ap is_paired (ap subject_of e ∙ is))
 
   pub filler_says : (first second : Own) (done : Done) → DidFiller heard here own done → Says first second done.posts
-  filler_says first second done d post i of = lead.filling_known (pair_of first second cell) post.body ((of_filler heard here own done d).says post i)
+  filler_says first second done d post i of =
+      unpaired_known (pair_of first second cell) post.body (ap is_paired ((of_filler heard here own done d).says post i))
 
   pub sweep_says : (first second : Own) (done : Done) → DidSweep here own done → Says first second done.posts
   sweep_says first second done d post i of = absurd ((of_sweep heard here own done d).silent post i)

@@ -1,10 +1,10 @@
 -- What a job of a server that is In as itself keeps at each front, and of what it sends.
-use Rattle.std.proofs.Common.{◌≡◌, ◌≢◌, ◌≤◌, ◌++◌, ℕ, List, [], ◌∷◌, length, Bool, true, false, Option, Some, None, is_some}
+use Rattle.std.proofs.Common.{◌≡◌, ◌≢◌, ◌≤◌, ◌++◌, ℕ, List, [], ◌∷◌, length, true, false, Option, Some, is_some}
 use Rattle.std.proofs.Common.{refl, sym, ap, ◌∙◌, subst, ◌⊎◌, inr, arith}
 use Rattle.std.specs.Ordering.{nat_cmp}
 use Rattle.global_tables.specs.Link.{has_server, other_of}
 use Rattle.global_tables.specs.declared.link.LinkRow.{LinkRow}
-use Rattle.global_tables.specs.declared.link.LinkState.TheVariants.{Both, Only}
+use Rattle.global_tables.specs.declared.link.LinkState.TheVariants.{Both}
 use Rattle.petal_base.specs.declared.cell.Cell.{Cell}
 use Rattle.petal_command.specs.declared.command.Command.{Command}
 use Rattle.petal_msg.specs.Kinds.{about, subject_of}
@@ -17,10 +17,10 @@ use Rattle.petal_state.specs.Command.{state_after}
 use Rattle.petal_rules.specs.Lists.{In}
 use Rattle.petal_rules.specs.Log.{state_in}
 use Rattle.petal_rules.specs.Progress.{last_copy}
-use Rattle.petal_rules.specs.Server.{Own, Post, Server, Done, letters_of, sender}
+use Rattle.petal_rules.specs.Server.{Own, Post, letters_of, sender}
 use Rattle.petal_rules.specs.State.{State, id_of, live}
-use Rattle.petal_rules.specs.Store.{Store, chain_in}
-use Rattle.petal_rules.specs.World.{Setting, World, chosen_log, server_state, stamped}
+use Rattle.petal_rules.specs.Store.{chain_in}
+use Rattle.petal_rules.specs.World.{chosen_log, server_state, stamped}
 use Rattle.petal_rules.proofs.Applied.{rev_after}
 use Rattle.petal_rules.proofs.Tests.{by_bool, same_some, true_false}
 use Rattle.law_state.specs.Homes.{stage_at}
@@ -32,102 +32,43 @@ use Rattle.law_steps.specs.Ready.{IsRising}
 use Rattle.law_steps.proofs.Fronts.{front_long, one_front}
 use Rattle.law_steps.proofs.Letters.{said}
 use Rattle.law_copies.specs.Copied.{IsOfLink, IsTold}
-use Rattle.law_copies.specs.Good.{BothOk, Good, IsUnheard, SaidOk, pair_at}
+use Rattle.law_copies.specs.Good.{IsUnheard, SaidOk, pair_at}
 use Rattle.law_copies.specs.Pair.{HaveMarks, Known, pair_of}
 use Rattle.law_copies.specs.Steps.{AreFilled}
-use Rattle.law_copies.specs.Visits.{AliveIn, IsLinked, half, place_by, store_by, with_stores}
-use Rattle.law_copies.proofs.Framed.{LeavesBoth, LeavesStore}
+use Rattle.law_copies.specs.Visits.{AliveIn, IsLinked, half, place_by, with_stores}
+use Rattle.law_copies.proofs.AtJob.{AtJob, seat_at, step_at}
+use Rattle.law_copies.proofs.Framed.{LeavesBoth}
 use Rattle.law_copies.proofs.Framed.{said_framed}
-use Rattle.law_copies.proofs.Later.{AllStarted}
 use Rattle.law_copies.proofs.Mute.{known_mute, told_mute}
 use Rattle.law_copies.proofs.Seated as seated
 use Rattle.law_copies.proofs.Standing.{other_row}
 use Rattle.law_copies.proofs.Stepping.{GoesOn, IsSoundOwn, IsTrue, good_after}
-use Rattle.law_copies.proofs.Visited.{IsThen, KeepsFlags, stored}
+use Rattle.law_copies.proofs.Visited.{then_of, IsThen, KeepsFlags}
 use Rattle.law_copies.proofs.Worked as worked
-use Rattle.law_copies.proofs.Worked.{IsJob}
 use Rattle.law_copies.proofs.Leaving as leaving
 use Rattle.law_copies.proofs.Leaving.{Same_store, Covers, Gone, Left_by}
 use Rattle.law_copies.proofs.EachFront as fronts
+use Rattle.law_copies.proofs.EachFront.{at_or_else, else_leaves, last_old, left_else, stranger_leaves, visits_else}
+use Rattle.law_copies.proofs.EachFront.{both_kept, holds, news_here, olds_here}
 
-module _ (setting : Setting) (records : List Record) (w : World) (stores : ℕ → Store) (v : World) (k : ℕ) (server : Server)
-    (good : Good setting records (chosen_log setting w) (with_stores w stores)) (done : Done) (job : IsJob setting w stores v k server done)
-    (started : AllStarted setting records w) where
+module _ (it : AtJob) where
+  open it use {setting, records, w, stores, v, k, server, good, firm, done, job}
+  open then_of (step_at it) use {visits, reached, next, news}
+
   abbrev top : List Command
   top = chosen_log setting w
 
   abbrev front : List Command
   front = (w.servers k).log.applied
 
-  abbrev visits : (n place : ℕ) → Cell → Option Own
-  visits = worked.visits setting records w stores v k server good done job
-
-  abbrev reached : Cell → ℕ
-  reached = worked.reached setting records w stores v k server good done job
-
-  up : (cell : Cell) → good.reached cell ≤ reached cell
-  up = fronts.up setting records w stores v k server good done job started
-
-  nones : (n place : ℕ) (cell : Cell) → visits n place cell ≡ None → good.visits n place cell ≡ None
-  nones = fronts.nones setting records w stores v k server good done job started
-
-  abbrev next : ℕ → ℕ → Store
-  next = stored setting records top (with_stores w stores) v k server good job.step
-
-  -- the stores by a front, before and then
-  abbrev olds : List Command → ℕ → Store
-  olds = store_by setting good.stores
-
-  abbrev news : List Command → ℕ → Store
-  news = store_by setting next
-
   abbrev Leaves : List Command → ℕ → Cell → LinkRow → Type 0
-  Leaves f place cell row = LeavesBoth setting top good.stores next good.visits visits good.reached reached f place cell row
-
-  stranger_leaves : (f : List Command) (place : ℕ) (cell : Cell) (row : LinkRow) → has_server k row ≡ false → Leaves f place cell row
-  stranger_leaves = fronts.stranger_leaves setting records w stores v k server good done job started
+  Leaves f place cell row = LeavesBoth (step_at it) f place cell row
 
   abbrev IsElsewhere : (place : ℕ) → Cell → Type 0
   IsElsewhere place cell = (row : LinkRow) → IsLinked setting front cell row → AliveIn (server_state setting w k) cell → place ≢ place_by setting front row
 
-  visits_else : (n place : ℕ) (cell : Cell) → IsElsewhere place cell → visits n place cell ≡ good.visits n place cell
-  visits_else = fronts.visits_else setting records w stores v k server good done job started
-
   abbrev IsLeftAt : List Command → (place : ℕ) → Cell → LinkRow → Type 0
-  IsLeftAt = leaving.IsLeftAt setting records w stores v k server good done job started
-
-  left_else : (f : List Command) (cell : Cell) (row : LinkRow) → IsPrefix f top → IsLinked setting f cell row → has_server k row ≡ true
-      → AliveIn (state_after setting.servers top) cell → IsElsewhere (place_by setting f row) cell → good.reached cell ≤ place_by setting f row
-      → IsLeftAt f (place_by setting f row) cell row
-  left_else = fronts.left_else setting records w stores v k server good done job started
-
-  at_or_else : {B : Type 0} (f : List Command) (cell : Cell) (row : LinkRow) → IsPrefix f top → IsLinked setting f cell row
-      → (IsLinked setting front cell row → AliveIn (server_state setting w k) cell → place_by setting front row ≡ place_by setting f row → B)
-      → (IsElsewhere (place_by setting f row) cell → B) → B
-  at_or_else = fronts.at_or_else setting records w stores v k server good done job started
-
-  else_leaves : (f : List Command) (place : ℕ) (cell : Cell) (row : LinkRow) → IsElsewhere place cell
-      → (AliveIn (state_after setting.servers top) cell → LeavesStore (olds f k) (news f k) cell) → Leaves f place cell row
-  else_leaves = fronts.else_leaves setting records w stores v k server good done job started
-
-  last_old : (cell : Cell) (place : ℕ) → reached cell ≤ place → good.reached cell ≤ place
-  last_old = fronts.last_old setting records w stores v k server good done job started
-
-  holds : (f : List Command) (cell : Cell) (row : LinkRow) (holder : ℕ) (whole : Bool) → IsPrefix f top → IsLinked setting f cell row
-      → row.state ≡ Only holder whole → has_server holder row ≡ true
-  holds = fronts.holds setting records w stores v k server good done job started
-
-  news_here : (f : List Command) (cell : Cell) (row : LinkRow) (n : ℕ) → IsPrefix f top → IsLinked setting f cell row → IsLinked setting front cell row
-      → place_by setting front row ≡ place_by setting f row → has_server n row ≡ true → news front n ≡ news f n
-  news_here = fronts.news_here setting records w stores v k server good done job started
-
-  olds_here : (f : List Command) (cell : Cell) (row : LinkRow) (n : ℕ) → IsPrefix f top → IsLinked setting f cell row → IsLinked setting front cell row
-      → place_by setting front row ≡ place_by setting f row → has_server n row ≡ true → olds front n ≡ olds f n
-  olds_here = fronts.olds_here setting records w stores v k server good done job started
-
-  both_kept : (f : List Command) (cell : Cell) (row : LinkRow) → IsPrefix f top → IsLinked setting f cell row → row.state ≡ Both
-      → BothOk setting top next visits reached f cell row
-  both_kept = fronts.both_kept setting records w stores v k server good done job started
+  IsLeftAt = leaving.IsLeftAt it
 
   -- ### Letters that were sent before
 
@@ -137,16 +78,16 @@ module _ (setting : Setting) (records : List Record) (w : World) (stores : ℕ �
   said_else letter_said f cell row prefix is has away ok =
       let place = place_by setting f row in
       record {
-        both = λ lives both last of. by lives both last of (left_else f cell row prefix is has lives away (last_old cell place last));
+        both = λ lives both last of. by lives both last of (left_else it f cell row prefix is has lives away (last_old it cell place last));
         alone = λ holder whole alone of.
-            subst (λ o. IsTold row o (visits (other_of holder row) place cell) letter_said) (sym (visits_else holder place cell away))
-            (subst (λ o. IsTold row (good.visits holder place cell) o letter_said) (sym (visits_else (other_of holder row) place cell away))
+            subst (λ o. IsTold row o (visits (other_of holder row) place cell) letter_said) (sym (visits_else it holder place cell away))
+            (subst (λ o. IsTold row (good.visits holder place cell) o letter_said) (sym (visits_else it (other_of holder row) place cell away))
             (ok.alone holder whole alone of));
         page = λ lives holder whole after block alone said last.
-            fronts.page_else setting records w stores v k server good done job started f cell row holder whole prefix is alone away
-            (λ e. left_else f cell row prefix is has lives away (last_old cell place last)) after block
-            (ok.page lives holder whole after block alone said (last_old cell place last));
-        met = λ holder whole after block alone said. ap is_some (visits_else (other_of holder row) place cell away)
+            fronts.page_else it f cell row holder whole prefix is alone away
+            (λ e. left_else it f cell row prefix is has lives away (last_old it cell place last)) after block
+            (ok.page lives holder whole after block alone said (last_old it cell place last));
+        met = λ holder whole after block alone said. ap is_some (visits_else it (other_of holder row) place cell away)
             ∙ ok.met holder whole after block alone said;
       }
     where
@@ -154,9 +95,9 @@ module _ (setting : Setting) (records : List Record) (w : World) (stores : ℕ �
           (about letter_said).cell ≡ Some cell → IsLeftAt f (place_by setting f row) cell row
           → Known (pair_at (news f) visits (place_by setting f row) cell row.primary row.secondary) letter_said
       by lives both last of (Same_store same) =
-          (said_framed setting top good.stores next good.visits visits good.reached reached up nones f letter_said cell row
-          (λ holder whole alone. holds f cell row holder whole prefix is alone)
-          (else_leaves f (place_by setting f row) cell row away (λ alive. same)) ok).both lives both last of
+          (said_framed (step_at it) f letter_said cell row
+          (λ holder whole alone. holds it f cell row holder whole prefix is alone)
+          (else_leaves it f (place_by setting f row) cell row away (λ alive. same)) ok).both lives both last of
       by lives both last of (Gone lost) = lost_not_both row lost both
       by lives both last of (Covers whole alone none covered) = alone_not_both row k alone both
       by lives both last of (Left_by h whole alone ne none left marks) = alone_not_both row h alone both
@@ -169,24 +110,24 @@ module _ (setting : Setting) (records : List Record) (w : World) (stores : ℕ �
       let place = place_by setting f row in
       record {
         both = λ lives both last of.
-            let now = worked.both_now setting records w stores v k server good done job cell row mine alive lives both has in
+            let now = worked.both_now it cell row mine alive lives both has in
             let one = primary_is_one row row.primary refl in
             let other = secondary_is_one row row.secondary refl in
             subst (λ p. Known p letter_said)
-            (λ i. pair_of (half (visits row.primary (e i) cell) (news_here f cell row row.primary prefix is mine e one i))
-            (half (visits row.secondary (e i) cell) (news_here f cell row row.secondary prefix is mine e other i)) cell)
+            (λ i. pair_of (half (visits row.primary (e i) cell) (news_here it f cell row row.primary prefix is mine e one i))
+            (half (visits row.secondary (e i) cell) (news_here it f cell row row.secondary prefix is mine e other i)) cell)
             (now.known letter_said (subst (λ p. Known p letter_said)
-            (λ i. pair_of (half (good.visits row.primary (sym e i) cell) (sym (olds_here f cell row row.primary prefix is mine e one) i))
-            (half (good.visits row.secondary (sym e i) cell) (sym (olds_here f cell row row.secondary prefix is mine e other) i)) cell)
-            (ok.both lives both (last_old cell place last) of)));
+            (λ i. pair_of (half (good.visits row.primary (sym e i) cell) (sym (olds_here it f cell row row.primary prefix is mine e one) i))
+            (half (good.visits row.secondary (sym e i) cell) (sym (olds_here it f cell row row.secondary prefix is mine e other) i)) cell)
+            (ok.both lives both (last_old it cell place last) of)));
         alone = λ holder whole alone of.
-            fronts.said_alone_at setting records w stores v k server good done job started f cell row holder whole prefix is alone has
+            fronts.said_alone_at it f cell row holder whole prefix is alone has
             mine alive e letter_said of (ok.alone holder whole alone of);
         page = λ lives holder whole after block alone said last.
-            fronts.page_at setting records w stores v k server good done job started f cell row holder whole prefix is alone has lives mine alive e after block
-            (ok.page lives holder whole after block alone said (last_old cell place last));
+            fronts.page_at it f cell row holder whole prefix is alone has lives mine alive e after block
+            (ok.page lives holder whole after block alone said (last_old it cell place last));
         met = λ holder whole after block alone said.
-            let now = worked.alone_now setting records w stores v k server good done job cell row mine alive holder whole alone has in
+            let now = worked.alone_now it cell row mine alive holder whole alone has in
             subst (λ p. is_some (visits (other_of holder row) p cell) ≡ true) e
             (now.some (subst (λ p. is_some (good.visits (other_of holder row) p cell) ≡ true) (sym e) (ok.met holder whole after block alone said)));
       }
@@ -196,12 +137,12 @@ module _ (setting : Setting) (records : List Record) (w : World) (stores : ℕ �
   said_kept letter sent f cell row prefix long is alive_f =
       let ok = good.letters letter sent f cell row prefix long is alive_f in
       by_bool (has_server k row)
-      (λ has. at_or_else f cell row prefix is
+      (λ has. at_or_else it f cell row prefix is
       (λ mine alive e. said_at letter.body f cell row prefix is has mine alive e ok)
       (λ away. said_else letter.body f cell row prefix is has away ok))
-      (λ off. said_framed setting top good.stores next good.visits visits good.reached reached up nones f letter.body cell row
-      (λ holder whole alone. holds f cell row holder whole prefix is alone)
-      (stranger_leaves f (place_by setting f row) cell row off) ok)
+      (λ off. said_framed (step_at it) f letter.body cell row
+      (λ holder whole alone. holds it f cell row holder whole prefix is alone)
+      (stranger_leaves it f (place_by setting f row) cell row off) ok)
 
   -- ### What it sends
 
@@ -209,13 +150,13 @@ module _ (setting : Setting) (records : List Record) (w : World) (stores : ℕ �
       → SaidOk setting top next visits reached front post.body cell row
   post_said post i cell row is alive = by_bool (has_server k row)
       (λ has. record {
-        both = λ lives both last of. (worked.both_now setting records w stores v k server good done job cell row is alive lives both has).says post i of;
+        both = λ lives both last of. (worked.both_now it cell row is alive lives both has).says post i of;
         alone = λ holder whole alone of.
-            (worked.alone_now setting records w stores v k server good done job cell row is alive holder whole alone has).says post i of;
+            (worked.alone_now it cell row is alive holder whole alone has).says post i of;
         page = λ lives holder whole after block alone said last.
-            (worked.alone_now setting records w stores v k server good done job cell row is alive holder whole alone has).pages post i after block said;
+            (worked.alone_now it cell row is alive holder whole alone has).pages post i after block said;
         met = λ holder whole after block alone said.
-            (worked.alone_now setting records w stores v k server good done job cell row is alive holder whole alone has).met post i after block said;
+            (worked.alone_now it cell row is alive holder whole alone has).met post i after block said;
       })
       (λ off. record {
         both = λ lives both last of. known_mute (pair_at (news front) visits (place_by setting front row) cell row.primary row.secondary) post.body
@@ -240,36 +181,36 @@ module _ (setting : Setting) (records : List Record) (w : World) (stores : ℕ �
       let s = said (sender (own_place setting w k)) stamp 0 done.posts letter there in
       let rev : letter.rev ≡ length front = s.rev ∙ rev_after setting.servers front in
       record {
-        rev = λ between. let le = front_long front top (job.firm.servers k) in omega (arith, rev);
+        rev = λ between. let le = front_long front top (firm.servers k) in omega (arith, rev);
         said = λ f cell row prefix long is alive.
-            let same : f ≡ front = one_front f front top prefix (job.firm.servers k) (long ∙ rev) in
+            let same : f ≡ front = one_front f front top prefix (firm.servers k) (long ∙ rev) in
             subst (λ b. SaidOk setting top next visits reached f b cell row) (sym s.body)
             (subst (λ g. SaidOk setting top next visits reached g s.post.body cell row) (sym same)
             (post_said s.post s.there cell row (subst (λ g. IsLinked setting g cell row) same is)
             (subst (λ g. AliveIn (state_after setting.servers g) cell) same alive)));
         lives = λ between f prefix long cell of.
-            let same : f ≡ front = one_front f front top prefix (job.firm.servers k) (long ∙ rev) in
+            let same : f ≡ front = one_front f front top prefix (firm.servers k) (long ∙ rev) in
             subst (λ g. live (state_after setting.servers g) cell ≡ true) (sym same)
             (job.keeping.lives s.post s.there (ap (λ (b : Body). is_between (subject_of b)) (sym s.body) ∙ between) cell
             (ap (λ (b : Body). (about b).cell) (sym s.body) ∙ of));
         page = λ f prefix long map link block after is.
-            let same : f ≡ front = one_front f front top prefix (job.firm.servers k) (long ∙ rev) in
+            let same : f ≡ front = one_front f front top prefix (firm.servers k) (long ∙ rev) in
             subst (λ g. IsOfLink (state_after setting.servers g) (record { map = map; block = block }) link) (sym same)
             (job.keeping.pages s.post s.there map link block after (sym s.body ∙ is));
       }
 
   -- ### All of it
 
-  job_flags : KeepsFlags setting records top (with_stores w stores) v k server good job.step
+  job_flags : KeepsFlags (step_at it)
   job_flags cell row own whole is alive alone seat_then visit flagged =
       let mine : IsLinked setting front cell row = subst (λ f. IsLinked setting f cell row) job.applied is in
       let mine_alive = subst (λ f. AliveIn (state_after setting.servers f) cell) job.applied alive in
-      let here = seated.here_visit setting records w stores k good job.firm job.rests job.works cell row mine mine_alive in
+      let here = seated.here_visit (seat_at it) cell row mine mine_alive in
       let same : own ≡ (w.servers k).own = same_some (sym visit ∙ ap (λ f. good.visits k (place_by setting f row) cell) job.applied ∙ here) in
-      let keeps = worked.keeps_holder setting records w stores v k server good done job cell row mine mine_alive whole alone in
+      let keeps = worked.keeps_holder it cell row mine mine_alive whole alone in
       ap (λ (o : Own). is_flagged o (id_of row)) job.own_is ∙ (keeps.caught (ap (λ (o : Own). is_flagged o (id_of row)) (sym same) ∙ flagged)).2
 
-  -- what holds by the server's state before holds by that then, which is the same
+  -- what holds it by the server's state before holds it by that then, which is the same
   state_then : (P : State → Type 0) → P (server_state setting w k) → P (state_in setting.servers server.log)
   state_then P p = subst (λ f. P (state_after setting.servers f)) (sym job.applied) p
 
@@ -294,5 +235,5 @@ module _ (setting : Setting) (records : List Record) (w : World) (stores : ℕ �
       → ((letter : Letter) → In letter v.sent → In letter w.sent ⊎ IsTrue setting top next visits reached letter)
       → GoesOn setting records top top (with_stores w stores) v good own
   job_good own then_is sent =
-      good_after setting records top (with_stores w stores) v k server good job.step own then_is job_flags job_sound
-      (record { both = both_kept; alone = fronts.alone_kept setting records w stores v k server good done job started; said = said_kept }) sent
+      good_after (step_at it) own then_is job_flags job_sound
+      (record { both = both_kept it; alone = fronts.alone_kept it; said = said_kept }) sent

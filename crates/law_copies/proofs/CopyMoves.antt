@@ -30,6 +30,19 @@ use Rattle.law_copies.proofs.AllPut.{all_put, copied_now, none_left_to_put}
 use Rattle.law_copies.proofs.Epochs.{epoch_at}
 use Rattle.law_copies.proofs.Holding.{HolderStep, alike_by, alike_still, below, holder_copying, holder_told, to_be_copied, trimmed_or}
 
+-- the last copy follows where the holder's entries stay, and no more of them is counted as put
+followed_on : (holder to other : Own) (cell : Cell) (copy next : Copying) (g : IsFollowed holder other cell copy)
+    → chain_in to.store.chains cell ≡ chain_in holder.store.chains cell → next.op ≡ copy.op → next.index ≤ g.last.index → IsFollowed to other cell next
+followed_on holder to other cell copy next g chain op past = record {
+  last = g.last;
+  is = g.is;
+  op_is = g.op_is ∙ sym op;
+  epochs_are = g.epochs_are ∙ ap epochs_of (sym chain);
+  past = past;
+  trimmed = g.trimmed;
+  put = λ i row lt there. g.put i row lt (ap (λ c. slice_get c i) (sym chain) ∙ there);
+}
+
 module _ (heard : Body → Type 0) (links : ℕ) (row : LinkRow) (cell : Cell) (vo : Option Own) (own : Own)
     (old : AreCopying links row cell (Some own) vo) where
   abbrev Step : Own → Type 0
@@ -278,15 +291,7 @@ module _ (heard : Body → Type 0) (links : ℕ) (row : LinkRow) (cell : Cell) (
           left = λ w. c.left (inr lt);
           beside = c.beside;
           met = c.met;
-          followed = λ t. record {
-            last = g.last;
-            is = g.is;
-            op_is = g.op_is;
-            epochs_are = g.epochs_are;
-            past = synced_past;
-            trimmed = g.trimmed;
-            put = g.put;
-          };
+          followed = λ t. followed_on own to_synced c.beside cell copy synced g refl refl synced_past;
           heard = λ last f there op. true_false done f;
         })
 
@@ -340,15 +345,7 @@ module _ (heard : Body → Type 0) (links : ℕ) (row : LinkRow) (cell : Cell) (
             left = λ w. elim w [ inl f ↦ true_false done f | inr lt ↦ absurd (omega arith) ];
             beside = c.beside;
             met = c.met;
-            followed = λ t. record {
-              last = g.last;
-              is = g.is;
-              op_is = g.op_is;
-              epochs_are = g.epochs_are;
-              past = g.past;
-              trimmed = g.trimmed;
-              put = g.put;
-            };
+            followed = λ t. followed_on own unmarked c.beside cell copy copy g refl refl g.past;
             heard = λ last f there op. true_false done f;
           })
 

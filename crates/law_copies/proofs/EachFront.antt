@@ -10,13 +10,12 @@ use Rattle.petal_command.specs.declared.command.Command.{Command}
 use Rattle.petal_msg.specs.Kinds.{about}
 use Rattle.petal_msg.specs.declared.body.Body.{Body}
 use Rattle.petal_history.specs.Claims.{IsMarked, IsPrefix, IsToBeCopied}
-use Rattle.petal_history.specs.declared.record.Record.{Record}
 use Rattle.petal_state.specs.CellState.{cell_link}
 use Rattle.petal_state.specs.Command.{state_after}
-use Rattle.petal_rules.specs.Server.{Own, Server, Done}
+use Rattle.petal_rules.specs.Server.{Own}
 use Rattle.petal_rules.specs.State.{is_whole}
 use Rattle.petal_rules.specs.Store.{Store, chain_in}
-use Rattle.petal_rules.specs.World.{Setting, World, blank_joins_in, chosen_log, server_state}
+use Rattle.petal_rules.specs.World.{blank_joins_in, chosen_log, server_state}
 use Rattle.petal_rules.proofs.Tests.{by_bool, none_some, same_or_apart, same_some, some_or_none, true_false}
 use Rattle.law_state.specs.Rows.{IsLater, ByBoth, ByNone, ByOne}
 use Rattle.law_state.specs.Homes.{stage_at}
@@ -27,81 +26,62 @@ use Rattle.law_state.proofs.Roles.{primary_is_one, secondary_is_one}
 use Rattle.law_steps.proofs.Fronts.{front_on}
 use Rattle.law_steps.proofs.Letters.{said}
 use Rattle.law_copies.specs.Copied.{AreCopying, IsCovered, IsPage, IsTold, Is_marked_here, Is_to_be_copied, NotCopied, links_of}
-use Rattle.law_copies.specs.Good.{AloneOk, AreBeside, AreTwins, BothOk, Good, StaysLeft}
-use Rattle.law_copies.specs.Visits.{AliveIn, HasBeen, HasFilled, IsLinked, place_by, store_by, with_stores}
+use Rattle.law_copies.specs.Good.{AloneOk, AreBeside, AreTwins, BothOk, StaysLeft}
+use Rattle.law_copies.specs.Visits.{AliveIn, HasBeen, HasFilled, IsLinked, place_by}
+use Rattle.law_copies.proofs.Visited.{counted_up, none_before}
+use Rattle.law_copies.proofs.Visited.{then_of}
+use Rattle.law_copies.proofs.AtJob.{AtJob, step_at}
 use Rattle.law_copies.proofs.Counts.{joins_at}
 use Rattle.law_copies.proofs.Framed.{LeavesAt, LeavesBoth, LeavesStore, alone_framed, both_framed, filled_framed, filled_on, marked_on}
 use Rattle.law_copies.proofs.Framed.{marks_back, other_is_one, store_same, to_copy_on}
 use Rattle.law_copies.proofs.NewPlaces.{beside_same, twins_same}
-use Rattle.law_copies.proofs.Later.{AllStarted, IsCaughtUp, alone_not_lost, alone_or_flagged, alone_since, both_since, holder_is_one, holds_since, same_only}
+use Rattle.law_copies.proofs.Later.{IsCaughtUp, alone_not_lost, alone_or_flagged, alone_since, both_since, holder_is_one, holds_since, same_only}
 use Rattle.law_copies.proofs.Others.{other_apart}
 use Rattle.law_copies.proofs.Places.{at_most_or_above, fronts_meet, linked_alive, links_same, one_row, other_later, places_up, rows_later}
 use Rattle.law_copies.proofs.Seated.{other_back}
-use Rattle.law_copies.proofs.Visited.{IsAt, stored, stored_frozen, visited_beside}
+use Rattle.law_copies.proofs.Visited.{IsAt, stored_frozen, visited_beside}
 use Rattle.law_copies.proofs.Worked as worked
-use Rattle.law_copies.proofs.Worked.{IsJob}
 use Rattle.law_copies.proofs.Leaving as leaving
 use Rattle.law_copies.proofs.Leaving.{below, Same_store, Covers, Gone, Left_by}
 
-module _ (setting : Setting) (records : List Record) (w : World) (stores : ℕ → Store) (v : World) (k : ℕ) (server : Server)
-    (good : Good setting records (chosen_log setting w) (with_stores w stores)) (done : Done) (job : IsJob setting w stores v k server done)
-    (started : AllStarted setting records w) where
+module _ (it : AtJob) where
+  open it use {setting, records, w, stores, k, server, good, firm, done, job, started}
+  open then_of (step_at it) use {visits, reached, next, olds, news}
+
   abbrev top : List Command
   top = chosen_log setting w
 
   abbrev front : List Command
   front = (w.servers k).log.applied
 
-  abbrev visits : (n place : ℕ) → Cell → Option Own
-  visits = worked.visits setting records w stores v k server good done job
-
-  abbrev reached : Cell → ℕ
-  reached = worked.reached setting records w stores v k server good done job
-
-  pub up : (cell : Cell) → good.reached cell ≤ reached cell
-  up = worked.up setting records w stores v k server good done job
-
-  pub nones : (n place : ℕ) (cell : Cell) → visits n place cell ≡ None → good.visits n place cell ≡ None
-  nones = worked.nones setting records w stores v k server good done job
-
-  abbrev next : ℕ → ℕ → Store
-  next = stored setting records top (with_stores w stores) v k server good job.step
-
-  -- the stores by a front, before and then
-  abbrev olds : List Command → ℕ → Store
-  olds = store_by setting good.stores
-
-  abbrev news : List Command → ℕ → Store
-  news = store_by setting next
-
   -- the server has joined with an empty store no more often than by this front
   abbrev IsNow : List Command → Type 0
   IsNow f = blank_joins_in setting f k ≡ blank_joins_in setting top k
 
   store_was : (f : List Command) → IsNow f → olds f k ≡ (w.servers k).own.store
-  store_was = leaving.store_was setting records w stores v k server good done job started
+  store_was = leaving.store_was it
 
   store_now : (f : List Command) → IsNow f → news f k ≡ done.own.store
-  store_now = leaving.store_now setting records w stores v k server good done job started
+  store_now = leaving.store_now it
 
   store_apart : (f : List Command) (n : ℕ) → n ≢ k → news f n ≡ olds f n
-  store_apart = leaving.store_apart setting records w stores v k server good done job started
+  store_apart = leaving.store_apart it
 
   visit_apart : (n place : ℕ) (cell : Cell) → n ≢ k → visits n place cell ≡ good.visits n place cell
-  visit_apart = worked.visit_apart setting records w stores v k server good done job
+  visit_apart = worked.visit_apart it
 
   leaves_apart : (f : List Command) (n place : ℕ) (cell : Cell) → n ≢ k
-      → LeavesAt setting top good.stores next good.visits visits good.reached reached f n place cell
+      → LeavesAt (step_at it) f n place cell
   leaves_apart f n place cell ne = record {
     visit = visit_apart n place cell ne;
     store = λ lives. store_same (olds f n) (news f n) cell (store_apart f n ne);
   }
 
   abbrev Leaves : List Command → ℕ → Cell → LinkRow → Type 0
-  Leaves f place cell row = LeavesBoth setting top good.stores next good.visits visits good.reached reached f place cell row
+  Leaves f place cell row = LeavesBoth (step_at it) f place cell row
 
   steady_at : (f : List Command) → IsPrefix f top → IsSteady (state_after setting.servers f)
-  steady_at = leaving.steady_at setting records w stores v k server good done job started
+  steady_at = leaving.steady_at it
 
   -- of a link that the server is not of nothing is to show
   pub stranger_leaves : (f : List Command) (place : ℕ) (cell : Cell) (row : LinkRow) → has_server k row ≡ false → Leaves f place cell row
@@ -114,7 +94,7 @@ module _ (setting : Setting) (records : List Record) (w : World) (stores : ℕ �
 
   visit_else : (place : ℕ) (cell : Cell) → IsElsewhere place cell → visits k place cell ≡ good.visits k place cell
   visit_else place cell away =
-      visited_beside setting records top (with_stores w stores) v k server good job.step k place cell
+      visited_beside (step_at it) k place cell
       (λ (a : IsAt setting k server place cell). away a.row (subst (λ f. IsLinked setting f cell a.row) job.applied a.linked)
       (subst (λ f. AliveIn (state_after setting.servers f) cell) job.applied a.alive) (a.at ∙ ap (λ f. place_by setting f a.row) job.applied))
 
@@ -125,16 +105,16 @@ module _ (setting : Setting) (records : List Record) (w : World) (stores : ℕ �
   ]
 
   abbrev IsLeftAt : List Command → (place : ℕ) → Cell → LinkRow → Type 0
-  IsLeftAt = leaving.IsLeftAt setting records w stores v k server good done job started
+  IsLeftAt = leaving.IsLeftAt it
 
   abbrev IsStillLeft : List Command → (place : ℕ) → Cell → LinkRow → (h : ℕ) → Type 0
-  IsStillLeft = leaving.IsStillLeft setting records w stores v k server good done job started
+  IsStillLeft = leaving.IsStillLeft it
 
   left_so : (f : List Command) (cell : Cell) → IsNow f → LeavesStore (w.servers k).own.store done.own.store cell → LeavesStore (olds f k) (news f k) cell
-  left_so = leaving.left_so setting records w stores v k server good done job started
+  left_so = leaving.left_so it
 
   alive_own : (cell : Cell) → AliveIn (state_after setting.servers top) cell → AliveIn (server_state setting w k) cell
-  alive_own cell lives = leaving.alive_at setting records w stores v k server good done job started front cell (job.firm.servers k) lives
+  alive_own cell lives = leaving.alive_at it front cell (firm.servers k) lives
 
   -- of a cell that has no link by its own entries the step leaves all, and by entries that tell of fewer Joins of the server, too
   pub left_else : (f : List Command) (cell : Cell) (row : LinkRow) → IsPrefix f top → IsLinked setting f cell row → has_server k row ≡ true
@@ -142,19 +122,19 @@ module _ (setting : Setting) (records : List Record) (w : World) (stores : ℕ �
       → IsLeftAt f (place_by setting f row) cell row
   left_else f cell row prefix end has lives away last = elim (same_or_apart (blank_joins_in setting f k) (blank_joins_in setting top k)) [
     | inl now ↦ elim (some_or_none (cell_link (server_state setting w k) cell)) [
-      | inl h ↦ leaving.linked_left setting records w stores v k server good done job started cell lives h.0 h.1 (has_mine h.0 h.1) f row prefix end
+      | inl h ↦ leaving.linked_left it cell lives h.0 h.1 (has_mine h.0 h.1) f row prefix end
           (away h.0 h.1 (alive_own cell lives)) last now
       | inr none ↦ (let keeps = job.keeping.unlinked cell none (alive_own cell lives) in Same_store
           (left_so f cell now (record { chain = keeps.rest.chain; marks = keeps.marks })))
     ]
     | inr ne ↦ Same_store (store_same (olds f k) (news f k) cell
-        (stored_frozen setting records top (with_stores w stores) v k server good job.step k (blank_joins_in setting f k) ne))
+        (stored_frozen (step_at it) k (blank_joins_in setting f k) ne))
   ]
     where
       has_mine : (mine : LinkRow) → IsLinked setting front cell mine → has_server k mine ≡ true
-      has_mine mine is = elim (fronts_meet f front top prefix (job.firm.servers k)) [
-        | inl p ↦ one_before row mine k (rows_later setting top job.firm.plain f front cell row mine p (job.firm.servers k) end is) ∙ has
-        | inr p ↦ sym (one_before mine row k (rows_later setting top job.firm.plain front f cell mine row p prefix is end)) ∙ has
+      has_mine mine is = elim (fronts_meet f front top prefix (firm.servers k)) [
+        | inl p ↦ one_before row mine k (rows_later setting top firm.plain f front cell row mine p (firm.servers k) end is) ∙ has
+        | inr p ↦ sym (one_before mine row k (rows_later setting top firm.plain front f cell mine row p prefix is end)) ∙ has
       ]
 
   -- ### At each front
@@ -168,7 +148,7 @@ module _ (setting : Setting) (records : List Record) (w : World) (stores : ℕ �
     | inr alive ↦ elim (some_or_none (cell_link (server_state setting w k) cell)) [
       | inl h ↦ elim (same_or_apart (place_by setting f row) (place_by setting front h.0)) [
         | inl e ↦ (
-            let one : h.0 ≡ row = one_row setting top job.firm.plain f front cell row h.0 prefix (job.firm.servers k) is h.1 e in
+            let one : h.0 ≡ row = one_row setting top firm.plain f front cell row h.0 prefix (firm.servers k) is h.1 e in
             so (subst (IsLinked setting front cell) one h.1) alive (ap (place_by setting front) (sym one) ∙ sym e))
         | inr ne ↦ away (λ row' is' alive' e. ne (e ∙ ap (place_by setting front) (same_some (sym is' ∙ h.1))))
       ]
@@ -180,7 +160,7 @@ module _ (setting : Setting) (records : List Record) (w : World) (stores : ℕ �
   pub else_leaves : (f : List Command) (place : ℕ) (cell : Cell) (row : LinkRow) → IsElsewhere place cell
       → (AliveIn (state_after setting.servers top) cell → LeavesStore (olds f k) (news f k) cell) → Leaves f place cell row
   else_leaves f place cell row away same n has = elim (same_or_apart n k) [
-    | inl e ↦ subst (λ m. LeavesAt setting top good.stores next good.visits visits good.reached reached f m place cell) (sym e)
+    | inl e ↦ subst (λ m. LeavesAt (step_at it) f m place cell) (sym e)
         (record { visit = visit_else place cell away; store = same })
     | inr ne ↦ leaves_apart f n place cell ne
   ]
@@ -188,10 +168,10 @@ module _ (setting : Setting) (records : List Record) (w : World) (stores : ℕ �
   -- two fronts at one place of the link are behind as many Joins of each of its servers
   joins_here : (f : List Command) (cell : Cell) (row : LinkRow) (n : ℕ) → IsPrefix f top → IsLinked setting f cell row → IsLinked setting front cell row
       → place_by setting front row ≡ place_by setting f row → has_server n row ≡ true → blank_joins_in setting front n ≡ blank_joins_in setting f n
-  joins_here f cell row n prefix is mine e has = joins_at setting top job.firm.plain front f cell row row n (job.firm.servers k) prefix mine is has has e
+  joins_here f cell row n prefix is mine e has = joins_at setting top firm.plain front f cell row row n (firm.servers k) prefix mine is has has e
 
   pub last_old : (cell : Cell) (place : ℕ) → reached cell ≤ place → good.reached cell ≤ place
-  last_old cell place le = let more = up cell in omega arith
+  last_old cell place le = let more = counted_up (step_at it) cell in omega arith
 
   pub holds : (f : List Command) (cell : Cell) (row : LinkRow) (holder : ℕ) (whole : Bool) → IsPrefix f top → IsLinked setting f cell row
       → row.state ≡ Only holder whole → has_server holder row ≡ true
@@ -203,7 +183,7 @@ module _ (setting : Setting) (records : List Record) (w : World) (stores : ℕ �
       → AliveIn (state_after setting.servers top) cell → IsElsewhere (place_by setting f row) cell → IsLeftAt f (place_by setting f row) cell row
       → reached cell ≤ place_by setting f row → AreTwins (news f) visits (place_by setting f row) cell row.primary row.secondary
   twins_else f cell row both ok lives away (Same_store same) last =
-      (both_framed setting top good.stores next good.visits visits good.reached reached up nones f cell row
+      (both_framed (step_at it) f cell row
       (else_leaves f (place_by setting f row) cell row away (λ alive. same)) ok).twins lives last
   twins_else f cell row both ok lives away (Covers whole alone none covered) last = alone_not_both row k alone both
   twins_else f cell row both ok lives away (Gone lost) last = lost_not_both row lost both
@@ -234,13 +214,13 @@ module _ (setting : Setting) (records : List Record) (w : World) (stores : ℕ �
       (λ has. at_or_else f cell row prefix is
       (λ mine alive e. record {
         twins = λ lives last. twins_moved f cell row prefix is mine e
-            (worked.both_now setting records w stores v k server good done job cell row mine alive lives both has).twins;
+            (worked.both_now it cell row mine alive lives both has).twins;
       })
       (λ away. record {
         twins = λ lives last. twins_else f cell row both ok lives away
             (left_else f cell row prefix is has lives away (last_old cell (place_by setting f row) last)) last;
       }))
-      (λ off. both_framed setting top good.stores next good.visits visits good.reached reached up nones f cell row
+      (λ off. both_framed (step_at it) f cell row
       (stranger_leaves f (place_by setting f row) cell row off) ok)
 
   -- ### Alone
@@ -270,7 +250,7 @@ module _ (setting : Setting) (records : List Record) (w : World) (stores : ℕ �
         → reached cell ≤ there
         → AreBeside (news f) visits there row cell holder other_one
     beside_else has lives away (Same_store same) last =
-        (alone_framed setting top good.stores next good.visits visits good.reached reached up nones f cell row holder has_holder
+        (alone_framed (step_at it) f cell row holder has_holder
         (else_leaves f there cell row away (λ alive. same)) ok).beside lives last
     beside_else has lives away (Gone lost) last = alone_not_lost row holder alone lost
     beside_else has lives away (Covers kept mine none covered) last =
@@ -321,7 +301,7 @@ module _ (setting : Setting) (records : List Record) (w : World) (stores : ℕ �
         → ((p : ℕ) → there < p → good.visits other_one p cell ≡ None) → KeepsLeft o (olds f k) (news f k)
     stays_mine lives e away o visit beyond = elim (same_or_apart (blank_joins_in setting f k) (blank_joins_in setting top k)) [
       | inr ne ↦ (
-          let same = stored_frozen setting records top (with_stores w stores) v k server good job.step k (blank_joins_in setting f k) ne in
+          let same = stored_frozen (step_at it) k (blank_joins_in setting f k) ne in
           (λ was marked. subst (λ s. IsMarked s cell) (sym same) marked, λ was copied all. subst (λ s. IsToBeCopied row s cell) (sym same) all))
       | inl now ↦ by now
     ]
@@ -335,18 +315,18 @@ module _ (setting : Setting) (records : List Record) (w : World) (stores : ℕ �
         alive = alive_own cell lives
 
         mine : (now : LinkRow) × IsLinked setting front cell now
-        mine = linked_alive setting top job.firm.plain b.front front cell b.row b.within (job.firm.servers k) b.linked alive
+        mine = linked_alive setting top firm.plain b.front front cell b.row b.within (firm.servers k) b.linked alive
 
         past : there < place_by setting front mine.0
         past =
-            let up = places_up setting top job.firm.plain b.front front cell b.row mine.0 b.within (job.firm.servers k) b.linked mine.1 in
+            let up = places_up setting top firm.plain b.front front cell b.row mine.0 b.within (firm.servers k) b.linked mine.1 in
             let at = b.at in
             below (omega arith) (away mine.0 mine.1 alive)
 
         by : IsNow f → KeepsLeft o (olds f k) (news f k)
-        by now = elim (fronts_meet f front top prefix (job.firm.servers k)) [
-          | inr p ↦ (let le = places_up setting top job.firm.plain front f cell mine.0 row p prefix mine.1 is in absurd (omega (arith, past)))
-          | inl p ↦ elim (alone_or_flagged setting records w stores job.firm good started f front cell row mine.0 k whole p (job.firm.servers k) is
+        by now = elim (fronts_meet f front top prefix (firm.servers k)) [
+          | inr p ↦ (let le = places_up setting top firm.plain front f cell mine.0 row p prefix mine.1 is in absurd (omega (arith, past)))
+          | inl p ↦ elim (alone_or_flagged setting records w stores firm good started f front cell row mine.0 k whole p (firm.servers k) is
               (alone ∙ ap (λ n. Only n whole) e) mine.1 alive
               (λ q lt. ap (λ n. good.visits (other_of n row) q cell) (sym e) ∙ beyond q lt)) [
                 | inl so ↦ held now p so.0 so.1
@@ -369,8 +349,8 @@ module _ (setting : Setting) (records : List Record) (w : World) (stores : ℕ �
           where
             held : IsNow f → IsPrefix f front → (kept : Bool) → mine.0.state ≡ Only k kept → KeepsLeft o (olds f k) (news f k)
             held now p kept so =
-                let later = rows_later setting top job.firm.plain f front cell row mine.0 p (job.firm.servers k) is mine.1 in
-                let keeps = worked.keeps_holder setting records w stores v k server good done job cell mine.0 mine.1 alive kept so in (
+                let later = rows_later setting top firm.plain f front cell row mine.0 p (firm.servers k) is mine.1 in
+                let keeps = worked.keeps_holder it cell mine.0 mine.1 alive kept so in (
                   λ was marked. elim (keeps.marks (subst (λ s. IsMarked s cell) (store_was f now) marked)) [
                     | inl still ↦ subst (λ s. IsMarked s cell) (sym (store_now f now)) still
                     | inr met ↦ true_false met
@@ -389,7 +369,7 @@ module _ (setting : Setting) (records : List Record) (w : World) (stores : ℕ �
         → StaysLeft row cell o (news f holder)
     stays_else lives away o visit beyond =
         let was = sym (visits_else holder there cell away) ∙ visit in
-        let unseen : (p : ℕ) → there < p → good.visits other_one p cell ≡ None = λ p lt. nones other_one p cell (beyond p lt) in
+        let unseen : (p : ℕ) → there < p → good.visits other_one p cell ≡ None = λ p lt. none_before (step_at it) other_one p cell (beyond p lt) in
         let now = ok.stays lives o was unseen in
         elim (same_or_apart holder k) [
           | inl e ↦ (
@@ -442,7 +422,7 @@ module _ (setting : Setting) (records : List Record) (w : World) (stores : ℕ �
           → blank_joins_in setting more other_one ≡ blank_joins_in setting f other_one → good.visits holder (place_by setting more other) cell ≡ Some own
           → HasFilled setting top visits f cell holder other_one
       filled_at more other own within linked joins visit =
-          filled_on setting top good.stores next good.visits visits good.reached reached up nones f cell holder other_one
+          filled_on (step_at it) f cell holder other_one
           (record { more = more; within = within; row = other; linked = linked; joins = joins; own = own; visited = visit })
 
       -- where the job changes the other server's copy, the holder has been at a place
@@ -455,17 +435,17 @@ module _ (setting : Setting) (records : List Record) (w : World) (stores : ℕ �
       ]
         where
           alive_f : AliveIn (state_after setting.servers f) cell
-          alive_f = leaving.alive_at setting records w stores v k server good done job started f cell prefix lives
+          alive_f = leaving.alive_at it f cell prefix lives
 
           now_at : (more : List Command) → blank_joins_in setting more k ≡ blank_joins_in setting top k
               → blank_joins_in setting more other_one ≡ blank_joins_in setting f other_one
           now_at more same = ap (blank_joins_in setting more) e ∙ same ∙ sym now ∙ ap (blank_joins_in setting f) (sym e)
 
           -- behind the front the holder started a ballot
-          by_caught : (more : List Command) (kept : Bool) → IsPrefix f front → (u : IsCaughtUp setting records w stores job.firm good f front cell holder kept)
+          by_caught : (more : List Command) (kept : Bool) → IsPrefix f front → (u : IsCaughtUp setting records w stores firm good f front cell holder kept)
               → HasFilled setting top visits f cell holder other_one
           by_caught more kept p u =
-              let u_top = front_on u.until front top u.before (job.firm.servers k) in
+              let u_top = front_on u.until front top u.before (firm.servers k) in
               let low = joins_grow setting.servers f u.until k u.behind in
               let high = joins_grow setting.servers u.until top k u_top in
               filled_at u.until u.row u.own u_top u.linked (now_at u.until (omega (arith, now))) u.visited
@@ -474,8 +454,8 @@ module _ (setting : Setting) (records : List Record) (w : World) (stores : ℕ �
               → (mine.state ≡ Lost → ⊥)
               → HasFilled setting top visits f cell holder other_one
           by_since mine linked p not_held not_lost =
-              elim (alone_since setting records w stores job.firm good started f front cell row mine holder whole p
-              (job.firm.servers k) is alone linked (alive_own cell lives)) [
+              elim (alone_since setting records w stores firm good started f front cell row mine holder whole p
+              (firm.servers k) is alone linked (alive_own cell lives)) [
                 | inl held ↦ absurd (not_held held.0 held.1)
                 | inr (inl lost) ↦ absurd (not_lost lost)
                 | inr (inr u) ↦ by_caught f whole p u
@@ -483,14 +463,14 @@ module _ (setting : Setting) (records : List Record) (w : World) (stores : ℕ �
 
           by_mine : (mine : LinkRow) → IsLinked setting front cell mine → (chain_in done.own.store.chains cell ≡ chain_in (w.servers k).own.store.chains cell)
               ⊎ HasFilled setting top visits f cell holder other_one
-          by_mine mine linked = elim ((steady_at front (job.firm.servers k)).linked cell mine linked).served [
+          by_mine mine linked = elim ((steady_at front (firm.servers k)).linked cell mine linked).served [
             | ByNone one o so pair out ↦ inl (job.keeping.lost cell mine linked (alive_own cell lives) so).rest.chain
-            | ByBoth so one o ↦ elim (fronts_meet f front top prefix (job.firm.servers k)) [
+            | ByBoth so one o ↦ elim (fronts_meet f front top prefix (firm.servers k)) [
               | inl p ↦ inr (by_since mine linked p (λ kept g. alone_not_both mine holder g so) (λ g. lost_not_both mine g so))
-              | inr p ↦ elim (both_since setting records w stores job.firm good k job.works.runs job.works.seat cell mine linked so
+              | inr p ↦ elim (both_since setting records w stores firm good k job.works.runs job.works.seat cell mine linked so
                   (has_mine mine linked) f row p prefix is alive_f) [
                     | inl same ↦ (
-                        let one_is = one_row setting top job.firm.plain front f cell mine row (job.firm.servers k) prefix linked is (sym same) in
+                        let one_is = one_row setting top firm.plain front f cell mine row (firm.servers k) prefix linked is (sym same) in
                         alone_not_both row holder alone (ap (λ (x : LinkRow). x.state) one_is ∙ so))
                     | inr held ↦ absurd (two (e ∙ sym (same_only (sym alone ∙ held.1))))
                   ]
@@ -498,33 +478,33 @@ module _ (setting : Setting) (records : List Record) (w : World) (stores : ℕ �
             | ByOne h o kept so pair out ↦ elim (same_or_apart h k) [
               | inl mine_h ↦ (
                   let its : mine.state ≡ Only k kept = so ∙ ap (λ n. Only n kept) mine_h in
-                  elim (fronts_meet f front top prefix (job.firm.servers k)) [
+                  elim (fronts_meet f front top prefix (firm.servers k)) [
                     | inl p ↦ inr (by_since mine linked p (λ b g. two (e ∙ sym (same_only (sym g ∙ its)))) (λ g. alone_not_lost mine k its g))
-                    | inr p ↦ elim (holds_since setting records w stores job.firm good k job.works.runs job.works.seat cell mine linked started kept
+                    | inr p ↦ elim (holds_since setting records w stores firm good k job.works.runs job.works.seat cell mine linked started kept
                         its f row p prefix is alive_f) [
                           | inl held ↦ absurd (two (e ∙ sym (same_only (sym alone ∙ held.1))))
-                          | inr flagged ↦ inl (leaving.flagged_leaves setting records w stores v k server good done job started cell lives mine linked
+                          | inr flagged ↦ inl (leaving.flagged_leaves it cell lives mine linked
                               (has_mine mine linked) kept its flagged).chain
                         ]
                   ])
-              | inr ne ↦ elim (leaving.keeps_other setting records w stores v k server good done job started cell lives mine linked
+              | inr ne ↦ elim (leaving.keeps_other it cell lives mine linked
                   (has_mine mine linked) h kept so ne).changes [
                     | inl chain ↦ inl chain
                     | inr m ↦ (
-                        let has_h = holder_is_one (server_state setting w k) (steady_at front (job.firm.servers k)) h cell mine linked so in
+                        let has_h = holder_is_one (server_state setting w k) (steady_at front (firm.servers k)) h cell mine linked so in
                         let its = is_holder h kept mine e
-                        (leaving.other setting records w stores v k server good done job started cell lives mine linked
+                        (leaving.other it cell lives mine linked
                         (has_mine mine linked) h kept so ne) (later_or mine linked) has_h ne in
-                        inr (filled_at front mine m.by (job.firm.servers k) linked (now_at front job.works.counts)
+                        inr (filled_at front mine m.by (firm.servers k) linked (now_at front job.works.counts)
                         (ap (λ n. good.visits n (place_by setting front mine) cell) (sym its) ∙ m.met)))
                   ]
             ]
           ]
             where
               later_or : (mine : LinkRow) → IsLinked setting front cell mine → IsLater row mine ⊎ IsLater mine row
-              later_or mine linked = elim (fronts_meet f front top prefix (job.firm.servers k)) [
-                | inl p ↦ inl (rows_later setting top job.firm.plain f front cell row mine p (job.firm.servers k) is linked)
-                | inr p ↦ inr (rows_later setting top job.firm.plain front f cell mine row p prefix linked is)
+              later_or mine linked = elim (fronts_meet f front top prefix (firm.servers k)) [
+                | inl p ↦ inl (rows_later setting top firm.plain f front cell row mine p (firm.servers k) is linked)
+                | inr p ↦ inr (rows_later setting top firm.plain front f cell mine row p prefix linked is)
               ]
 
               has_mine : (mine : LinkRow) → IsLinked setting front cell mine → has_server k mine ≡ true
@@ -536,15 +516,15 @@ module _ (setting : Setting) (records : List Record) (w : World) (stores : ℕ �
       unfilled_kept : AliveIn (state_after setting.servers top) cell → is_whole row.state ≡ true →
           (chain_in (news f other_one).chains cell ≡ []) ⊎ HasFilled setting top visits f cell holder other_one
       unfilled_kept lives all = elim (same_or_apart other_one k) [
-        | inr ne ↦ filled_framed setting top good.stores next good.visits visits good.reached reached up nones f cell holder other_one
+        | inr ne ↦ filled_framed (step_at it) f cell holder other_one
             (ap (λ (s : Store). chain_in s.chains cell) (store_apart f other_one ne)) (ok.unfilled lives all)
         | inl e ↦ elim (same_or_apart (blank_joins_in setting f k) (blank_joins_in setting top k)) [
-          | inr ne ↦ filled_framed setting top good.stores next good.visits visits good.reached reached up nones f cell holder other_one
+          | inr ne ↦ filled_framed (step_at it) f cell holder other_one
               (ap (λ (s : Store). chain_in s.chains cell) (ap (news f) e
-              ∙ stored_frozen setting records top (with_stores w stores) v k server good job.step k (blank_joins_in setting f k) ne ∙ ap (olds f)
+              ∙ stored_frozen (step_at it) k (blank_joins_in setting f k) ne ∙ ap (olds f)
               (sym e))) (ok.unfilled lives all)
           | inl now ↦ elim (changed lives e now) [
-            | inl chain ↦ filled_framed setting top good.stores next good.visits visits good.reached reached up nones f cell holder other_one
+            | inl chain ↦ filled_framed (step_at it) f cell holder other_one
                 (ap (λ n. chain_in (news f n).chains cell) e ∙ ap (λ (s : Store). chain_in s.chains cell) (store_now f now) ∙ chain
                 ∙ ap (λ (s : Store). chain_in s.chains cell) (sym (store_was f now)) ∙ ap (λ n. chain_in (olds f n).chains cell) (sym e))
                 (ok.unfilled lives all)
@@ -564,12 +544,12 @@ module _ (setting : Setting) (records : List Record) (w : World) (stores : ℕ �
       alone_at : IsLinked setting front cell row → AliveIn (server_state setting w k) cell → place_by setting front row ≡ there
           → AloneOk setting top next visits reached f cell row holder
       alone_at mine alive e =
-          let now = worked.alone_now setting records w stores v k server good done job cell row mine alive holder whole alone has in
+          let now = worked.alone_now it cell row mine alive holder whole alone has in
           let one = news_here f cell row holder prefix is mine e has_holder in
           let two_is = news_here f cell row other_one prefix is mine e (other_is_one row holder) in
           record {
             copying = subst (λ many. AreCopying many row cell (visits holder there cell) (visits other_one there cell))
-                (links_same setting top job.firm.plain front f cell row row (job.firm.servers k) prefix mine is)
+                (links_same setting top firm.plain front f cell row row (firm.servers k) prefix mine is)
                 (subst (λ place. AreCopying (links_of (server_state setting w k) cell.map) row cell (visits holder place cell) (visits other_one place cell))
                 e now.copying);
             beside = λ lives last. subst (λ place. AreBeside (news f) visits place row cell holder other_one) e
@@ -585,7 +565,7 @@ module _ (setting : Setting) (records : List Record) (w : World) (stores : ℕ �
           → IsTold row (good.visits holder there cell) (good.visits other_one there cell) said
           → IsTold row (visits holder there cell) (visits other_one there cell) said
       said_alone_at mine alive e said of told =
-          let now = worked.alone_now setting records w stores v k server good done job cell row mine alive holder whole alone has in
+          let now = worked.alone_now it cell row mine alive holder whole alone has in
           subst (λ place. IsTold row (visits holder place cell) (visits other_one place cell) said) e
           (now.told said of (subst (λ place. IsTold row (good.visits holder place cell) (good.visits other_one place cell) said) (sym e) told))
 
@@ -594,7 +574,7 @@ module _ (setting : Setting) (records : List Record) (w : World) (stores : ℕ �
           → IsPage cell (olds f other_one) (good.visits other_one there cell) after block
           → IsPage cell (news f other_one) (visits other_one there cell) after block
       page_at lives mine alive e after block page =
-          let now = worked.alone_now setting records w stores v k server good done job cell row mine alive holder whole alone has in
+          let now = worked.alone_now it cell row mine alive holder whole alone has in
           let its = other_is_one row holder in
           subst (λ b. IsPage cell b (visits other_one there cell) after block) (news_here f cell row other_one prefix is mine e its)
           (subst (λ place. IsPage cell (news front other_one) (visits other_one place cell) after block) e
@@ -604,5 +584,5 @@ module _ (setting : Setting) (records : List Record) (w : World) (stores : ℕ �
     pub alone_kept : AloneOk setting top next visits reached f cell row holder
     alone_kept = by_bool (has_server k row)
         (λ has. at_or_else f cell row prefix is (alone_at has) (alone_else has))
-        (λ off. alone_framed setting top good.stores next good.visits visits good.reached reached up nones f cell row holder has_holder
+        (λ off. alone_framed (step_at it) f cell row holder has_holder
         (stranger_leaves f there cell row off) ok)

@@ -22,27 +22,28 @@ use Rattle.petal_state.specs.Command.{state_after}
 use Rattle.petal_state.specs.State.{inc_of}
 use Rattle.petal_rules.specs.Lists.{In}
 use Rattle.petal_rules.specs.Log.{state_in}
-use Rattle.petal_rules.specs.Server.{Own, Pairs, Server}
+use Rattle.petal_rules.specs.Server.{Own, Pairs}
 use Rattle.petal_rules.specs.State.{id_of, is_in}
 use Rattle.petal_rules.specs.Store.{Store, cell_cmp, chain_in, mark_on}
-use Rattle.petal_rules.specs.World.{Setting, World, blank_joins_in, chosen_log, server_state}
+use Rattle.petal_rules.specs.World.{World, chosen_log, server_state}
 use Rattle.petal_rules.specs.Writes.{is_clients, pending_on}
 use Rattle.petal_rules.proofs.Tests.{none_some, same_or_apart, same_some, some_or_none}
-use Rattle.law_state.specs.Firm.{Firm}
 use Rattle.law_state.specs.Places.{StaysSo}
 use Rattle.law_state.specs.Started.{is_flagged}
 use Rattle.law_state.proofs.Leaves.{other_between}
 use Rattle.law_state.proofs.Roles.{primary_is_one, secondary_is_one}
 use Rattle.law_state.proofs.Steady.{front_plain, log_steady}
-use Rattle.law_steps.specs.Ready.{IsRising, Rests}
+use Rattle.law_steps.specs.Ready.{IsRising}
 use Rattle.law_copies.specs.Copied.{AreAlike, AreCopying, IsPage, IsTold, links_of}
-use Rattle.law_copies.specs.Good.{AloneOk, AreTwins, BothOk, Good, SaidOk, StaysLeft, pair_at}
+use Rattle.law_copies.specs.Good.{AloneOk, AreTwins, BothOk, SaidOk, StaysLeft, pair_at}
 use Rattle.law_copies.specs.Pair.{IsRecalled, Known, PairOk, far, pair_of}
 use Rattle.law_copies.specs.Steps.{AreFilled}
-use Rattle.law_copies.specs.Visits.{AliveIn, IsLinked, Visits, half, place_by, store_by, with_stores}
+use Rattle.law_copies.specs.Visits.{AliveIn, IsLinked, half, place_by, with_stores}
+use Rattle.law_copies.proofs.Visited.{then_of}
+use Rattle.law_copies.proofs.AtEntry.{AtEntry, step_of}
 use Rattle.law_copies.proofs.Counts.{joins_at}
 use Rattle.law_copies.proofs.Entering as entering
-use Rattle.law_copies.proofs.LeftByEntry.{IsCrossed, KeepsAll}
+use Rattle.law_copies.proofs.LeftByEntry.{KeepsAll}
 use Rattle.law_copies.proofs.Framed.{LeavesStore, alike_same, filled_framed, marked_back, marked_on, other_is_one, pair_same, recalled_on, to_copy_on}
 use Rattle.law_copies.proofs.Fresh.{IsFresh, fresh_alike, fresh_first, fresh_first_known, fresh_holder, fresh_holder_told}
 use Rattle.law_copies.proofs.Fresh.{fresh_other, fresh_other_told, fresh_second}
@@ -52,17 +53,14 @@ use Rattle.law_copies.proofs.Others.{other_apart}
 use Rattle.law_copies.proofs.Places.{one_row}
 use Rattle.law_copies.proofs.Quiet.{stores_leave}
 use Rattle.law_copies.proofs.Stepping.{GoesOn, IsSoundOwn, IsTrue, KeepsFronts, good_after}
-use Rattle.law_copies.proofs.Visited.{IsAt, IsStep, IsThen, KeepsFlags, counted, counted_up, later, none_before, some_after}
-use Rattle.law_copies.proofs.Visited.{stored, stored_by, visited_apart, visited_by}
+use Rattle.law_copies.proofs.Visited.{IsAt, IsThen, KeepsFlags, counted_up, none_before, some_after}
+use Rattle.law_copies.proofs.Visited.{stored_by, visited_apart, visited_by}
 use Rattle.law_copies.proofs.AsBefore.{holder_stays, other_stays, stays_alike, IsLacking, PairGoes, goes_same}
 
-module _ (setting : Setting) (records : List Record) (w : World) (stores : ℕ → Store) (v : World) (k : ℕ) (server : Server)
-    (good : Good setting records (chosen_log setting w) (with_stores w stores))
-    (step : IsStep setting (chosen_log setting w) (with_stores w stores) v k server) (firm : Firm setting w) (rests : Rests setting w)
-    (runs : (w.servers k).life.running ≡ true) (entry : Command) (more : server.log.applied ≡ (w.servers k).log.applied ++ entry ∷ [])
-    (left : IsCrossed (server_state setting w k) entry ((with_stores w stores).servers k).own server.own) (inc : server.life.inc ≡ (w.servers k).life.inc)
-    (counts : is_in (state_in setting.servers server.log) k server.life.inc ≡ true
-    → blank_joins_in setting server.log.applied k ≡ blank_joins_in setting (chosen_log setting w) k) where
+module _ (it : AtEntry) where
+  open it use {setting, records, w, stores, v, k, server, good, step, left, inc, counts}
+  open then_of (step_of it) use {visits, reached, next as next_stores, olds, news}
+
   abbrev top : List Command
   top = chosen_log setting w
 
@@ -76,27 +74,8 @@ module _ (setting : Setting) (records : List Record) (w : World) (stores : ℕ �
   abbrev new : Own
   new = server.own
 
-  abbrev visits : Visits
-  visits = later setting records top u v k server good step
-
-  abbrev next_stores : ℕ → ℕ → Store
-  next_stores = stored setting records top u v k server good step
-
-  abbrev reached : Cell → ℕ
-  reached = counted setting records top u v k server good step
-
-  -- the stores that count by a front, before and then
-  abbrev olds : List Command → ℕ → Store
-  olds = store_by setting good.stores
-
-  abbrev news : List Command → ℕ → Store
-  news = store_by setting next_stores
-
   up : (cell : Cell) → good.reached cell ≤ reached cell
-  up = counted_up setting records top u v k server good step
-
-  nones : (n place : ℕ) (cell : Cell) → visits n place cell ≡ None → good.visits n place cell ≡ None
-  nones = none_before setting records top u v k server good step
+  up = counted_up (step_of it)
 
   counts_on : 1 ≤ new.pairs.next
   counts_on = subst (λ (p : Pairs). 1 ≤ p.next) (sym left.pairs) (good.counts k)
@@ -109,10 +88,10 @@ module _ (setting : Setting) (records : List Record) (w : World) (stores : ℕ �
   leaves_own cell = record { chain = ap (λ t. chain_in t cell) left.chains; marks = λ kind. ap (has_mark (mark_on kind cell)) left.marks }
 
   leaves : (front : List Command) (n : ℕ) (cell : Cell) → LeavesStore (olds front n) (news front n) cell
-  leaves front n cell = stores_leave setting records top u v k server good step cell (leaves_own cell) front n
+  leaves front n cell = stores_leave (step_of it) cell (leaves_own cell) front n
 
   apart_visit : (n place : ℕ) (cell : Cell) → n ≢ k → visits n place cell ≡ good.visits n place cell
-  apart_visit = visited_apart setting records top u v k server good step
+  apart_visit = visited_apart (step_of it)
 
   -- ### The server's visit of a place
 
@@ -123,7 +102,7 @@ module _ (setting : Setting) (records : List Record) (w : World) (stores : ℕ �
     Has_stayed : good.visits k place cell ≡ Some old → visits k place cell ≡ Some new → KeepsAll old new row cell → Arriving place cell row
 
   alive_there : (cell : Cell) → AliveIn (state_in setting.servers server.log) cell → AliveIn (server_state setting w k) cell
-  alive_there = entering.alive_before setting records w stores k server good firm rests runs entry more step.within left
+  alive_there = entering.alive_before it
 
   -- it was In as itself where it is so behind an entry that does not touch a link of its own
   seat_before : (row : LinkRow) (cell : Cell) → has_server k row ≡ true → StaysSo cell row (server_state setting w k) (state_in setting.servers server.log)
@@ -148,13 +127,13 @@ module _ (setting : Setting) (records : List Record) (w : World) (stores : ℕ �
       → IsAt setting k server (place_by setting front row) cell → news front k ≡ new.store
   store_there front cell row prefix is has there =
       let has_there : has_server k there.row ≡ true = ap (has_server k) (same_row front cell row prefix is there) ∙ has in
-      stored_by setting records top u v k server good step front
+      stored_by (step_of it) front
       (joins_at setting top step.plain front server.log.applied cell row there.row k prefix step.within is there.linked has has_there there.at
       ∙ counts there.seat)
 
   arriving : (front : List Command) (cell : Cell) (row : LinkRow) → IsPrefix front top → IsLinked setting front cell row → has_server k row ≡ true
       → Arriving (place_by setting front row) cell row
-  arriving front cell row prefix is has = elim (visited_by setting records top u v k server good step k (place_by setting front row) cell) [
+  arriving front cell row prefix is has = elim (visited_by (step_of it) k (place_by setting front row) cell) [
     | inl same ↦ Is_as_it_was same
     | inr now ↦ (
         let there = now.there in
@@ -162,7 +141,7 @@ module _ (setting : Setting) (records : List Record) (w : World) (stores : ℕ �
         let end = subst (IsLinked setting server.log.applied cell) one there.linked in
         let place : place_by setting front row ≡ place_by setting server.log.applied row = there.at ∙ ap (place_by setting server.log.applied) one in
         let visit : visits k (place_by setting front row) cell ≡ Some new = now.is in
-        elim (entering.comes_or_stays setting records w stores k server good firm rests runs entry more step.within left cell row end there.alive) [
+        elim (entering.comes_or_stays it cell row end there.alive) [
           | inl c ↦ Has_come (ap (λ p. good.visits k p cell) place ∙ c.unseen) visit c.fresh
               (λ both. ap (λ (p : Pairs). at cell_cmp p.pending cell) left.pairs ∙ c.free both)
           | inr s ↦ (
@@ -424,7 +403,7 @@ module _ (setting : Setting) (records : List Record) (w : World) (stores : ℕ �
     -- a visit is as it was, or it is the server's own part as it is then, with the store that counts by the front
     visit_so : (n : ℕ) (own : Own) → has_server n row ≡ true → visits n place cell ≡ Some own
         → (good.visits n place cell ≡ Some own) ⊎ (own.store ≡ news front n)
-    visit_so n own has e = elim (visited_by setting records top u v k server good step n place cell) [
+    visit_so n own has e = elim (visited_by (step_of it) n place cell) [
       | inl same ↦ inl (sym same ∙ e)
       | inr now ↦ inr (ap (λ (o : Own). o.store) (same_some (sym e ∙ now.is))
           ∙ sym (store_there front cell row prefix is (subst (λ m. has_server m row ≡ true) now.who has) now.there) ∙ ap (news front) (sym now.who))
@@ -435,7 +414,8 @@ module _ (setting : Setting) (records : List Record) (w : World) (stores : ℕ �
         → StaysLeft row cell own (news front holder)
     keeps_left lives own e beyond = elim (visit_so holder own holds e) [
       | inl was ↦ (
-          let still = (good.alone front cell row holder whole prefix is alone).stays lives own was (λ p lt. nones other p cell (beyond p lt)) in (
+          let still = (good.alone front cell row holder whole prefix is alone).stays lives own was
+          (λ p lt. none_before (step_of it) other p cell (beyond p lt)) in (
             λ marked. marked_on (olds front holder) (news front holder) cell (leaves front holder cell) (still.0 marked),
             λ all copied. to_copy_on row (olds front holder) (news front holder) cell (leaves front holder cell).chain (still.1 all copied),
           ))
@@ -457,12 +437,12 @@ module _ (setting : Setting) (records : List Record) (w : World) (stores : ℕ �
                 ];
               };
           stays = keeps_left;
-          unfilled = λ lives all_of. filled_framed setting top good.stores next_stores good.visits visits good.reached reached up nones front cell holder other
+          unfilled = λ lives all_of. filled_framed (step_of it) front cell holder other
               (leaves front other cell).chain (ok.unfilled lives all_of);
         }
 
     some_goes : is_some (good.visits other place cell) ≡ true → is_some (visits other place cell) ≡ true
-    some_goes = some_after setting records top u v k server good step other place cell
+    some_goes = some_after (step_of it) other place cell
 
     page_goes : (after block : Option ℕ) → IsPage cell (olds front other) (good.visits other place cell) after block
         → IsPage cell (news front other) (visits other place cell) after block
@@ -488,13 +468,13 @@ module _ (setting : Setting) (records : List Record) (w : World) (stores : ℕ �
         met = λ holder whole after block alone said. some_goes front cell row holder whole prefix is alone (old_said.met holder whole after block alone said);
       }
 
-  entered_fronts : KeepsFronts setting records top u v k server good step
+  entered_fronts : KeepsFronts (step_of it)
   entered_fronts = record { both = both_entered; alone = alone_entered; said = said_entered }
 
   -- a server that stays at the place of a link forgets nothing of it
-  entered_flags : KeepsFlags setting records top u v k server good step
+  entered_flags : KeepsFlags (step_of it)
   entered_flags cell row own whole is alive alone seat visit flagged =
-      elim (entering.comes_or_stays setting records w stores k server good firm rests runs entry more step.within left cell row is alive) [
+      elim (entering.comes_or_stays it cell row is alive) [
         | inl c ↦ none_some c.unseen visit
         | inr s ↦ (
             let has = holder_is_one (state_in setting.servers server.log)
@@ -509,15 +489,15 @@ module _ (setting : Setting) (records : List Record) (w : World) (stores : ℕ �
 
   own_sound : IsSoundOwn setting top v k server
   own_sound = record {
-    unheard = entering.still_unheard setting records w stores k server good firm rests runs entry more step.within left;
-    copied = entering.still_copied setting records w stores k server good firm rests runs entry more step.within left;
+    unheard = entering.still_unheard it;
+    copied = entering.still_copied it;
     rising = rising_on;
     counts = counts_on;
     filled = subst AreFilled (sym left.chains) (good.filled k);
-    marks = λ when. entering.still_marks setting records w stores k server good firm rests runs entry more step.within left;
+    marks = λ when. entering.still_marks it;
   }
 
   pub entered_good : (own : Record) → IsThen setting (records ++ own ∷ []) v
       → ((letter : Letter) → In letter v.sent → In letter w.sent ⊎ IsTrue setting top next_stores visits reached letter)
       → GoesOn setting records top top u v good own
-  entered_good own then_is sent = good_after setting records top u v k server good step own then_is entered_flags own_sound entered_fronts sent
+  entered_good own then_is sent = good_after (step_of it) own then_is entered_flags own_sound entered_fronts sent

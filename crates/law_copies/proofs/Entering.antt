@@ -12,22 +12,20 @@ use Rattle.petal_table.specs.Table.{at}
 use Rattle.petal_msg.specs.declared.copying.LastCopy.{LastCopy}
 use Rattle.petal_msg.specs.declared.operation.Pending.{Pending}
 use Rattle.petal_history.specs.Claims.{IsPrefix}
-use Rattle.petal_history.specs.declared.record.Record.{Record}
 use Rattle.petal_state.specs.CellState.{cell_link, row_lead}
 use Rattle.petal_state.specs.Command.{after, state_after}
 use Rattle.petal_state.specs.Place.{touches}
 use Rattle.petal_rules.specs.Crossing.{crossed}
 use Rattle.petal_rules.specs.Lists.{In}
 use Rattle.petal_rules.specs.Progress.{copying_on, last_copy, no_progress}
-use Rattle.petal_rules.specs.Server.{Own, Pairs, Server}
+use Rattle.petal_rules.specs.Server.{Own, Pairs}
 use Rattle.petal_rules.specs.State.{State, id_of, is_in, link_cmp, live}
-use Rattle.petal_rules.specs.Store.{Store, cell_cmp}
-use Rattle.petal_rules.specs.World.{Setting, World, chosen_log, server_state}
+use Rattle.petal_rules.specs.Store.{cell_cmp}
+use Rattle.petal_rules.specs.World.{chosen_log, server_state}
 use Rattle.petal_rules.specs.Writes.{pending_on}
 use Rattle.petal_rules.proofs.ListLemmas.{in_later}
 use Rattle.petal_rules.proofs.Tests.{by_bool, is_the_one, none_some, same_or_apart, same_some, some_or_none, true_false}
 use Rattle.law_state.specs.Homes.{stage_at}
-use Rattle.law_state.specs.Firm.{Firm}
 use Rattle.law_state.specs.Places.{IsCaughtBy, By_caught, By_join, By_leave, StaysSo}
 use Rattle.law_state.specs.Plain.{IsPlain, IsPlainLog}
 use Rattle.law_state.specs.Started.{HasStarted}
@@ -39,30 +37,28 @@ use Rattle.law_state.proofs.Grown.{alone_not_both}
 use Rattle.law_state.proofs.Joins.{both_before}
 use Rattle.law_state.proofs.Steady.{front_plain, log_steady}
 use Rattle.law_state.proofs.Touching.{log_entry_stays, log_touched}
-use Rattle.law_steps.specs.Ready.{Rests}
 use Rattle.law_steps.proofs.Fronts.{front_itself, front_more}
 use Rattle.law_steps.proofs.Leading.{live_stage, stage_live}
 use Rattle.law_steps.proofs.Minds.{held_as_flag}
 use Rattle.law_steps.proofs.Resting.{row_named}
-use Rattle.law_copies.specs.Good.{Good, IsUnheard}
+use Rattle.law_copies.specs.Good.{IsUnheard}
 use Rattle.law_copies.specs.Pair.{HaveMarks}
 use Rattle.law_copies.specs.Visits.{AliveIn, IsLinked, place_by, with_stores}
+use Rattle.law_copies.proofs.AtEntry.{AtEntry}
 use Rattle.law_copies.proofs.Fresh.{IsFresh}
 use Rattle.law_copies.proofs.Later.{same_only}
 use Rattle.law_copies.proofs.Marking.{same_have}
 use Rattle.law_copies.proofs.Places.{below_at, linked_alive, place_of_later, place_touched, place_untouched, places_up, rows_later, state_next}
 use Rattle.law_copies.proofs.Standing.{cell_map}
 use Rattle.law_copies.proofs.Working.{above_none}
-use Rattle.law_copies.proofs.LeftByEntry.{KeepsAll, IsCrossed, lives_on, cell_never, link_never}
+use Rattle.law_copies.proofs.LeftByEntry.{KeepsAll, lives_on, cell_never, link_never}
 use Rattle.law_copies.proofs.LeftByEntry.{touched_fresh, untouched_keeps, left_fresh, left_keeps, left_copied, left_unheard}
 
 -- ### At the server's own places
 
-module _ (setting : Setting) (records : List Record) (w : World) (stores : ℕ → Store) (k : ℕ) (server : Server)
-    (good : Good setting records (chosen_log setting w) (with_stores w stores))
-    (firm : Firm setting w) (rests : Rests setting w) (runs : (w.servers k).life.running ≡ true) (entry : Command)
-    (more : server.log.applied ≡ (w.servers k).log.applied ++ entry ∷ []) (within : IsPrefix server.log.applied (chosen_log setting w))
-    (left : IsCrossed (server_state setting w k) entry ((with_stores w stores).servers k).own server.own) where
+module _ (it : AtEntry) where
+  open it use {setting, w, stores, k, server, good, step, firm, rests, runs, entry, more, left}
+
   abbrev front : List Command
   front = (w.servers k).log.applied
 
@@ -83,7 +79,7 @@ module _ (setting : Setting) (records : List Record) (w : World) (stores : ℕ �
   step_on = subst (IsPrefix front) (sym more) (front_more front entry)
 
   plain_next : IsPlainLog setting.servers next
-  plain_next = front_plain setting.servers next (chosen_log setting w) firm.plain within
+  plain_next = front_plain setting.servers next (chosen_log setting w) firm.plain step.within
 
   plain_front : IsPlainLog setting.servers front
   plain_front = front_plain setting.servers front (chosen_log setting w) firm.plain (firm.servers k)
@@ -129,7 +125,8 @@ module _ (setting : Setting) (records : List Record) (w : World) (stores : ℕ �
             in_once earlier k acts.inc (w.servers k).life.inc (subst (λ n. is_in earlier n acts.inc ≡ true) mine acts.holds) seated in
             let stands : IsPrefix (front ++ Caught row.map row.link acts.holder acts.inc (other_of acts.holder row) acts.other_inc ∷ [])
             (chosen_log setting w) =
-            subst (λ (x : Command). IsPrefix (front ++ x ∷ []) (chosen_log setting w)) acts.is (subst (λ f. IsPrefix f (chosen_log setting w)) more within) in
+            subst (λ (x : Command). IsPrefix (front ++ x ∷ []) (chosen_log setting w)) acts.is
+            (subst (λ f. IsPrefix f (chosen_log setting w)) more step.within) in
             let started = firm.started front row.map row.link acts.holder acts.inc (other_of acts.holder row) acts.other_inc stands in
             let mine_started = subst (λ n. HasStarted w.servers n acts.inc (length front) (id_of row)) mine started in
             elim mine_started [

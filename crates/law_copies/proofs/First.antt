@@ -28,17 +28,25 @@ use Rattle.law_steps.proofs.Firms.{always_firm}
 use Rattle.law_steps.proofs.Fronts.{below_itself}
 use Rattle.law_steps.proofs.Histories.{front_legal, last_happens, own_steady, rests_after, start_rests, world_more}
 use Rattle.law_copies.specs.Good.{Good}
+use Rattle.law_copies.proofs.AtSeat.{AtSeat, IsAtWork}
 use Rattle.law_copies.proofs.AtWork.{at_work}
 use Rattle.law_copies.proofs.Ballots.{ballot_alike}
 use Rattle.law_copies.proofs.Histories.{before_last, good_after}
 use Rattle.law_copies.proofs.Marking.{job_marked}
 use Rattle.law_copies.proofs.Seated as seated
-use Rattle.law_copies.proofs.Seated.{IsAtWork, idle_copies}
+use Rattle.law_copies.proofs.Seated.{idle_copies}
 
 module _ (setting : Setting) (records : List Record) (w : World) (firm : Firm setting w) (rests : Rests setting w)
     (good : Good setting records (chosen_log setting w) (counted setting w))
     (works : (k : ℕ) → (w.servers k).life.running ≡ true → is_in (server_state setting w k) k (w.servers k).life.inc ≡ true
     → IsAtWork setting w (kept setting w) k) where
+  abbrev at_seat : (k : ℕ) → IsAtWork setting w (kept setting w) k → AtSeat
+  at_seat k at = record {
+    ground = record { setting = setting; records = records; w = w; stores = kept setting w; good = good; firm = firm; rests = rests };
+    k = k;
+    works = at;
+  }
+
   -- in a job of a server that leads the cell
   job_first : (k : ℕ) (done : Done) → (w.servers k).life.running ≡ true → Did (Handled w k) (own_place setting w k) (w.servers k).own done
       → IsSeated (own_place setting w k) (w.servers k).own done → (cell : Cell) → live (server_state setting w k) cell ≡ true
@@ -47,8 +55,8 @@ module _ (setting : Setting) (records : List Record) (w : World) (firm : Firm se
   job_first k done runs did (inl seat) cell on lead changed =
       let at = works k runs seat in
       (job_marked (Handled w k) (own_place setting w k) (w.servers k).own (own_steady setting w firm k) (rests.pending k)
-      (seated.marks setting records w (kept setting w) k good firm rests at)
-      (idle_copies setting records w (kept setting w) k good firm rests at) done did).first cell on lead changed
+      (seated.marks (at_seat k at))
+      (idle_copies (at_seat k at)) done did).first cell on lead changed
   job_first k done runs did (inr apart) cell on lead changed = absurd (changed (ap (λ o. chain_in o.store.chains cell) apart.same))
 
   server_first : (k : ℕ) (what : Step) (acted : Acted) → Serving setting w k what acted → (cell : Cell) → live (server_state setting w k) cell ≡ true

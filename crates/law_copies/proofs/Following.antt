@@ -190,12 +190,25 @@ module _ (links : ℕ) (row : LinkRow) (cell : Cell) (vh : Option Own) (own : Ow
 
 -- ### An entry is put
 
-module _ (links : ℕ) (row : LinkRow) (vh : Option Own) (own : Own) (entry : Entry) (holder : ℕ) (last : LastCopy)
-    (old : AreCopying links row (cell_of entry.key) vh (Some own))
-    (rises : IsRising nat_cmp (chain_in own.store.chains (cell_of entry.key))) (is : last_copy own (cell_of entry.key) ≡ Some last)
-    (op_is : entry.op ≡ last.op)
-    (index_is : entry.index ≡ last.index)
-    (said : HasSent row vh (Some own) (cell_of entry.key) entry.op entry.index (entry.key.epoch, entry.stored)) where
+-- the next entry of a copy, at the server to which it was sent
+pub record CopiedEntry : Type 0 where
+  pub links : ℕ
+  pub row : LinkRow
+  pub vh : Option Own
+  pub own : Own
+  pub entry : Entry
+  pub holder : ℕ
+  pub last : LastCopy
+  pub old : AreCopying links row (cell_of entry.key) vh (Some own)
+  pub rises : IsRising nat_cmp (chain_in own.store.chains (cell_of entry.key))
+  pub is : last_copy own (cell_of entry.key) ≡ Some last
+  pub op_is : entry.op ≡ last.op
+  pub index_is : entry.index ≡ last.index
+  pub said : HasSent row vh (Some own) (cell_of entry.key) entry.op entry.index (entry.key.epoch, entry.stored)
+
+module _ (it : CopiedEntry) where
+  open it use {links, row, vh, own, entry, holder, last, old, rises, is, op_is, index_is, said}
+
   abbrev q : Cell
   q = cell_of entry.key
 

@@ -16,13 +16,16 @@ use Rattle.petal_history.specs.Claims.{IsMarked, IsToBeCopied}
 use Rattle.petal_state.specs.Command.{state_after}
 use Rattle.petal_rules.specs.Server.{Own, no_pairs}
 use Rattle.petal_rules.specs.Store.{Store, cell_cmp, chain_in, is_marked}
-use Rattle.petal_rules.specs.World.{Setting}
 use Rattle.petal_rules.proofs.Tests.{by_test, none_some, some_or_none}
 use Rattle.law_state.proofs.Roles.{primary_is_one, secondary_is_one}
 use Rattle.law_copies.specs.Copied.{AreAlike, AreCopying, IsCovered, IsPage, IsTold, links_of, Is_equal, Is_marked_here, Is_marked_there, Is_to_be_copied}
 use Rattle.law_copies.specs.Good.{AloneOk, AreBeside, AreTwins, BothOk, SaidOk, pair_at}
 use Rattle.law_copies.specs.Pair.{IsRecalled, Known, PairOk, far, pair_of}
-use Rattle.law_copies.specs.Visits.{AliveIn, HasFilled, Visits, half, place_by, store_by}
+use Rattle.law_copies.specs.Visits.{AliveIn, HasFilled, half, place_by}
+use Rattle.law_copies.proofs.Places.{has_filled_on}
+use Rattle.law_copies.proofs.Visited.{then_of}
+use Rattle.law_copies.proofs.AtStep.{AtStep}
+use Rattle.law_copies.proofs.Visited.{counted_up, none_before}
 
 -- ### Stores
 
@@ -122,12 +125,9 @@ other_is_one row n = by_test (λ m. has_server m row ≡ true) (row.primary == n
 
 -- ### At a front
 
-module _ (setting : Setting) (top : List Command) (old new : ℕ → ℕ → Store) (visits later : Visits) (reached counted : Cell → ℕ) where
-  abbrev olds : List Command → ℕ → Store
-  olds = store_by setting old
-
-  abbrev news : List Command → ℕ → Store
-  news = store_by setting new
+module _ (it : AtStep) where
+  open it use {setting, top, good, good.{visits}}
+  open then_of it use {visits as later, reached, next, olds, news}
 
   -- the cell is as before at a server of its link: its store, too, unless the cell is dead
   pub record LeavesAt (front : List Command) (n place : ℕ) (cell : Cell) : Type 0 where
@@ -177,91 +177,89 @@ module _ (setting : Setting) (top : List Command) (old new : ℕ → ℕ → Sto
     least = λ ahead upto marked. page.least ahead upto (marked_back (olds front other) (news front other) cell (two.store alive) marked);
   }
 
-  module _ (up : (cell : Cell) → reached cell ≤ counted cell)
-      (nones : (n place : ℕ) (cell : Cell) → later n place cell ≡ None → visits n place cell ≡ None) where
-    somes : (n place : ℕ) (cell : Cell) (own : Own) → visits n place cell ≡ Some own → (o : Own) × (later n place cell ≡ Some o)
-    somes n place cell own visit = elim (some_or_none (later n place cell)) [ inl h ↦ h | inr none ↦ none_some (nones n place cell none) visit ]
+  somes : (n place : ℕ) (cell : Cell) (own : Own) → visits n place cell ≡ Some own → (o : Own) × (later n place cell ≡ Some o)
+  somes n place cell own visit = elim (some_or_none (later n place cell)) [ inl h ↦ h | inr none ↦ none_some (none_before it n place cell none) visit ]
 
-    -- what was empty is so, or the holder has been at a place
-    pub filled_on : (front : List Command) (cell : Cell) (holder other : ℕ) → HasFilled setting top visits front cell holder other
-        → HasFilled setting top later front cell holder other
-    filled_on front cell holder other f =
-        let now = somes holder (place_by setting f.more f.row) cell f.own f.visited in
-        record { more = f.more; within = f.within; row = f.row; linked = f.linked; joins = f.joins; own = now.0; visited = now.1 }
+  -- what was empty is so, or the holder has been at a place
+  pub filled_on : (front : List Command) (cell : Cell) (holder other : ℕ) → HasFilled setting top visits front cell holder other
+      → HasFilled setting top later front cell holder other
+  filled_on front cell holder other f =
+      let now = somes holder (place_by setting f.more f.row) cell f.own f.visited in
+      has_filled_on f f.within refl now.0 now.1
 
-    pub filled_framed : (front : List Command) (cell : Cell) (holder other : ℕ)
-        → chain_in (news front other).chains cell ≡ chain_in (olds front other).chains cell
-        → (chain_in (olds front other).chains cell ≡ []) ⊎ HasFilled setting top visits front cell holder other
-        → (chain_in (news front other).chains cell ≡ []) ⊎ HasFilled setting top later front cell holder other
-    filled_framed front cell holder other same (inl empty) = inl (same ∙ empty)
-    filled_framed front cell holder other same (inr f) = inr (filled_on front cell holder other f)
+  pub filled_framed : (front : List Command) (cell : Cell) (holder other : ℕ)
+      → chain_in (news front other).chains cell ≡ chain_in (olds front other).chains cell
+      → (chain_in (olds front other).chains cell ≡ []) ⊎ HasFilled setting top visits front cell holder other
+      → (chain_in (news front other).chains cell ≡ []) ⊎ HasFilled setting top later front cell holder other
+  filled_framed front cell holder other same (inl empty) = inl (same ∙ empty)
+  filled_framed front cell holder other same (inr f) = inr (filled_on front cell holder other f)
 
-    -- what counts less still counts less
-    pub last_before : (cell : Cell) (place : ℕ) → counted cell ≤ place → reached cell ≤ place
-    last_before cell place le = let more = up cell in omega arith
+  -- what counts less still counts less
+  pub last_before : (cell : Cell) (place : ℕ) → reached cell ≤ place → good.reached cell ≤ place
+  last_before cell place le = let more = counted_up it cell in omega arith
 
-    pub both_framed : (front : List Command) (cell : Cell) (row : LinkRow) → LeavesBoth front (place_by setting front row) cell row
-        → BothOk setting top old visits reached front cell row → BothOk setting top new later counted front cell row
-    both_framed front cell row leaves ok = record {
-      twins = λ alive last. twins_framed front (place_by setting front row) cell row.primary row.secondary alive
-          (leaves row.primary (primary_is_one row row.primary refl)) (leaves row.secondary (secondary_is_one row row.secondary refl))
-          (ok.twins alive (last_before cell (place_by setting front row) last));
-    }
+  pub both_framed : (front : List Command) (cell : Cell) (row : LinkRow) → LeavesBoth front (place_by setting front row) cell row
+      → BothOk setting top good.stores visits good.reached front cell row → BothOk setting top next later reached front cell row
+  both_framed front cell row leaves ok = record {
+    twins = λ alive last. twins_framed front (place_by setting front row) cell row.primary row.secondary alive
+        (leaves row.primary (primary_is_one row row.primary refl)) (leaves row.secondary (secondary_is_one row row.secondary refl))
+        (ok.twins alive (last_before cell (place_by setting front row) last));
+  }
 
-    -- what is so of the visits alone
-    pub copying_framed : (links place : ℕ) (cell : Cell) (row : LinkRow) (holder : ℕ) → later holder place cell ≡ visits holder place cell
-        → later (other_of holder row) place cell ≡ visits (other_of holder row) place cell
-        → AreCopying links row cell (visits holder place cell) (visits (other_of holder row) place cell)
-        → AreCopying links row cell (later holder place cell) (later (other_of holder row) place cell)
-    copying_framed links place cell row holder one two old =
-        subst (λ o. AreCopying links row cell o (later (other_of holder row) place cell)) (sym one)
-        (subst (AreCopying links row cell (visits holder place cell)) (sym two) old)
+  -- what is so of the visits alone
+  pub copying_framed : (links place : ℕ) (cell : Cell) (row : LinkRow) (holder : ℕ) → later holder place cell ≡ visits holder place cell
+      → later (other_of holder row) place cell ≡ visits (other_of holder row) place cell
+      → AreCopying links row cell (visits holder place cell) (visits (other_of holder row) place cell)
+      → AreCopying links row cell (later holder place cell) (later (other_of holder row) place cell)
+  copying_framed links place cell row holder one two old =
+      subst (λ o. AreCopying links row cell o (later (other_of holder row) place cell)) (sym one)
+      (subst (AreCopying links row cell (visits holder place cell)) (sym two) old)
 
-    pub told_framed : (place : ℕ) (cell : Cell) (row : LinkRow) (holder : ℕ) (said : Body) → later holder place cell ≡ visits holder place cell
-        → later (other_of holder row) place cell ≡ visits (other_of holder row) place cell
-        → IsTold row (visits holder place cell) (visits (other_of holder row) place cell) said
-        → IsTold row (later holder place cell) (later (other_of holder row) place cell) said
-    told_framed place cell row holder said one two old =
-        subst (λ o. IsTold row o (later (other_of holder row) place cell) said) (sym one)
-        (subst (λ o. IsTold row (visits holder place cell) o said) (sym two) old)
+  pub told_framed : (place : ℕ) (cell : Cell) (row : LinkRow) (holder : ℕ) (said : Body) → later holder place cell ≡ visits holder place cell
+      → later (other_of holder row) place cell ≡ visits (other_of holder row) place cell
+      → IsTold row (visits holder place cell) (visits (other_of holder row) place cell) said
+      → IsTold row (later holder place cell) (later (other_of holder row) place cell) said
+  told_framed place cell row holder said one two old =
+      subst (λ o. IsTold row o (later (other_of holder row) place cell) said) (sym one)
+      (subst (λ o. IsTold row (visits holder place cell) o said) (sym two) old)
 
-    pub alone_framed : (front : List Command) (cell : Cell) (row : LinkRow) (holder : ℕ) → has_server holder row ≡ true
-        → LeavesBoth front (place_by setting front row) cell row → AloneOk setting top old visits reached front cell row holder
-        → AloneOk setting top new later counted front cell row holder
-    alone_framed front cell row holder has leaves ok =
-        let place = place_by setting front row in
-        let other = other_of holder row in
-        let one = leaves holder has in
-        let two = leaves other (other_is_one row holder) in
-        record {
-          copying = copying_framed (links_of (state_after setting.servers front) cell.map) place cell row holder one.visit two.visit ok.copying;
-          beside = λ alive last. beside_framed front place row cell holder other alive one two (ok.beside alive (last_before cell place last));
-          stays = λ alive own is beyond.
-              let was = ok.stays alive own (sym one.visit ∙ is) (λ p lt. nones other p cell (beyond p lt)) in (
-                λ marked. marked_on (olds front holder) (news front holder) cell (one.store alive) (was.0 marked),
-                λ all copied. to_copy_on row (olds front holder) (news front holder) cell (one.store alive).chain (was.1 all copied),
-              );
-          unfilled = λ alive whole. filled_framed front cell holder other (two.store alive).chain (ok.unfilled alive whole);
-        }
+  pub alone_framed : (front : List Command) (cell : Cell) (row : LinkRow) (holder : ℕ) → has_server holder row ≡ true
+      → LeavesBoth front (place_by setting front row) cell row → AloneOk setting top good.stores visits good.reached front cell row holder
+      → AloneOk setting top next later reached front cell row holder
+  alone_framed front cell row holder has leaves ok =
+      let place = place_by setting front row in
+      let other = other_of holder row in
+      let one = leaves holder has in
+      let two = leaves other (other_is_one row holder) in
+      record {
+        copying = copying_framed (links_of (state_after setting.servers front) cell.map) place cell row holder one.visit two.visit ok.copying;
+        beside = λ alive last. beside_framed front place row cell holder other alive one two (ok.beside alive (last_before cell place last));
+        stays = λ alive own is beyond.
+            let was = ok.stays alive own (sym one.visit ∙ is) (λ p lt. none_before it other p cell (beyond p lt)) in (
+              λ marked. marked_on (olds front holder) (news front holder) cell (one.store alive) (was.0 marked),
+              λ all copied. to_copy_on row (olds front holder) (news front holder) cell (one.store alive).chain (was.1 all copied),
+            );
+        unfilled = λ alive whole. filled_framed front cell holder other (two.store alive).chain (ok.unfilled alive whole);
+      }
 
-    pub said_framed : (front : List Command) (said : Body) (cell : Cell) (row : LinkRow)
-        → ((holder : ℕ) (whole : Bool) → row.state ≡ Only holder whole → has_server holder row ≡ true)
-        → LeavesBoth front (place_by setting front row) cell row → SaidOk setting top old visits reached front said cell row
-        → SaidOk setting top new later counted front said cell row
-    said_framed front said cell row has leaves ok =
-        let place = place_by setting front row in
-        record {
-          both = λ alive both last of. subst (λ p. Known p said)
-              (pair_framed front place cell row.primary row.secondary alive (leaves row.primary (primary_is_one row row.primary refl))
-              (leaves row.secondary (secondary_is_one row row.secondary refl)))
-              (ok.both alive both (last_before cell place last) of);
-          alone = λ holder whole alone of.
-              told_framed place cell row holder said (leaves holder (has holder whole alone)).visit
-              (leaves (other_of holder row) (other_is_one row holder)).visit
-              (ok.alone holder whole alone of);
-          page = λ alive holder whole after block alone is last.
-              page_framed front place cell (other_of holder row) after block alive (leaves (other_of holder row) (other_is_one row holder))
-              (ok.page alive holder whole after block alone is (last_before cell place last));
-          met = λ holder whole after block alone is.
-              ap is_some (leaves (other_of holder row) (other_is_one row holder)).visit ∙ ok.met holder whole after block alone is;
-        }
+  pub said_framed : (front : List Command) (said : Body) (cell : Cell) (row : LinkRow)
+      → ((holder : ℕ) (whole : Bool) → row.state ≡ Only holder whole → has_server holder row ≡ true)
+      → LeavesBoth front (place_by setting front row) cell row → SaidOk setting top good.stores visits good.reached front said cell row
+      → SaidOk setting top next later reached front said cell row
+  said_framed front said cell row has leaves ok =
+      let place = place_by setting front row in
+      record {
+        both = λ alive both last of. subst (λ p. Known p said)
+            (pair_framed front place cell row.primary row.secondary alive (leaves row.primary (primary_is_one row row.primary refl))
+            (leaves row.secondary (secondary_is_one row row.secondary refl)))
+            (ok.both alive both (last_before cell place last) of);
+        alone = λ holder whole alone of.
+            told_framed place cell row holder said (leaves holder (has holder whole alone)).visit
+            (leaves (other_of holder row) (other_is_one row holder)).visit
+            (ok.alone holder whole alone of);
+        page = λ alive holder whole after block alone is last.
+            page_framed front place cell (other_of holder row) after block alive (leaves (other_of holder row) (other_is_one row holder))
+            (ok.page alive holder whole after block alone is (last_before cell place last));
+        met = λ holder whole after block alone is.
+            ap is_some (leaves (other_of holder row) (other_is_one row holder)).visit ∙ ok.met holder whole after block alone is;
+      }

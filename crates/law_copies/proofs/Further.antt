@@ -24,7 +24,7 @@ use Rattle.law_copies.specs.Good.{Good, store_of}
 use Rattle.law_copies.specs.Pair.{HaveMarks}
 use Rattle.law_copies.specs.Visits.{Visits, with_stores}
 use Rattle.law_copies.proofs.Growing.{grown_one}
-use Rattle.law_copies.proofs.NextEntry.{AreRecounted, IsBehind, IsGrownTo, behind_on}
+use Rattle.law_copies.proofs.AtNext.{AreRecounted, IsBehind, IsGrownTo, behind_on}
 use Rattle.law_copies.proofs.Later.{AllStarted}
 use Rattle.law_copies.proofs.Renewed.{blank_join, counts_more, counts_same}
 
@@ -133,11 +133,21 @@ module _ (setting : Setting) (records : List Record) (v : World) (first : List C
       let prefix : IsPrefix (top ++ entry ∷ []) chosen = record { later = more; is = onward } in
       grow_by visits reached more (top ++ entry ∷ []) onward (front_on first top (top ++ entry ∷ []) one (front_more top entry))
       (behind_on setting records top (top ++ entry ∷ []) v (front_more top entry) behind)
-      (grown_one setting records top entry v (recounted_by top) (recounted_by (top ++ entry ∷ [])) grown.good behind
-      (front_plain setting.servers (top ++ entry ∷ []) chosen further.firm.plain prefix)
-      (λ of link holder inc other other_inc same. further.started top of link holder inc other other_inc
-      (subst (λ (x : Command). IsPrefix (top ++ x ∷ []) chosen) same prefix))
-      (recounted top entry one prefix behind grown.good) visits reached grown.visits_are grown.reached_is)
+      (grown_one (record {
+        setting = setting;
+        records = records;
+        top = top;
+        entry = entry;
+        u = v;
+        old = recounted_by top;
+        new = recounted_by (top ++ entry ∷ []);
+        good = grown.good;
+        behind = behind;
+        all = front_plain setting.servers (top ++ entry ∷ []) chosen further.firm.plain prefix;
+        started = λ of link holder inc other other_inc same. further.started top of link holder inc other other_inc
+            (subst (λ (x : Command). IsPrefix (top ++ x ∷ []) chosen) same prefix);
+        recounts = recounted top entry one prefix behind grown.good;
+      }) visits reached grown.visits_are grown.reached_is)
 
   -- what is kept of a front of the chosen log that no server was beyond is kept of the whole, by the stores that count then
   pub grow : (visits : Visits) (reached : Cell → ℕ) → IsPrefix first chosen → IsBehind setting records first v

@@ -1,7 +1,7 @@
 -- The chosen log grows by an entry that no server has applied: what was kept at the fronts so far is kept at the new one. Where the
 -- entry touches a link, no server has been at the link's new place. Where it is a Join of a server with an empty store, that store is the
 -- server's from the new front on.
-use Rattle.std.proofs.Common.{◌≡◌, ◌≢◌, ◌≤◌, ◌++◌, ◌==◌, ◌⊎◌, ℕ, Bool, List, [], ◌∷◌, length, length-append, true, false, if◌then◌else◌}
+use Rattle.std.proofs.Common.{◌≡◌, ◌≢◌, ◌≤◌, ◌==◌, ◌⊎◌, ℕ, Bool, List, [], ◌∷◌, length, length-append, true, false}
 use Rattle.std.proofs.Common.{Some, None, refl, sym, ap, ◌∙◌, subst, inl, inr, arith}
 use Rattle.std.specs.Prelude.{slice_get}
 use Rattle.std.specs.Ordering.{nat_cmp}
@@ -11,9 +11,8 @@ use Rattle.global_tables.specs.declared.link.LinkRow.{LinkRow}
 use Rattle.global_tables.specs.declared.link.LinkState.TheVariants.{Both, Only}
 use Rattle.petal_base.specs.declared.cell.Cell.{Cell}
 use Rattle.petal_command.specs.declared.command.Command.{Command}
-use Rattle.petal_command.specs.declared.command.Command.TheVariants.{Caught, Join, Leave}
+use Rattle.petal_command.specs.declared.command.Command.TheVariants.{Join, Leave}
 use Rattle.petal_history.specs.Claims.{IsPrefix}
-use Rattle.petal_history.specs.declared.record.Record.{Record}
 use Rattle.petal_msg.specs.Kinds.{subject_of}
 use Rattle.petal_msg.specs.declared.body.Body.{Body}
 use Rattle.petal_msg.specs.declared.copying.LinkId.{LinkId}
@@ -22,18 +21,16 @@ use Rattle.petal_state.specs.Command.{after, may_join, state_after}
 use Rattle.petal_state.specs.Place.{touches}
 use Rattle.petal_rules.specs.Blanked.{joins_blank}
 use Rattle.petal_rules.specs.Server.{Own}
-use Rattle.petal_rules.specs.State.{State, id_of, is_in, is_whole}
+use Rattle.petal_rules.specs.State.{id_of, is_in, is_whole}
 use Rattle.petal_rules.specs.Store.{Store, cell_cmp, chain_in, is_marked, mark_on}
-use Rattle.petal_rules.specs.World.{Setting, World, blank_joins_in, server_state, with_store}
+use Rattle.petal_rules.specs.World.{blank_joins_in, server_state, with_store}
 use Rattle.petal_rules.proofs.Tests.{by_bool, none_some, same_some, true_false}
 use Rattle.petal_table.proofs.Rows.{at-empty}
 use Rattle.law_log.specs.Requested.{WasStarted}
 use Rattle.law_state.specs.Homes.{stage_at}
 use Rattle.law_state.specs.Places.{IsCaughtBy, By_caught, By_join, By_leave, row_joined}
-use Rattle.law_state.specs.Plain.{IsPlain, IsPlainLog}
-use Rattle.law_state.specs.Rows.{IsLater, ByBoth, ByNone, ByOne}
+use Rattle.law_state.specs.Rows.{ByBoth, ByNone, ByOne}
 use Rattle.law_state.specs.Started.{is_flagged}
-use Rattle.law_state.specs.Steady.{IsSteady}
 use Rattle.law_state.proofs.Again.{left_not_both, left_row, stays_row}
 use Rattle.law_state.proofs.Grown.{alone_not_both, one_before}
 use Rattle.law_state.proofs.Roles.{primary_is_one, secondary_is_one}
@@ -46,7 +43,8 @@ use Rattle.law_copies.specs.Copied.{AreCopying, IsCovered, IsPage, Is_equal, lin
 use Rattle.law_copies.specs.Good.{AloneOk, AreBeside, AreTwins, BothOk, Good, IsUnheard, SaidOk, StaysLeft, pair_at}
 use Rattle.law_copies.specs.Pair.{HaveMarks, Known}
 use Rattle.law_copies.specs.Steps.{AreFilled, IsBare}
-use Rattle.law_copies.specs.Visits.{AliveIn, AreReached, HasFilled, IsHere, IsLinked, Visits, place_by, store_by, with_stores}
+use Rattle.law_copies.specs.Visits.{AliveIn, AreReached, HasFilled, IsHere, IsLinked, Visits, place_by, store_by}
+use Rattle.law_copies.proofs.Places.{has_filled_on, reached_on}
 use Rattle.law_copies.proofs.Counts.{joins_at, store_at}
 use Rattle.law_copies.proofs.Framed.{other_is_one}
 use Rattle.law_copies.proofs.Later.{alone_not_lost, holder_is_one, other_than}
@@ -54,101 +52,27 @@ use Rattle.law_copies.proofs.Mute.{said_mute}
 use Rattle.law_copies.proofs.NewPlaces.{beside_same, both_cover, cover_anew, in_common, new_alone, new_twins, twins_same}
 use Rattle.law_copies.proofs.Places.{below_at, front_or_all, links_up, other_later}
 use Rattle.law_copies.proofs.Renewed.{blanked_alone, counts_same, filled_cover, joined_not_both, joins_so, no_blank_join, no_chains}
-use Rattle.law_copies.proofs.NextEntry.{IsBehind, IsGrownTo, AreRecounted}
-use Rattle.law_copies.proofs.NextEntry as entry_more
+use Rattle.law_copies.proofs.AtNext.{AtNext, next_of, IsGrownTo}
+use Rattle.law_copies.proofs.NextEntry.{alive_before, born_then, by_next, front_stores, later_then, next_store, next_stores}
+use Rattle.law_copies.proofs.NextEntry.{no_blank, no_caught, no_leave, old_stores, plain_entry, plain_top, reached_below}
+use Rattle.law_copies.proofs.NextEntry.{row_then, steady_top, still_empty, stores_so}
 
-module _ (setting : Setting) (records : List Record) (top : List Command) (entry : Command) (u : World) (old new : ℕ → Store)
-    (good : Good setting records top (with_stores u old)) (behind : IsBehind setting records top u) (all : IsPlainLog setting.servers (top ++ entry ∷ []))
-    (started : (of link holder inc other other_inc : ℕ) → entry ≡ Caught of link holder inc other other_inc
-    → WasStarted setting records holder inc top (record { map = of; link = link }))
-    (recounts : AreRecounted setting u (state_after setting.servers top) entry old new) where
-  abbrev v : World
-  v = with_stores u new
-
-  abbrev next : List Command
-  next = top ++ entry ∷ []
-
-  abbrev here : State
-  here = state_after setting.servers top
-
-  abbrev then_state : State
-  then_state = state_after setting.servers next
-
-  plain_top : IsPlainLog setting.servers top
-  plain_top = entry_more.plain_top setting records top entry u old new good behind all started recounts
-
-  plain_entry : IsPlain setting.servers entry
-  plain_entry = entry_more.plain_entry setting records top entry u old new good behind all started recounts
-
-  steady_top : IsSteady here
-  steady_top = entry_more.steady_top setting records top entry u old new good behind all started recounts
-
-  row_then : (cell : Cell) (now : LinkRow) → IsLinked setting next cell now → cell_link (after here entry) cell ≡ Some now
-  row_then = entry_more.row_then setting records top entry u old new good behind all started recounts
-
-  later_then : (cell : Cell) (row now : LinkRow) → IsLinked setting top cell row → IsLinked setting next cell now → IsLater row now
-  later_then = entry_more.later_then setting records top entry u old new good behind all started recounts
-
-  alive_before : (cell : Cell) → AliveIn then_state cell → AliveIn here cell
-  alive_before = entry_more.alive_before setting records top entry u old new good behind all started recounts
-
-  reached_below : (cell : Cell) (row : LinkRow) → IsLinked setting top cell row → good.reached cell ≤ place_by setting top row
-  reached_below = entry_more.reached_below setting records top entry u old new good behind all started recounts
-
-  by_next : {B : Type 0} (cell : Cell) (now : LinkRow) → IsLinked setting next cell now
-      → (IsLinked setting top cell now → place_by setting next now ≡ place_by setting top now → B)
-      → ((row : LinkRow) → IsLinked setting top cell row → touches here entry row ≡ true → ((n : ℕ) → good.visits n (place_by setting next now) cell ≡ None)
-      → B)
-      → (stage_at here cell ≡ 0 → ((n : ℕ) → good.visits n (place_by setting next now) cell ≡ None) → B)
-      → B
-  by_next = entry_more.by_next setting records top entry u old new good behind all started recounts
-
-  -- a server that comes back with nothing has a store more
-  abbrev stores : ℕ → ℕ → Store
-  stores n joins = if joins == blank_joins_in setting next n then new n else good.stores n joins
-
-  stores_so : (n joins : ℕ) (b : Bool) → (joins == blank_joins_in setting next n) ≡ b → stores n joins ≡ (if b then new n else good.stores n joins)
-  stores_so = entry_more.stores_so setting records top entry u old new good behind all started recounts
-
-  next_store : (n : ℕ) → store_by setting stores next n ≡ new n
-  next_store = entry_more.next_store setting records top entry u old new good behind all started recounts
-
-  front_stores : (f : List Command) → IsPrefix f top → store_by setting good.stores f ≡ store_by setting stores f
-  front_stores = entry_more.front_stores setting records top entry u old new good behind all started recounts
-
-  next_stores : new ≡ store_by setting stores next
-  next_stores = entry_more.next_stores setting records top entry u old new good behind all started recounts
-
-  old_stores : store_by setting good.stores top ≡ old
-  old_stores = entry_more.old_stores setting records top entry u old new good behind all started recounts
-
-  born_then : (cell : Cell) → stage_at here cell ≡ 0 → (n : ℕ) → chain_in (new n).chains cell ≡ []
-  born_then = entry_more.born_then setting records top entry u old new good behind all started recounts
-
-  still_empty : (cell : Cell) → stage_at here cell ≡ 0 → (n m : ℕ) → chain_in (new n).chains cell ≡ chain_in (new m).chains cell
-  still_empty = entry_more.still_empty setting records top entry u old new good behind all started recounts
-
-  no_leave : (server inc : ℕ) → entry ≡ Leave server inc → (n : ℕ) → new n ≡ old n
-  no_leave = entry_more.no_leave setting records top entry u old new good behind all started recounts
-
-  no_caught : (of link holder inc other other_inc : ℕ) → entry ≡ Caught of link holder inc other other_inc → (n : ℕ) → new n ≡ old n
-  no_caught = entry_more.no_caught setting records top entry u old new good behind all started recounts
-
-  no_blank : (server inc : ℕ) → entry ≡ Join server inc false → (n : ℕ) → new n ≡ old n
-  no_blank = entry_more.no_blank setting records top entry u old new good behind all started recounts
+module _ (it : AtNext) where
+  open it use {setting, records, top, entry, u, old, new, good, behind, all, started, recounts}
+  open next_of it use {next, here, then_state, v, stores}
 
   -- ### In Both
 
   twins_top : (cell : Cell) (row : LinkRow) → IsLinked setting top cell row → AliveIn here cell → row.state ≡ Both
       → AreTwins old good.visits (place_by setting top row) cell row.primary row.secondary
-  twins_top cell row is alive both = subst (λ s. AreTwins s good.visits (place_by setting top row) cell row.primary row.secondary) old_stores
-      ((good.both top cell row (front_itself top) is both).twins alive (reached_below cell row is))
+  twins_top cell row is alive both = subst (λ s. AreTwins s good.visits (place_by setting top row) cell row.primary row.secondary) (old_stores it)
+      ((good.both top cell row (front_itself top) is both).twins alive (reached_below it cell row is))
 
   beside_top : (cell : Cell) (row : LinkRow) (holder : ℕ) (whole : Bool) → IsLinked setting top cell row → AliveIn here cell
       → row.state ≡ Only holder whole → AreBeside old good.visits (place_by setting top row) row cell holder (other_of holder row)
   beside_top cell row holder whole is alive alone =
-      subst (λ s. AreBeside s good.visits (place_by setting top row) row cell holder (other_of holder row)) old_stores
-      ((good.alone top cell row holder whole (front_itself top) is alone).beside alive (reached_below cell row is))
+      subst (λ s. AreBeside s good.visits (place_by setting top row) row cell holder (other_of holder row)) (old_stores it)
+      ((good.alone top cell row holder whole (front_itself top) is alone).beside alive (reached_below it cell row is))
 
   -- the holder has the link in mind
   minded : (cell : Cell) (row : LinkRow) → IsLinked setting top cell row → AliveIn here cell → (acts : IsCaughtBy here entry row)
@@ -162,31 +86,31 @@ module _ (setting : Setting) (records : List Record) (top : List Command) (entry
       → chain_in (new row.primary).chains cell ≡ chain_in (new row.secondary).chains cell
   caught_equal cell row is alive acts =
       let mind = minded cell row is alive acts in
-      let same = no_caught row.map row.link acts.holder acts.inc (other_of acts.holder row) acts.other_inc acts.is in
+      let same = no_caught it row.map row.link acts.holder acts.inc (other_of acts.holder row) acts.other_inc acts.is in
       let beside = beside_top cell row acts.holder acts.whole is alive acts.alone in
       ap (λ (s : Store). chain_in s.chains cell) (same row.primary)
-      ∙ in_common (λ n. chain_in (old n).chains cell) row acts.holder (holder_is_one here steady_top acts.holder cell row is acts.alone)
+      ∙ in_common (λ n. chain_in (old n).chains cell) row acts.holder (holder_is_one here (steady_top it) acts.holder cell row is acts.alone)
       (beside.alike.caught mind.0 mind.1 mind.2)
       ∙ ap (λ (s : Store). chain_in s.chains cell) (sym (same row.secondary))
 
   both_moved : (cell : Cell) (row now : LinkRow) → IsLinked setting top cell row → IsLinked setting next cell now → touches here entry row ≡ true
       → AliveIn here cell → now.state ≡ Both
       → chain_in (new now.primary).chains cell ≡ chain_in (new now.secondary).chains cell
-  both_moved cell row now is end on alive both = elim (log_touched setting.servers top entry cell row plain_top plain_entry is on) [
+  both_moved cell row now is end on alive both = elim (log_touched setting.servers top entry cell row (plain_top it) (plain_entry it) is on) [
     | By_leave left there seats ↦ left_not_both (other_of left.server row) row.state
-        (sym (left_row row left.server left.one_of) ∙ ap (λ (r : LinkRow). r.state) (same_some (sym there ∙ row_then cell now end)) ∙ both)
+        (sym (left_row row left.server left.one_of) ∙ ap (λ (r : LinkRow). r.state) (same_some (sym there ∙ row_then it cell now end)) ∙ both)
     | By_join joined there apart seats ↦
-        joined_not_both row joined.server joined.blank apart (ap (λ (r : LinkRow). r.state) (same_some (sym there ∙ row_then cell now end)) ∙ both)
+        joined_not_both row joined.server joined.blank apart (ap (λ (r : LinkRow). r.state) (same_some (sym there ∙ row_then it cell now end)) ∙ both)
     | By_caught acts stays ↦ (
-        let so = later_then cell row now is end in
+        let so = later_then it cell row now is end in
         ap (λ n. chain_in (new n).chains cell) so.primary ∙ caught_equal cell row is alive acts ∙ ap (λ n. chain_in (new n).chains cell) (sym so.secondary))
   ]
 
   both_on : (f : List Command) (cell : Cell) (row : LinkRow) → IsPrefix f top → BothOk setting top good.stores good.visits good.reached f cell row
       → BothOk setting next stores good.visits good.reached f cell row
   both_on f cell row prefix b = record {
-    twins = λ alive last. subst (λ s. AreTwins s good.visits (place_by setting f row) cell row.primary row.secondary) (front_stores f prefix)
-        (b.twins (alive_before cell alive) last);
+    twins = λ alive last. subst (λ s. AreTwins s good.visits (place_by setting f row) cell row.primary row.secondary) (front_stores it f prefix)
+        (b.twins (alive_before it cell alive) last);
   }
 
   -- at a place that stays each server of the link has the store that it had
@@ -200,13 +124,13 @@ module _ (setting : Setting) (records : List Record) (top : List Command) (entry
       → (AliveIn here cell → chain_in (new now.primary).chains cell ≡ chain_in (new now.secondary).chains cell)
       → BothOk setting next stores good.visits good.reached next cell now
   made_twins cell now unseen same = record {
-    twins = λ alive last. subst (λ s. AreTwins s good.visits (place_by setting next now) cell now.primary now.secondary) next_stores
-        (new_twins new good.visits (place_by setting next now) cell now.primary now.secondary unseen (same (alive_before cell alive)));
+    twins = λ alive last. subst (λ s. AreTwins s good.visits (place_by setting next now) cell now.primary now.secondary) (next_stores it)
+        (new_twins new good.visits (place_by setting next now) cell now.primary now.secondary unseen (same (alive_before it cell alive)));
   }
 
   both_next : (cell : Cell) (now : LinkRow) → IsLinked setting next cell now → now.state ≡ Both
       → BothOk setting next stores good.visits good.reached next cell now
-  both_next cell now end both = by_next cell now end
+  both_next cell now end both = by_next it cell now end
       (λ is same. record {
         twins = λ alive last. subst (λ place. AreTwins (store_by setting stores next) good.visits place cell now.primary now.secondary) (sym same)
             (twins_same (store_by setting stores top) (store_by setting stores next) good.visits (place_by setting top now) cell now.primary now.secondary
@@ -216,7 +140,7 @@ module _ (setting : Setting) (records : List Record) (top : List Command) (entry
             (subst (λ place. good.reached cell ≤ place) same last)));
       })
       (λ row is on unseen. made_twins cell now unseen (λ alive. both_moved cell row now is end on alive both))
-      (λ none unseen. made_twins cell now unseen (λ alive. still_empty cell none now.primary now.secondary))
+      (λ none unseen. made_twins cell now unseen (λ alive. still_empty it cell none now.primary now.secondary))
 
   -- ### Alone
 
@@ -230,7 +154,7 @@ module _ (setting : Setting) (records : List Record) (top : List Command) (entry
       → AliveIn here cell → row.state ≡ Only holder whole → now.state ≡ Only holder whole → IsCovered now cell (old holder) (old (other_of holder now)) None
   alone_cover cell row now holder whole is end alive alone still =
       let beside = beside_top cell row holder whole is alive alone in
-      subst (λ m. IsCovered now cell (old holder) (old m) None) (sym (other_later row now holder (later_then cell row now is end)))
+      subst (λ m. IsCovered now cell (old holder) (old m) None) (sym (other_later row now holder (later_then it cell row now is end)))
       (cover_anew row now cell (old holder) (old (other_of holder row)) (good.visits holder (place_by setting top row) cell)
       (λ all. ap is_whole (still ∙ sym alone) ∙ all) beside.alike.covered)
 
@@ -238,9 +162,9 @@ module _ (setting : Setting) (records : List Record) (top : List Command) (entry
   left_cover : (cell : Cell) (row now : LinkRow) (holder server : ℕ) (whole : Bool) → IsLinked setting top cell row → IsLinked setting next cell now
       → AliveIn here cell → has_server server row ≡ true → row_left server row ≡ now → now.state ≡ Only holder whole
       → IsCovered now cell (old holder) (old (other_of holder now)) None
-  left_cover cell row now holder server whole is end alive has same alone = elim (steady_top.linked cell row is).served [
+  left_cover cell row now holder server whole is end alive has same alone = elim ((steady_top it).linked cell row is).served [
     | ByBoth so one other ↦ (
-        let later = later_then cell row now is end in
+        let later = later_then it cell row now is end in
         let has_holder : has_server holder row ≡ true = sym (one_before row now holder later)
         ∙ holder_is_one then_state (log_steady setting.servers next all) holder cell now end alone in
         subst (λ m. IsCovered now cell (old holder) (old m) None) (sym (other_later row now holder later))
@@ -256,7 +180,7 @@ module _ (setting : Setting) (records : List Record) (top : List Command) (entry
       → has_server server row ≡ true → row_blanked server row ≡ now → row.state ≢ Both → now.state ≡ Only holder whole → other_of holder now ≡ server
   blank_other cell row now holder server whole is end has same apart alone =
       let kept = blanked_alone row server holder whole has apart (ap (λ (r : LinkRow). r.state) same ∙ alone) in
-      let later = later_then cell row now is end in
+      let later = later_then it cell row now is end in
       let its = sym (one_before row now holder later)
       ∙ holder_is_one (state_after setting.servers next) (log_steady setting.servers next all) holder cell now end alone in
       other_later row now holder later ∙ other_than holder server row its has kept.0
@@ -271,51 +195,35 @@ module _ (setting : Setting) (records : List Record) (top : List Command) (entry
 
   alone_moved : (cell : Cell) (row now : LinkRow) (holder : ℕ) (whole : Bool) → IsLinked setting top cell row → IsLinked setting next cell now
       → touches here entry row ≡ true → AliveIn here cell → now.state ≡ Only holder whole → IsCovered now cell (new holder) (new (other_of holder now)) None
-  alone_moved cell row now holder whole is end on alive alone = elim (log_touched setting.servers top entry cell row plain_top plain_entry is on) [
+  alone_moved cell row now holder whole is end on alive alone = elim (log_touched setting.servers top entry cell row (plain_top it) (plain_entry it) is on) [
     | By_leave left there seats ↦
-        cover_same now cell holder (other_of holder now) (no_leave left.server left.inc left.is holder)
-        (no_leave left.server left.inc left.is (other_of holder now))
-        (left_cover cell row now holder left.server whole is end alive left.one_of (same_some (sym there ∙ row_then cell now end)) alone)
+        cover_same now cell holder (other_of holder now) (no_leave it left.server left.inc left.is holder)
+        (no_leave it left.server left.inc left.is (other_of holder now))
+        (left_cover cell row now holder left.server whole is end alive left.one_of (same_some (sym there ∙ row_then it cell now end)) alone)
     | By_join joined there apart seats ↦ joins joined.server joined.inc joined.blank joined.is joined.may joined.one_of there apart
-    | By_caught acts stays ↦ alone_not_both now holder alone (ap (λ (r : LinkRow). r.state) (same_some (sym (row_then cell now end) ∙ stays.same)))
+    | By_caught acts stays ↦ alone_not_both now holder alone (ap (λ (r : LinkRow). r.state) (same_some (sym (row_then it cell now end) ∙ stays.same)))
   ]
     where
       joins : (server inc : ℕ) (blank : Bool) → entry ≡ Join server inc blank → may_join (slice_get here.view.members server) inc ≡ true
           → has_server server row ≡ true → cell_link (after here entry) cell ≡ Some (row_joined server blank row) → row.state ≢ Both
           → IsCovered now cell (new holder) (new (other_of holder now)) None
       joins server inc false e may has there apart =
-          cover_same now cell holder (other_of holder now) (no_blank server inc e holder) (no_blank server inc e (other_of holder now))
-          (alone_cover cell row now holder whole is end alive (ap (λ (r : LinkRow). r.state) (same_some (sym there ∙ row_then cell now end)) ∙ alone) alone)
+          cover_same now cell holder (other_of holder now) (no_blank it server inc e holder) (no_blank it server inc e (other_of holder now))
+          (alone_cover cell row now holder whole is end alive (ap (λ (r : LinkRow). r.state) (same_some (sym there ∙ row_then it cell now end)) ∙ alone) alone)
       joins server inc true e may has there apart =
-          blank_cover cell row now holder server whole is end has (same_some (sym there ∙ row_then cell now end)) apart
+          blank_cover cell row now holder server whole is end has (same_some (sym there ∙ row_then it cell now end)) apart
           (ap (λ (c : Command). joins_blank here c server) e ∙ joins_so here server inc may) alone
 
   -- ### What the other server has, where all is to be copied to it
 
   filled_on : (f : List Command) (cell : Cell) (holder other : ℕ) → HasFilled setting top good.visits f cell holder other
       → HasFilled setting next good.visits f cell holder other
-  filled_on f cell holder other h = record {
-    more = h.more;
-    within = front_on h.more top next h.within (front_more top entry);
-    row = h.row;
-    linked = h.linked;
-    joins = h.joins;
-    own = h.own;
-    visited = h.visited;
-  }
+  filled_on f cell holder other h = has_filled_on h (front_on h.more top next h.within (front_more top entry)) refl h.own h.visited
 
   -- behind as many of its Joins with an empty store
   filled_next : (cell : Cell) (holder other : ℕ) → blank_joins_in setting next other ≡ blank_joins_in setting top other
       → HasFilled setting top good.visits top cell holder other → HasFilled setting next good.visits next cell holder other
-  filled_next cell holder other same h = record {
-    more = h.more;
-    within = front_on h.more top next h.within (front_more top entry);
-    row = h.row;
-    linked = h.linked;
-    joins = h.joins ∙ sym same;
-    own = h.own;
-    visited = h.visited;
-  }
+  filled_next cell holder other same h = has_filled_on h (front_on h.more top next h.within (front_more top entry)) (sym same) h.own h.visited
 
   abbrev IsUnfilled : Cell → LinkRow → ℕ → Type 0
   IsUnfilled cell now holder =
@@ -326,7 +234,7 @@ module _ (setting : Setting) (records : List Record) (top : List Command) (entry
   still_unfilled cell row now holder whole is end alive alone off all_of =
       let other = other_of holder row in
       subst (λ m. (chain_in (new m).chains cell ≡ []) ⊎ HasFilled setting next good.visits next cell holder m)
-      (sym (other_later row now holder (later_then cell row now is end)))
+      (sym (other_later row now holder (later_then it cell row now is end)))
       (elim ((good.alone top cell row holder whole (front_itself top) is alone).unfilled alive (ap is_whole alone ∙ all_of)) [
         | inl empty ↦ inl (ap (λ (s : Store). chain_in s.chains cell) (recounts.same other off ∙ sym (good.now other)) ∙ empty)
         | inr h ↦ inr (filled_next cell holder other (counts_same setting top entry other off) h)
@@ -336,7 +244,7 @@ module _ (setting : Setting) (records : List Record) (top : List Command) (entry
   left_unfilled : (cell : Cell) (row now : LinkRow) (holder server inc : ℕ) (whole : Bool) → IsLinked setting top cell row → IsLinked setting next cell now
       → AliveIn here cell → entry ≡ Leave server inc → has_server server row ≡ true → row_left server row ≡ now → now.state ≡ Only holder whole
       → whole ≡ true → IsUnfilled cell now holder
-  left_unfilled cell row now holder server inc whole is end alive entry_is has same alone all_of = elim (steady_top.linked cell row is).served [
+  left_unfilled cell row now holder server inc whole is end alive entry_is has same alone all_of = elim ((steady_top it).linked cell row is).served [
     | ByBoth so one other ↦ true_false all_of
         (sym (ap is_whole alone) ∙ ap (λ (r : LinkRow). is_whole r.state) (sym same) ∙ ap is_whole (left_row row server has)
         ∙ ap (λ x. is_whole (left_state (other_of server row) x)) so)
@@ -349,22 +257,23 @@ module _ (setting : Setting) (records : List Record) (top : List Command) (entry
 
   unfilled_moved : (cell : Cell) (row now : LinkRow) (holder : ℕ) (whole : Bool) → IsLinked setting top cell row → IsLinked setting next cell now
       → touches here entry row ≡ true → AliveIn here cell → now.state ≡ Only holder whole → whole ≡ true → IsUnfilled cell now holder
-  unfilled_moved cell row now holder whole is end on alive alone all_of = elim (log_touched setting.servers top entry cell row plain_top plain_entry is on) [
-    | By_leave left there seats ↦
-        left_unfilled cell row now holder left.server left.inc whole is end alive left.is left.one_of
-        (same_some (sym there ∙ row_then cell now end)) alone all_of
-    | By_join joined there apart seats ↦ joins joined.server joined.inc joined.blank joined.is joined.may joined.one_of there apart
-    | By_caught acts stays ↦ alone_not_both now holder alone (ap (λ (r : LinkRow). r.state) (same_some (sym (row_then cell now end) ∙ stays.same)))
-  ]
+  unfilled_moved cell row now holder whole is end on alive alone all_of =
+      elim (log_touched setting.servers top entry cell row (plain_top it) (plain_entry it) is on) [
+        | By_leave left there seats ↦
+            left_unfilled cell row now holder left.server left.inc whole is end alive left.is left.one_of
+            (same_some (sym there ∙ row_then it cell now end)) alone all_of
+        | By_join joined there apart seats ↦ joins joined.server joined.inc joined.blank joined.is joined.may joined.one_of there apart
+        | By_caught acts stays ↦ alone_not_both now holder alone (ap (λ (r : LinkRow). r.state) (same_some (sym (row_then it cell now end) ∙ stays.same)))
+      ]
     where
       joins : (server inc : ℕ) (blank : Bool) → entry ≡ Join server inc blank → may_join (slice_get here.view.members server) inc ≡ true
           → has_server server row ≡ true → cell_link (after here entry) cell ≡ Some (row_joined server blank row) → row.state ≢ Both
           → IsUnfilled cell now holder
       joins server inc false e may has there apart =
-          still_unfilled cell row now holder whole is end alive (ap (λ (r : LinkRow). r.state) (same_some (sym there ∙ row_then cell now end)) ∙ alone)
+          still_unfilled cell row now holder whole is end alive (ap (λ (r : LinkRow). r.state) (same_some (sym there ∙ row_then it cell now end)) ∙ alone)
           (no_blank_join here entry (λ s i f. let g : Join server inc false ≡ Join s i true = sym e ∙ f in absurd cc) (other_of holder row)) all_of
       joins server inc true e may has there apart =
-          let other = blank_other cell row now holder server whole is end has (same_some (sym there ∙ row_then cell now end)) apart alone in
+          let other = blank_other cell row now holder server whole is end has (same_some (sym there ∙ row_then it cell now end)) apart alone in
           inl (ap (λ n. chain_in (new n).chains cell) other ∙ no_chains (new server) cell
           (recounts.renewed server (ap (λ (c : Command). joins_blank here c server) e ∙ joins_so here server inc may)).chains)
 
@@ -375,12 +284,12 @@ module _ (setting : Setting) (records : List Record) (top : List Command) (entry
       let other = other_of holder row in
       record {
         copying = a.copying;
-        beside = λ alive last. subst (λ s. AreBeside s good.visits (place_by setting f row) row cell holder other) (front_stores f prefix)
-            (a.beside (alive_before cell alive) last);
-        stays = λ alive own visit beyond. subst (λ (s : ℕ → Store). StaysLeft row cell own (s holder)) (front_stores f prefix)
-            (a.stays (alive_before cell alive) own visit beyond);
-        unfilled = λ alive all_of. elim (a.unfilled (alive_before cell alive) all_of) [
-          | inl empty ↦ inl (subst (λ (s : ℕ → Store). chain_in (s other).chains cell ≡ []) (front_stores f prefix) empty)
+        beside = λ alive last. subst (λ s. AreBeside s good.visits (place_by setting f row) row cell holder other) (front_stores it f prefix)
+            (a.beside (alive_before it cell alive) last);
+        stays = λ alive own visit beyond. subst (λ (s : ℕ → Store). StaysLeft row cell own (s holder)) (front_stores it f prefix)
+            (a.stays (alive_before it cell alive) own visit beyond);
+        unfilled = λ alive all_of. elim (a.unfilled (alive_before it cell alive) all_of) [
+          | inl empty ↦ inl (subst (λ (s : ℕ → Store). chain_in (s other).chains cell ≡ []) (front_stores it f prefix) empty)
           | inr h ↦ inr (filled_on f cell holder other h)
         ];
       }
@@ -391,7 +300,7 @@ module _ (setting : Setting) (records : List Record) (top : List Command) (entry
       → AloneOk setting next stores good.visits good.reached next cell now holder
   same_alone cell now holder whole is end alone same a =
       let other = other_of holder now in
-      let has = holder_is_one here steady_top holder cell now is alone in
+      let has = holder_is_one here (steady_top it) holder cell now is alone in
       let one = same_store cell now holder is end same has in
       let two = same_store cell now other is end same (other_is_one now holder) in
       record {
@@ -427,20 +336,20 @@ module _ (setting : Setting) (records : List Record) (top : List Command) (entry
   made_alone cell now holder unseen covered unfilled =
       let other = other_of holder now in
       new_alone setting next stores good.visits good.reached next cell now holder unseen
-      (λ alive. subst (λ (s : ℕ → Store). IsCovered now cell (s holder) (s other) None) next_stores (covered (alive_before cell alive)))
+      (λ alive. subst (λ (s : ℕ → Store). IsCovered now cell (s holder) (s other) None) (next_stores it) (covered (alive_before it cell alive)))
       (λ alive. subst (λ (s : ℕ → Store). is_whole now.state ≡ true → (chain_in (s other).chains cell ≡ [])
       ⊎ HasFilled setting next good.visits next cell holder other)
-      next_stores (unfilled (alive_before cell alive)))
+      (next_stores it) (unfilled (alive_before it cell alive)))
 
   alone_next : (cell : Cell) (now : LinkRow) (holder : ℕ) (whole : Bool) → IsLinked setting next cell now → now.state ≡ Only holder whole
       → AloneOk setting next stores good.visits good.reached next cell now holder
-  alone_next cell now holder whole end alone = by_next cell now end
+  alone_next cell now holder whole end alone = by_next it cell now end
       (λ is same. same_alone cell now holder whole is end alone same
       (alone_on top cell now holder (front_itself top) (good.alone top cell now holder whole (front_itself top) is alone)))
       (λ row is on unseen. made_alone cell now holder unseen (λ alive. alone_moved cell row now holder whole is end on alive alone)
       (λ alive all_of. unfilled_moved cell row now holder whole is end on alive alone (sym (ap is_whole alone) ∙ all_of)))
-      (λ none unseen. made_alone cell now holder unseen (λ alive. Is_equal (still_empty cell none holder (other_of holder now)))
-      (λ alive all_of. inl (born_then cell none (other_of holder now))))
+      (λ none unseen. made_alone cell now holder unseen (λ alive. Is_equal (still_empty it cell none holder (other_of holder now)))
+      (λ alive all_of. inl (born_then it cell none (other_of holder now))))
 
   -- ### All of it
 
@@ -461,7 +370,7 @@ module _ (setting : Setting) (records : List Record) (top : List Command) (entry
 
   below_next : (cell : Cell) (now : LinkRow) (n : ℕ) (own : Own) → IsLinked setting next cell now → serves n now now.state ≡ true
       → good.visits n (place_by setting next now) cell ≡ Some own → place_by setting next now ≤ good.reached cell
-  below_next cell now n own end serving visited = by_next cell now end
+  below_next cell now n own end serving visited = by_next it cell now end
       (λ is same. subst (λ place. place ≤ good.reached cell) (sym same)
       (good.reaching.below top cell now n own (front_itself top) is serving (subst (λ place. good.visits n place cell ≡ Some own) same visited)))
       (λ row is on unseen. none_some (unseen n) visited)
@@ -475,18 +384,7 @@ module _ (setting : Setting) (records : List Record) (top : List Command) (entry
         (λ f p. good.reaching.below f cell row n own p) (below_next cell row n own) front prefix;
     by = λ cell. elim (good.reaching.by cell) [
       | inl none ↦ inl none
-      | inr r ↦ inr (record {
-        front = r.front;
-        prefix = front_on r.front top next r.prefix (front_more top entry);
-        row = r.row;
-        linked = r.linked;
-        alive = r.alive;
-        at = r.at;
-        server = r.server;
-        serving = r.serving;
-        own = r.own;
-        visited = r.visited;
-      })
+      | inr r ↦ inr (reached_on r (front_on r.front top next r.prefix (front_more top entry)) r.own r.visited)
     ];
   }
 
@@ -500,12 +398,13 @@ module _ (setting : Setting) (records : List Record) (top : List Command) (entry
   said_on f said cell row prefix s =
       let place = place_by setting f row in
       record {
-        both = λ alive both last of. subst (λ t. Known (pair_at t good.visits place cell row.primary row.secondary) said) (front_stores f prefix)
-            (s.both (alive_before cell alive) both last of);
+        both = λ alive both last of. subst (λ t. Known (pair_at t good.visits place cell row.primary row.secondary) said) (front_stores it f prefix)
+            (s.both (alive_before it cell alive) both last of);
         alone = s.alone;
         page = λ alive holder whole after block alone told last.
-            subst (λ (t : ℕ → Store). IsPage cell (t (other_of holder row)) (good.visits (other_of holder row) place cell) after block) (front_stores f prefix)
-            (s.page (alive_before cell alive) holder whole after block alone told last);
+            subst (λ (t : ℕ → Store). IsPage cell (t (other_of holder row)) (good.visits (other_of holder row) place cell) after block)
+            (front_stores it f prefix)
+            (s.page (alive_before it cell alive) holder whole after block alone told last);
         met = s.met;
       }
 
@@ -548,18 +447,18 @@ module _ (setting : Setting) (records : List Record) (top : List Command) (entry
     reached = good.reached;
     reaching = reaching_next;
     stores = stores;
-    now = next_store;
+    now = next_store it;
     here = here_next;
     been = λ n place cell own visit.
         let b = good.been n place cell own visit in
         record { front = b.front; within = b.within; row = b.row; linked = b.linked; alive = b.alive; at = b.at };
     came = good.came;
-    born = λ cell none. born_then cell (unborn_before cell none);
+    born = λ cell none. born_then it cell (unborn_before cell none);
     unheard = unheard_next;
     rising = rising_next;
     ever = λ n joins cell. by_bool (joins == blank_joins_in setting next n)
-        (λ t. subst (λ (s : Store). IsRising nat_cmp (chain_in s.chains cell)) (sym (stores_so n joins true t)) (rising_next n cell))
-        (λ f. subst (λ (s : Store). IsRising nat_cmp (chain_in s.chains cell)) (sym (stores_so n joins false f)) (good.ever n joins cell));
+        (λ t. subst (λ (s : Store). IsRising nat_cmp (chain_in s.chains cell)) (sym (stores_so it n joins true t)) (rising_next n cell))
+        (λ f. subst (λ (s : Store). IsRising nat_cmp (chain_in s.chains cell)) (sym (stores_so it n joins false f)) (good.ever n joins cell));
     counts = good.counts;
     filled = λ n. by_bool (joins_blank here entry n)
         (λ on. subst AreFilled (sym (recounts.renewed n on).chains) (λ cell there. none_some (at-empty cell_cmp cell) there))

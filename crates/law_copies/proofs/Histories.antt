@@ -3,7 +3,6 @@ use Rattle.std.proofs.Common.{◌≡◌, ◌≤◌, ◌++◌, ℕ, false, if◌t
 use Rattle.std.proofs.Common.{ap, ◌∙◌, subst, inl, inr, arith, append_assoc}
 use Rattle.std.proofs.lemmas.List.{append-nil}
 use Rattle.petal_base.specs.declared.cell.Cell.{Cell}
-use Rattle.petal_command.specs.declared.command.Command.{Command}
 use Rattle.petal_msg.specs.Kinds.{subject_of}
 use Rattle.script_lines.specs.declared.script.Script.{Script}
 use Rattle.petal_history.specs.Claims.{IsPrefix}
@@ -33,38 +32,26 @@ use Rattle.law_steps.proofs.Sending.{turned_asks}
 use Rattle.law_stores.proofs.Histories.{join_empty, join_own}
 use Rattle.law_copies.specs.Good.{Good}
 use Rattle.law_copies.specs.Visits.{is_at}
+use Rattle.law_copies.proofs.AtStep.{IsStep, at_step}
 use Rattle.law_copies.proofs.Framed.{store_itself}
 use Rattle.law_copies.proofs.Further.{IsFurther, grow}
-use Rattle.law_copies.proofs.NextEntry.{IsBehind}
+use Rattle.law_copies.proofs.AtNext.{IsBehind}
 use Rattle.law_copies.proofs.Mute.{asked_mute}
 use Rattle.law_copies.proofs.Quiet as quiet
 use Rattle.law_copies.proofs.Quiet.{posts_mute}
-use Rattle.law_copies.proofs.Stepping.{GoesOn}
-use Rattle.law_copies.proofs.Visited.{IsStep, IsThen, at_by, counted as reached_then, later, seen, stored}
-use Rattle.law_copies.proofs.Known.{IsKnown, in_begun, known_after}
-use Rattle.law_copies.proofs.ServerSteps as steps
+use Rattle.law_copies.proofs.Visited.{at_by, counted as reached_then, later, seen, stored}
+use Rattle.law_copies.proofs.Known.{OneMore, before_of, in_begun, known_after}
+use Rattle.law_copies.proofs.ServerSteps.{GoesTo, server_goes, then_so}
 pub use Rattle.law_copies.proofs.Starting.{start_good, start_visits}
 
-module _ (setting : Setting) (records : List Record) (w : World) (known : IsKnown setting records w)
-    (good : Good setting records (chosen_log setting w) (counted setting w)) (own : Record) where
-  abbrev top : List Command
-  top = chosen_log setting w
-
-  -- the world by the stores that count
-  abbrev before : World
-  before = counted setting w
-
-  -- and the world then, by the stores that count by what was chosen before
-  abbrev GoesTo : World → Type 0
-  GoesTo v = world_after setting (start setting) (records ++ own ∷ []) ≡ v → GoesOn setting records top top before (counted_by setting top v) good own
-
-  then_so : (v : World) → world_after setting (start setting) (records ++ own ∷ []) ≡ v → IsThen setting (records ++ own ∷ []) (counted_by setting top v)
-  then_so = steps.then_so setting records w known good own
+module _ (it : OneMore) where
+  open it use {setting, records, w, known, good, own}
+  open before_of it use {top, before}
 
   -- ### A blank
 
   -- the store from before counts
-  blank_goes : (k stamp : ℕ) → (w.servers k).life.running ≡ false → GoesTo (acts setting w k Blank stamp (stays (blanked (w.servers k)))).world
+  blank_goes : (k stamp : ℕ) → (w.servers k).life.running ≡ false → GoesTo it (acts setting w k Blank stamp (stays (blanked (w.servers k)))).world
   blank_goes k stamp asleep then_is =
       let then_world = (acts setting w k Blank stamp (stays (blanked (w.servers k)))).world in
       let v = counted_by setting top then_world in
@@ -88,10 +75,10 @@ module _ (setting : Setting) (records : List Record) (w : World) (known : IsKnow
           | inr ne ↦ sym (put_apart w.before_blank k (Some mine) n ne) ∙ none
         ];
       } in
-      quiet.quiet_good setting records top before v k (before.servers k) good step
-      (quiet.same_visits setting records top before v k (before.servers k) good step refl refl refl)
+      quiet.quiet_good (at_step good step)
+      (quiet.same_visits (at_step good step) refl refl refl)
       (λ cell alive. store_itself (before.servers k).own.store cell)
-      own (then_so then_world then_is)
+      own (then_so it then_world then_is)
       (record {
         unheard = good.unheard k;
         copied = good.copied k;
@@ -108,7 +95,7 @@ module _ (setting : Setting) (records : List Record) (w : World) (known : IsKnow
   -- ### A turn of a client
 
   client_goes : (c stamp : ℕ) (reacted : Reaction) → ((post : Post) → In post reacted.posts → is_between (subject_of post.body) ≡ false)
-      → GoesTo (reacts w c stamp reacted).world
+      → GoesTo it (reacts w c stamp reacted).world
   client_goes c stamp reacted mute then_is =
       let then_world = (reacts w c stamp reacted).world in
       let v = counted_by setting top then_world in
@@ -121,10 +108,10 @@ module _ (setting : Setting) (records : List Record) (w : World) (known : IsKnow
         within = known.firm.servers 0;
         blanks = λ n none. none;
       } in
-      quiet.quiet_good setting records top before v 0 (before.servers 0) good step
-      (quiet.same_visits setting records top before v 0 (before.servers 0) good step refl refl refl)
+      quiet.quiet_good (at_step good step)
+      (quiet.same_visits (at_step good step) refl refl refl)
       (λ cell alive. store_itself (before.servers 0).own.store cell)
-      own (then_so then_world then_is)
+      own (then_so it then_world then_is)
       (record {
         unheard = good.unheard 0;
         copied = good.copied 0;
@@ -134,15 +121,15 @@ module _ (setting : Setting) (records : List Record) (w : World) (known : IsKnow
         marks = good.marks 0;
       })
       (λ letter i. elim (in-append letter (stamped stamp (letters_of (client_sender c reacted.client) 0 reacted.posts)) w.sent i) [
-        | inl new ↦ inr (posts_mute setting top (stored setting records top before v 0 (before.servers 0) good step)
-            (later setting records top before v 0 (before.servers 0) good step) (reached_then setting records top before v 0 (before.servers 0) good step)
+        | inl new ↦ inr (posts_mute setting top (stored (at_step good step))
+            (later (at_step good step)) (reached_then (at_step good step))
             (client_sender c reacted.client) stamp reacted.posts mute letter new)
         | inr old ↦ inl old
       ])
 
-  pub happens_goes : (state : State) (v : World) → Happens setting state w v → GoesTo v
+  pub happens_goes : (state : State) (v : World) → Happens setting state w v → GoesTo it v
   happens_goes state _ (Serves k stamp what acted lt small unblanked serving) =
-      steps.server_goes setting records w known good own k stamp what acted unblanked serving
+      server_goes it k stamp what acted unblanked serving
   happens_goes state _ (Blanks k stamp lt small asleep) = blank_goes k stamp asleep
   happens_goes state _ (Turns c stamp in_call reacted lt c_lt turned onward) =
       client_goes c stamp reacted (λ post i. asked_mute (subject_of post.body) (turned_asks _ _ _ _ _ _ _ turned post i))
@@ -211,7 +198,15 @@ module _ (script : Script) (records : List Record) (own : Record) (sound : IsSou
   step_goes good =
       let state = chosen_state setting next in
       let happens = last_happens script records own (always_firm script all sound legal) legal state (below_itself state) in
-      let goes = happens_goes setting records w (known_after script records sound legal_before) good own state next happens refl in
+      let before : OneMore = record {
+        setting = setting;
+        records = records;
+        w = w;
+        known = known_after script records sound legal_before;
+        good = good;
+        own = own;
+      } in
+      let goes = happens_goes before state next happens refl in
       let grown = grow setting all next (chosen_log setting w) further goes.good.visits goes.good.reached
       (history_grows script all sound legal records (own ∷ []) refl) (behind goes.behind)
       (record { good = goes.good; visits_are = λ n place cell. refl; reached_is = λ cell. refl }) in

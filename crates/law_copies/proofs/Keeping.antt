@@ -1,4 +1,7 @@
 -- What a job, and a ballot that is started, keeps by itself.
+use Rattle.global_tables.specs.declared.link.LinkState.TheVariants.{Both}
+use Rattle.law_copies.specs.Visits.{AliveIn}
+use Rattle.petal_state.specs.CellState.{cell_link}
 use Rattle.std.proofs.Common.{◌≡◌, ◌≢◌, ◌≤◌, ◌+◌, ℕ, true, false, List, [], Option, Some, None, refl, sym, ap, ◌∙◌, subst, inl, arith}
 use Rattle.std.specs.Ordering.{eq_by_cmp, nat_cmp}
 use Rattle.global_tables.specs.declared.link.LinkRow.{LinkRow}
@@ -9,16 +12,14 @@ use Rattle.petal_table.specs.Table.{at}
 use Rattle.petal_msg.specs.Kinds.{is_logged, subject_of}
 use Rattle.petal_msg.specs.declared.copying.LinkId.{LinkId}
 use Rattle.petal_history.specs.Claims.{IsMarked}
-use Rattle.petal_history.specs.declared.record.Record.{Record}
 use Rattle.petal_rules.specs.Lists.{In}
 use Rattle.petal_rules.specs.Progress.{progress_on}
 use Rattle.petal_rules.specs.Returns.{holds_link, proposed}
 use Rattle.petal_rules.specs.Server.{Own, Pairs, Here, Post, Done}
-use Rattle.petal_rules.specs.State.{holder_of, id_of, link_cmp, link_named}
+use Rattle.petal_rules.specs.State.{holder_of, id_of, link_cmp, link_named, both}
 use Rattle.petal_rules.specs.Store.{Store, cell_cmp, chain_in, is_marked}
 use Rattle.petal_rules.proofs.Tests.{true_false}
-use Rattle.petal_rules.specs.World.{Setting, World, chosen_log, server_state}
-use Rattle.law_state.specs.Firm.{Firm}
+use Rattle.petal_rules.specs.World.{chosen_log, server_state}
 use Rattle.law_state.specs.Tables.{IsPlainState}
 use Rattle.law_state.proofs.Alone.{so_both}
 use Rattle.law_state.proofs.Entries.{log_plain}
@@ -27,15 +28,15 @@ use Rattle.law_log.proofs.Flags.{progress_beside}
 use Rattle.law_steps.specs.Did.{Did}
 use Rattle.law_steps.specs.Happens.{Handled, Starts, is_between, own_place}
 use Rattle.law_steps.specs.Operations.{progress}
-use Rattle.law_steps.specs.Ready.{IsRising, Rests}
+use Rattle.law_steps.specs.Ready.{IsRising}
 use Rattle.law_steps.proofs.Leading.{stage_live}
 use Rattle.law_copies.specs.Copied.{links_of}
-use Rattle.law_copies.specs.Good.{Good}
 use Rattle.law_copies.specs.Pair.{HaveMarks, IsRecalled, Keeps, PairOk, pair_of}
 use Rattle.law_copies.specs.Steps.{AreFilled, HolderKeeps, IsFollowing, IsHolding, OtherKeeps}
+use Rattle.law_copies.proofs.CellInBoth.{CellInBoth}
+use Rattle.law_copies.proofs.AtSeat.{AtSeat}
 use Rattle.law_copies.proofs.Apart.{lost_keeps, not_of_idle, unborn_bare, unborn_keeps, unlinked_keeps}
 use Rattle.law_copies.proofs.Ballots.{IsBallot, ballot_alike, ballot_keeps}
-use Rattle.law_copies.specs.Visits.{with_stores}
 use Rattle.law_copies.proofs.Filled.{did_filled}
 use Rattle.law_copies.proofs.Following.{kept_copying, kept_told}
 use Rattle.law_copies.proofs.Frames.{keeps_alike}
@@ -46,17 +47,16 @@ use Rattle.law_copies.proofs.Mute.{known_mute, logged_mute, no_page, told_mute}
 use Rattle.law_copies.proofs.OtherJobs as others
 use Rattle.law_copies.proofs.Rising.{did_rising}
 use Rattle.law_copies.proofs.Seated as seated
-use Rattle.law_copies.proofs.Seated.{IsAtWork}
 use Rattle.law_copies.proofs.Sent.{page_link, page_map, page_sent, pages_sent}
 use Rattle.law_copies.proofs.Speaking.{did_copied, did_lives, idle_silent}
 use Rattle.law_copies.proofs.Standing.{kept_lives, named_id, one_named}
 use Rattle.law_copies.proofs.Twins.{lead_step, second_step}
 use Rattle.law_copies.proofs.Unheard.{did_next, did_pages, unlinked_apart}
-use Rattle.law_copies.proofs.Worked.{IsKeeping}
+use Rattle.law_copies.proofs.AtJob.{IsKeeping}
 
-module _ (setting : Setting) (records : List Record) (w : World) (stores : ℕ → Store) (k : ℕ)
-    (good : Good setting records (chosen_log setting w) (with_stores w stores)) (firm : Firm setting w) (rests : Rests setting w)
-    (works : IsAtWork setting w stores k) where
+module _ (it : AtSeat) where
+  open it use {setting, w, k, firm, rests}
+
   abbrev here : Here
   here = own_place setting w k
 
@@ -71,21 +71,35 @@ module _ (setting : Setting) (records : List Record) (w : World) (stores : ℕ �
   abbrev links_at : Cell → ℕ
   links_at cell = links_of (server_state setting w k) cell.map
 
+  -- a cell whose link is in Both
+  abbrev in_both : (cell : Cell) (row : LinkRow) → cell_link here.state cell ≡ Some row → AliveIn here.state cell → row.state ≡ Both → CellInBoth
+  in_both cell row is alive both = record {
+    heard = Handled w k;
+    here = here;
+    own = own;
+    steady = seated.steady it;
+    cell = cell;
+    row = row;
+    is_row = is;
+    alive = alive;
+    both_row = both;
+  }
+
   -- ### A job
 
   pub job_keeping : (done : Done) → Did (Handled w k) here own done → IsKeeping setting w k done
   job_keeping done did =
-      let steady = seated.steady setting records w stores k good firm rests works in
-      let fit = seated.fit setting records w stores k good firm rests works in
-      let rising = seated.rising setting records w stores k good firm rests works in
-      let filled = seated.filled setting records w stores k good firm rests works in
-      let marks = seated.marks setting records w stores k good firm rests works in
-      let idle = seated.idle_copies setting records w stores k good firm rests works in
+      let steady = seated.steady it in
+      let fit = seated.fit it in
+      let rising = seated.rising it in
+      let filled = seated.filled it in
+      let marks = seated.marks it in
+      let idle = seated.idle_copies it in
       record {
         lead = λ cell row second is alive both leads ok known.
-            lead_step (Handled w k) here own steady cell row is alive both leads second (rests.pending k) marks idle rising fit.bare ok known done did;
+            lead_step (in_both cell row is alive both) leads second (rests.pending k) marks idle rising fit.bare ok known done did;
         second = λ cell row first is alive both follows ok known.
-            second_step (Handled w k) here own steady cell row is alive both follows first (rests.pending k) rising fit.bare ok known done did;
+            second_step (in_both cell row is alive both) follows first (rests.pending k) rising fit.bare ok known done did;
         holder = λ cell row other f. holders.holds (Handled w k) here (links_at cell) row other own cell f done did;
         other = λ cell row holder f. others.follows (Handled w k) here (links_at cell) row holder own cell f done did;
         unlinked = λ cell none alive. unlinked_keeps (Handled w k) here own fit cell alive none done did;
@@ -204,7 +218,7 @@ module _ (setting : Setting) (records : List Record) (w : World) (stores : ℕ �
           marks = keeps.marks;
           changes = inl keeps.rest.chain;
           pages = λ post i after block e. no_page post.body (mute post i) row.map row.link after block e;
-          rising = rises cell (seated.rising setting records w stores k good firm rests works cell);
+          rising = rises cell (seated.rising it cell);
         }
 
     pub ballot_keeping : IsKeeping setting w k begun
@@ -215,7 +229,7 @@ module _ (setting : Setting) (records : List Record) (w : World) (stores : ℕ �
             let was = ap (λ (p : Pairs). at cell_cmp p.pending cell) (sym pairs_same) ∙ there in
             let staged = (rests.pending k).staged cell op was in
             let on = stage_live (server_state setting w k) cell staged.born alive in
-            let marks = seated.marks setting records w stores k good firm rests works cell op on was in
+            let marks = seated.marks it cell op on was in
             subst (λ (s : Store). IsRecalled op s cell) (sym store_same)
             (record { rests = staged.stage on (so_both (server_state setting w k) cell row is both); marks = marks });
         lacks = λ old op there fill le. old op (ap (λ (p : Pairs). at cell_cmp p.pending cell) (sym pairs_same) ∙ there) fill le;
@@ -235,16 +249,16 @@ module _ (setting : Setting) (records : List Record) (w : World) (stores : ℕ �
       lost = λ cell row is alive lost. keeps_alike cell own to alike.0;
       silent = λ cell not_of post i of. mute post i;
       lives = λ post i between cell of. true_false between (mute post i);
-      copied = λ cell last is. (seated.fit setting records w stores k good firm rests works).copied cell last
+      copied = λ cell last is. (seated.fit it).copied cell last
           (ap (λ t. at cell_cmp t cell) (sym alike.0.last) ∙ is);
       paged = λ cell row is post i after block e. no_page post.body (mute post i) row.map row.link after block e;
       pages = λ post i map link block after e. no_page post.body (mute post i) map link after (Some block) e;
-      rising = λ cell. rises cell (seated.rising setting records w stores k good firm rests works cell);
-      filled = subst (λ (s : Store). AreFilled s.chains) (sym store_same) (seated.filled setting records w stores k good firm rests works);
+      rising = λ cell. rises cell (seated.rising it cell);
+      filled = subst (λ (s : Store). AreFilled s.chains) (sym store_same) (seated.filled it);
       counts = (let e = ap (λ (p : Pairs). p.next) pairs_same in omega arith);
       marks = subst (λ (s : Store). HaveMarks (server_state setting w k) to.pairs.pending s) (sym store_same)
           (subst (λ (p : Pairs). HaveMarks (server_state setting w k) p.pending own.store) (sym pairs_same)
-          (seated.marks setting records w stores k good firm rests works));
+          (seated.marks it));
       unheard = λ cell unborn unheard. record {
         bare = record {
           chain = ap (λ (s : Store). chain_in s.chains cell) store_same ∙ unheard.bare.chain;

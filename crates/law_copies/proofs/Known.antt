@@ -9,7 +9,7 @@ use Rattle.petal_history.specs.Legal.{IsLegal, world_after}
 use Rattle.petal_history.specs.Sound.{IsSound}
 use Rattle.petal_history.specs.declared.record.Record.{Record}
 use Rattle.petal_rules.specs.State.{is_in}
-use Rattle.petal_rules.specs.World.{Setting, World, blank_joins_in, chosen_log, chosen_state}
+use Rattle.petal_rules.specs.World.{Setting, World, blank_joins_in, chosen_log, chosen_state, counted}
 use Rattle.petal_rules.specs.World.{server_state, setting_of, start}
 use Rattle.petal_rules.proofs.Tests.{by_bool}
 use Rattle.law_log.proofs.Histories.{chosen_caught_was, history_is_firm, out_has_stopped, who_is_in_has_begun}
@@ -21,6 +21,7 @@ use Rattle.law_steps.proofs.Histories.{rests_after, start_rests}
 use Rattle.law_steps.proofs.Waking.{may_wake}
 use Rattle.law_stores.specs.Waiting.{IsOwn}
 use Rattle.law_stores.proofs.Histories.{in_counts, in_own}
+use Rattle.law_copies.specs.Good.{Good}
 use Rattle.law_copies.proofs.Later.{AllStarted}
 
 -- what is known of a world of a legal history: its log; each stopped server may boot, and is not In as its next incarnation; what rests;
@@ -35,6 +36,23 @@ pub record IsKnown (setting : Setting) (records : List Record) (w : World) : Typ
   pub counts : (n : ℕ) (front : List Command) → IsPrefix front (chosen_log setting w)
       → is_in (state_after setting.servers front) n (w.servers n).life.inc ≡ true
       → blank_joins_in setting front n ≡ blank_joins_in setting (chosen_log setting w) n
+
+-- a history gets one record more: what is known of the world before it, and what was good of it by the stores that count
+pub record OneMore : Type 0 where
+  pub setting : Setting
+  pub records : List Record
+  pub w : World
+  pub known : IsKnown setting records w
+  pub good : Good setting records (chosen_log setting w) (counted setting w)
+  pub own : Record
+
+-- the log so far, and the world by the stores that count
+pub record Before : Type 0 where
+  pub top : List Command
+  pub before : World
+
+abbrev pub before_of : OneMore → Before
+before_of it = record { top = chosen_log it.setting it.w; before = counted it.setting it.w }
 
 -- an incarnation that was ever In has begun
 pub in_begun : (script : Script) (records : List Record) → IsSound script → IsLegal script records → (n inc : ℕ) (front : List Command)

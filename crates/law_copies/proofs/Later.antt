@@ -34,7 +34,7 @@ use Rattle.law_state.proofs.Roles.{primary_is_one, secondary_is_one}
 use Rattle.law_state.proofs.Steady.{front_plain, log_steady}
 use Rattle.law_steps.proofs.Fronts.{front_itself, front_more, front_on}
 use Rattle.law_steps.proofs.Minds.{held_as_flag}
-use Rattle.law_steps.proofs.Ties.{stays_alone, stays_both}
+use Rattle.law_steps.proofs.Ties.{running_fronts, stays_alone, stays_both}
 use Rattle.law_copies.specs.Copied.{IsCaught}
 use Rattle.law_copies.specs.Good.{Good}
 use Rattle.law_copies.specs.Visits.{AliveIn, IsLinked, place_by, with_stores}
@@ -277,7 +277,7 @@ module _ (setting : Setting) (records : List Record) (w : World) (stores : ℕ �
         → IsLinked setting more cell now → AliveIn (state_after setting.servers more) cell
         → (place_by setting more now ≡ place_by setting (own_front k) row) ⊎ ((whole : Bool) × (now.state ≡ Only k whole))
     both_since both has more now one two end alive =
-        elim (stays_both setting w firm k runs (own_front k) more (front_itself (own_front k)) one two seat cell row is has
+        elim (stays_both (running_fronts firm k runs (front_itself (own_front k)) one two seat) cell row is has
         (ap (serves k row) both ∙ has) alive both) [
           | inl stays ↦ inl (still_both more now both one two stays end)
           | inr alone ↦ inr (only_holder (state_after setting.servers more) k cell now end alone)
@@ -319,7 +319,7 @@ module _ (setting : Setting) (records : List Record) (w : World) (stores : ℕ �
           → IsHeldStill k whole now.state ⊎ (is_flagged (w.servers k).own (id_of row) ≡ true)
       holds_since whole alone more now one two end alive =
           let has = holder_is_one (server_state setting w k) (steady_at (own_front k) (firm.servers k)) k cell row is alone in
-          elim (stays_alone setting w firm k runs (own_front k) more (front_itself (own_front k)) one two seat cell row is has
+          elim (stays_alone (running_fronts firm k runs (front_itself (own_front k)) one two seat) cell row is has
           (serves_its k row alone) alive whole alone) [
             | inl on ↦ elim (alone_since started (own_front k) more cell row now k whole one two is alone end alive) [
               | inl same ↦ inl same

@@ -2,12 +2,10 @@
 use Rattle.std.proofs.Common.{◌≡◌, ◌≢◌, ℕ, ◌+◌, ◌≤◌, List, [], ◌∷◌, true, false, Some, None, refl, ap, sym, ◌∙◌, subst, inl, inr, arith}
 use Rattle.std.specs.Ordering.{nat_cmp}
 use Rattle.busy_marks.specs.declared.marks.MarkKind.TheVariants.{Busy, Stale}
-use Rattle.global_tables.specs.declared.link.LinkRow.{LinkRow}
-use Rattle.global_tables.specs.declared.link.LinkState.TheVariants.{Both}
 use Rattle.petal_base.specs.declared.cell.Cell.{Cell}
 use Rattle.petal_base.specs.Cells.{cell_of}
 use Rattle.petal_table.specs.Table.{at, put, without}
-use Rattle.petal_msg.specs.Kinds.{Filling, about, is_logged, subject_of}
+use Rattle.petal_msg.specs.Kinds.{Filling, about, subject_of}
 use Rattle.petal_msg.specs.declared.body.Body.{Body}
 use Rattle.petal_msg.specs.declared.body.Body.TheVariants as body
 use Rattle.petal_msg.specs.declared.letter.Actor.TheVariants as actor
@@ -19,7 +17,6 @@ use Rattle.petal_msg.specs.declared.operation.OpKind.{OpKind}
 use Rattle.petal_msg.specs.declared.operation.OpKind.TheVariants as kind
 use Rattle.petal_msg.specs.declared.operation.Pending.{Pending}
 use Rattle.petal_msg.specs.declared.operation.Stage.{Stage}
-use Rattle.petal_state.specs.CellState.{cell_link}
 use Rattle.petal_rules.specs.Fills.{fill_operation}
 use Rattle.petal_rules.specs.Lists.{In}
 use Rattle.petal_rules.specs.Progress.{has_proposed}
@@ -44,28 +41,14 @@ use Rattle.law_steps.proofs.Taking.{taking}
 use Rattle.law_copies.specs.BothSteps.{SaysKnown}
 use Rattle.law_copies.specs.Pair.{Pair, pair_of, PairOk, Keeps, Known, ceiling_of}
 use Rattle.law_copies.specs.Visits.{AliveIn}
+use Rattle.petal_msg.specs.Kinds.{is_paired}
+use Rattle.law_copies.proofs.CellInBoth.{CellInBoth}
+use Rattle.law_copies.proofs.Mute.{logged_known, unpaired_known}
 use Rattle.law_copies.proofs.Chains.{chain_put, chain_apart}
 use Rattle.law_copies.proofs.Moves as moves
 use Rattle.law_copies.proofs.Working.{lead_beside}
 
--- letters that speak of no pair tell nothing of it
-pub logged_known : (pair : Pair) (said : Body) → is_logged (subject_of said) ≡ true → Known pair said
-logged_known pair (body.Reserve number cell) e = cc
-logged_known pair (body.Reserved number cell) e = cc
-logged_known pair (body.PairFull number cell) e = cc
-logged_known pair (body.Replicate number key version bytes) e = cc
-logged_known pair (body.Replicated number cell) e = cc
-logged_known pair _ e = tt
-
--- nor do those that speak of entries that move
-pub filling_known : (pair : Pair) (said : Body) → subject_of said ≡ Filling → Known pair said
-filling_known pair (body.Reserve number cell) e = cc
-filling_known pair (body.Reserved number cell) e = cc
-filling_known pair (body.PairFull number cell) e = cc
-filling_known pair (body.Replicate number key version bytes) e = cc
-filling_known pair (body.Replicated number cell) e = cc
-filling_known pair _ e = tt
-
+-- an ending tells nothing of a pair
 pub ended_known : (pair : Pair) (seq : ℕ) (how : Ending) → Known pair (ended seq how)
 ended_known pair seq ending.Written = tt
 ended_known pair seq ending.Full = tt
@@ -76,7 +59,7 @@ pub ends_known : (here : Here) (own : Own) (op : Pending) (of : OpKind) (how : E
 unfolding In
 ends_known here own op kind.Write how post i pair = subst (Known pair) (sym (one_post _ _ post i).1) (ended_known pair op.seq how)
 ends_known here own op kind.Fill how post i pair =
-    filling_known pair post.body (ap subject_of (posted (old_lead here.state op.cell) (moved_as op.key how) post i) ∙ moved_filling how)
+    unpaired_known pair post.body (ap is_paired (ap subject_of (posted (old_lead here.state op.cell) (moved_as op.key how) post i) ∙ moved_filling how))
   where
     moved_filling : (how : Ending) → subject_of (moved_as op.key how) ≡ Filling
     moved_filling ending.Written = refl
@@ -99,11 +82,11 @@ pub record IsKept (own new : Own) (posts : List Post) (second : Own) (cell : Cel
   pub keeps : Keeps (pair_of own second cell) (pair_of new second cell)
   pub says : SaysKnown posts cell (pair_of new second cell)
 
-module _ (heard : Body → Type 0) (here : Here) (own : Own) (ready : IsReady here.state here.me (has_proposed here.state own) own.pairs.pending)
-    (cell : Cell) (row : LinkRow) (is_row : cell_link here.state cell ≡ Some row) (alive : AliveIn here.state cell) (both_row : row.state ≡ Both)
-    (second_own : Own)
-    (ok : PairOk (pair_of own second_own cell))
-    (known : (said : Body) → heard said → (about said).cell ≡ Some cell → Known (pair_of own second_own cell) said) where
+module _ (it : CellInBoth) (ready : IsReady it.here.state it.here.me (has_proposed it.here.state it.own) it.own.pairs.pending) (second_own : Own)
+    (ok : PairOk (pair_of it.own second_own it.cell))
+    (known : (said : Body) → it.heard said → (about said).cell ≡ Some it.cell → Known (pair_of it.own second_own it.cell) said) where
+  open it use {heard, here, own, cell, row, is_row, alive, both_row}
+
   abbrev K : Own → List Post → Type 0
   K new posts = IsKept own new posts second_own cell
 
@@ -193,7 +176,7 @@ module _ (heard : Body → Type 0) (here : Here) (own : Own) (ready : IsReady he
         bytes_is = refl;
       })
   asks_known _ (An_entry_to_move post next) of =
-      filling_known (pair_of own second_own cell) post.body (ap (λ (p : Post). subject_of p.body) next.is)
+      unpaired_known (pair_of own second_own cell) post.body (ap (λ (p : Post). is_paired (subject_of p.body)) next.is)
   asks_known post (Of_the_log _ e) of = logged_known (pair_of own second_own cell) post.body e
   asks_known _ _ of = tt
 

@@ -10,14 +10,13 @@ use Rattle.global_tables.specs.declared.link.LinkState.TheVariants.{Both, Lost, 
 use Rattle.petal_base.specs.declared.cell.Cell.{Cell}
 use Rattle.petal_command.specs.declared.command.Command.{Command}
 use Rattle.petal_history.specs.Claims.{IsMarked, IsPrefix, IsToBeCopied}
-use Rattle.petal_history.specs.declared.record.Record.{Record}
 use Rattle.petal_state.specs.CellState.{serves}
 use Rattle.petal_state.specs.Command.{state_after}
 use Rattle.petal_rules.specs.Progress.{progress_on}
-use Rattle.petal_rules.specs.Server.{Own, Server, Done}
+use Rattle.petal_rules.specs.Server.{Own}
 use Rattle.petal_rules.specs.State.{id_of, is_whole}
 use Rattle.petal_rules.specs.Store.{Store, chain_in, is_marked}
-use Rattle.petal_rules.specs.World.{Setting, World, blank_joins_in, chosen_log, server_state}
+use Rattle.petal_rules.specs.World.{blank_joins_in, chosen_log, server_state}
 use Rattle.petal_rules.proofs.Tests.{none_some, number_itself, same_or_apart, some_or_none, true_false}
 use Rattle.law_state.specs.Rows.{IsLater, ByBoth, ByNone, ByOne}
 use Rattle.law_state.specs.Started.{is_flagged}
@@ -26,22 +25,22 @@ use Rattle.law_state.proofs.BlankJoins.{joins_grow}
 use Rattle.law_state.proofs.Steady.{front_plain, log_steady}
 use Rattle.law_steps.proofs.Fronts.{front_itself}
 use Rattle.law_copies.specs.Copied.{IsCovered, NotCopied, links_of}
-use Rattle.law_copies.specs.Good.{Good}
 use Rattle.law_copies.specs.Steps.{IsLeftBy, OtherKeeps}
-use Rattle.law_copies.specs.Visits.{AliveIn, IsLinked, place_by, store_by, with_stores}
+use Rattle.law_copies.specs.Visits.{AliveIn, IsLinked, place_by}
+use Rattle.law_copies.proofs.Visited.{then_of}
+use Rattle.law_copies.proofs.AtJob.{AtJob, seat_at, step_at}
 use Rattle.law_copies.proofs.Between.{held_same, to_fill}
 use Rattle.law_copies.proofs.Framed.{LeavesStore}
 use Rattle.law_copies.proofs.NewPlaces.{both_cover, cover_anew}
-use Rattle.law_copies.proofs.Later.{AllStarted, alone_last, alone_or_flagged, both_since, holder_is_one, holds_since}
+use Rattle.law_copies.proofs.Later.{alone_last, alone_or_flagged, both_since, holder_is_one, holds_since}
 use Rattle.law_copies.proofs.Later.{not_reached, not_serving, serves_its, unseen_beyond}
 use Rattle.law_copies.proofs.Others.{other_apart}
 use Rattle.law_copies.proofs.Places.{alive_on, at_most_or_above, fronts_meet, other_later, places_up, rows_later}
 use Rattle.law_copies.proofs.Renewed.{filled_cover}
 use Rattle.law_copies.proofs.Seated as seated
 use Rattle.law_copies.proofs.Seated.{other_back}
-use Rattle.law_copies.proofs.Visited.{stored, stored_apart, stored_by, was_stored}
+use Rattle.law_copies.proofs.Visited.{stored_apart, stored_by, was_stored}
 use Rattle.law_copies.proofs.Worked as worked
-use Rattle.law_copies.proofs.Worked.{IsJob}
 
 both_off : (a b : Bool) → (a ≡ true → ⊥) → (b ≡ true → ⊥) → a ≡ b
 both_off true b f g = absurd (f refl)
@@ -66,43 +65,31 @@ not_copied (Some own) row block never = elim (some_or_none (progress_on own row)
   | inr none ↦ ap (λ o. above o block) none
 ]
 
-module _ (setting : Setting) (records : List Record) (w : World) (stores : ℕ → Store) (v : World) (k : ℕ) (server : Server)
-    (good : Good setting records (chosen_log setting w) (with_stores w stores)) (done : Done) (job : IsJob setting w stores v k server done)
-    (started : AllStarted setting records w) where
+module _ (it : AtJob) where
+  open it use {setting, records, w, stores, k, server, good, firm, done, job, started}
+  open then_of (step_at it) use {visits, next, olds, news}
+
   abbrev pub top : List Command
   top = chosen_log setting w
 
   abbrev pub front : List Command
   front = (w.servers k).log.applied
 
-  abbrev visits : (n place : ℕ) → Cell → Option Own
-  visits = worked.visits setting records w stores v k server good done job
-
-  abbrev pub next : ℕ → ℕ → Store
-  next = stored setting records top (with_stores w stores) v k server good job.step
-
-  -- the stores by a front, before and then
-  abbrev pub olds : List Command → ℕ → Store
-  olds = store_by setting good.stores
-
-  abbrev pub news : List Command → ℕ → Store
-  news = store_by setting next
-
   -- the server has joined with an empty store no more often than by this front
   abbrev pub IsNow : List Command → Type 0
   IsNow f = blank_joins_in setting f k ≡ blank_joins_in setting top k
 
   pub store_was : (f : List Command) → IsNow f → olds f k ≡ (w.servers k).own.store
-  store_was f same = was_stored setting records top (with_stores w stores) v k server good job.step f same ∙ job.works.real
+  store_was f same = was_stored (step_at it) f same ∙ job.works.real
 
   pub store_now : (f : List Command) → IsNow f → news f k ≡ done.own.store
-  store_now f same = stored_by setting records top (with_stores w stores) v k server good job.step f same ∙ ap (λ (o : Own). o.store) job.own_is
+  store_now f same = stored_by (step_at it) f same ∙ ap (λ (o : Own). o.store) job.own_is
 
   pub store_apart : (f : List Command) (n : ℕ) → n ≢ k → news f n ≡ olds f n
-  store_apart f n ne = stored_apart setting records top (with_stores w stores) v k server good job.step n (blank_joins_in setting f n) ne
+  store_apart f n ne = stored_apart (step_at it) n (blank_joins_in setting f n) ne
 
   pub steady_at : (f : List Command) → IsPrefix f top → IsSteady (state_after setting.servers f)
-  steady_at f prefix = log_steady setting.servers f (front_plain setting.servers f top job.firm.plain prefix)
+  steady_at f prefix = log_steady setting.servers f (front_plain setting.servers f top firm.plain prefix)
 
   -- what the holder has left to copy at a place, by its store by these entries
   abbrev pub IsStillLeft : List Command → (place : ℕ) → Cell → LinkRow → (h : ℕ) → Type 0
@@ -126,7 +113,7 @@ module _ (setting : Setting) (records : List Record) (w : World) (stores : ℕ �
   -- a cell that is not dead by what is chosen is not dead at any front
   pub alive_at : (f : List Command) (cell : Cell) → IsPrefix f top → AliveIn (state_after setting.servers top) cell
       → AliveIn (state_after setting.servers f) cell
-  alive_at f cell prefix lives = alive_on setting top job.firm.plain f top cell prefix (front_itself top) lives
+  alive_at f cell prefix lives = alive_on setting top firm.plain f top cell prefix (front_itself top) lives
 
   module _ (cell : Cell) (lives : AliveIn (state_after setting.servers top) cell) (mine : LinkRow) (is : IsLinked setting front cell mine)
       (has : has_server k mine ≡ true) where
@@ -134,18 +121,18 @@ module _ (setting : Setting) (records : List Record) (w : World) (stores : ℕ �
     place = place_by setting front mine
 
     alive : AliveIn (server_state setting w k) cell
-    alive = alive_at front cell (job.firm.servers k) lives
+    alive = alive_at front cell (firm.servers k) lives
 
     apart : mine.primary ≢ mine.secondary
-    apart = ((steady_at front (job.firm.servers k)).linked cell mine is).apart
+    apart = ((steady_at front (firm.servers k)).linked cell mine is).apart
 
     -- as the holder that has started its ballot
     pub flagged_leaves : (whole : Bool) → mine.state ≡ Only k whole → is_flagged (w.servers k).own (id_of mine) ≡ true
         → LeavesStore (w.servers k).own.store done.own.store cell
     flagged_leaves whole alone flagged =
-        let keeps = worked.keeps_holder setting records w stores v k server good done job cell mine is alive whole alone in
+        let keeps = worked.keeps_holder it cell mine is alive whole alone in
         let kept = keeps.caught flagged in
-        let caught = (seated.copying_here setting records w stores k good job.firm job.rests job.works cell mine is alive whole alone).caught
+        let caught = (seated.copying_here (seat_at it) cell mine is alive whole alone).caught
         (w.servers k).own refl flagged in
         record { chain = kept.0; marks = marks_none (w.servers k).own.store done.own.store cell caught.unmarked kept.1 }
 
@@ -155,13 +142,13 @@ module _ (setting : Setting) (records : List Record) (w : World) (stores : ℕ �
 
     module _ (h : ℕ) (whole : Bool) (alone : mine.state ≡ Only h whole) (ne : h ≢ k) where
       pub other : other_of h mine ≡ k
-      other = other_back mine h k (holder_is_one (server_state setting w k) (steady_at front (job.firm.servers k)) h cell mine is alone) has ne
+      other = other_back mine h k (holder_is_one (server_state setting w k) (steady_at front (firm.servers k)) h cell mine is alone) has ne
 
       pub keeps_other : OtherKeeps (links_of (server_state setting w k) cell.map) mine cell (good.visits h place cell) (w.servers k).own done
-      keeps_other = worked.keeps_other setting records w stores v k server good done job cell mine is alive h whole alone other has
+      keeps_other = worked.keeps_other it cell mine is alive h whole alone other has
 
       unseen_later : (p : ℕ) → place < p → good.visits (other_of h mine) p cell ≡ None
-      unseen_later p lt = ap (λ n. good.visits n p cell) other ∙ unseen_beyond setting records w stores job.firm good k cell mine is p lt
+      unseen_later p lt = ap (λ n. good.visits n p cell) other ∙ unseen_beyond setting records w stores firm good k cell mine is p lt
 
       -- as the other server, where the holder had not left the block to copy
       other_leaves : (IsLeftBy mine (good.visits h place cell) cell → ⊥) → LeavesStore (w.servers k).own.store done.own.store cell
@@ -175,13 +162,13 @@ module _ (setting : Setting) (records : List Record) (w : World) (stores : ℕ �
       -- at a front before the server's own place
       before_leaves : place_by setting f row < place → IsLeftAt f (place_by setting f row) cell row
       before_leaves lt =
-          let idle = not_serving setting records w stores job.firm good k cell mine job.works.seat is alive (omega arith) in
-          elim ((steady_at front (job.firm.servers k)).linked cell mine is).served [
+          let idle = not_serving setting records w stores firm good k cell mine job.works.seat is alive (omega arith) in
+          elim ((steady_at front (firm.servers k)).linked cell mine is).served [
             | ByBoth so one two ↦ true_false (ap (serves k mine) so ∙ has) idle
             | ByOne h o whole so pair out ↦ (
                 let ne : h ≢ k = λ e. true_false (ap (serves k mine) so ∙ (λ i. h == sym e i) ∙ number_itself h) idle in
                 Same_store (left_so f cell now (other_leaves h whole so ne (λ m.
-                none_some (not_reached setting records w stores job.firm good front cell mine h (job.firm.servers k) is (serves_its h mine so) (omega arith))
+                none_some (not_reached setting records w stores firm good front cell mine h (firm.servers k) is (serves_its h mine so) (omega arith))
                 m.met))))
             | ByNone one o so pair out ↦ Same_store (left_so f cell now (lost_leaves so))
           ]
@@ -191,10 +178,10 @@ module _ (setting : Setting) (records : List Record) (w : World) (stores : ℕ �
 
       module _ (on : IsPrefix front f) (past : place < place_by setting f row) where
         unseen : good.visits k (place_by setting f row) cell ≡ None
-        unseen = unseen_beyond setting records w stores job.firm good k cell mine is (place_by setting f row) past
+        unseen = unseen_beyond setting records w stores firm good k cell mine is (place_by setting f row) past
 
         later_row : IsLater mine row
-        later_row = rows_later setting top job.firm.plain front f cell mine row on prefix is end
+        later_row = rows_later setting top firm.plain front f cell mine row on prefix is end
 
         abbrev beside_k : ℕ
         beside_k = other_of k mine
@@ -219,7 +206,7 @@ module _ (setting : Setting) (records : List Record) (w : World) (stores : ℕ �
             → (whole : Bool) → row.state ≡ Only k whole → blank_joins_in setting front beside_k < blank_joins_in setting f beside_k
             → IsLeftAt f (place_by setting f row) cell row ⊎ B
         fresh_covers since whole so lt =
-            elim (to_fill setting records w stores job.firm good started k cell mine is has since f row whole on prefix end lives so lt) [
+            elim (to_fill setting records w stores firm good started k cell mine is has since f row whole on prefix end lives so lt) [
               | inl u ↦ inl (Covers whole so unseen (filled_cover row cell (news f k) (news f (other_of k row)) u.whole
                   (ap (λ (s : Store). chain_in s.chains cell) (store_apart f (other_of k row) (λ e. apart_k (sym same_other ∙ e))) ∙ u.empty)))
               | inr other ↦ inr other
@@ -228,11 +215,11 @@ module _ (setting : Setting) (records : List Record) (w : World) (stores : ℕ �
         -- it shares the link at its own place
         both_leaves : mine.state ≡ Both → IsLeftAt f (place_by setting f row) cell row
         both_leaves both =
-            elim (both_since setting records w stores job.firm good k job.works.runs job.works.seat cell mine is both has f row on prefix end alive_then) [
+            elim (both_since setting records w stores firm good k job.works.runs job.works.seat cell mine is both has f row on prefix end alive_then) [
               | inl same ↦ absurd (ne_place same)
               | inr alone ↦ elim (at_most_or_above (blank_joins_in setting f beside_k) (blank_joins_in setting front beside_k)) [
                 | inl le ↦ (
-                    let twins = (worked.both_now setting records w stores v k server good done job cell mine is alive lives both has).twins in
+                    let twins = (worked.both_now it cell mine is alive lives both has).twins in
                     same_covers alone.0 alone.1 (let up = joins_grow setting.servers front f beside_k on in omega arith)
                     (both_cover (news front) visits place mine row cell twins k has))
                 | inr lt ↦ without (fresh_covers since alone.0 alone.1 lt)
@@ -242,7 +229,7 @@ module _ (setting : Setting) (records : List Record) (w : World) (stores : ℕ �
             since : (more : List Command) (other : LinkRow) → IsPrefix front more → IsPrefix more top → IsLinked setting more cell other
                 → AliveIn (state_after setting.servers more) cell → (place_by setting more other ≡ place) ⊎ ((whole : Bool) × (other.state ≡ Only k whole)) ⊎ ⊥
             since more other one two linked alive_more =
-                elim (both_since setting records w stores job.firm good k job.works.runs job.works.seat cell mine is both has more
+                elim (both_since setting records w stores firm good k job.works.runs job.works.seat cell mine is both has more
                 other one two linked alive_more) [
                   | inl same ↦ inl same
                   | inr alone ↦ inr (inl alone)
@@ -255,13 +242,13 @@ module _ (setting : Setting) (records : List Record) (w : World) (stores : ℕ �
         -- it holds it alone
         holder_leaves : (whole : Bool) → mine.state ≡ Only k whole → IsLeftAt f (place_by setting f row) cell row
         holder_leaves whole alone =
-            elim (holds_since setting records w stores job.firm good k job.works.runs job.works.seat cell mine is started whole alone f
+            elim (holds_since setting records w stores firm good k job.works.runs job.works.seat cell mine is started whole alone f
             row on prefix end alive_then) [
               | inl so ↦ elim (at_most_or_above (blank_joins_in setting f beside_k) (blank_joins_in setting front beside_k)) [
-                | inl le ↦ elim (alone_last setting records w stores job.firm good k job.works.runs job.works.seat cell mine is started whole alone) [
+                | inl le ↦ elim (alone_last setting records w stores firm good k job.works.runs job.works.seat cell mine is started whole alone) [
                   | inl last_here ↦ (
                       let beside =
-                      (worked.alone_now setting records w stores v k server good done job cell mine is alive k whole alone has).beside lives last_here in
+                      (worked.alone_now it cell mine is alive k whole alone has).beside lives last_here in
                       same_covers so.0 so.1 (let up = joins_grow setting.servers front f beside_k on in omega arith)
                       (cover_anew mine row cell (news front k) (news front beside_k) (visits k place cell)
                       (λ all. ap is_whole so.1 ∙ so.2 (sym (ap is_whole alone) ∙ all)) beside.alike.covered))
@@ -279,7 +266,7 @@ module _ (setting : Setting) (records : List Record) (w : World) (stores : ℕ �
                 → AliveIn (state_after setting.servers more) cell → (place_by setting more other ≡ place) ⊎
                 ((kept : Bool) × (other.state ≡ Only k kept)) ⊎ (is_flagged (w.servers k).own (id_of mine) ≡ true)
             since more other one two linked alive_more =
-                elim (holds_since setting records w stores job.firm good k job.works.runs job.works.seat cell mine is started whole alone more
+                elim (holds_since setting records w stores firm good k job.works.runs job.works.seat cell mine is started whole alone more
                 other one two linked alive_more) [
                   | inl still ↦ inr (inl (still.0, still.1))
                   | inr flagged ↦ inr (inr flagged)
@@ -289,19 +276,19 @@ module _ (setting : Setting) (records : List Record) (w : World) (stores : ℕ �
         other_left : (h : ℕ) (whole : Bool) → mine.state ≡ Only h whole → h ≢ k → IsLeftAt f (place_by setting f row) cell row
         other_left h whole alone ne = elim (keeps_other h whole alone ne).changes [
           | inl chain ↦ Same_store (left_so f cell now (record { chain = chain; marks = (keeps_other h whole alone ne).marks }))
-          | inr m ↦ elim (alone_or_flagged setting records w stores job.firm good started front f cell mine row h whole on prefix is alone end alive_then
+          | inr m ↦ elim (alone_or_flagged setting records w stores firm good started front f cell mine row h whole on prefix is alone end alive_then
               (unseen_later h whole alone ne)) [
                 | inl so ↦
-                    elim (held_same setting records w stores job.firm good started front f cell mine row h whole so.0 on prefix is alone end alive_then so.1
+                    elim (held_same setting records w stores firm good started front f cell mine row h whole so.0 on prefix is alone end alive_then so.1
                     (unseen_later h whole alone ne)) [
                       | inl joins ↦ Left_by h so.0 so.1 ne unseen (still_left m so.0 so.1 so.2 joins)
                           (λ kind. ap (λ s. is_marked s kind cell) (store_now f now) ∙ (keeps_other h whole alone ne).marks kind
                           ∙ ap (λ s. is_marked s kind cell) (sym (store_was f now)))
-                      | inr c ↦ worked.not_caught setting records w stores v k server good done job cell mine is alive h whole alone
+                      | inr c ↦ worked.not_caught it cell mine is alive h whole alone
                           (other h whole alone ne) has m c.0 c.1 c.2
                     ]
                 | inr (inl lost) ↦ lost_at m lost
-                | inr (inr c) ↦ worked.not_caught setting records w stores v k server good done job cell mine is alive h whole alone
+                | inr (inr c) ↦ worked.not_caught it cell mine is alive h whole alone
                     (other h whole alone ne) has m c.0 c.1 c.2
               ]
         ]
@@ -318,7 +305,7 @@ module _ (setting : Setting) (records : List Record) (w : World) (stores : ℕ �
                 → blank_joins_in setting front h ≡ blank_joins_in setting f h → IsStillLeft f (place_by setting f row) cell row h
             still_left m last_whole so kept joins =
                 let same : olds front h ≡ olds f h = ap (good.stores h) joins in
-                elim (worked.left_still setting records w stores v k server good done job cell mine is alive h whole alone
+                elim (worked.left_still it cell mine is alive h whole alone
                 (other h whole alone ne) has lives m) [
                   | inl marked ↦ inl (subst (λ s. IsMarked s cell) same marked)
                   | inr all ↦ inr (
@@ -335,14 +322,14 @@ module _ (setting : Setting) (records : List Record) (w : World) (stores : ℕ �
             lost_at m lost = Gone lost
 
       pub linked_left : IsLeftAt f (place_by setting f row) cell row
-      linked_left = elim (fronts_meet f front top prefix (job.firm.servers k)) [
+      linked_left = elim (fronts_meet f front top prefix (firm.servers k)) [
         | inl p ↦ (
-            let le = places_up setting top job.firm.plain f front cell row mine p (job.firm.servers k) end is in
+            let le = places_up setting top firm.plain f front cell row mine p (firm.servers k) end is in
             before_leaves (below le (λ e. ne_place e)))
         | inr p ↦ (
-            let le = places_up setting top job.firm.plain front f cell mine row p prefix is end in
+            let le = places_up setting top firm.plain front f cell mine row p prefix is end in
             let past = below le (λ e. ne_place (sym e)) in
-            elim ((steady_at front (job.firm.servers k)).linked cell mine is).served [
+            elim ((steady_at front (firm.servers k)).linked cell mine is).served [
               | ByBoth so one two ↦ both_leaves p past so
               | ByOne h o whole so pair out ↦ elim (same_or_apart h k) [
                 | inl e ↦ holder_leaves p past whole (so ∙ ap (λ n. Only n whole) e)

@@ -26,6 +26,7 @@ pub mod HolderWrites
 pub mod HolderJobs
 pub mod Ballots
 pub mod Moves
+pub mod CellInBoth
 pub mod Lead
 pub mod Second
 pub mod Marking
@@ -35,6 +36,7 @@ pub mod Later
 pub mod Mute
 pub mod Renewed
 pub mod NewPlaces
+pub mod AtNext
 pub mod NextEntry
 pub mod Growing
 pub mod Further
@@ -42,6 +44,8 @@ pub mod Between
 pub mod BesideTwins
 pub mod Twins
 pub mod Covering
+pub mod Ground
+pub mod AtStep
 pub mod Visited
 pub mod Came
 pub mod Framed
@@ -49,11 +53,14 @@ pub mod Stepping
 pub mod Quiet
 pub mod Fresh
 pub mod LeftByEntry
+pub mod AtEntry
 pub mod Entering
 pub mod AsBefore
 pub mod Entered
 pub mod Speaking
+pub mod AtSeat
 pub mod Seated
+pub mod AtJob
 pub mod Worked
 pub mod Leaving
 pub mod EachFront

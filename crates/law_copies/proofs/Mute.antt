@@ -4,7 +4,7 @@ use Rattle.global_tables.specs.Link.{other_of}
 use Rattle.global_tables.specs.declared.link.LinkRow.{LinkRow}
 use Rattle.petal_base.specs.declared.cell.Cell.{Cell}
 use Rattle.petal_command.specs.declared.command.Command.{Command}
-use Rattle.petal_msg.specs.Kinds.{Subject, is_asked, is_logged, subject_of, Logged, Read_asked, Write_asked}
+use Rattle.petal_msg.specs.Kinds.{Subject, is_asked, is_logged, is_paired, subject_of, Logged, Paired, Read_asked, Write_asked}
 use Rattle.petal_msg.specs.declared.body.Body.{Body}
 use Rattle.petal_msg.specs.declared.body.Body.TheVariants as body
 use Rattle.petal_rules.specs.Server.{Own}
@@ -17,13 +17,21 @@ use Rattle.law_copies.specs.Good.{SaidOk, pair_at}
 use Rattle.law_copies.specs.Pair.{Known, Pair}
 use Rattle.law_copies.specs.Visits.{Visits, place_by, store_by}
 
+-- a letter that is of no pair tells nothing of it
+pub unpaired_known : (pair : Pair) (said : Body) → is_paired (subject_of said) ≡ false → Known pair said
+unpaired_known pair (body.Reserve number cell) e = cc
+unpaired_known pair (body.Reserved number cell) e = cc
+unpaired_known pair (body.PairFull number cell) e = cc
+unpaired_known pair (body.Replicate number key version bytes) e = cc
+unpaired_known pair (body.Replicated number cell) e = cc
+unpaired_known pair _ e = tt
+
+mute_unpaired : (subject : Subject) → is_between subject ≡ false → is_paired subject ≡ false
+mute_unpaired Paired e = cc
+mute_unpaired _ e = refl
+
 pub known_mute : (pair : Pair) (said : Body) → is_between (subject_of said) ≡ false → Known pair said
-known_mute pair (body.Reserve number cell) e = cc
-known_mute pair (body.Reserved number cell) e = cc
-known_mute pair (body.PairFull number cell) e = cc
-known_mute pair (body.Replicate number key version bytes) e = cc
-known_mute pair (body.Replicated number cell) e = cc
-known_mute pair _ e = tt
+known_mute pair said e = unpaired_known pair said (mute_unpaired (subject_of said) e)
 
 pub told_mute : (row : LinkRow) (holder other : Option Own) (said : Body) → is_between (subject_of said) ≡ false → IsTold row holder other said
 told_mute row holder other (body.Trim number cell epochs) e = cc
@@ -58,3 +66,7 @@ asked_mute _ e = cc
 pub logged_mute : (subject : Subject) → is_logged subject ≡ true → is_between subject ≡ false
 logged_mute Logged e = refl
 logged_mute _ e = cc
+
+-- so is what speaks of the log
+pub logged_known : (pair : Pair) (said : Body) → is_logged (subject_of said) ≡ true → Known pair said
+logged_known pair said e = known_mute pair said (logged_mute (subject_of said) e)

@@ -1,25 +1,22 @@
 -- The chosen log has one entry more: what is known of the log then, how far cells are in it, and the stores that count by it.
-use Rattle.std.proofs.Common.{◌≡◌, ◌≤◌, ◌++◌, ◌==◌, ◌⊎◌, ℕ, Bool, List, [], ◌∷◌, true, false, if◌then◌else◌}
+use Rattle.std.proofs.Common.{◌≡◌, ◌≤◌, ◌==◌, ℕ, Bool, List, [], ◌∷◌, true, false, if◌then◌else◌}
 use Rattle.std.proofs.Common.{Some, None, refl, sym, ap, ◌∙◌, subst, inl, inr, arith}
 use Rattle.global_tables.specs.declared.link.LinkRow.{LinkRow}
 use Rattle.petal_base.specs.declared.cell.Cell.{Cell}
 use Rattle.petal_command.specs.declared.command.Command.{Command}
 use Rattle.petal_command.specs.declared.command.Command.TheVariants.{Caught, Join, Leave}
 use Rattle.petal_history.specs.Claims.{IsPrefix}
-use Rattle.petal_history.specs.Legal.{world_after}
-use Rattle.petal_history.specs.declared.record.Record.{Record}
 use Rattle.petal_state.specs.CellState.{cell_link}
-use Rattle.petal_state.specs.Command.{after, state_after}
+use Rattle.petal_state.specs.Command.{after}
 use Rattle.petal_state.specs.Place.{touches}
 use Rattle.petal_rules.specs.Blanked.{joins_blank}
 use Rattle.petal_rules.specs.Lists.{In}
 use Rattle.petal_rules.specs.Server.{Own}
-use Rattle.petal_rules.specs.State.{State, is_in}
+use Rattle.petal_rules.specs.State.{State}
 use Rattle.petal_rules.specs.Store.{Store, chain_in}
-use Rattle.petal_rules.specs.World.{Setting, World, blank_joins_in, server_state, start}
+use Rattle.petal_rules.specs.World.{blank_joins_in}
 use Rattle.petal_rules.proofs.ListLemmas.{in_later}
 use Rattle.petal_rules.proofs.Tests.{by_bool, none_some, number_itself, same_numbers, same_some, some_or_none}
-use Rattle.law_log.specs.Requested.{WasStarted}
 use Rattle.law_state.specs.Homes.{stage_at}
 use Rattle.law_state.specs.Plain.{IsPlain, IsPlainLog}
 use Rattle.law_state.specs.Rows.{IsLater}
@@ -28,62 +25,15 @@ use Rattle.law_state.proofs.BlankJoins.{joins_grow}
 use Rattle.law_state.proofs.Steady.{front_plain, log_steady}
 use Rattle.law_state.proofs.Touching.{log_entry_stays}
 use Rattle.law_steps.proofs.Fronts.{front_itself, front_more, front_on}
-use Rattle.law_copies.specs.Good.{Good}
-use Rattle.law_copies.specs.Pair.{HaveMarks}
-use Rattle.law_copies.specs.Visits.{AliveIn, IsLinked, Visits, place_by, store_by, with_stores}
+use Rattle.law_copies.specs.Visits.{AliveIn, IsLinked, place_by, store_by}
+use Rattle.law_copies.proofs.AtNext.{AtNext, next_of}
 use Rattle.law_copies.proofs.Places.{alive_on, linked_between, place_of_later, place_touched}
 use Rattle.law_copies.proofs.Places.{place_untouched, places_up, rows_later, state_next, unborn}
 use Rattle.law_copies.proofs.Renewed.{counts_more, no_blank_join, no_chains}
 
--- every server has applied entries of this log alone, now and at each world on the way
-pub record IsBehind (setting : Setting) (records : List Record) (top : List Command) (w : World) : Type 0 where
-  pub now : (n : ℕ) → IsPrefix (w.servers n).log.applied top
-  pub ever : (before later : List Record) → records ≡ before ++ later → (n : ℕ)
-      → IsPrefix ((world_after setting (start setting) before).servers n).log.applied top
-
-pub behind_on : (setting : Setting) (records : List Record) (top more : List Command) (w : World) → IsPrefix top more → IsBehind setting records top w
-    → IsBehind setting records more w
-behind_on setting records top more w prefix behind = record {
-  now = λ n. front_on _ top more (behind.now n) prefix;
-  ever = λ before later is n. front_on _ top more (behind.ever before later is n) prefix;
-}
-
--- what is kept of this front of the log, with these visits and places that count
-pub record IsGrownTo (setting : Setting) (records : List Record) (w : World) (visits : Visits) (reached : Cell → ℕ) (log : List Command) : Type 0 where
-  pub good : Good setting records log w
-  pub visits_are : (n place : ℕ) (cell : Cell) → good.visits n place cell ≡ visits n place cell
-  pub reached_is : (cell : Cell) → good.reached cell ≡ reached cell
-
--- ### One entry more
-
--- the server's store is empty once the entry counts: the server is not In as itself by its own entries, and has nothing pending
-pub record IsRenewed (setting : Setting) (u : World) (n : ℕ) (store : Store) : Type 0 where
-  pub chains : store.chains ≡ []
-  pub marks : store.marks ≡ []
-  pub out : is_in (server_state setting u n) n (u.servers n).life.inc ≡ false
-  pub rested : ((u.servers n).life.running ≡ true) ⊎ (u.before_blank n ≡ None) → HaveMarks (server_state setting u n) (u.servers n).own.pairs.pending store
-
--- the stores that count once the entry does
-pub record AreRecounted (setting : Setting) (u : World) (here : State) (entry : Command) (old new : ℕ → Store) : Type 0 where
-  pub same : (n : ℕ) → joins_blank here entry n ≡ false → new n ≡ old n
-  pub renewed : (n : ℕ) → joins_blank here entry n ≡ true → IsRenewed setting u n (new n)
-
-module _ (setting : Setting) (records : List Record) (top : List Command) (entry : Command) (u : World) (old new : ℕ → Store)
-    (good : Good setting records top (with_stores u old)) (behind : IsBehind setting records top u) (all : IsPlainLog setting.servers (top ++ entry ∷ []))
-    (started : (of link holder inc other other_inc : ℕ) → entry ≡ Caught of link holder inc other other_inc
-    → WasStarted setting records holder inc top (record { map = of; link = link }))
-    (recounts : AreRecounted setting u (state_after setting.servers top) entry old new) where
-  abbrev v : World
-  v = with_stores u new
-
-  abbrev next : List Command
-  next = top ++ entry ∷ []
-
-  abbrev here : State
-  here = state_after setting.servers top
-
-  abbrev then_state : State
-  then_state = state_after setting.servers next
+module _ (it : AtNext) where
+  open it use {setting, top, entry, old, new, good, behind, all, recounts}
+  open next_of it use {next, here, then_state, stores}
 
   pub plain_top : IsPlainLog setting.servers top
   plain_top = front_plain setting.servers top next all (front_more top entry)
@@ -168,10 +118,6 @@ module _ (setting : Setting) (records : List Record) (top : List Command) (entry
   ]
 
   -- ### Stores
-
-  -- a server that comes back with nothing has a store more
-  abbrev stores : ℕ → ℕ → Store
-  stores n joins = if joins == blank_joins_in setting next n then new n else good.stores n joins
 
   pub stores_so : (n joins : ℕ) (b : Bool) → (joins == blank_joins_in setting next n) ≡ b → stores n joins ≡ (if b then new n else good.stores n joins)
   stores_so n joins b e = ap (λ c. if c then new n else good.stores n joins) e

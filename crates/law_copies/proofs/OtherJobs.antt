@@ -34,6 +34,7 @@ use Rattle.law_copies.specs.Copied.{AreCopying, IsPage, IsTold, IsUpTo}
 use Rattle.law_copies.specs.Steps.{IsFollowing, IsLeftBy, KeepsCell, OtherKeeps, StaysTold}
 use Rattle.law_copies.proofs.Apart.{away}
 use Rattle.law_copies.proofs.Following as following
+use Rattle.law_copies.proofs.Following.{CopiedEntry}
 use Rattle.law_copies.proofs.Frames.{keeps_itself}
 use Rattle.law_copies.proofs.Lasts.{past_last, past_of, stays_told, to_put, to_trimmed}
 use Rattle.law_copies.proofs.Left.{among_marked, least_below, on_itself}
@@ -124,16 +125,29 @@ module _ (heard : Body → Type 0) (here : Here) (links : ℕ) (row : LinkRow) (
 
     puts_here : entry.index ≡ last.index → KeepsHere links row (cell_of entry.key) vh own (puts_entry own entry last holder true)
     puts_here at =
-        let sent = f.told (body.Sync entry.op entry.key entry.stored.version entry.index entry.stored.bytes) of.said refl in
-        let rises = f.fit.rising (cell_of entry.key) in
+        let put : CopiedEntry = record {
+          links = links;
+          row = row;
+          vh = vh;
+          own = own;
+          entry = entry;
+          holder = holder;
+          last = last;
+          old = f.old;
+          rises = f.fit.rising (cell_of entry.key);
+          is = of.last_is;
+          op_is = of.op_is;
+          index_is = at;
+          said = f.told (body.Sync entry.op entry.key entry.stored.version entry.index entry.stored.bytes) of.said refl;
+        } in
         record {
-          copying = following.put_copying links row vh own entry holder last f.old rises of.last_is of.op_is at sent;
+          copying = following.put_copying put;
           told = stays_told own _ (cell_of entry.key)
-              (following.put_onward links row vh own entry holder last f.old rises of.last_is of.op_is at sent) row vh;
+              (following.put_onward put) row vh;
           says = λ post i e. subst (IsTold row vh (Some (puts_entry own entry last holder true).own)) (sym (posted (Some holder) said post i))
-              (following.put_says links row vh own entry holder last f.old rises of.last_is of.op_is at sent);
+              (following.put_says put);
           marks = λ kind. refl;
-          changes = inr (following.put_by links row vh own entry holder last f.old rises of.last_is of.op_is at sent);
+          changes = inr (following.put_by put);
         }
 
     has_here : entry.index < last.index → KeepsHere links row (cell_of entry.key) vh own (says_to own (Some holder) said)

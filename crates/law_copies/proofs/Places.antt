@@ -1,4 +1,5 @@
 -- Fronts of one log, and the places of a link by them.
+use Rattle.petal_rules.specs.Server.{Own}
 use Rattle.std.proofs.Common.{◌≡◌, ◌+◌, ◌≤◌, ◌<◌, ◌++◌, ◌==◌, ℕ, List, [], ◌∷◌, length, length-append, true, false, if◌then◌else◌}
 use Rattle.std.proofs.Common.{Some, None, sym, ap, ◌∙◌, subst, ◌⊎◌, inl, inr, arith}
 use Rattle.std.proofs.lemmas.Grind.{fold-append}
@@ -16,7 +17,7 @@ use Rattle.petal_state.specs.Command.{after, state_after}
 use Rattle.petal_state.specs.Place.{touches}
 use Rattle.petal_state.specs.State.{start}
 use Rattle.petal_rules.specs.State.{State}
-use Rattle.petal_rules.specs.World.{Setting}
+use Rattle.petal_rules.specs.World.{Setting, blank_joins_in}
 use Rattle.petal_rules.proofs.Tests.{none_some, same_some, some_or_none, true_false}
 use Rattle.law_state.specs.Below.{IsBelow}
 use Rattle.law_state.specs.Homes.{HasDied, stage_at}
@@ -31,7 +32,7 @@ use Rattle.law_state.proofs.Touching.{places_grow, places_on, same_place}
 use Rattle.law_steps.proofs.Fronts.{front_itself, front_long, front_more, front_on, front_within, one_front}
 use Rattle.law_steps.proofs.Leading.{stage_live}
 use Rattle.law_copies.specs.Copied.{links_of}
-use Rattle.law_copies.specs.Visits.{AliveIn, IsLinked, place_by}
+use Rattle.law_copies.specs.Visits.{AliveIn, IsLinked, place_by, Visits, Visits, HasReached, HasFilled}
 
 -- ### Fronts
 
@@ -208,3 +209,37 @@ module _ (setting : Setting) where
     pub one_row : (front more : List Command) (cell : Cell) (row now : LinkRow) → IsPrefix front whole → IsPrefix more whole
         → IsLinked setting front cell row → IsLinked setting more cell now → place_by setting front row ≡ place_by setting more now → now ≡ row
     one_row front more cell row now one two is end same = same_some (sym end ∙ (one_place front more cell row now one two is end same).same)
+
+-- ### Places at which servers have been
+
+-- a place that counts does so by a longer log, too, and by other visits that still tell of it
+pub reached_on : {setting : Setting} {top next : List Command} {visits later : Visits} {cell : Cell} {place : ℕ}
+    (r : HasReached setting top visits cell place) → IsPrefix r.front next → (own : Own) → later r.server place cell ≡ Some own
+    → HasReached setting next later cell place
+reached_on r prefix own visited = record {
+  front = r.front;
+  prefix = prefix;
+  row = r.row;
+  linked = r.linked;
+  alive = r.alive;
+  at = r.at;
+  own = own;
+  visited = visited;
+  server = r.server;
+  serving = r.serving;
+}
+
+-- so does a place at which a holder has been since the other server came back with nothing
+pub has_filled_on : {setting : Setting} {top next : List Command} {visits later : Visits} {front f : List Command} {cell : Cell} {holder other : ℕ}
+    (h : HasFilled setting top visits front cell holder other) → IsPrefix h.more next
+    → blank_joins_in setting front other ≡ blank_joins_in setting f other → (own : Own)
+    → later holder (place_by setting h.more h.row) cell ≡ Some own → HasFilled setting next later f cell holder other
+has_filled_on h within joins own visited = record {
+  more = h.more;
+  within = within;
+  row = h.row;
+  linked = h.linked;
+  joins = h.joins ∙ joins;
+  own = own;
+  visited = visited;
+}

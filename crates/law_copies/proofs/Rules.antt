@@ -178,16 +178,15 @@ module _ (setting : Setting) (records : List Record) (w : World) (firm : Firm se
 
 -- ### Histories
 
-pub copies_after : (script : Script) (records : List Record) → IsSound script → IsLegal script records → (cell : Cell)
-    → TwoCopies (chosen_state (setting_of script) (world_after (setting_of script) (start (setting_of script)) records))
-    (counted (setting_of script) (world_after (setting_of script) (start (setting_of script)) records)) cell
-copies_after script records sound legal =
-    two_copies (setting_of script) records (world_after (setting_of script) (start (setting_of script)) records) (history_is_firm script records sound legal)
-    (good_after script records sound legal)
+module _ (script : Script) (records : List Record) (sound : IsSound script) (legal : IsLegal script records) where
+  abbrev setting : Setting
+  setting = setting_of script
 
-pub covered_after : (script : Script) (records : List Record) → IsSound script → IsLegal script records → (cell : Cell)
-    → Covered (chosen_state (setting_of script) (world_after (setting_of script) (start (setting_of script)) records))
-    (counted (setting_of script) (world_after (setting_of script) (start (setting_of script)) records)) cell
-covered_after script records sound legal =
-    covered (setting_of script) records (world_after (setting_of script) (start (setting_of script)) records) (history_is_firm script records sound legal)
-    (good_after script records sound legal)
+  abbrev w : World
+  w = world_after setting (start setting) records
+
+  pub copies_after : (cell : Cell) → TwoCopies (chosen_state setting w) (counted setting w) cell
+  copies_after = two_copies setting records w (history_is_firm script records sound legal) (good_after script records sound legal)
+
+  pub covered_after : (cell : Cell) → Covered (chosen_state setting w) (counted setting w) cell
+  covered_after = covered setting records w (history_is_firm script records sound legal) (good_after script records sound legal)

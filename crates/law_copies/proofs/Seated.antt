@@ -10,29 +10,28 @@ use Rattle.petal_msg.specs.Kinds.{about, subject_of}
 use Rattle.petal_msg.specs.declared.body.Body.{Body}
 use Rattle.petal_msg.specs.declared.body.Body.TheVariants as body
 use Rattle.petal_msg.specs.declared.copying.Copying.{Copying}
-use Rattle.petal_history.specs.declared.record.Record.{Record}
 use Rattle.petal_state.specs.Command.{is_alone, state_after}
 use Rattle.petal_rules.specs.Progress.{copying_on}
 use Rattle.petal_rules.specs.Server.{Own, Here}
-use Rattle.petal_rules.specs.State.{holder_of, is_in}
+use Rattle.petal_rules.specs.State.{holder_of}
 use Rattle.petal_rules.specs.Store.{Store, chain_in}
-use Rattle.petal_rules.specs.World.{Setting, World, blank_joins_in, chosen_log, server_state}
+use Rattle.petal_rules.specs.World.{chosen_log, server_state}
 use Rattle.petal_rules.specs.Writes.{pending_on}
 use Rattle.petal_rules.proofs.Tests.{number_itself, same_numbers, true_false}
-use Rattle.law_state.specs.Firm.{Firm}
 use Rattle.law_state.specs.Rows.{ByBoth, ByNone, ByOne}
 use Rattle.law_state.specs.Steady.{IsSteady}
 use Rattle.law_state.proofs.Leaves.{other_between}
 use Rattle.law_state.proofs.Roles.{primary_is_one, secondary_is_one}
 use Rattle.law_state.proofs.Steady.{front_plain, log_steady}
 use Rattle.law_steps.specs.Happens.{Handled, is_between, own_place}
-use Rattle.law_steps.specs.Ready.{IsRising, Rests}
+use Rattle.law_steps.specs.Ready.{IsRising}
 use Rattle.law_steps.proofs.Leading.{live_stage}
 use Rattle.law_copies.specs.Copied.{AreCopying, IsTold, links_of}
-use Rattle.law_copies.specs.Good.{AloneOk, AreTwins, Good, SaidOk, pair_at}
+use Rattle.law_copies.specs.Good.{AloneOk, AreTwins, SaidOk, pair_at}
 use Rattle.law_copies.specs.Pair.{HaveMarks, Known, PairOk, pair_of}
 use Rattle.law_copies.specs.Steps.{AreFilled, IsBare, IsFit, IsFollowing, IsHolding, PagesOf}
 use Rattle.law_copies.specs.Visits.{AliveIn, IsLinked, half, place_by, store_by, with_stores}
+use Rattle.law_copies.proofs.AtSeat.{AtSeat}
 use Rattle.law_copies.proofs.Later.{both_last}
 use Rattle.law_copies.proofs.Standing.{copying_held, other_alone}
 
@@ -56,17 +55,9 @@ holder_other row n holder has other alone =
 
 -- ### At its own place
 
--- a running server that is In as itself: its store is the one that counts, and no Join of it with an empty store is chosen behind its
--- own entries
-pub record IsAtWork (setting : Setting) (w : World) (stores : ℕ → Store) (k : ℕ) : Type 0 where
-  pub runs : (w.servers k).life.running ≡ true
-  pub seat : is_in (server_state setting w k) k (w.servers k).life.inc ≡ true
-  pub real : stores k ≡ (w.servers k).own.store
-  pub counts : blank_joins_in setting (w.servers k).log.applied k ≡ blank_joins_in setting (chosen_log setting w) k
+module _ (it : AtSeat) where
+  open it use {setting, records, w, stores, k, good, firm, rests, works}
 
-module _ (setting : Setting) (records : List Record) (w : World) (stores : ℕ → Store) (k : ℕ)
-    (good : Good setting records (chosen_log setting w) (with_stores w stores)) (firm : Firm setting w) (rests : Rests setting w)
-    (works : IsAtWork setting w stores k) where
   abbrev pub front : List Command
   front = (w.servers k).log.applied
 

@@ -14,7 +14,6 @@ use Rattle.petal_msg.specs.declared.letter.Letter.{Letter}
 use Rattle.petal_state.specs.Command.{state_after}
 use Rattle.petal_history.specs.Claims.{IsPrefix}
 use Rattle.petal_history.specs.Legal.{world_after}
-use Rattle.petal_history.specs.declared.record.Record.{Record}
 use Rattle.petal_rules.specs.Ballots.{post_of}
 use Rattle.petal_rules.specs.Blanked.{BeforeBlank, kept_store}
 use Rattle.petal_rules.specs.Boots.{awake, raised, stays, wakes}
@@ -27,7 +26,7 @@ use Rattle.petal_rules.specs.Returns.{proposed}
 use Rattle.petal_rules.specs.Server.{Own, Copies, Pairs, Server, Post, Sender, Done, no_copies, no_pairs, silent, sender, letters_of}
 use Rattle.petal_rules.specs.State.{State, id_of, is_in, link_cmp, live}
 use Rattle.petal_rules.specs.Store.{Store, cell_cmp, chain_in, mark_on}
-use Rattle.petal_rules.specs.World.{Setting, World, acts, before_blanks, blank_joins_in, chosen_log, counted, counted_by, kept}
+use Rattle.petal_rules.specs.World.{Setting, World, acts, before_blanks, blank_joins_in, counted_by, kept}
 use Rattle.petal_rules.specs.World.{server_state, stamped, start, with_store}
 use Rattle.petal_rules.specs.declared.step.Step.{Step}
 use Rattle.petal_rules.proofs.ListLemmas.{in-append, put_apart, put_same}
@@ -39,9 +38,13 @@ use Rattle.law_steps.specs.Happens.{Serving, Goes, Ends, Stays, Wakes, Fails, By
 use Rattle.law_steps.specs.Happens.{served_so, stopped_so, shown_so, is_between, own_place, without_rev}
 use Rattle.law_steps.specs.Ready.{IsRising}
 use Rattle.law_steps.proofs.Fronts.{front_itself, front_more}
-use Rattle.law_copies.specs.Good.{Good, IsUnheard}
+use Rattle.law_copies.specs.Good.{IsUnheard}
 use Rattle.law_copies.specs.Pair.{HaveMarks}
 use Rattle.law_copies.specs.Steps.{AreFilled}
+use Rattle.law_copies.proofs.Known.{OneMore, before_of}
+use Rattle.law_copies.proofs.AtEntry.{at_entry}
+use Rattle.law_copies.proofs.Ground.{Ground}
+use Rattle.law_copies.proofs.AtStep.{IsStep, at_step}
 use Rattle.law_copies.proofs.Beyond as jobs
 use Rattle.law_copies.proofs.Entered as entries
 use Rattle.law_copies.proofs.LeftByEntry.{IsCrossed}
@@ -50,11 +53,10 @@ use Rattle.law_copies.proofs.Keeping.{ballot_keeping, job_keeping}
 use Rattle.law_copies.proofs.Mute.{logged_mute}
 use Rattle.law_copies.proofs.Quiet as quiet
 use Rattle.law_copies.proofs.Quiet.{posts_mute}
-use Rattle.law_copies.proofs.Seated.{IsAtWork}
+use Rattle.law_copies.proofs.AtSeat.{AtSeat, IsAtWork}
 use Rattle.law_copies.proofs.Stepping.{GoesOn, IsSoundOwn, IsTrue}
-use Rattle.law_copies.proofs.Visited.{IsStep, IsThen, counted as reached_then, later, stored}
-use Rattle.law_copies.proofs.Worked.{IsJob, IsKeeping}
-use Rattle.law_copies.proofs.Known.{IsKnown}
+use Rattle.law_copies.proofs.Visited.{IsThen, counted as reached_then, later, stored}
+use Rattle.law_copies.proofs.AtJob.{AtJob, at_job, IsKeeping}
 
 -- what a server that stops tells the others
 all_down : (me inc : ℕ) (others : List ℕ) (post : Post) → In post (map (post_of (body.Down me inc)) others) → is_between (subject_of post.body) ≡ false
@@ -77,17 +79,12 @@ kept_alike f joins (Some before) a b e = by_bool (before.joins == joins)
     (λ t. ap (λ c. f (if c then before.store else a)) t ∙ sym (ap (λ c. f (if c then before.store else b)) t))
     (λ off. ap (λ c. f (if c then before.store else a)) off ∙ e ∙ sym (ap (λ c. f (if c then before.store else b)) off))
 
-module _ (setting : Setting) (records : List Record) (w : World) (known : IsKnown setting records w)
-    (good : Good setting records (chosen_log setting w) (counted setting w)) (own : Record) where
-  abbrev top : List Command
-  top = chosen_log setting w
-
-  -- the world by the stores that count
-  abbrev before : World
-  before = counted setting w
+module _ (it : OneMore) where
+  open it use {setting, records, w, known, good, own}
+  open before_of it use {top, before}
 
   -- and the world then, by the stores that count by what was chosen before
-  abbrev GoesTo : World → Type 0
+  abbrev pub GoesTo : World → Type 0
   GoesTo v = world_after setting (start setting) (records ++ own ∷ []) ≡ v → GoesOn setting records top top before (counted_by setting top v) good own
 
   pub then_so : (v : World) → world_after setting (start setting) (records ++ own ∷ []) ≡ v → IsThen setting (records ++ own ∷ []) (counted_by setting top v)
@@ -101,6 +98,12 @@ module _ (setting : Setting) (records : List Record) (w : World) (known : IsKnow
     real = known.real k runs seat (w.servers k).own.store;
     counts = known.counts k (w.servers k).log.applied (known.firm.servers k) seat;
   }
+
+  abbrev ground : Ground
+  ground = record { setting = setting; records = records; w = w; stores = kept setting w; good = good; firm = known.firm; rests = known.rests }
+
+  abbrev seated : (k : ℕ) → (w.servers k).life.running ≡ true → is_in (server_state setting w k) k (w.servers k).life.inc ≡ true → AtSeat
+  seated k runs seat = record { ground = ground; k = k; works = at_work k runs seat }
 
   -- ### A step of a server
 
@@ -145,16 +148,16 @@ module _ (setting : Setting) (records : List Record) (w : World) (known : IsKnow
     sent_by P new letter i = elim (in-append letter (stamped stamp acted.letters) w.sent i) [ inl n ↦ inr (new letter n) | inr old ↦ inl old ]
 
     abbrev IsTold : IsStep setting top before v k server → Letter → Type 0
-    IsTold step = IsTrue setting top (stored setting records top before v k server good step) (later setting records top before v k server good step)
-        (reached_then setting records top before v k server good step)
+    IsTold step = IsTrue setting top (stored (at_step good step)) (later (at_step good step))
+        (reached_then (at_step good step))
 
     -- its letters speak neither of pairs nor of copies
     mute_letters : (step : IsStep setting top before v k server) (who : Sender) (posts : List Post) → acted.letters ≡ letters_of who 0 posts
         → ((post : Post) → In post posts → is_between (subject_of post.body) ≡ false) → (letter : Letter) → In letter v.sent
         → In letter w.sent ⊎ IsTold step letter
     mute_letters step who posts is mute = sent_by (IsTold step) (λ letter i.
-        posts_mute setting top (stored setting records top before v k server good step) (later setting records top before v k server good step)
-        (reached_then setting records top before v k server good step) who stamp posts mute letter (subst (λ letters. In letter (stamped stamp letters)) is i))
+        posts_mute setting top (stored (at_step good step)) (later (at_step good step))
+        (reached_then (at_step good step)) who stamp posts mute letter (subst (λ letters. In letter (stamped stamp letters)) is i))
 
     -- the server's own part is as it was, and it does not run where it did not
     module _ (own_same : acted.server.own ≡ (w.servers k).own) (applied : acted.server.log.applied ≡ (w.servers k).log.applied)
@@ -185,8 +188,8 @@ module _ (setting : Setting) (records : List Record) (w : World) (known : IsKnow
           → ((post : Post) → In post posts → is_between (subject_of post.body) ≡ false) → GoesTo then_world
       quiet_goes inc who posts is mute then_is =
           let step = same_step applied in
-          quiet.quiet_good setting records top before v k server good step
-          (quiet.same_visits setting records top before v k server good step counts_same applied inc)
+          quiet.quiet_good (at_step good step)
+          (quiet.same_visits (at_step good step) counts_same applied inc)
           (λ cell alive. store_same (before.servers k).own.store server.own.store cell (ap (λ (o : Own). o.store) counts_same))
           own (then_so then_world then_is) same_sound (mute_letters step who posts is mute)
 
@@ -200,8 +203,8 @@ module _ (setting : Setting) (records : List Record) (w : World) (known : IsKnow
           let joins = blank_joins_in setting top k in
           let same = kept_alike (λ (s : Store). s.chains) joins (w.before_blank k) acted.server.own.store (w.servers k).own.store chains in
           let marks_same = kept_alike (λ (s : Store). s.marks) joins (w.before_blank k) acted.server.own.store (w.servers k).own.store marks in
-          quiet.quiet_good setting records top before v k server good step
-          (quiet.out_visits setting records top before v k server good step out)
+          quiet.quiet_good (at_step good step)
+          (quiet.out_visits (at_step good step) out)
           (λ cell alive. record { chain = ap (λ t. chain_in t cell) same; marks = λ kind. ap (λ ms. has_mark (mark_on kind cell) ms) marks_same })
           own (then_so then_world then_is) sound (mute_letters step who posts is mute)
 
@@ -209,27 +212,25 @@ module _ (setting : Setting) (records : List Record) (w : World) (known : IsKnow
     module _ (runs : (w.servers k).life.running ≡ true) (seat : is_in (server_state setting w k) k (w.servers k).life.inc ≡ true) (done : Done)
         (keeping : IsKeeping setting w k done) (own_is : acted.server.own ≡ done.own) (applied : acted.server.log.applied ≡ (w.servers k).log.applied)
         (inc : acted.server.life.inc ≡ (w.servers k).life.inc) where
-      job : IsJob setting w (kept setting w) v k server done
-      job = record {
+      abbrev the_job : AtJob
+      the_job = at_job ground (record {
         step = same_step applied;
-        firm = known.firm;
-        rests = known.rests;
         works = at_work k runs seat;
         keeping = keeping;
         own_is = ap (λ (s : Store). record acted.server.own { store = s }) (known.real k runs seat acted.server.own.store) ∙ own_is;
         applied = applied;
         inc = inc;
-      }
+      }) known.started
 
       job_goes : ((letter : Letter) → In letter (stamped stamp acted.letters) → IsTold (same_step applied) letter) → GoesTo then_world
       job_goes told then_is =
-          jobs.job_good setting records w (kept setting w) v k server good done job known.started own (then_so then_world then_is)
+          jobs.job_good the_job own (then_so then_world then_is)
           (sent_by (IsTold (same_step applied)) told)
 
       -- its letters go
       job_sends : acted.letters ≡ letters_of (sender (own_place setting w k)) 0 done.posts → GoesTo then_world
       job_sends is = job_goes (λ letter i.
-          jobs.sends setting records w (kept setting w) v k server good done job known.started stamp letter
+          jobs.sends the_job stamp letter
           (subst (λ letters. In letter (stamped stamp letters)) is i))
 
       -- or it stops, and tells the others that
@@ -237,8 +238,8 @@ module _ (setting : Setting) (records : List Record) (w : World) (known : IsKnow
           → ((post : Post) → In post posts → is_between (subject_of post.body) ≡ false) → GoesTo then_world
       job_stops who posts is mute = job_goes (λ letter i.
           let step = same_step applied in
-          posts_mute setting top (stored setting records top before v k server good step) (later setting records top before v k server good step)
-          (reached_then setting records top before v k server good step) who stamp posts mute letter
+          posts_mute setting top (stored (at_step good step)) (later (at_step good step))
+          (reached_then (at_step good step)) who stamp posts mute letter
           (subst (λ letters. In letter (stamped stamp letters)) is i))
 
     -- it applies an entry
@@ -265,8 +266,14 @@ module _ (setting : Setting) (records : List Record) (w : World) (known : IsKnow
       entry_goes : (who : Sender) (posts : List Post) → acted.letters ≡ letters_of who 0 posts
           → ((post : Post) → In post posts → is_between (subject_of post.body) ≡ false) → GoesTo then_world
       entry_goes who posts is mute then_is =
-          entries.entered_good setting records w (kept setting w) v k server good entry_step known.firm known.rests runs entry more entry_left inc
-          (λ seat. known.counts k acted.server.log.applied within (ap (is_in (state_in setting.servers acted.server.log) k) (sym inc) ∙ seat))
+          entries.entered_good (at_entry ground (record {
+            step = entry_step;
+            runs = runs;
+            more = more;
+            left = entry_left;
+            inc = inc;
+            counts = λ seat. known.counts k acted.server.log.applied within (ap (is_in (state_in setting.servers acted.server.log) k) (sym inc) ∙ seat);
+          }))
           own (then_so then_world then_is) (mute_letters entry_step who posts is mute)
 
   -- what a server's own part is that has nothing in memory
@@ -302,7 +309,7 @@ module _ (setting : Setting) (records : List Record) (w : World) (known : IsKnow
       → GoesTo (acts setting w k what stamp acted).world
   server_goes k stamp what _ unblanked (Goes _ _ queue runs (By_job log done same did (inl seat)) queued works) =
       job_sends k stamp what (served_so setting w k log done queue) unblanked runs seat done
-      (job_keeping setting records w (kept setting w) k good known.firm known.rests (at_work k runs seat) done did) refl same refl refl
+      (job_keeping (seated k runs seat) done did) refl same refl refl
   server_goes k stamp what _ unblanked (Goes _ _ queue runs (By_job log done same did (inr apart)) queued works) =
       quiet_goes k stamp what (served_so setting w k log done queue) unblanked apart.same same (λ on. runs) refl
       (sender (own_place setting w k)) done.posts refl apart.mute
@@ -311,7 +318,7 @@ module _ (setting : Setting) (records : List Record) (w : World) (known : IsKnow
       let acted = served_so setting w k log done queue in
       by_bool (is_in (server_state setting w k) k (w.servers k).life.inc)
       (λ seat. job_sends k stamp what acted unblanked runs seat done
-      (ballot_keeping setting records w (kept setting w) k good known.firm known.rests (at_work k runs seat) started posts starts logged) refl same refl refl)
+      (ballot_keeping (seated k runs seat) started posts starts logged) refl same refl refl)
       (λ out. quiet_goes k stamp what acted unblanked (out_ballot setting w k started starts out) same (λ on. runs) refl
       (sender (own_place setting w k)) posts refl
       (λ post i. logged_mute (subject_of post.body) (logged post i)))
@@ -322,7 +329,7 @@ module _ (setting : Setting) (records : List Record) (w : World) (known : IsKnow
       (sender (own_place setting w k)) [] refl no_posts
   server_goes k stamp what _ unblanked (Ends _ _ runs (By_job log done same did (inl seat))) =
       job_stops k stamp what (stopped_so setting w k log done) unblanked runs seat done
-      (job_keeping setting records w (kept setting w) k good known.firm known.rests (at_work k runs seat) done did) refl same refl
+      (job_keeping (seated k runs seat) done did) refl same refl
       (without_rev (own_place setting w k)) _ refl
       (all_down k (w.servers k).life.inc _)
   server_goes k stamp what _ unblanked (Ends _ _ runs (By_job log done same did (inr apart))) =
@@ -333,7 +340,7 @@ module _ (setting : Setting) (records : List Record) (w : World) (known : IsKnow
       let acted = stopped_so setting w k log done in
       by_bool (is_in (server_state setting w k) k (w.servers k).life.inc)
       (λ seat. job_stops k stamp what acted unblanked runs seat done
-      (ballot_keeping setting records w (kept setting w) k good known.firm known.rests (at_work k runs seat) started posts starts logged) refl same refl
+      (ballot_keeping (seated k runs seat) started posts starts logged) refl same refl
       (without_rev (own_place setting w k)) _ refl (all_down k (w.servers k).life.inc _))
       (λ out. quiet_goes k stamp what acted unblanked (out_ballot setting w k started starts out) same (λ on. runs) refl
       (without_rev (own_place setting w k)) _ refl

@@ -29,10 +29,12 @@ use Rattle.law_copies.specs.Good.{AloneOk, BothOk, Good, IsUnheard, SaidOk, stor
 use Rattle.law_copies.specs.Pair.{HaveMarks}
 use Rattle.law_copies.specs.Steps.{AreFilled}
 use Rattle.law_copies.specs.Visits.{AliveIn, IsLinked}
+use Rattle.law_copies.proofs.Visited.{then_of}
+use Rattle.law_copies.proofs.AtStep.{AtStep}
 use Rattle.law_copies.proofs.Came.{came_then}
 use Rattle.law_copies.proofs.Places.{below_at}
-use Rattle.law_copies.proofs.Visited.{IsStep, IsThen, KeepsFlags, all_visited, been_now, counted, counted_up, ever_then, here_now, later}
-use Rattle.law_copies.proofs.Visited.{now_then, reaching_now, seen, started_now, stored}
+use Rattle.law_copies.proofs.Visited.{IsThen, KeepsFlags, all_visited, been_now, counted_up, ever_then, here_now}
+use Rattle.law_copies.proofs.Visited.{now_then, reaching_now, seen, started_now}
 
 -- a letter that is sent tells what is so, by the link at the front of its sender
 pub record IsTrue (setting : Setting) (top : List Command) (stores : ℕ → ℕ → Store) (visits : (n place : ℕ) → Cell → Option Own) (reached : Cell → ℕ)
@@ -64,16 +66,9 @@ pub record IsSoundOwn (setting : Setting) (top : List Command) (v : World) (k : 
   pub marks : (server.life.running ≡ true) ⊎ (v.before_blank k ≡ None)
       → HaveMarks (state_in setting.servers server.log) server.own.pairs.pending server.own.store
 
-module _ (setting : Setting) (records : List Record) (top : List Command) (w v : World) (k : ℕ) (server : Server)
-    (good : Good setting records top w) (step : IsStep setting top w v k server) where
-  abbrev visits : (n place : ℕ) → Cell → Option Own
-  visits = later setting records top w v k server good step
-
-  abbrev stores : ℕ → ℕ → Store
-  stores = stored setting records top w v k server good step
-
-  abbrev reached : Cell → ℕ
-  reached = counted setting records top w v k server good step
+module _ (it : AtStep) where
+  open it use {setting, records, top, w, v, k, server, good, step}
+  open then_of it use {visits, reached, next as stores}
 
   -- what holds of each server holds then
   all_servers : (P : ℕ → Server → Type 0) → ((n : ℕ) → P n (w.servers n)) → P k server → (n : ℕ) → P n (v.servers n)
@@ -105,26 +100,26 @@ module _ (setting : Setting) (records : List Record) (top : List Command) (w v :
       let le = (below_at setting top step.plain (v.servers n).log.applied top within (front_itself top)).stages cell in
       (unheard_now sound n cell (omega arith)).bare.chain
 
-  good_now : (own : Record) → IsThen setting (records ++ own ∷ []) v → KeepsFlags setting records top w v k server good step
+  good_now : (own : Record) → IsThen setting (records ++ own ∷ []) v → KeepsFlags it
       → IsSoundOwn setting top v k server → KeepsFronts
       → ((letter : Letter) → In letter v.sent → In letter w.sent ⊎ IsTrue setting top stores visits reached letter)
       → Good setting (records ++ own ∷ []) top v
   good_now own then_is flags sound keeps sent = record {
     visits = visits;
     reached = reached;
-    reaching = reaching_now setting records top w v k server good step;
+    reaching = reaching_now it;
     stores = stores;
-    now = now_then setting records top w v k server good step;
-    here = here_now setting records top w v k server good step;
-    been = been_now setting records top w v k server good step;
+    now = now_then it;
+    here = here_now it;
+    been = been_now it;
     came = λ n place cell o visit. came_then setting records own v then_is n place cell good.visits (good.came n place cell) o
-        (sym (all_visited setting records top w v k server good step n place cell) ∙ visit);
+        (sym (all_visited it n place cell) ∙ visit);
     born = born_now sound;
     unheard = unheard_now sound;
     copied = all_servers (λ n (s : Server). (cell : Cell) (last : LastCopy) → last_copy s.own cell ≡ Some last
         → live (state_in setting.servers s.log) cell ≡ true) good.copied sound.copied;
     rising = all_servers (λ n (s : Server). (cell : Cell) → IsRising nat_cmp (chain_in s.own.store.chains cell)) good.rising sound.rising;
-    ever = ever_then setting records top w v k server good step sound.rising;
+    ever = ever_then it sound.rising;
     counts = all_servers (λ n (s : Server). 1 ≤ s.own.pairs.next) good.counts sound.counts;
     filled = all_servers (λ n (s : Server). AreFilled s.own.store.chains) good.filled sound.filled;
     marks = all_servers (λ n (s : Server). (s.life.running ≡ true) ⊎ (v.before_blank n ≡ None)
@@ -136,17 +131,17 @@ module _ (setting : Setting) (records : List Record) (top : List Command) (w v :
     letters = λ letter i. elim (sent letter i) [ inl old ↦ keeps.said letter old | inr new ↦ new.said ];
     lives = λ letter i. elim (sent letter i) [ inl old ↦ good.lives letter old | inr new ↦ new.lives ];
     pages = λ letter i. elim (sent letter i) [ inl old ↦ good.pages letter old | inr new ↦ new.page ];
-    started = started_now setting records top w v k server good step own then_is flags;
+    started = started_now it own then_is flags;
   }
 
-  pub good_after : (own : Record) → IsThen setting (records ++ own ∷ []) v → KeepsFlags setting records top w v k server good step
+  pub good_after : (own : Record) → IsThen setting (records ++ own ∷ []) v → KeepsFlags it
       → IsSoundOwn setting top v k server → KeepsFronts
       → ((letter : Letter) → In letter v.sent → In letter w.sent ⊎ IsTrue setting top stores visits reached letter)
       → GoesOn setting records top top w v good own
   unfolding good_now
   good_after own then_is flags sound keeps sent = record {
     good = good_now own then_is flags sound keeps sent;
-    visits = all_visited setting records top w v k server good step;
-    reached = counted_up setting records top w v k server good step;
+    visits = all_visited it;
+    reached = counted_up it;
     behind = all_servers (λ n (s : Server). IsPrefix s.log.applied top) step.before step.within;
   }

@@ -2,8 +2,6 @@
 use Rattle.std.proofs.Common.{◌≡◌, ◌≢◌, ℕ, ◌≤◌, ◌+◌, List, [], ◌∷◌, true, Some, None, refl, ap, sym, ◌∙◌, subst, inl, inr, arith}
 use Rattle.std.specs.Prelude.{option_and_then}
 use Rattle.std.specs.Ordering.{nat_cmp}
-use Rattle.global_tables.specs.declared.link.LinkRow.{LinkRow}
-use Rattle.global_tables.specs.declared.link.LinkState.TheVariants.{Both}
 use Rattle.petal_base.specs.declared.cell.Cell.{Cell}
 use Rattle.petal_base.specs.declared.cell.Key.{Key}
 use Rattle.petal_base.specs.Cells.{cell_of}
@@ -19,15 +17,14 @@ use Rattle.petal_msg.specs.declared.operation.Ending.{Ending}
 use Rattle.petal_msg.specs.declared.operation.Ending.TheVariants as ending
 use Rattle.petal_msg.specs.declared.operation.Far.TheVariants as far
 use Rattle.petal_msg.specs.declared.operation.Pending.{Pending}
-use Rattle.petal_state.specs.CellState.{cell_link, row_lead, state_lead}
+use Rattle.petal_state.specs.CellState.{row_lead, state_lead}
 use Rattle.petal_rules.specs.Progress.{copying_on, has_proposed}
 use Rattle.petal_rules.specs.State.{in_both, is_lead, is_the, leads_link}
 use Rattle.petal_rules.specs.Store.{Store, cell_cmp, chain_in}
-use Rattle.petal_rules.specs.Server.{Own, Here, Pairs, Post, Done}
+use Rattle.petal_rules.specs.Server.{Own, Pairs, Post, Done}
 use Rattle.petal_rules.specs.Writes.{acts, ended, ends, follows, gives_back, is_clients, next_stage, pending_on, tells, with_last, without_pending}
 use Rattle.petal_rules.proofs.CellTables.{cell_same}
 use Rattle.petal_rules.proofs.Tests.{same_numbers, same_some, true_false}
-use Rattle.law_state.specs.Steady.{IsSteady}
 use Rattle.law_state.specs.Homes.{stage_at}
 use Rattle.law_steps.specs.Did.{Did, Ignores, Refuses, By_read, By_lead, By_second, By_holder, By_other, By_filler, By_sweep}
 use Rattle.law_steps.specs.Operations.{progress}
@@ -47,7 +44,9 @@ use Rattle.law_copies.specs.BothSteps.{LacksFill, LeadKeeps, SecondKeeps, SaysKn
 use Rattle.law_copies.specs.Pair.{AreCopies, HaveMarks, IsRecalled, Keeps, Known, PairOk, pair_of}
 use Rattle.law_copies.specs.Pair as pair
 use Rattle.law_copies.specs.Steps.{IsBare}
-use Rattle.law_copies.specs.Visits.{AliveIn}
+use Rattle.petal_msg.specs.Kinds.{is_paired}
+use Rattle.law_copies.proofs.CellInBoth.{CellInBoth}
+use Rattle.law_copies.proofs.Mute.{logged_known, unpaired_known}
 use Rattle.law_copies.proofs.Apart.{away}
 use Rattle.law_copies.proofs.Chains.{chain_apart}
 use Rattle.law_copies.proofs.Lead as lead
@@ -57,17 +56,18 @@ use Rattle.law_copies.proofs.Second as follow
 use Rattle.law_copies.proofs.Working.{IsLedHere, lead_beside, lead_cell, lead_leads, sweep_beside}
 use Rattle.law_copies.proofs.BesideTwins as beside
 
-module _ (heard : Body → Type 0) (here : Here) (own : Own) (steady : IsSteady here.state) (cell : Cell) (row : LinkRow)
-    (is_row : cell_link here.state cell ≡ Some row) (alive : AliveIn here.state cell) (both_row : row.state ≡ Both) where
+module _ (it : CellInBoth) where
+  open it use {heard, here, own, steady, cell, row, is_row, alive, both_row}
+
   cell_both : in_both here.state cell ≡ true
-  cell_both = beside.cell_both heard here own steady cell row is_row alive both_row
+  cell_both = beside.cell_both it
 
   -- what is pending, what was followed last, and what is sent
   abbrev Says : Own → Own → List Post → Type 0
   Says first second posts = SaysKnown posts cell (pair_of first second cell)
 
   none_says : (first second : Own) → Says first second []
-  none_says = beside.none_says heard here own steady cell row is_row alive both_row
+  none_says = beside.none_says it
 
   -- ### The first server
 
@@ -81,20 +81,20 @@ module _ (heard : Body → Type 0) (here : Here) (own : Own) (steady : IsSteady 
       kept_off : (new : Own) → chain_in new.store.chains cell ≡ chain_in own.store.chains cell
           → at cell_cmp new.pairs.pending cell ≡ at cell_cmp own.pairs.pending cell → own.pairs.next ≤ new.pairs.next
           → Keeps (pair_of own second cell) (pair_of new second cell)
-      kept_off = lead.off heard here own ready cell row is_row alive both_row second ok known
+      kept_off = lead.off it ready second ok known
 
       copied_off : (done : Done) → chain_in done.own.store.chains cell ≡ chain_in own.store.chains cell → CopyFrame own done
           → lead.IsKept own done.own done.posts second cell
       copied_off done chain frame = record {
         keeps = kept_off done.own chain (ap (λ t. at cell_cmp t cell) frame.pending) frame.next;
-        says = beside.copies_say heard here own steady cell row is_row alive both_row done.own second done frame;
+        says = beside.copies_say it done.own second done frame;
       }
 
       step_kept : (done : Done) → Did heard here own done → lead.IsKept own done.own done.posts second cell
       step_kept _ Ignores = record { keeps = kept_off own refl refl (omega arith); says = none_says own second }
       step_kept _ (Refuses to said is why because) = record {
         keeps = kept_off own refl refl (omega arith);
-        says = beside.refusal_says heard here own steady cell row is_row alive both_row own second to said is.refused;
+        says = beside.refusal_says it own second to said is.refused;
       }
       step_kept _ (By_read done d) =
           let same = (of_read heard here own done d).same in
@@ -102,20 +102,20 @@ module _ (heard : Body → Type 0) (here : Here) (own : Own) (steady : IsSteady 
           record {
             keeps = kept_off done.own (ap (λ (o : Own). chain_in o.store.chains cell) same)
                 (ap (λ (o : Own). at cell_cmp o.pairs.pending cell) same) (omega arith);
-            says = beside.read_says heard here own steady cell row is_row alive both_row done.own second done d;
+            says = beside.read_says it done.own second done d;
           }
-      step_kept _ (By_lead done d) = lead.lead_keeps heard here own ready cell row is_row alive both_row second ok known done d
+      step_kept _ (By_lead done d) = lead.lead_keeps it ready second ok known done d
       step_kept _ (By_second done d) =
           let frame = of_second heard here own done d in
           let next = frame.next in
           record {
-            keeps = kept_off done.own (beside.second_chain heard here own steady cell row is_row alive both_row leads done d)
+            keeps = kept_off done.own (beside.second_chain it leads done d)
                 (ap (λ t. at cell_cmp t cell) frame.pending) (omega arith);
-            says = beside.second_says heard here own steady cell row is_row alive both_row leads done.own second done d;
+            says = beside.second_says it leads done.own second done d;
           }
-      step_kept _ (By_holder done d) = copied_off done (beside.holder_chain heard here own steady cell row is_row alive both_row done d)
+      step_kept _ (By_holder done d) = copied_off done (beside.holder_chain it done d)
           (of_holder heard here own done d)
-      step_kept _ (By_other done d) = copied_off done (beside.other_chain heard here own steady cell row is_row alive both_row done d)
+      step_kept _ (By_other done d) = copied_off done (beside.other_chain it done d)
           (of_other heard here own done d)
       step_kept _ (By_filler done d) =
           let frame = of_filler heard here own done d in
@@ -123,14 +123,14 @@ module _ (heard : Body → Type 0) (here : Here) (own : Own) (steady : IsSteady 
           record {
             keeps = kept_off done.own (ap (λ (t : Store). chain_in t.chains cell) frame.store)
                 (ap (λ (p : Pairs). at cell_cmp p.pending cell) frame.pairs) (omega arith);
-            says = beside.filler_says heard here own steady cell row is_row alive both_row done.own second done d;
+            says = beside.filler_says it done.own second done d;
           }
       step_kept _ (By_sweep done d) =
           let next = ap (λ (p : Pairs). p.next) (of_sweep heard here own done d).pairs in
           let rest = (sweep_beside heard here own done d cell alive (bare cell)).rest in
           record {
             keeps = kept_off done.own rest.chain rest.pending (omega arith);
-            says = beside.sweep_says heard here own steady cell row is_row alive both_row done.own second done d;
+            says = beside.sweep_says it done.own second done d;
           }
 
       -- an operation that is pending then rests, and its block is marked
@@ -228,12 +228,12 @@ module _ (heard : Body → Type 0) (here : Here) (own : Own) (steady : IsSteady 
       dead_says : (second now : Own) (op : Pending) → cell_of op.key ≡ op.cell → cell ≢ op.cell → (next : Action)
           → Says first second (acts here now op next).posts
       dead_says second now op keyed ne action.Reserve =
-          beside.apart_says heard here own steady cell row is_row alive both_row first second op.cell _ (body.Reserve op.op op.cell) ne
+          beside.apart_says it first second op.cell _ (body.Reserve op.op op.cell) ne
           (λ post i. posted _ _ post i) refl
       dead_says second now op keyed ne (action.Mark kind) = none_says first second
       dead_says second now op keyed ne action.Put = none_says first second
       dead_says second now op keyed ne action.Replicate =
-          beside.apart_says heard here own steady cell row is_row alive both_row first second (cell_of op.key) _
+          beside.apart_says it first second (cell_of op.key) _
           (body.Replicate op.op op.key op.version op.bytes) (λ e. ne (e ∙ keyed)) (λ post i. posted _ _ post i) refl
       dead_says second now op keyed ne (action.Unmark kind) = none_says first second
       dead_says second now op keyed ne action.Answer = ending_says second (without_pending now op.cell) op ending.Written
@@ -243,8 +243,8 @@ module _ (heard : Body → Type 0) (here : Here) (own : Own) (steady : IsSteady 
       asks_say second _ (A_slot op to is stage e) of = absurd (op_apart op is (sym (same_some of)))
       asks_say second _ (A_copy op to is stage e) of = absurd (op_apart op is (sym (sym (ready.staged op.cell op is).keyed ∙ same_some of)))
       asks_say second _ (An_entry_to_move post next) of =
-          lead.filling_known (pair_of first second cell) post.body (ap (λ (p : Post). subject_of p.body) next.is)
-      asks_say second post (Of_the_log _ e) of = lead.logged_known (pair_of first second cell) post.body e
+          unpaired_known (pair_of first second cell) post.body (ap (λ (p : Post). is_paired (subject_of p.body)) next.is)
+      asks_say second post (Of_the_log _ e) of = logged_known (pair_of first second cell) post.body e
       asks_say second _ _ of = tt
 
       lead_says : (second : Own) (done : Done) → DidLead heard here own done → Says first second done.posts
@@ -253,12 +253,12 @@ module _ (heard : Body → Type 0) (here : Here) (own : Own) (steady : IsSteady 
       lead_says second _ (Is_full want new no_room) = ended_says second want.client want.seq ending.Full
       lead_says second _ (Gives_up op h is reserved put) = ending_says second (gives_back (without_pending own op.cell)) op ending.Full
       lead_says second _ (Opens want new both) =
-          beside.apart_says heard here own steady cell row is_row alive both_row first second want.cell _ (body.Reserve own.pairs.next want.cell)
+          beside.apart_says it first second want.cell _ (body.Reserve own.pairs.next want.cell)
           (lead_apart want.cell new.lead) (λ post i. posted _ _ post i) refl
       lead_says second _ (Closes op is both stage) = ending_says second (without_pending own op.cell) op ending.Written
       lead_says second _ (Closes_alone now op taken on stale put free) = ending_says second (without_pending now op.cell) op ending.Written
       lead_says second _ (Opens_fill moving new room both) =
-          beside.apart_says heard here own steady cell row is_row alive both_row first second (cell_of moving.key) _
+          beside.apart_says it first second (cell_of moving.key) _
           (body.Reserve own.pairs.next (cell_of moving.key)) (lead_apart (cell_of moving.key) new.lead)
           (λ post i. posted _ _ post i) refl
       lead_says second _ (Has_fill moving there) = λ post i of.
@@ -278,41 +278,41 @@ module _ (heard : Body → Type 0) (here : Here) (own : Own) (steady : IsSteady 
           → follow.IsSecondKept first own done.own done.posts cell
       copies_off done chain frame = record {
         keeps = follow_off done.own chain (ap (λ t. at cell_cmp t cell) frame.last);
-        says = beside.copies_say heard here own steady cell row is_row alive both_row first done.own done frame;
+        says = beside.copies_say it first done.own done frame;
       }
 
       step_follows : (done : Done) → Did heard here own done → follow.IsSecondKept first own done.own done.posts cell
       step_follows _ Ignores = record { keeps = follow_off own refl refl; says = none_says first own }
       step_follows _ (Refuses to said is why because) = record {
         keeps = follow_off own refl refl;
-        says = beside.refusal_says heard here own steady cell row is_row alive both_row first own to said is.refused;
+        says = beside.refusal_says it first own to said is.refused;
       }
       step_follows _ (By_read done d) =
           let same = (of_read heard here own done d).same in
           record {
             keeps = follow_off done.own (ap (λ (o : Own). chain_in o.store.chains cell) same) (ap (λ (o : Own). at cell_cmp o.pairs.last cell) same);
-            says = beside.read_says heard here own steady cell row is_row alive both_row first done.own done d;
+            says = beside.read_says it first done.own done d;
           }
       step_follows _ (By_lead done d) = record {
         keeps = follow_off done.own (lead_chain done d) (ap (λ t. at cell_cmp t cell) (of_lead heard here own done d).last);
         says = lead_says done.own done d;
       }
       step_follows _ (By_second done d) = follow.second_keeps heard here first own cell ok known done d
-      step_follows _ (By_holder done d) = copies_off done (beside.holder_chain heard here own steady cell row is_row alive both_row done d)
+      step_follows _ (By_holder done d) = copies_off done (beside.holder_chain it done d)
           (of_holder heard here own done d)
-      step_follows _ (By_other done d) = copies_off done (beside.other_chain heard here own steady cell row is_row alive both_row done d)
+      step_follows _ (By_other done d) = copies_off done (beside.other_chain it done d)
           (of_other heard here own done d)
       step_follows _ (By_filler done d) =
           let frame = of_filler heard here own done d in
           record {
             keeps = follow_off done.own (ap (λ (t : Store). chain_in t.chains cell) frame.store) (ap (λ (p : Pairs). at cell_cmp p.last cell) frame.pairs);
-            says = beside.filler_says heard here own steady cell row is_row alive both_row first done.own done d;
+            says = beside.filler_says it first done.own done d;
           }
       step_follows _ (By_sweep done d) =
           let rest = (sweep_beside heard here own done d cell alive (bare cell)).rest in
           record {
             keeps = follow_off done.own rest.chain rest.followed;
-            says = beside.sweep_says heard here own steady cell row is_row alive both_row first done.own done d;
+            says = beside.sweep_says it first done.own done d;
           }
 
       -- ### What it has nothing of
@@ -354,8 +354,8 @@ module _ (heard : Body → Type 0) (here : Here) (own : Own) (steady : IsSteady 
       step_lacks _ (By_read done d) = chain_lacks done.own (ap (λ (o : Own). chain_in o.store.chains cell) (of_read heard here own done d).same)
       step_lacks _ (By_lead done d) = chain_lacks done.own (lead_chain done d)
       step_lacks _ (By_second done d) = second_lacks done d
-      step_lacks _ (By_holder done d) = chain_lacks done.own (beside.holder_chain heard here own steady cell row is_row alive both_row done d)
-      step_lacks _ (By_other done d) = chain_lacks done.own (beside.other_chain heard here own steady cell row is_row alive both_row done d)
+      step_lacks _ (By_holder done d) = chain_lacks done.own (beside.holder_chain it done d)
+      step_lacks _ (By_other done d) = chain_lacks done.own (beside.other_chain it done d)
       step_lacks _ (By_filler done d) = chain_lacks done.own (ap (λ (t : Store). chain_in t.chains cell) (of_filler heard here own done d).store)
       step_lacks _ (By_sweep done d) = chain_lacks done.own (sweep_beside heard here own done d cell alive (bare cell)).rest.chain
 

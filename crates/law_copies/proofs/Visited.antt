@@ -20,14 +20,13 @@ use Rattle.petal_rules.specs.Store.{Store, chain_in}
 use Rattle.petal_rules.specs.World.{Setting, World, blank_joins_in, server_state, start, with_store}
 use Rattle.petal_rules.proofs.Tests.{both_true, by_bool, number_itself, same_numbers, same_or_apart, some_or_none, true_false}
 use Rattle.law_log.specs.Requested.{WasStarted}
-use Rattle.law_state.specs.Plain.{IsPlainLog}
 use Rattle.law_state.specs.Started.{is_flagged}
 use Rattle.law_steps.specs.Ready.{IsRising}
 use Rattle.law_steps.proofs.Fronts.{front_itself, front_on}
 use Rattle.law_steps.proofs.Records.{split_last}
-use Rattle.law_copies.specs.Good.{Good}
 use Rattle.law_copies.specs.Visits.{AliveIn, AreReached, HasBeen, HasReached, IsHere, IsLinked, Visits, is_alive, is_at, place_by, place_on, store_by, visited}
-use Rattle.law_copies.proofs.Places.{one_row}
+use Rattle.law_copies.proofs.AtStep.{AtStep}
+use Rattle.law_copies.proofs.Places.{one_row, reached_on}
 
 -- ### Where a server is
 
@@ -138,18 +137,9 @@ IsThen setting records v = (n : ℕ) → with_store ((world_after setting (start
 
 -- ### A step of a server
 
--- the world after a step of this server, which leaves each other server as it is, and does not take the server beyond the log so far
-pub record IsStep (setting : Setting) (top : List Command) (w v : World) (k : ℕ) (server : Server) : Type 0 where
-  pub here : v.servers k ≡ server
-  pub others : (n : ℕ) → n ≢ k → v.servers n ≡ w.servers n
-  pub plain : IsPlainLog setting.servers top
-  pub before : (n : ℕ) → IsPrefix (w.servers n).log.applied top
-  pub onward : IsPrefix (w.servers k).log.applied server.log.applied
-  pub within : IsPrefix server.log.applied top
-  pub blanks : (n : ℕ) → v.before_blank n ≡ None → w.before_blank n ≡ None
+module _ (it : AtStep) where
+  open it use {setting, records, top, w, v, k, server, good, step}
 
-module _ (setting : Setting) (records : List Record) (top : List Command) (w v : World) (k : ℕ) (server : Server)
-    (good : Good setting records top w) (step : IsStep setting top w v k server) where
   abbrev front : List Command
   front = server.log.applied
 
@@ -317,30 +307,8 @@ module _ (setting : Setting) (records : List Record) (top : List Command) (w v :
 
       old : (cell : Cell) → HasReached setting top good.visits cell (good.reached cell) → HasReached setting top later cell (good.reached cell)
       old cell r = elim (visited_by r.server (good.reached cell) cell) [
-        | inl same ↦ record {
-          front = r.front;
-          prefix = r.prefix;
-          row = r.row;
-          linked = r.linked;
-          alive = r.alive;
-          at = r.at;
-          server = r.server;
-          serving = r.serving;
-          own = r.own;
-          visited = same ∙ r.visited;
-        }
-        | inr now ↦ record {
-          front = r.front;
-          prefix = r.prefix;
-          row = r.row;
-          linked = r.linked;
-          alive = r.alive;
-          at = r.at;
-          server = r.server;
-          serving = r.serving;
-          own = server.own;
-          visited = now.is;
-        }
+        | inl same ↦ reached_on r r.prefix r.own (same ∙ r.visited)
+        | inr now ↦ reached_on r r.prefix server.own now.is
       ]
 
       either : (a b : ℕ) → (max a b ≡ a) ⊎ (max a b ≡ b)
@@ -459,3 +427,22 @@ module _ (setting : Setting) (records : List Record) (top : List Command) (w v :
               (ap (λ (r : LinkRow). is_flagged h.0 (id_of r)) one ∙ h.2) in
               (server.own, is_now.is, ap (λ (r : LinkRow). is_flagged server.own (id_of r)) (sym one) ∙ flagged))
         ]
+
+-- ### Names for what is then
+
+-- visits, places that count and stores once the step is done, and the stores by a front of the log before and then
+pub record Then : Type 0 where
+  pub visits : Visits
+  pub reached : Cell → ℕ
+  pub next : ℕ → ℕ → Store
+  pub olds : List Command → ℕ → Store
+  pub news : List Command → ℕ → Store
+
+abbrev pub then_of : AtStep → Then
+then_of it = record {
+  visits = later it;
+  reached = counted it;
+  next = stored it;
+  olds = store_by it.setting it.good.stores;
+  news = store_by it.setting (stored it);
+}

@@ -1,103 +1,50 @@
 -- What a job of a server that is In as itself keeps at the places of its own entries.
-use Rattle.std.proofs.Common.{◌≡◌, ◌≢◌, ◌≤◌, ◌<◌, ◌+◌, ◌⊎◌, ℕ, List, [], Bool, true, false, Option, Some, None, is_some, refl, sym, ap, ◌∙◌, subst, inl, inr}
+use Rattle.std.proofs.Common.{◌≡◌, ◌≢◌, ◌≤◌, ◌<◌, ◌+◌, ◌⊎◌, ℕ, List, [], Bool, true, Option, Some, None, is_some, refl, sym, ap, ◌∙◌, subst, inl, inr}
 use Rattle.std.specs.Ordering.{nat_cmp}
 use Rattle.global_tables.specs.Link.{has_server, other_of}
 use Rattle.global_tables.specs.declared.link.LinkRow.{LinkRow}
-use Rattle.global_tables.specs.declared.link.LinkState.TheVariants.{Both, Lost, Only}
+use Rattle.global_tables.specs.declared.link.LinkState.TheVariants.{Both, Only}
 use Rattle.petal_base.specs.declared.cell.Cell.{Cell}
 use Rattle.petal_command.specs.declared.command.Command.{Command}
 use Rattle.petal_table.specs.Table.{at}
-use Rattle.petal_msg.specs.Kinds.{about, subject_of}
+use Rattle.petal_msg.specs.Kinds.{about}
 use Rattle.petal_msg.specs.declared.body.Body.{Body}
 use Rattle.petal_msg.specs.declared.body.Body.TheVariants as body
-use Rattle.petal_msg.specs.declared.copying.LastCopy.{LastCopy}
 use Rattle.petal_history.specs.Claims.{IsMarked, IsToBeCopied}
-use Rattle.petal_history.specs.declared.record.Record.{Record}
-use Rattle.petal_state.specs.CellState.{cell_link}
 use Rattle.petal_state.specs.Command.{is_alone, state_after}
 use Rattle.petal_rules.specs.Lists.{In}
 use Rattle.petal_rules.specs.Log.{state_in}
-use Rattle.petal_rules.specs.Progress.{last_copy}
-use Rattle.petal_rules.specs.Server.{Own, Pairs, Post, Server, Done}
-use Rattle.petal_rules.specs.State.{holder_of, id_of, is_in, is_whole, live}
+use Rattle.petal_rules.specs.Server.{Own, Pairs, Post, Server}
+use Rattle.petal_rules.specs.State.{id_of, is_in, is_whole}
 use Rattle.petal_rules.specs.Store.{Store, cell_cmp, chain_in}
-use Rattle.petal_rules.specs.World.{Setting, World, blank_joins_in, chosen_log, server_state}
+use Rattle.petal_rules.specs.World.{blank_joins_in, chosen_log, server_state}
 use Rattle.petal_rules.proofs.Tests.{none_some, same_numbers, same_or_apart, same_some, some_or_none}
 use Rattle.petal_table.proofs.Rows.{at-empty}
-use Rattle.law_state.specs.Firm.{Firm}
-use Rattle.law_state.specs.Homes.{stage_at}
 use Rattle.law_state.specs.Started.{is_flagged}
 use Rattle.law_state.proofs.Leaves.{other_between}
 use Rattle.law_state.proofs.Roles.{primary_is_one, secondary_is_one}
-use Rattle.law_steps.specs.Happens.{Handled, is_between, own_place}
-use Rattle.law_steps.specs.Ready.{IsRising, Rests}
-use Rattle.law_copies.specs.BothSteps.{LacksFill, LeadKeeps, SecondKeeps}
-use Rattle.law_copies.specs.Copied.{AreAlike, AreCopying, IsCovered, IsLeft, IsOfLink, IsPage, IsTold, Is_marked_here, Is_to_be_copied, NotCopied, links_of}
-use Rattle.law_copies.specs.Good.{AreBeside, AreTwins, Good, IsUnheard, StaysLeft, pair_at}
-use Rattle.law_copies.specs.Pair.{HaveMarks, IsRecalled, Known, PairOk, far, pair_of}
-use Rattle.law_copies.specs.Steps.{AreFilled, HolderKeeps, IsFollowing, IsHolding, IsLeftBy, IsNotOf, KeepsCell, OtherKeeps}
-use Rattle.law_copies.specs.Visits.{AliveIn, HasFilled, IsLinked, Visits, half, place_by, store_by, with_stores}
+use Rattle.law_steps.specs.Happens.{Handled}
+use Rattle.law_copies.specs.BothSteps.{LacksFill}
+use Rattle.law_copies.specs.Copied.{AreAlike, AreCopying, IsCovered, IsLeft, IsPage, IsTold, Is_marked_here, Is_to_be_copied, NotCopied, links_of}
+use Rattle.law_copies.specs.Good.{AreBeside, AreTwins, StaysLeft, pair_at}
+use Rattle.law_copies.specs.Pair.{IsRecalled, Known, PairOk, far, pair_of}
+use Rattle.law_copies.specs.Steps.{HolderKeeps, IsLeftBy, OtherKeeps}
+use Rattle.law_copies.specs.Visits.{AliveIn, HasFilled, IsLinked, Visits, half, place_by, store_by}
+use Rattle.law_copies.proofs.Places.{has_filled_on}
+use Rattle.law_copies.proofs.AtJob.{AtJob, seat_at, step_at}
 use Rattle.law_copies.proofs.NewPlaces.{half_store}
 use Rattle.law_copies.proofs.Framed.{LeavesStore, alike_same, marks_back, store_same}
 use Rattle.law_copies.proofs.Later.{holder_is_one, unseen_beyond}
 use Rattle.law_copies.proofs.Moves.{known_later}
 use Rattle.law_copies.proofs.Others.{other_apart}
 use Rattle.law_copies.proofs.Seated as seated
-use Rattle.law_copies.proofs.Seated.{IsAtWork, other_back}
+use Rattle.law_copies.proofs.Seated.{other_back}
 use Rattle.law_copies.proofs.Standing.{other_row}
-use Rattle.law_copies.proofs.Visited.{IsStep, counted, counted_up, later, none_before, stored, stored_apart, stored_by, visited_apart, visited_here}
+use Rattle.law_copies.proofs.Visited.{counted, counted_up, later, none_before, stored, stored_apart, stored_by, visited_apart, visited_here}
 
--- what a job, or a ballot that is started, keeps by itself
-pub record IsKeeping (setting : Setting) (w : World) (k : ℕ) (done : Done) : Type 0 where
-  pub lead : (cell : Cell) (row : LinkRow) (second : Own) → cell_link (server_state setting w k) cell ≡ Some row
-      → AliveIn (server_state setting w k) cell → row.state ≡ Both → row.primary ≡ k
-      → PairOk (pair_of (w.servers k).own second cell)
-      → ((said : Body) → Handled w k said → (about said).cell ≡ Some cell → Known (pair_of (w.servers k).own second cell) said)
-      → LeadKeeps (w.servers k).own done.own done.posts second cell
-  pub second : (cell : Cell) (row : LinkRow) (first : Own) → cell_link (server_state setting w k) cell ≡ Some row
-      → AliveIn (server_state setting w k) cell → row.state ≡ Both → row.secondary ≡ k
-      → PairOk (pair_of first (w.servers k).own cell)
-      → ((said : Body) → Handled w k said → (about said).cell ≡ Some cell → Known (pair_of first (w.servers k).own cell) said)
-      → SecondKeeps (w.servers k).own done.own done.posts first cell
-  pub holder : (cell : Cell) (row : LinkRow) (other : Option Own)
-      → IsHolding (Handled w k) (own_place setting w k) (links_of (server_state setting w k) cell.map) row cell (w.servers k).own other
-      → HolderKeeps (Handled w k) (links_of (server_state setting w k) cell.map) row cell (w.servers k).own other done
-  pub other : (cell : Cell) (row : LinkRow) (holder : Option Own)
-      → IsFollowing (Handled w k) (own_place setting w k) (links_of (server_state setting w k) cell.map) row cell holder (w.servers k).own
-      → OtherKeeps (links_of (server_state setting w k) cell.map) row cell holder (w.servers k).own done
-  pub unlinked : (cell : Cell) → cell_link (server_state setting w k) cell ≡ None → AliveIn (server_state setting w k) cell
-      → KeepsCell cell (w.servers k).own done.own
-  pub lost : (cell : Cell) (row : LinkRow) → cell_link (server_state setting w k) cell ≡ Some row → AliveIn (server_state setting w k) cell
-      → row.state ≡ Lost → KeepsCell cell (w.servers k).own done.own
-  pub silent : (cell : Cell) → IsNotOf (own_place setting w k) cell → (post : Post) → In post done.posts → (about post.body).cell ≡ Some cell
-      → is_between (subject_of post.body) ≡ false
-  pub lives : (post : Post) → In post done.posts → is_between (subject_of post.body) ≡ true → (cell : Cell) → (about post.body).cell ≡ Some cell
-      → live (server_state setting w k) cell ≡ true
-  pub copied : (cell : Cell) (last : LastCopy) → last_copy done.own cell ≡ Some last → live (server_state setting w k) cell ≡ true
-  pub paged : (cell : Cell) (row : LinkRow) → cell_link (server_state setting w k) cell ≡ Some row → (post : Post) → In post done.posts
-      → (after block : Option ℕ) → post.body ≡ body.Hello row.map row.link after block → (n : ℕ) × (holder_of k row ≡ Some n)
-  pub pages : (post : Post) → In post done.posts → (map link block : ℕ) (after : Option ℕ) → post.body ≡ body.Hello map link after (Some block)
-      → IsOfLink (server_state setting w k) (record { map = map; block = block }) link
-  pub rising : (cell : Cell) → IsRising nat_cmp (chain_in done.own.store.chains cell)
-  pub filled : AreFilled done.own.store.chains
-  pub counts : (w.servers k).own.pairs.next ≤ done.own.pairs.next
-  pub marks : HaveMarks (server_state setting w k) done.own.pairs.pending done.own.store
-  pub unheard : (cell : Cell) → stage_at (server_state setting w k) cell ≡ 0 → IsUnheard (server_state setting w k) (w.servers k).own cell
-      → IsUnheard (server_state setting w k) done.own cell
+module _ (it : AtJob) where
+  open it use {setting, records, w, stores, v, k, server, good, firm, done, job}
 
--- a job of a server that runs, and is In as itself: its step applies no entry, and leaves what the job does; by the stores that count
-pub record IsJob (setting : Setting) (w : World) (stores : ℕ → Store) (v : World) (k : ℕ) (server : Server) (done : Done) : Type 0 where
-  pub step : IsStep setting (chosen_log setting w) (with_stores w stores) v k server
-  pub firm : Firm setting w
-  pub rests : Rests setting w
-  pub works : IsAtWork setting w stores k
-  pub keeping : IsKeeping setting w k done
-  pub own_is : server.own ≡ done.own
-  pub applied : server.log.applied ≡ (w.servers k).log.applied
-  pub inc : server.life.inc ≡ (w.servers k).life.inc
-
-module _ (setting : Setting) (records : List Record) (w : World) (stores : ℕ → Store) (v : World) (k : ℕ) (server : Server)
-    (good : Good setting records (chosen_log setting w) (with_stores w stores)) (done : Done) (job : IsJob setting w stores v k server done) where
   abbrev pub top : List Command
   top = chosen_log setting w
 
@@ -108,16 +55,16 @@ module _ (setting : Setting) (records : List Record) (w : World) (stores : ℕ �
   own = (w.servers k).own
 
   abbrev pub visits : Visits
-  visits = later setting records top (with_stores w stores) v k server good job.step
+  visits = later (step_at it)
 
   abbrev pub reached : Cell → ℕ
-  reached = counted setting records top (with_stores w stores) v k server good job.step
+  reached = counted (step_at it)
 
   pub up : (cell : Cell) → good.reached cell ≤ reached cell
-  up = counted_up setting records top (with_stores w stores) v k server good job.step
+  up = counted_up (step_at it)
 
   pub nones : (n place : ℕ) (cell : Cell) → visits n place cell ≡ None → good.visits n place cell ≡ None
-  nones = none_before setting records top (with_stores w stores) v k server good job.step
+  nones = none_before (step_at it)
 
   pub own_now : (v.servers k).own ≡ done.own
   own_now = ap (λ (s : Server). s.own) job.step.here ∙ job.own_is
@@ -127,30 +74,30 @@ module _ (setting : Setting) (records : List Record) (w : World) (stores : ℕ �
   olds = store_by setting good.stores front
 
   abbrev pub news : ℕ → Store
-  news = store_by setting (stored setting records top (with_stores w stores) v k server good job.step) front
+  news = store_by setting (stored (step_at it)) front
 
   -- the server's own one was its store, and is what the job leaves
   pub store_was : olds k ≡ own.store
-  store_was = seated.own_store setting records w stores k good job.firm job.rests job.works
+  store_was = seated.own_store (seat_at it)
 
   pub store_now : news k ≡ done.own.store
-  store_now = stored_by setting records top (with_stores w stores) v k server good job.step front job.works.counts
+  store_now = stored_by (step_at it) front job.works.counts
       ∙ ap (λ (o : Own). o.store) job.own_is
 
   pub store_apart : (n : ℕ) → n ≢ k → news n ≡ olds n
-  store_apart n ne = stored_apart setting records top (with_stores w stores) v k server good job.step n (blank_joins_in setting front n) ne
+  store_apart n ne = stored_apart (step_at it) n (blank_joins_in setting front n) ne
 
   pub leaves_apart : (n : ℕ) (cell : Cell) → n ≢ k → LeavesStore (olds n) (news n) cell
   leaves_apart n cell ne = store_same (olds n) (news n) cell (store_apart n ne)
 
   pub visit_apart : (n place : ℕ) (cell : Cell) → n ≢ k → visits n place cell ≡ good.visits n place cell
-  visit_apart = visited_apart setting records top (with_stores w stores) v k server good job.step
+  visit_apart = visited_apart (step_at it)
 
   pub visit_now : (cell : Cell) (row : LinkRow) → IsLinked setting front cell row → AliveIn (server_state setting w k) cell
       → visits k (place_by setting front row) cell ≡ Some done.own
   visit_now cell row is alive =
       ap (λ f. visits k (place_by setting f row) cell) (sym job.applied)
-      ∙ visited_here setting records top (with_stores w stores) v k server good job.step cell row
+      ∙ visited_here (step_at it) cell row
       (subst (λ f. IsLinked setting f cell row) (sym job.applied) is) seat_now
       (subst (λ f. AliveIn (state_after setting.servers f) cell) (sym job.applied) alive)
       ∙ ap Some job.own_is
@@ -177,7 +124,7 @@ module _ (setting : Setting) (records : List Record) (w : World) (stores : ℕ �
           → Known (pair_at news visits place cell row.primary row.secondary) post.body
 
     apart : row.primary ≢ row.secondary
-    apart = ((seated.steady setting records w stores k good job.firm job.rests job.works).linked cell row is).apart
+    apart = ((seated.steady (seat_at it)).linked cell row is).apart
 
     abbrev beside : ℕ → Own
     beside n = half (good.visits n place cell) (olds n)
@@ -190,7 +137,7 @@ module _ (setting : Setting) (records : List Record) (w : World) (stores : ℕ �
 
     -- the server's visit was its own part
     was_here : good.visits k place cell ≡ Some own
-    was_here = seated.here_visit setting records w stores k good job.firm job.rests job.works cell row is alive
+    was_here = seated.here_visit (seat_at it) cell row is alive
 
     -- what the second server had nothing of, by the stores that count
     was_lacking : (n m : ℕ) (lead : Own) → good.visits n place cell ≡ Some lead → AreTwins olds good.visits place cell n m
@@ -204,10 +151,10 @@ module _ (setting : Setting) (records : List Record) (w : World) (stores : ℕ �
         let m = row.secondary in
         let ne : m ≢ k = λ f. apart (leads ∙ sym f) in
         let keeps = job.keeping.lead cell row (beside m) is alive both leads
-        (seated.first_ok setting records w stores k good job.firm job.rests job.works cell row is alive lives both leads)
-        (seated.first_known setting records w stores k good job.firm job.rests job.works cell row is alive lives both leads) in
-        let old_at = seated.first_at setting records w stores k good job.firm job.rests job.works cell row is alive lives both leads in
-        let old_twins = seated.twins_here setting records w stores k good job.firm job.rests job.works cell row is alive lives both
+        (seated.first_ok (seat_at it) cell row is alive lives both leads)
+        (seated.first_known (seat_at it) cell row is alive lives both leads) in
+        let old_at = seated.first_at (seat_at it) cell row is alive lives both leads in
+        let old_twins = seated.twins_here (seat_at it) cell row is alive lives both
         (primary_is_one row k leads) in
         let new_at : pair_of done.own (beside m) cell ≡ pair_at news visits place cell row.primary m =
         (λ i. pair_of (own_half i) (beside_now m ne i) cell) ∙ (λ i. pair_at news visits place cell (sym leads i) m) in
@@ -235,12 +182,12 @@ module _ (setting : Setting) (records : List Record) (w : World) (stores : ℕ �
         let n = row.primary in
         let ne : n ≢ k = λ f. apart (f ∙ sym follows) in
         let keeps = job.keeping.second cell row (beside n) is alive both follows
-        (seated.second_ok setting records w stores k good job.firm job.rests job.works cell row is alive lives both follows)
-        (seated.second_known setting records w stores k good job.firm job.rests job.works cell row is alive lives both follows) in
-        let old_at = seated.second_at setting records w stores k good job.firm job.rests job.works cell row is alive lives both follows in
+        (seated.second_ok (seat_at it) cell row is alive lives both follows)
+        (seated.second_known (seat_at it) cell row is alive lives both follows) in
+        let old_at = seated.second_at (seat_at it) cell row is alive lives both follows in
         let new_at : pair_of (beside n) done.own cell ≡ pair_at news visits place cell n row.secondary =
         (λ i. pair_of (beside_now n ne i) (own_half i) cell) ∙ (λ i. pair_at news visits place cell n (sym follows i)) in
-        let twins = seated.twins_here setting records w stores k good job.firm job.rests job.works cell row is alive lives both
+        let twins = seated.twins_here (seat_at it) cell row is alive lives both
         (secondary_is_one row k follows) in
         record {
           twins = record {
@@ -314,7 +261,7 @@ module _ (setting : Setting) (records : List Record) (w : World) (stores : ℕ �
       o_visit = visit_apart o place cell o_apart
 
       pub keeps_holder : HolderKeeps (Handled w k) links row cell own vo done
-      keeps_holder = job.keeping.holder cell row vo (seated.holding setting records w stores k good job.firm job.rests job.works cell row is alive whole alone)
+      keeps_holder = job.keeping.holder cell row vo (seated.holding (seat_at it) cell row is alive whole alone)
 
       -- the two visits then
       then_holder : (P : Option Own → Option Own → Type 0) → P (Some done.own) vo → P (visits k place cell) (visits o place cell)
@@ -322,10 +269,10 @@ module _ (setting : Setting) (records : List Record) (w : World) (stores : ℕ �
 
       holder_beside : IsAliveLast → good.reached cell ≤ place → AreBeside news visits place row cell k o
       holder_beside lives last =
-          let old = (seated.alone_here setting records w stores k good job.firm job.rests job.works cell row is alive k whole alone).beside lives last in
+          let old = (seated.alone_here (seat_at it) cell row is alive k whole alone).beside lives last in
           let was = subst (λ x. AreAlike row cell (olds k) (olds o) x) was_here old.alike in
           let alike = keeps_holder.alike (olds o) old.still
-          (seated.pages_here setting records w stores k good job.firm job.rests job.works cell row is alive whole alone lives last)
+          (seated.pages_here (seat_at it) cell row is alive whole alone lives last)
           (good.ever o (blank_joins_in setting front o) cell)
           (subst (λ a. AreAlike row cell a (olds o) (Some own)) store_was was) in
           record {
@@ -355,7 +302,7 @@ module _ (setting : Setting) (records : List Record) (w : World) (stores : ℕ �
         );
         unfilled = λ lives all. inr (record {
           more = front;
-          within = job.firm.servers k;
+          within = firm.servers k;
           row = row;
           linked = is;
           joins = refl;
@@ -381,12 +328,12 @@ module _ (setting : Setting) (records : List Record) (w : World) (stores : ℕ �
 
       back : other_of k row ≡ h
       back = other_back row k h has
-          (holder_is_one (server_state setting w k) (seated.steady setting records w stores k good job.firm job.rests job.works) h cell row is alone)
+          (holder_is_one (server_state setting w k) (seated.steady (seat_at it)) h cell row is alone)
           (λ e. h_apart (sym e))
 
       pub keeps_other : OtherKeeps links row cell vh own done
       keeps_other = job.keeping.other cell row vh
-          (seated.following setting records w stores k good job.firm job.rests job.works cell row is alive h whole alone other has back)
+          (seated.following (seat_at it) cell row is alive h whole alone other has back)
 
       then_other : (P : Option Own → Option Own → Type 0) → P vh (Some done.own) → P (visits h place cell) (visits k place cell)
       then_other P x = subst (λ a. P a (visits k place cell)) (sym h_visit) (subst (P vh) (sym is_now) x)
@@ -395,14 +342,14 @@ module _ (setting : Setting) (records : List Record) (w : World) (stores : ℕ �
       pub left_still : IsAliveLast → (m : IsLeftBy row vh cell) → IsMarked (olds h) cell
           ⊎ (IsToBeCopied row (olds h) cell × NotCopied (Some m.by) row cell.block)
       left_still lives m =
-          let stays = (seated.alone_here setting records w stores k good job.firm job.rests job.works cell row is alive h whole alone).stays lives m.by m.met
-          (λ p lt. ap (λ n. good.visits n p cell) other ∙ unseen_beyond setting records w stores job.firm good k cell row is p lt) in
+          let stays = (seated.alone_here (seat_at it) cell row is alive h whole alone).stays lives m.by m.met
+          (λ p lt. ap (λ n. good.visits n p cell) other ∙ unseen_beyond setting records w stores firm good k cell row is p lt) in
           elim m.left [ inl marked ↦ inl (stays.0 marked) | inr all ↦ inr (stays.1 all.0 all.1, all.1) ]
 
       -- and then the holder has not started its ballot
       pub not_caught : {B : Type 0} → IsLeftBy row vh cell → (by : Own) → vh ≡ Some by → is_flagged by (id_of row) ≡ true → B
       not_caught m by e flagged =
-          let caught = (seated.alone_here setting records w stores k good job.firm job.rests job.works cell row is alive h whole alone).copying.caught
+          let caught = (seated.alone_here (seat_at it) cell row is alive h whole alone).copying.caught
           by e flagged in
           elim (subst (λ (x : Own). IsLeft x row cell) (same_some (sym m.met ∙ e)) m.left) [
             | inl marked ↦ absurd (caught.unmarked marked)
@@ -423,7 +370,7 @@ module _ (setting : Setting) (records : List Record) (w : World) (stores : ℕ �
             alike_same row cell (olds h) own.store (news h) (news k) vh (leaves_apart h cell h_apart)
             (subst (λ b. LeavesStore own.store b cell) (sym store_now) (record { chain = chain; marks = keeps_other.marks }))
             (subst (λ a. AreAlike row cell (olds h) a vh) (ap olds other ∙ store_was)
-            ((seated.alone_here setting records w stores k good job.firm job.rests job.works cell row is alive h whole alone).beside lives last).alike)
+            ((seated.alone_here (seat_at it) cell row is alive h whole alone).beside lives last).alike)
         | inr m ↦ record {
           covered = left_covers lives m;
           caught = λ by e flagged. not_caught m by e flagged;
@@ -433,21 +380,13 @@ module _ (setting : Setting) (records : List Record) (w : World) (stores : ℕ �
       -- where the server's copy changed, the holder has been here
       unfilled_now : (chain_in (olds k).chains cell ≡ []) ⊎ HasFilled setting top good.visits front cell h k
           → (chain_in (news k).chains cell ≡ []) ⊎ HasFilled setting top visits front cell h k
-      unfilled_now (inr f) = inr (record {
-        more = f.more;
-        within = f.within;
-        row = f.row;
-        linked = f.linked;
-        joins = f.joins;
-        own = f.own;
-        visited = visit_apart h (place_by setting f.more f.row) cell h_apart ∙ f.visited;
-      })
+      unfilled_now (inr f) = inr (has_filled_on f f.within refl f.own (visit_apart h (place_by setting f.more f.row) cell h_apart ∙ f.visited))
       unfilled_now (inl empty) = elim keeps_other.changes [
         | inl chain ↦ inl (ap (λ (a : Store). chain_in a.chains cell) store_now ∙ chain
             ∙ ap (λ (a : Store). chain_in a.chains cell) (sym store_was) ∙ empty)
         | inr m ↦ inr (record {
           more = front;
-          within = job.firm.servers k;
+          within = firm.servers k;
           row = row;
           linked = is;
           joins = refl;
@@ -467,14 +406,14 @@ module _ (setting : Setting) (records : List Record) (w : World) (stores : ℕ �
               ∙ ap (λ (a : Store). chain_in a.chains cell) (sym store_now);
         };
         stays = λ lives by e beyond.
-            let stays = (seated.alone_here setting records w stores k good job.firm job.rests job.works cell row is alive h whole alone).stays lives by
+            let stays = (seated.alone_here (seat_at it) cell row is alive h whole alone).stays lives by
             (sym h_visit ∙ e) (λ p lt. ap (λ n. good.visits n p cell) other ∙ nones k p cell (beyond p lt)) in (
               (λ marked. subst (λ a. IsMarked a cell) (sym (store_apart h h_apart)) (stays.0 marked)),
               (λ all copied. subst (λ a. IsToBeCopied row a cell) (sym (store_apart h h_apart)) (stays.1 all copied)),
             );
         unfilled = λ lives all. unfilled_now
             (subst (λ n. (chain_in (olds n).chains cell ≡ []) ⊎ HasFilled setting top good.visits front cell h n) other
-            ((seated.alone_here setting records w stores k good job.firm job.rests job.works cell row is alive h whole alone).unfilled lives all));
+            ((seated.alone_here (seat_at it) cell row is alive h whole alone).unfilled lives all));
         page = λ lives after block page. record {
           met = ap is_some is_now;
           least = λ ahead upto marked. page.least ahead upto
@@ -491,7 +430,7 @@ module _ (setting : Setting) (records : List Record) (w : World) (stores : ℕ �
     alone_now h whole alone has = elim (same_or_apart h k) [
       | inl e ↦ subst (λ n. AloneNow n (other_of n row)) (sym e) (holder_now whole (alone ∙ ap (λ n. Only n whole) e))
       | inr ne ↦ (
-          let one = holder_is_one (server_state setting w k) (seated.steady setting records w stores k good job.firm job.rests job.works) h cell row is alone in
+          let one = holder_is_one (server_state setting w k) (seated.steady (seat_at it)) h cell row is alone in
           let other = other_back row h k one has ne in
           subst (AloneNow h) (sym other) (other_now h whole alone other has))
     ]

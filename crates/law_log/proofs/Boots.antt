@@ -69,8 +69,21 @@ seen_read n log entries p seen = record {
   applied = λ i command e. let at : i + 1 ≡ 1 + i = omega arith in ap (known_at log.records) at ∙ run_known log _ 1 i command e;
 }
 
-module _ (servers n : ℕ) (log : Log) (p : World) (inc : ℕ) (is : inc_of log.records ≡ inc) (low : AreLow p) (seen : IsSeenAt n log.records log.applied p)
-    (asleep : p.proposers n ≡ None) (Good : ℕ → Command → Type 0) where
+-- the log of a server that does not run, and what the schedule's world has of it
+pub record StoppedLog : Type 0 where
+  pub servers : ℕ
+  pub n : ℕ
+  pub log : Log
+  pub p : World
+  pub inc : ℕ
+  pub is : inc_of log.records ≡ inc
+  pub low : AreLow p
+  pub seen : IsSeenAt n log.records log.applied p
+  pub asleep : p.proposers n ≡ None
+
+module _ (it : StoppedLog) (Good : ℕ → Command → Type 0) where
+  open it use {servers, n, log, p, inc, is, low, seen, asleep}
+
   -- it runs
   pub wake_turn : HasTurn servers n true (read_log (commits log (Inc (inc + 1)))) [] p Good
   wake_turn =

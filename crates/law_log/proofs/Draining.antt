@@ -1,5 +1,5 @@
 -- The report that a server wants: to the active fence, which awaits it, of a server that is In as itself and has drained.
-use Rattle.std.proofs.Common.{◌≡◌, ◌&&◌, not, true, false, List, [], ◌∷◌, Option, Some, None, refl, inl, inr}
+use Rattle.std.proofs.Common.{◌≡◌, ◌&&◌, not, true, false, List, [], ◌∷◌, Option, Some, None, refl}
 use Rattle.global_tables.specs.View.{head}
 use Rattle.global_tables.specs.declared.fence.Fence.{Fence}
 use Rattle.petal_command.specs.declared.command.Command.{Command}
@@ -9,6 +9,7 @@ use Rattle.petal_rules.specs.Lists.{In as Among}
 use Rattle.petal_rules.specs.Server.{Own, Here}
 use Rattle.petal_rules.specs.State.{is_in}
 use Rattle.petal_rules.proofs.Tests.{both_true, by_test, not_true}
+use Rattle.law_log.proofs.Lists.{none_among, only_among}
 
 -- the command is the server's report to the active fence
 pub record IsReport (here : Here) (own : Own) (command : Command) : Type 0 where
@@ -18,15 +19,6 @@ pub record IsReport (here : Here) (own : Own) (command : Command) : Type 0 where
   pub is : command ≡ Drained here.me here.inc active.number
   pub awaited : awaits active here.me ≡ true
   pub drained : has_held_write here.state own ≡ false
-
-none_among : {B : Type 0} (c : Command) → Among c [] → B
-unfolding Among
-none_among c h = absurd h
-
-only_among : (c d : Command) → Among c (d ∷ []) → c ≡ d
-unfolding Among
-only_among c d (inl e) = e
-only_among c d (inr h) = absurd h
 
 module _ (here : Here) (own : Own) (seat : is_in here.state here.me here.inc ≡ true) where
   report_for : (o : Option Fence) → head here.state.view.queue ≡ o → (c : Command) → Among c (drained_for here own o) → IsReport here own c

@@ -104,39 +104,36 @@ wanted_plain setting w p fair place c h = elim h.0 [
   | inr returns ↦ returns_plain setting.servers w.servers returns.front c returns.is
 ]
 
--- no line of a script asks for a Leave
-not_asked : {B : Type 0} (client seq server inc : ℕ) (asked : Request) → command_of client seq asked ≡ Some (Leave server inc) → B
-not_asked client seq server inc (request.Disk name tuple) e =
-    let f : MakeDisk client seq name tuple ≡ Leave server inc = same_some e in absurd cc
-not_asked client seq server inc (request.Snap name snap) e = let f : Snap client seq name snap ≡ Leave server inc = same_some e in absurd cc
-not_asked client seq server inc (request.Move name tuple) e =
-    let f : StartMove client seq name tuple ≡ Leave server inc = same_some e in absurd cc
-not_asked client seq server inc _ e = none_some refl e
+-- what a line of a script calls for: a disk, a snapshot, a move, or a Witness
+abbrev is_of_line : Command → Bool
+is_of_line (MakeDisk client seq name tuple) = true
+is_of_line (Snap client seq disk name) = true
+is_of_line (StartMove client seq disk tuple) = true
+is_of_line (Witness client seq turn) = true
+is_of_line _ = false
 
-pub leave_stopped : (setting : Setting) (w : World) (server inc : ℕ) → IsCalledFor setting w (Leave server inc) → HasStopped w server inc
-leave_stopped setting w server inc (inl s) = elim s.so [
-  | inl e ↦ not_asked s.client (s.before + 1) server inc s.line.request e
-  | inr e ↦ (let f : Leave server inc ≡ Witness s.client (s.before + 1) e.0 = e.1 in absurd cc)
+line_asks : (client seq : ℕ) (asked : Request) (c : Command) → command_of client seq asked ≡ Some c → is_of_line c ≡ true
+line_asks client seq (request.Disk name tuple) c e = ap is_of_line (sym (same_some e))
+line_asks client seq (request.Snap name snap) c e = ap is_of_line (sym (same_some e))
+line_asks client seq (request.Move name tuple) c e = ap is_of_line (sym (same_some e))
+line_asks client seq _ c e = none_some refl e
+
+line_calls : (setting : Setting) (w : World) (c : Command) → IsScripted setting w c → is_of_line c ≡ true
+line_calls setting w c s = elim s.so [
+  | inl e ↦ line_asks s.client (s.before + 1) s.line.request c e
+  | inr e ↦ ap is_of_line e.1
 ]
+
+-- so none calls for a Leave
+pub leave_stopped : (setting : Setting) (w : World) (server inc : ℕ) → IsCalledFor setting w (Leave server inc) → HasStopped w server inc
+leave_stopped setting w server inc (inl s) = true_false (line_calls setting w (Leave server inc) s) refl
 leave_stopped setting w server inc (inr h) = h
 
 -- nor for a Caught
-not_asked_caught : {B : Type 0} (client seq of link holder inc other other_inc : ℕ) (asked : Request)
-    → command_of client seq asked ≡ Some (Caught of link holder inc other other_inc) → B
-not_asked_caught client seq of link holder inc other other_inc (request.Disk name tuple) e =
-    let f : MakeDisk client seq name tuple ≡ Caught of link holder inc other other_inc = same_some e in absurd cc
-not_asked_caught client seq of link holder inc other other_inc (request.Snap name snap) e =
-    let f : Snap client seq name snap ≡ Caught of link holder inc other other_inc = same_some e in absurd cc
-not_asked_caught client seq of link holder inc other other_inc (request.Move name tuple) e =
-    let f : StartMove client seq name tuple ≡ Caught of link holder inc other other_inc = same_some e in absurd cc
-not_asked_caught client seq of link holder inc other other_inc _ e = none_some refl e
-
 pub not_called : {B : Type 0} (setting : Setting) (w : World) (of link holder inc other other_inc : ℕ)
     → IsCalledFor setting w (Caught of link holder inc other other_inc) → B
-not_called setting w of link holder inc other other_inc (inl s) = elim s.so [
-  | inl e ↦ not_asked_caught s.client (s.before + 1) of link holder inc other other_inc s.line.request e
-  | inr e ↦ (let f : Caught of link holder inc other other_inc ≡ Witness s.client (s.before + 1) e.0 = e.1 in absurd cc)
-]
+not_called setting w of link holder inc other other_inc (inl s) =
+    true_false (line_calls setting w (Caught of link holder inc other other_inc) s) refl
 not_called setting w of link holder inc other other_inc (inr h) = absurd h
 
 pub uncaught : (setting : Setting) (w : World) (c : Command) → IsCalledFor setting w c → is_caught c ≡ false
@@ -144,54 +141,22 @@ uncaught setting w (Caught of link holder inc other other_inc) h = not_called se
 uncaught setting w _ h = refl
 
 -- nor for a report to a fence
-not_asked_report : {B : Type 0} (client seq server inc fence : ℕ) (asked : Request) → command_of client seq asked ≡ Some (Drained server inc fence) → B
-not_asked_report client seq server inc fence (request.Disk name tuple) e =
-    let f : MakeDisk client seq name tuple ≡ Drained server inc fence = same_some e in absurd cc
-not_asked_report client seq server inc fence (request.Snap name snap) e =
-    let f : Snap client seq name snap ≡ Drained server inc fence = same_some e in absurd cc
-not_asked_report client seq server inc fence (request.Move name tuple) e =
-    let f : StartMove client seq name tuple ≡ Drained server inc fence = same_some e in absurd cc
-not_asked_report client seq server inc fence _ e = none_some refl e
-
 pub no_report : {B : Type 0} (setting : Setting) (w : World) (server inc fence : ℕ) → IsCalledFor setting w (Drained server inc fence) → B
-no_report setting w server inc fence (inl s) = elim s.so [
-  | inl e ↦ not_asked_report s.client (s.before + 1) server inc fence s.line.request e
-  | inr e ↦ (let f : Drained server inc fence ≡ Witness s.client (s.before + 1) e.0 = e.1 in absurd cc)
-]
+no_report setting w server inc fence (inl s) = true_false (line_calls setting w (Drained server inc fence) s) refl
 no_report setting w server inc fence (inr h) = absurd h
 
 -- nor for a Moved
-not_asked_moved : {B : Type 0} (client seq of region link : ℕ) (asked : Request) → command_of client seq asked ≡ Some (Moved of region link) → B
-not_asked_moved client seq of region link (request.Disk name tuple) e =
-    let f : MakeDisk client seq name tuple ≡ Moved of region link = same_some e in absurd cc
-not_asked_moved client seq of region link (request.Snap name snap) e =
-    let f : Snap client seq name snap ≡ Moved of region link = same_some e in absurd cc
-not_asked_moved client seq of region link (request.Move name tuple) e =
-    let f : StartMove client seq name tuple ≡ Moved of region link = same_some e in absurd cc
-not_asked_moved client seq of region link _ e = none_some refl e
-
 pub no_moved : {B : Type 0} (setting : Setting) (w : World) (of region link : ℕ) → IsCalledFor setting w (Moved of region link) → B
-no_moved setting w of region link (inl s) = elim s.so [
-  | inl e ↦ not_asked_moved s.client (s.before + 1) of region link s.line.request e
-  | inr e ↦ (let f : Moved of region link ≡ Witness s.client (s.before + 1) e.0 = e.1 in absurd cc)
-]
+no_moved setting w of region link (inl s) = true_false (line_calls setting w (Moved of region link) s) refl
 no_moved setting w of region link (inr h) = absurd h
 
 -- nor for a Join
-asked_no_join : (client seq : ℕ) (asked : Request) (c : Command) → command_of client seq asked ≡ Some c → is_join c ≡ false
-asked_no_join client seq (request.Disk name tuple) c e = ap is_join (sym (same_some e))
-asked_no_join client seq (request.Snap name snap) c e = ap is_join (sym (same_some e))
-asked_no_join client seq (request.Move name tuple) c e = ap is_join (sym (same_some e))
-asked_no_join client seq _ c e = none_some refl e
+line_no_join : (c : Command) → is_of_line c ≡ true → is_join c ≡ false
+line_no_join (Join server inc blank) e = cc
+line_no_join _ e = refl
 
 pub scripted_anywhere : (setting : Setting) (w : World) (c : Command) → IsScripted setting w c → IsCalledAnywhere setting w c
-scripted_anywhere setting w c s = (
-  inl s,
-  elim s.so [
-    | inl e ↦ asked_no_join s.client (s.before + 1) s.line.request c e
-    | inr e ↦ ap is_join e.1
-  ],
-)
+scripted_anywhere setting w c s = (inl s, line_no_join c (line_calls setting w c s))
 
 pub no_join : {B : Type 0} (setting : Setting) (w : World) (server inc : ℕ) (blank : Bool) → IsCalledAnywhere setting w (Join server inc blank) → B
 no_join setting w server inc blank h = true_false refl h.1

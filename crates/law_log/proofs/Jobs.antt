@@ -1,5 +1,5 @@
 -- Each job of the log, as the schedule has it.
-use Rattle.std.proofs.Common.{◌≡◌, ◌<◌, ◌≤◌, ◌+◌, ◌⊎◌, inl, inr, ℕ, zero, suc, Bool, true, false, if◌then◌else◌, ◌||◌, List, [], ◌∷◌, ◌++◌, length}
+use Rattle.std.proofs.Common.{◌≡◌, ◌<◌, ◌+◌, ◌⊎◌, inl, inr, ℕ, zero, suc, Bool, true, false, if◌then◌else◌, ◌||◌, List, [], ◌∷◌, ◌++◌, length}
 use Rattle.std.proofs.Common.{Option, Some, None, is_some, refl, sym, ap, ◌∙◌, subst, arith, length-append}
 use Rattle.std.specs.Prelude.{slice_get, nat_lt, fold, not}
 use Rattle.std.proofs.lemmas.Bool.Decides.{nat_tests}
@@ -39,7 +39,8 @@ use Rattle.petal_rules.specs.declared.job.Job.{Job}
 use Rattle.petal_rules.specs.declared.job.Job.TheVariants as job
 use Rattle.petal_rules.proofs.ListLemmas.{in-append}
 use Rattle.petal_rules.proofs.Tests.{only, by_test, none_some}
-use Rattle.law_log.specs.Logged.{IsSeenAt, AreLow, IsBusyAs, IsBacked, IsSaidBy}
+use Rattle.law_log.specs.Logged.{IsBacked, IsSaidBy}
+use Rattle.law_log.proofs.RunningLog.{VotingLog, voter_at}
 use Rattle.law_log.proofs.Lists.{at_last, kept_among}
 use Rattle.law_log.proofs.Proposing.{pax_turn, start_turn}
 use Rattle.law_log.proofs.Taking.{learn_turn}
@@ -217,17 +218,26 @@ own_leaves {A} me inc (Some earlier) c so h = by_test (λ (xs : List Command). A
     less : (a b : ℕ) → nat_lt a b ≡ true → a < b
     less a b e = grind (arith, nat_tests)
 
-module _ (servers n inc : ℕ) (small : servers ≤ 256) (member : n < servers) (log : Log) (p : World) (low : AreLow p)
-    (seen : IsSeenAt n log.records log.applied p)
-    (busy : IsBusyAs servers n true log.phase p) (one : (place : ℕ) (c d : Command) → IsTold p place c → IsTold p place d → d ≡ c)
-    (Good : ℕ → Command → Type 0) (Fine : Command → Type 0) (fine : (c : Command) → Among c log.wants → Fine c)
-    (leaving : (c : Command) → Among c log.leaves → Fine c) (own_leaving : (earlier : ℕ) → earlier < inc → Fine (Leave n earlier))
-    (good : (c : Command) → Fine c → Good (next_place log) c) where
+-- such a log before a job, and in which sense its commands are called for: those that the server wants, and each Leave that it may want
+pub record JobLog : Type 1 where
+  pub voting : VotingLog
+  pub open voting use {running, servers, n, log, p, low, seen, busy, inc}
+  pub one : (place : ℕ) (c d : Command) → IsTold p place c → IsTold p place d → d ≡ c
+  pub Good : ℕ → Command → Type 0
+  pub Fine : Command → Type 0
+  pub fine : (c : Command) → Among c log.wants → Fine c
+  pub leaving : (c : Command) → Among c log.leaves → Fine c
+  pub own_leaving : (earlier : ℕ) → earlier < inc → Fine (Leave n earlier)
+  pub good : (c : Command) → Fine c → Good (next_place log) c
+
+module _ (it : JobLog) where
+  open it use {voting, running, servers, n, log, p, low, seen, busy, inc, one, Good, Fine, fine, leaving, own_leaving, good}
+
   abbrev Left : Job → LogDone → Type 0
   Left own done = Outcome servers n log own p Good Fine done
 
   abbrev voter : Voter
-  voter = record { me = n; inc = inc; servers = servers }
+  voter = voter_at voting
 
   still_fine : (later : Log) → WantsSame log later → (c : Command) → Among c later.wants → Fine c
   still_fine later same c h = fine c (subst (Among c) same.wants h)
@@ -287,7 +297,7 @@ module _ (servers n inc : ℕ) (small : servers ≤ 256) (member : n < servers) 
   unfolding learns
   learnt own place c t =
       let at = proposer_there log.phase (p.proposers n) busy.proposer in
-      let h = learn_turn servers n log p low seen busy Good at.0 at.1 place c t (λ d u. one place c d t u) in
+      let h = learn_turn running Good at.0 at.1 place c t (λ d u. one place c d t u) in
       record {
         turn = record { events = h.events; wanted = h.wanted; turns = h.turns };
         wants = still_fine _ (learn_wants log place c);
@@ -333,7 +343,7 @@ module _ (servers n inc : ℕ) (small : servers ≤ 256) (member : n < servers) 
   ballots own (actor.Server from) said i =
       let at = proposer_there log.phase (p.proposers n) busy.proposer in
       record {
-        turn = pax_turn servers n inc small member log p low seen busy Good at.0 at.1 one at.2 from said i;
+        turn = pax_turn voting Good at.0 at.1 one at.2 from said i;
         wants = still_fine _ (pax_wants voter log from said);
         leaves = still_leaving _ (pax_wants voter log from said);
         follows = λ letter h. pax_follows voter log from said letter h;
@@ -383,7 +393,7 @@ module _ (servers n inc : ℕ) (small : servers ≤ 256) (member : n < servers) 
   unfolding starts
   started own wants all =
       let at = proposer_there log.phase (p.proposers n) busy.proposer in
-      let turn = start_turn servers n inc small member log p low seen busy Good at.0 at.1 wants all in
+      let turn = start_turn voting Good at.0 at.1 wants all in
       let same = start_wants voter log (first_wanted log.phase (rev_of log) wants) in
       record {
         turn = record { events = turn.events; wanted = turn.wanted; turns = turn.turns };

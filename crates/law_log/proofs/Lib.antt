@@ -1,5 +1,6 @@
 pub mod Lists
 pub mod Turns
+pub mod RunningLog
 pub mod Kept
 pub mod Taking
 pub mod Proposing

@@ -75,6 +75,16 @@ one_front (x ∷ a) (y ∷ b) xs ys many e =
     let later = one_front a b xs ys (omega (arith, many)) rest in
     λ i. first i ∷ later i
 
+-- a list of no member, and of one
+pub none_among : {A B : Type 0} (x : A) → Among x [] → B
+unfolding Among
+none_among x h = absurd h
+
+pub only_among : {A : Type 0} (x y : A) → Among x (y ∷ []) → x ≡ y
+unfolding Among
+only_among x y (inl e) = e
+only_among x y (inr h) = absurd h
+
 -- what a filter keeps was there
 pub kept_among : {X : Type 0} (test : X → Bool) (xs : List X) (x : X) → Among x (filter test xs) → Among x xs
 unfolding Among

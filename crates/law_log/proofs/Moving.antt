@@ -11,6 +11,7 @@ use Rattle.petal_rules.specs.Server.{Own, Here}
 use Rattle.petal_rules.specs.State.{is_in}
 use Rattle.petal_rules.proofs.ListLemmas.{in-append}
 use Rattle.petal_rules.proofs.Tests.{by_test}
+use Rattle.law_log.proofs.Lists.{none_among, only_among}
 
 -- the command is the Moved of this link, of which the server is to move the region and has nothing left
 pub record IsMove (here : Here) (own : Own) (command : Command) : Type 0 where
@@ -21,15 +22,6 @@ pub record IsMove (here : Here) (own : Own) (command : Command) : Type 0 where
   pub is : command ≡ Moved row.map region row.link
   pub moves : region_to_move here.state here.me row ≡ Some region
   pub left : fill_of here.state here.me row own ≡ None
-
-none_among : {B : Type 0} (c : Command) → Among c [] → B
-unfolding Among
-none_among c h = absurd h
-
-only_among : (c d : Command) → Among c (d ∷ []) → c ≡ d
-unfolding Among
-only_among c d (inl e) = e
-only_among c d (inr h) = absurd h
 
 module _ (here : Here) (own : Own) (seat : is_in here.state here.me here.inc ≡ true) where
   move_where : (row : LinkRow) → Among row here.state.links → (o : Option ℕ) → region_to_move here.state here.me row ≡ o → (key : Option Key)

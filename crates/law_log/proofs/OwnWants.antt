@@ -7,38 +7,37 @@ use Rattle.std.specs.Option.{option_map_or}
 use Rattle.petal_command.specs.declared.command.Command.{Command}
 use Rattle.petal_msg.specs.declared.copying.LinkId.{LinkId}
 use Rattle.petal_paxos.specs.Schedule.{run, begin}
-use Rattle.petal_paxos.specs.Schedule as schedule
 use Rattle.petal_command.specs.declared.command.Command.TheVariants.{Join}
 use Rattle.petal_rules.specs.Ballots.{first_wanted, starts}
 use Rattle.petal_rules.specs.Draining.{draining}
 use Rattle.petal_rules.specs.Fills.{moving}
 use Rattle.petal_rules.specs.Returns.{caught_links, own_join, proposed, returning}
 use Rattle.petal_state.specs.Command.{may_join}
-use Rattle.petal_rules.specs.Jobs.{voter_of, here_of}
+use Rattle.petal_rules.specs.Jobs.{voter_of}
 use Rattle.petal_rules.specs.Jobs.{own_wants, wanted_by}
 use Rattle.petal_rules.specs.Lists.{In as Among, put_at}
-use Rattle.petal_rules.specs.Log.{Log, LogDone, Voter, next_place, rev_of}
-use Rattle.petal_rules.specs.Server.{Server, Own, Here}
+use Rattle.petal_rules.specs.Log.{Log, Voter, next_place, rev_of}
+use Rattle.petal_rules.specs.Server.{Server}
 use Rattle.petal_rules.specs.State.{State, id_of}
 use Rattle.petal_rules.specs.State.{is_in as seated}
-use Rattle.petal_rules.specs.World.{Setting, World, server_state}
+use Rattle.petal_rules.specs.World.{Setting, World}
 use Rattle.petal_rules.specs.declared.job.Job.{Job}
 use Rattle.petal_rules.proofs.ListLemmas.{in-append, put_same}
 use Rattle.petal_rules.proofs.Tests.{number_itself, by_test}
 use Rattle.law_log.specs.Logged.{Catches, IsReached, IsToldBefore}
-use Rattle.law_log.specs.Logged.{Logged, MayWant, Minded, Returns, WasMinded}
+use Rattle.law_log.specs.Logged.{Logged, Minded, Returns, WasMinded}
 use Rattle.law_state.specs.Started.{HasFlag, is_flagged}
 use Rattle.global_tables.specs.declared.fence.Member.TheVariants as member
 use Rattle.law_state.specs.Tables.{IsPlainState}
 use Rattle.law_state.proofs.Ages.{may_by}
 use Rattle.law_state.proofs.Entries.{log_plain}
-use Rattle.law_log.proofs.Facts.{IsFair, applied_plain}
+use Rattle.law_log.proofs.Facts.{applied_plain}
 use Rattle.law_log.proofs.Catching.{caught_among, caught_may, caught_minded}
 use Rattle.law_log.proofs.Draining.{IsReport, report_among}
 use Rattle.law_log.proofs.Jobs.{start_wants}
 use Rattle.law_log.proofs.Lists.{got}
 use Rattle.law_log.proofs.Moving.{IsMove, move_among}
-use Rattle.law_log.proofs.Worlds.{Remembers}
+use Rattle.law_log.proofs.Worlds.{ServerStep, before_of, Remembers}
 
 -- the next place is reached: what is applied before it was told
 pub reached_next : {Was : Minded} (setting : Setting) (w : World) (l : Logged Was setting w) (n : ℕ)
@@ -74,27 +73,15 @@ start_applied : (voter : Voter) (log : Log) (wants : List Command) → (starts v
 unfolding starts
 start_applied voter log wants = (start_wants voter log (first_wanted log.phase (rev_of log) wants)).applied
 
-module _ {Was : Minded} (setting : Setting) (fair : IsFair setting) (w : World) (l : Logged Was setting w) (n : ℕ)
-    (runs : (w.servers n).life.running ≡ true) (rest : List Job) where
-  abbrev P : schedule.World
-  P = run setting.servers l.events begin
-
-  abbrev here : Here
-  here = here_of (server_state setting w n) n (w.servers n)
-
-  -- what may be wanted, where the step leaves the server so
-  abbrev Good : Server → ℕ → Command → Type 0
-  Good to = MayWant Was setting w (put_at w.servers n to) P
-
-  -- what a job of the log leaves, whatever it does to the pairs
-  abbrev left : LogDone → Own → List Job → Server
-  left done own queue = record (w.servers n) { log = done.log; own = own; queue = queue }
+module _ (it : ServerStep) (runs : (it.w.servers it.n).life.running ≡ true) (rest : List Job) where
+  open it use {Was, setting, fair, w, l, n}
+  open before_of it use {P, here, Good, left}
 
   -- the command that it starts for
-  abbrev started_for : Option Command
+  abbrev pub started_for : Option Command
   started_for = first_wanted (w.servers n).log.phase (rev_of (w.servers n).log) (wanted_by here (w.servers n))
 
-  abbrev starts_to : Server
+  abbrev pub starts_to : Server
   starts_to = let done = starts (voter_of here) (w.servers n).log (wanted_by here (w.servers n)) in
       left done (proposed here.state (w.servers n).own started_for) (rest ++ done.jobs)
 

@@ -31,10 +31,11 @@ use Rattle.petal_rules.specs.Ballots.{post_of, round_of, next_round, first_wante
 use Rattle.petal_rules.specs.Ballots.{gives_way, proposes, comes_out, hears_of_ballot}
 use Rattle.petal_rules.specs.Entries.{learns}
 use Rattle.petal_rules.specs.Lists.{In as Among}
-use Rattle.petal_rules.specs.Log.{Log, rev_of, next_place, with_phase}
+use Rattle.petal_rules.specs.Log.{Log, rev_of, next_place, with_phase, Voter}
 use Rattle.petal_rules.specs.Server.{Post}
 use Rattle.petal_rules.proofs.Tests.{true_false, by_test, none_some, same_some}
-use Rattle.law_log.specs.Logged.{IsSeenAt, AreLow, IsLow, IsBusyAs, IsBacked}
+use Rattle.law_log.specs.Logged.{IsSeenAt, AreLow, IsLow, IsBacked}
+use Rattle.law_log.proofs.RunningLog.{VotingLog, voter_at}
 use Rattle.law_log.proofs.Lists.{put_here}
 use Rattle.law_log.proofs.Taking.{seen_promise, prepare_turn, accept_turn, learn_turn}
 use Rattle.law_log.proofs.Turns.{Turns, HasTurn, apart_itself, apart_both, apart_keep, apart_send, apart_turn, by_letter, turned}
@@ -157,12 +158,15 @@ both_so a b e f = cc
 below : (k m : ℕ) → k < m → nat_lt k m ≡ true
 below k m h = grind (arith, nat_tests)
 
-module _ (servers n inc : ℕ) (small : servers ≤ 256) (member : n < servers) (log : Log) (p : World) (low : AreLow p)
-    (seen : IsSeenAt n log.records log.applied p)
-    (busy : IsBusyAs servers n true log.phase p) (Good : ℕ → Command → Type 0) (there : Phase) (is : p.proposers n ≡ Some there) where
+module _ (it : VotingLog) (Good : ℕ → Command → Type 0) (there : Phase) (is : it.p.proposers it.n ≡ Some there) where
+  open it use {servers, n, log, p, low, seen, busy, inc, small, member}
+
+  abbrev voter : Voter
+  voter = voter_at it
+
   ballot_turn : (place : ℕ) (b : Ballot) (want : Command) → b.server ≡ n → is_unpromised (p.acceptors n place) b ≡ true
-      → Turns servers n true (starts_ballot (record { me = n; inc = inc; servers = servers }) log place b want).log
-      (starts_ballot (record { me = n; inc = inc; servers = servers }) log place b want).posts p
+      → Turns servers n true (starts_ballot voter log place b want).log
+      (starts_ballot voter log place b want).posts p
       (started p n place b want Goes)
   ballot_turn place b want own free =
       let kept = keep p n place (promise (p.acceptors n place) b) in
@@ -193,11 +197,11 @@ module _ (servers n inc : ℕ) (small : servers ≤ 256) (member : n < servers) 
 
   start_for : (phase : Phase) (wants : List Command) → log.phase ≡ phase
       → ((want : Command) → first_wanted phase (rev_of log) wants ≡ Some want → Good (next_place log) want)
-      → HasTurn servers n true (starts_for (record { me = n; inc = inc; servers = servers }) log (first_wanted phase (rev_of log) wants)).log
-      (starts_for (record { me = n; inc = inc; servers = servers }) log (first_wanted phase (rev_of log) wants)).posts p Good
+      → HasTurn servers n true (starts_for voter log (first_wanted phase (rev_of log) wants)).log
+      (starts_for voter log (first_wanted phase (rev_of log) wants)).posts p Good
   start_for Idle (want ∷ wants) e good =
-      by_test (λ (o : Option Command). HasTurn servers n true (starts_for (record { me = n; inc = inc; servers = servers }) log o).log
-      (starts_for (record { me = n; inc = inc; servers = servers }) log o).posts p Good) (nat_lt (rev_of log) greatest_place) (Some want) None
+      by_test (λ (o : Option Command). HasTurn servers n true (starts_for voter log o).log
+      (starts_for voter log o).posts p Good) (nat_lt (rev_of log) greatest_place) (Some want) None
       (λ few.
       let place = next_place log in
       let b : Ballot = record { round = next_round log; server = n } in
@@ -216,8 +220,8 @@ module _ (servers n inc : ℕ) (small : servers ≤ 256) (member : n < servers) 
   start_for (Voting place ballot command heard) wants e good = nothing_happens servers n true log [] p Good low seen busy (λ post i. no_posts post i)
 
   pub start_turn : (wants : List Command) → ((want : Command) → first_wanted log.phase (rev_of log) wants ≡ Some want → Good (next_place log) want)
-      → HasTurn servers n true (starts (record { me = n; inc = inc; servers = servers }) log wants).log
-      (starts (record { me = n; inc = inc; servers = servers }) log wants).posts p Good
+      → HasTurn servers n true (starts voter log wants).log
+      (starts voter log wants).posts p Good
   unfolding starts
   start_turn wants good = start_for log.phase wants refl good
 
@@ -225,10 +229,10 @@ module _ (servers n inc : ℕ) (small : servers ≤ 256) (member : n < servers) 
 
   heard_there : (phase : Phase) → there ≡ phase → IsAskedFor p n servers phase → (from : ℕ) (said : Pax) → In (sent from said) p.letters
       → schedule.handed servers p n there from said Goes ≡ schedule.comes_out p n (hear servers there from said)
-      → HasTurn servers n true (comes_out (record { me = n; inc = inc; servers = servers }) log (hear servers phase from said)).log
-      (comes_out (record { me = n; inc = inc; servers = servers }) log (hear servers phase from said)).posts p Good
+      → HasTurn servers n true (comes_out voter log (hear servers phase from said)).log
+      (comes_out voter log (hear servers phase from said)).posts p Good
   heard_there phase about a from said i hands =
-      let done = comes_out (record { me = n; inc = inc; servers = servers }) log (hear servers phase from said) in
+      let done = comes_out voter log (hear servers phase from said) in
       by_letter servers n done.log done.posts p Good there from said is i
       (subst (λ (w : World). Turns servers n true done.log done.posts p w) (sym hands)
       (subst (λ (q : Phase). Turns servers n true done.log done.posts p (schedule.comes_out p n (hear servers q from said))) (sym about)
@@ -237,8 +241,8 @@ module _ (servers n inc : ℕ) (small : servers ≤ 256) (member : n < servers) 
 
   answered : (phase : Phase) → log.phase ≡ phase → IsAbout phase there → IsAskedFor p n servers phase → (from : ℕ) (said : Pax) → In (sent from said) p.letters
       → schedule.handed servers p n there from said Goes ≡ schedule.comes_out p n (hear servers there from said)
-      → HasTurn servers n true (comes_out (record { me = n; inc = inc; servers = servers }) log (hear servers phase from said)).log
-      (comes_out (record { me = n; inc = inc; servers = servers }) log (hear servers phase from said)).posts p Good
+      → HasTurn servers n true (comes_out voter log (hear servers phase from said)).log
+      (comes_out voter log (hear servers phase from said)).posts p Good
   answered Idle e about a from said i hands =
       nothing_happens servers n true (with_phase log Idle) [] p Good low seen
       (record { proposer = subst (λ phase. IsProposer true phase (p.proposers n)) e busy.proposer; asked = tt }) (λ post i. no_posts post i)
@@ -249,14 +253,14 @@ module _ (servers n inc : ℕ) (small : servers ≤ 256) (member : n < servers) 
   -- what another server told of a place is what this one knows of it
   pub pax_turn : ((place : ℕ) (c d : Command) → IsTold p place c → IsTold p place d → d ≡ c) → IsAbout log.phase there → (from : ℕ) (said : Pax)
       → In (sent from said) p.letters
-      → HasTurn servers n true (hears_of_ballot (record { me = n; inc = inc; servers = servers }) log from said).log
-      (hears_of_ballot (record { me = n; inc = inc; servers = servers }) log from said).posts p Good
+      → HasTurn servers n true (hears_of_ballot voter log from said).log
+      (hears_of_ballot voter log from said).posts p Good
   unfolding learns
-  pax_turn one about from (pax.Prepare place b) i = prepare_turn servers n log p low seen busy Good there is from place b i
-  pax_turn one about from (pax.Accept place b c) i = accept_turn servers n log p low seen busy Good there is from place b c i
+  pax_turn one about from (pax.Prepare place b) i = prepare_turn it.running Good there is from place b i
+  pax_turn one about from (pax.Accept place b c) i = accept_turn it.running Good there is from place b c i
   pax_turn one about from (pax.Chosen place c) i =
       let t : IsTold p place c = record { from = from; is = i } in
-      let h = learn_turn servers n log p low seen busy Good there is place c t (λ d u. one place c d t u) in
+      let h = learn_turn it.running Good there is place c t (λ d u. one place c d t u) in
       record { events = h.events; wanted = h.wanted; turns = h.turns }
   pax_turn one about from (pax.Promise place b best) i = answered log.phase refl about busy.asked from (pax.Promise place b best) i refl
   pax_turn one about from (pax.Accepted place b) i = answered log.phase refl about busy.asked from (pax.Accepted place b) i refl

@@ -21,7 +21,7 @@ use Rattle.petal_rules.specs.Boots.{awake, blanked, boots, raised, stays, wakes}
 use Rattle.petal_rules.specs.Returns.{proposed}
 use Rattle.petal_rules.specs.Crossing.{crossed_by, jobs_by}
 use Rattle.petal_rules.specs.Entries.{applies, applies_known}
-use Rattle.petal_rules.specs.Jobs.{Acted, is_log_job, voter_of, here_of, worked, entered, crossing, job_done, down_posts, stops, is_overfull}
+use Rattle.petal_rules.specs.Jobs.{Acted, is_log_job, voter_of, worked, entered, crossing, job_done, down_posts, stops, is_overfull}
 use Rattle.petal_rules.specs.Jobs.{works, faults, glances, glance_sender, delivered, tick_jobs, tick_posts, ticks, log_does, does, sent_anew}
 use Rattle.petal_rules.specs.Jobs.{copies_anew, starting, own_wants, wanted_by}
 use Rattle.petal_rules.specs.Lists.{In as Among, put_at}
@@ -40,19 +40,21 @@ use Rattle.petal_rules.specs.declared.step.WorkEnd.{WorkEnd}
 use Rattle.petal_rules.specs.declared.step.WorkEnd.TheVariants as work_end
 use Rattle.petal_rules.proofs.ListLemmas.{in-append, put_apart, put_same}
 use Rattle.petal_rules.proofs.Tests.{only, by_test, same_or_apart}
-use Rattle.law_log.specs.Logged.{IsBacked, IsBusyAs, IsCalledAnywhere, IsSaidBy, IsSeenAt, Logged, MayWant, Minded}
+use Rattle.law_log.specs.Logged.{IsBacked, IsBusyAs, IsCalledAnywhere, IsSaidBy, IsSeenAt, Logged, Minded}
 use Rattle.law_state.specs.Started.{HasFlag}
 use Rattle.law_log.proofs.Facts.{IsFair, as_many, told_once}
-use Rattle.law_log.proofs.Boots.{fail_turn, no_proposer, wake_turn}
+use Rattle.law_log.proofs.Boots.{StoppedLog, fail_turn, no_proposer, wake_turn}
 use Rattle.law_log.proofs.Catching.{kept_proposed}
 use Rattle.law_log.proofs.Copying.{IsKept, kept_itself}
 use Rattle.law_log.proofs.Handling.{IsHarmless, harmless_job, dated_copies_anew}
-use Rattle.law_log.proofs.Jobs.{Outcome, applied_next, fine_wanted, job_done as log_job_done, one_longer, started}
+use Rattle.law_log.proofs.Jobs.{JobLog, Outcome, applied_next, fine_wanted, job_done as log_job_done, one_longer, started}
 use Rattle.law_log.proofs.Pairs.{dated_anew, dated_backed, other_backed}
 use Rattle.law_log.proofs.Proposing.{first_among, said_to_all}
 use Rattle.law_log.proofs.Turns.{HasTurn, still, no_posts, stop_turn, turn_more}
-use Rattle.law_log.proofs.Worlds.{Acts, Goes, IsLaterLife, KeepsStarted, Remembers, may_more, same_life, server_goes, server_sends, started_same}
+use Rattle.law_log.proofs.Worlds.{Acts, Goes, ServerStep, before_of, server_at, IsLaterLife, KeepsStarted, Remembers}
+use Rattle.law_log.proofs.Worlds.{may_more, same_life, server_goes, server_sends, started_same}
 pub use Rattle.law_log.proofs.OwnWants.{join_only}
+use Rattle.law_log.proofs.OwnWants as own_wants_of
 use Rattle.law_log.proofs.OwnWants.{good_own, reached_next}
 use Rattle.law_log.proofs.Queues.{ballot_backed, job_here, job_there, letter_is, no_command, no_jobs, stages_only, tick_only}
 
@@ -93,17 +95,9 @@ minds_crossed : (here : Here) (server : Server) (queue : List Job)
 unfolding applies
 minds_crossed here server queue = minds_entry here server queue (known server.log (next_place server.log))
 
-module _ {Was : Minded} (setting : Setting) (fair : IsFair setting) (w : World) (l : Logged Was setting w) (n stamp : ℕ) (what : Step)
-    (member : n < setting.servers) where
-  abbrev P : schedule.World
-  P = run setting.servers l.events begin
-
-  abbrev here : Here
-  here = here_of (server_state setting w n) n (w.servers n)
-
-  -- what may be wanted, where the step leaves the server so
-  abbrev Good : Server → ℕ → Command → Type 0
-  Good to = MayWant Was setting w (put_at w.servers n to) P
+module _ (it : ServerStep) where
+  open it use {Was, setting, fair, w, l, n, stamp, member, what}
+  open before_of it use {P, here, Good, left}
 
   abbrev Runs : Type 0
   Runs = (w.servers n).life.running ≡ true
@@ -158,7 +152,7 @@ module _ {Was : Minded} (setting : Setting) (fair : IsFair setting) (w : World) 
 
   did_goes : (acted : Acted) → Did acted → GoesBy acted
   did_goes acted did = subst (λ letters. GoesBy (record { server = acted.server; letters = letters })) (sym did.letters)
-      (server_goes setting w l n stamp what (sender here) refl member acted.server did.posts did.by)
+      (server_goes it (sender here) refl acted.server did.posts did.by)
 
   -- ### A stop
 
@@ -191,7 +185,7 @@ module _ {Was : Minded} (setting : Setting) (fair : IsFair setting) (w : World) 
             (turn_more setting.servers n true to.log posts P (Good to) (Good (stopped to)) (good_more to (stopped to) (inr (refl, minds_stopped to)))
             (subst (λ b. HasTurn setting.servers n b to.log posts P (Good to)) runs did.turn));
       } in
-      server_sends setting w l n stamp what (record { from = actor.Server n; inc = here.inc; rev = 0 }) refl member (stopped to)
+      server_sends it (record { from = actor.Server n; inc = here.inc; rev = 0 }) refl (stopped to)
       (down_posts n here.inc (servers_of here.state)) [] over
       (λ post i. down_backed (stopped to) (inl (refl, did.life.inc)) (stops here to).letters _ post i)
 
@@ -260,8 +254,8 @@ module _ {Was : Minded} (setting : Setting) (fair : IsFair setting) (w : World) 
 
   glances_on : (line round : ℕ) → GoesBy (glances here line round (w.servers n))
   glances_on line round =
-      server_goes setting w l n stamp what (glance_sender here (w.servers n))
-      (by_test (λ (who : Sender). who.from ≡ actor.Server n) (w.servers n).life.running _ _ (λ e. refl) (λ e. refl)) member (w.servers n) _
+      server_goes it (glance_sender here (w.servers n))
+      (by_test (λ (who : Sender). who.from ≡ actor.Server n) (w.servers n).life.running _ _ (λ e. refl) (λ e. refl)) (w.servers n) _
       (idle (w.servers n) _ refl refl (kept_itself (w.servers n).own) refl refl refl refl (λ other h. l.is.queued n other h)
       (λ post h. only (λ (x : Post). IsBacked P (λ c. ⊥) (λ said. In (sent n said) P.letters) x.body) _ post h
       (by_test (IsBacked P (λ c. ⊥) (λ said. In (sent n said) P.letters)) (w.servers n).life.running _ _ (λ e. tt) (λ e. tt))))
@@ -271,10 +265,6 @@ module _ {Was : Minded} (setting : Setting) (fair : IsFair setting) (w : World) 
   module _ (runs : Runs) (first : Job) (rest : List Job) (is : (w.servers n).queue ≡ first ∷ rest) where
     was_queued : (letter : Letter) → Among (job.Letter letter) rest → Among letter w.sent
     was_queued letter h = l.is.queued n letter (subst (Among (job.Letter letter)) (sym is) (job_there (job.Letter letter) first rest h))
-
-    -- what a job of the log leaves, whatever it does to the pairs
-    abbrev left : LogDone → Own → List Job → Server
-    left done own queue = record (w.servers n) { log = done.log; own = own; queue = queue }
 
     abbrev AnyOutcome : Server → LogDone → Type 0
     AnyOutcome to = Outcome setting.servers n (w.servers n).log first P (Good to) (IsCalledAnywhere setting w)
@@ -319,16 +309,40 @@ module _ {Was : Minded} (setting : Setting) (fair : IsFair setting) (w : World) 
     called_good : (to : Server) (c : Command) → IsCalledAnywhere setting w c → Good to (next_place (w.servers n).log) c
     called_good to c s = (inl s, reached_next setting w l n)
 
+    -- the log that the job finds, where it leaves the server so
+    abbrev job_log : Server → JobLog
+    job_log to = record {
+      voting = record {
+        running = record {
+          servers = setting.servers;
+          n = n;
+          log = (w.servers n).log;
+          p = P;
+          low = l.is.low;
+          seen = l.is.servers n;
+          busy = busy_now;
+        };
+        inc = here.inc;
+        small = fair.small;
+        member = member;
+      };
+      one = told_once setting w fair.small l;
+      Good = Good to;
+      Fine = IsCalledAnywhere setting w;
+      fine = l.is.wants n;
+      leaving = l.is.leaves n;
+      own_leaving = λ earlier lt. (inr (inr lt), refl);
+      good = called_good to;
+    }
+
     log_outcome : (to : Server) → AnyOutcome to (log_does (voter_of here) (w.servers n).log first)
     log_outcome to =
         subst (λ k. AnyOutcome to (log_does (record { me = n; inc = here.inc; servers = k }) (w.servers n).log first)) (sym (as_many setting w fair l n))
-        (log_job_done setting.servers n here.inc fair.small member (w.servers n).log P l.is.low (l.is.servers n) busy_now (told_once setting w fair.small l)
-        (Good to) (IsCalledAnywhere setting w) (l.is.wants n) (l.is.leaves n) (λ earlier lt. (inr (inr lt), refl)) (called_good to) first backed_job)
+        (log_job_done (job_log to) first backed_job)
 
     apply_outcome : (to : Server) → AnyOutcome to (applies (w.servers n).log)
     apply_outcome to =
-        applied_next setting.servers n here.inc fair.small member (w.servers n).log P l.is.low (l.is.servers n) busy_now (told_once setting w fair.small l)
-        (Good to) (IsCalledAnywhere setting w) (l.is.wants n) (l.is.leaves n) (λ earlier lt. (inr (inr lt), refl)) (called_good to) first
+        applied_next (job_log to) first
 
     crosses : Did (crossing here (w.servers n) rest (known (w.servers n).log (next_place (w.servers n).log)) (applies (w.servers n).log))
     crosses =
@@ -367,27 +381,22 @@ module _ {Was : Minded} (setting : Setting) (fair : IsFair setting) (w : World) 
     abbrev With : ℕ → LogDone
     With k = starts (record { me = n; inc = here.inc; servers = k }) (w.servers n).log (wants_of k)
 
-    -- the command that it starts for
     abbrev started_for : Option Command
-    started_for = first_wanted (w.servers n).log.phase (rev_of (w.servers n).log) (wanted_by here (w.servers n))
+    started_for = own_wants_of.started_for it runs rest
 
     abbrev starts_to : Server
-    starts_to = let done = starts (voter_of here) (w.servers n).log (wanted_by here (w.servers n)) in
-        left done (proposed here.state (w.servers n).own started_for) (rest ++ done.jobs)
+    starts_to = own_wants_of.starts_to it runs rest
 
     start_outcome : Remembers Was setting.servers n (w.servers n) starts_to
         → AnyOutcome starts_to (starts (voter_of here) (w.servers n).log (wanted_by here (w.servers n)))
     start_outcome remembers =
         subst (λ k. AnyOutcome starts_to (With k)) (sym (as_many setting w fair l n))
-        (started setting.servers n here.inc fair.small member (w.servers n).log P l.is.low (l.is.servers n) busy_now (told_once setting w fair.small l)
-        (Good starts_to) (IsCalledAnywhere setting w) (l.is.wants n) (l.is.leaves n) (λ earlier lt. (inr (inr lt), refl)) (called_good starts_to) first
+        (started (job_log starts_to) first
         (wants_of setting.servers)
-        (λ c e. elim (fine_wanted setting.servers n here.inc fair.small member (w.servers n).log P l.is.low (l.is.servers n) busy_now
-        (told_once setting w fair.small l)
-        (Good starts_to) (IsCalledAnywhere setting w) (l.is.wants n) (l.is.leaves n) (λ earlier lt. (inr (inr lt), refl)) (called_good starts_to)
+        (λ c e. elim (fine_wanted (job_log starts_to)
         (own_wants here (w.servers n).own) c (first_among (w.servers n).log.phase (rev_of (w.servers n).log) (wants_of setting.servers) c e)) [
           | inl called ↦ called_good starts_to c called
-          | inr owns ↦ good_own setting fair w l n runs rest remembers c
+          | inr owns ↦ good_own it runs rest remembers c
               (ap (λ k. first_wanted (w.servers n).log.phase (rev_of (w.servers n).log) (wants_of k)) (as_many setting w fair l n) ∙ e) owns
         ]))
 
@@ -440,6 +449,19 @@ module _ {Was : Minded} (setting : Setting) (fair : IsFair setting) (w : World) 
     asleep = no_proposer (w.servers n).log.phase (P.proposers n)
         (subst (λ b. IsProposer b (w.servers n).log.phase (P.proposers n)) rests (l.is.busy n member).proposer)
 
+    abbrev stopped_log : StoppedLog
+    stopped_log = record {
+      servers = setting.servers;
+      n = n;
+      log = (w.servers n).log;
+      p = P;
+      inc = (w.servers n).life.inc;
+      is = l.is.incs n;
+      low = l.is.low;
+      seen = l.is.servers n;
+      asleep = asleep;
+    }
+
     raised_inc : inc_of (raised (w.servers n)).log.records ≡ (w.servers n).life.inc + 1
     raised_inc = inc_committed (w.servers n).log.records (Inc ((w.servers n).life.inc + 1))
 
@@ -453,9 +475,9 @@ module _ {Was : Minded} (setting : Setting) (fair : IsFair setting) (w : World) 
           leaves = λ c i. no_command c i;
           queued = λ letter h. no_jobs letter h;
           started = inl (omega arith);
-          turn = wake_turn setting.servers n (w.servers n).log P (w.servers n).life.inc (l.is.incs n) l.is.low (l.is.servers n) asleep (Good to);
+          turn = wake_turn stopped_log (Good to);
         } in
-        server_sends setting w l n stamp what (record { from = actor.Server n; inc = (w.servers n).life.inc + 1; rev = rev_of to.log }) refl member to
+        server_sends it (record { from = actor.Server n; inc = (w.servers n).life.inc + 1; rev = rev_of to.log }) refl to
         (down_posts n here.inc (servers_of here.state)) [] did
         (λ post i. down_backed to (inr (omega arith)) (wakes here to).letters _ post i)
 
@@ -471,7 +493,7 @@ module _ {Was : Minded} (setting : Setting) (fair : IsFair setting) (w : World) 
         queued = l.is.queued n;
         started = inl (omega arith);
         turn = subst (λ b. HasTurn setting.servers n b (raised (w.servers n)).log [] P (Good (raised (w.servers n)))) (sym rests)
-            (fail_turn setting.servers n (w.servers n).log P (w.servers n).life.inc (l.is.incs n) l.is.low (l.is.servers n) asleep (Good (raised (w.servers n)))
+            (fail_turn stopped_log (Good (raised (w.servers n)))
             (subst (λ b. IsBusyAs setting.servers n b (w.servers n).log.phase P) rests (l.is.busy n member)));
       };
     })
@@ -482,23 +504,23 @@ module _ {Was : Minded} (setting : Setting) (fair : IsFair setting) (w : World) 
     boots_on (work_end.Fault After) =
         by_test (λ (to : Server). GoesBy (stays to)) (is_overfull (raised (w.servers n))) _ _ (λ full. rests_on) (λ room. fails_on)
 
-pub server_steps : {Was : Minded} (setting : Setting) (fair : IsFair setting) (w : World) (l : Logged Was setting w) (n stamp : ℕ)
+pub server_steps : {Was : Minded} {setting : Setting} (fair : IsFair setting) (w : World) (l : Logged Was setting w) (n stamp : ℕ)
     (member : n < setting.servers) (what : Step)
     → MayServer what w n → Remembers Was setting.servers n (w.servers n) (server_step what (server_state setting w n) n (w.servers n)).server
     → Goes Was setting w (acts setting w n what stamp (server_step what (server_state setting w n) n (w.servers n))).world
-server_steps setting fair w l n stamp member (Call line) may remembers = absurd may
-server_steps setting fair w l n stamp member (Deliver letter) may remembers =
-    delivers setting fair w l n stamp (Deliver letter) member letter may.comes.sent
-server_steps setting fair w l n stamp member Tick may remembers = ticks_on setting fair w l n stamp Tick member
-server_steps setting fair w l n stamp member (Work work_end.Done) may remembers =
-    works_on setting fair w l n stamp (Work work_end.Done) member may.acts.runs (w.servers n).queue refl remembers
-server_steps setting fair w l n stamp member (Work (work_end.Fault end)) may remembers =
-    faults_on setting fair w l n stamp (Work (work_end.Fault end)) member may.acts.runs end (w.servers n).queue refl remembers
-server_steps setting fair w l n stamp member (StopIn end) may remembers =
-    faults_on setting fair w l n stamp (StopIn end) member may.acts.runs end (w.servers n).queue refl remembers
-server_steps setting fair w l n stamp member Stop may remembers = stops_now setting fair w l n stamp Stop member may.runs
-server_steps setting fair w l n stamp member Blank may remembers = blanks_on setting fair w l n stamp Blank member
-server_steps setting fair w l n stamp member (Boot end) may remembers = boots_on setting fair w l n stamp (Boot end) member may.rests end
-server_steps setting fair w l n stamp member (Arm which plan) may remembers = rests_on setting fair w l n stamp (Arm which plan) member
-server_steps setting fair w l n stamp member (Glance line round) may remembers =
-    glances_on setting fair w l n stamp (Glance line round) member line round
+server_steps fair w l n stamp member (Call line) may remembers = absurd may
+server_steps fair w l n stamp member (Deliver letter) may remembers =
+    delivers (server_at fair l n stamp member (Deliver letter)) letter may.comes.sent
+server_steps fair w l n stamp member Tick may remembers = ticks_on (server_at fair l n stamp member Tick)
+server_steps fair w l n stamp member (Work work_end.Done) may remembers =
+    works_on (server_at fair l n stamp member (Work work_end.Done)) may.acts.runs (w.servers n).queue refl remembers
+server_steps fair w l n stamp member (Work (work_end.Fault end)) may remembers =
+    faults_on (server_at fair l n stamp member (Work (work_end.Fault end))) may.acts.runs end (w.servers n).queue refl remembers
+server_steps fair w l n stamp member (StopIn end) may remembers =
+    faults_on (server_at fair l n stamp member (StopIn end)) may.acts.runs end (w.servers n).queue refl remembers
+server_steps fair w l n stamp member Stop may remembers = stops_now (server_at fair l n stamp member Stop) may.runs
+server_steps fair w l n stamp member Blank may remembers = blanks_on (server_at fair l n stamp member Blank)
+server_steps fair w l n stamp member (Boot end) may remembers = boots_on (server_at fair l n stamp member (Boot end)) may.rests end
+server_steps fair w l n stamp member (Arm which plan) may remembers = rests_on (server_at fair l n stamp member (Arm which plan))
+server_steps fair w l n stamp member (Glance line round) may remembers =
+    glances_on (server_at fair l n stamp member (Glance line round)) line round

@@ -141,7 +141,7 @@ pub step_goes : {Was : Minded} (setting : Setting) → IsFair setting → (w : W
     → Goes Was setting w (step who what setting w stamp).world
 unfolding step
 step_goes {Was} setting fair w l (actor.Server n) what stamp may remember =
-    server_steps setting fair w l n stamp may.0 what may.1
+    server_steps fair w l n stamp may.0 what may.1
     (subst (Remembers Was setting.servers n (w.servers n))
     (put_same w.servers n (server_step what (server_state setting w n) n (w.servers n)).server) (remember n))
 step_goes setting fair w l (actor.Client c) what stamp may remember = client_steps setting w l c stamp what may.1

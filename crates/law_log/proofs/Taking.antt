@@ -18,11 +18,12 @@ use Rattle.petal_msg.specs.declared.letter.Actor.{Actor}
 use Rattle.petal_msg.specs.declared.letter.Actor.TheVariants as actor
 use Rattle.petal_rules.specs.Ballots.{on_prepare, on_accept}
 use Rattle.petal_rules.specs.Entries.{learns}
-use Rattle.petal_rules.specs.Log.{Log, commits}
+use Rattle.petal_rules.specs.Log.{commits}
 use Rattle.petal_rules.proofs.Tests.{by_test, same_or_apart, same_some}
-use Rattle.law_log.specs.Logged.{IsSeenAt, AreLow, IsLow, IsBusyAs}
+use Rattle.law_log.specs.Logged.{IsSeenAt, IsLow}
 use Rattle.petal_paxos.proofs.Committed.{known_promise, known_accepted, known_here, known_elsewhere, acceptor_promise, acceptor_accepted}
 use Rattle.petal_paxos.proofs.Committed.{acceptor_chosen, inc_promise, inc_accepted, inc_chosen}
+use Rattle.law_log.proofs.RunningLog.{RunningLog}
 use Rattle.law_log.proofs.Kept.{in_committed}
 use Rattle.law_log.proofs.Lists.{put_here, put_away, put_at_here, put_at_beside, put_at_itself}
 use Rattle.law_log.proofs.Turns.{apart_itself, no_posts, Turns, HasTurn, by_letter, replied, seen_same, busy_same, apart_both, low_keep}
@@ -151,8 +152,9 @@ quiet_promise place a b = by_test IsLow (is_open a b) _ _ (λ e. tt) (λ e. tt)
 quiet_acceptance : (place : ℕ) (a : Acceptor) (b : Ballot) → IsLow (accept_reply place a b)
 quiet_acceptance place a b = by_test IsLow (is_open a b) _ _ (λ e. tt) (λ e. tt)
 
-module _ (servers n : ℕ) (log : Log) (p : World) (low : AreLow p) (seen : IsSeenAt n log.records log.applied p)
-    (busy : IsBusyAs servers n true log.phase p) where
+module _ (it : RunningLog) where
+  open it use {servers, n, log, p, low, seen, busy}
+
   prepared : (to : Actor) (place : ℕ) (b : Ballot) → b.server < 256 → (one two : Pax) → one ≡ two → IsLow two
       → (o u : Bool) → is_open (acceptor_of log.records place) b ≡ o → u ≡ o
       → Turns servers n true (if o then commits log (Promise place b) else log) (record { to = to; body = body.Pax one } ∷ []) p

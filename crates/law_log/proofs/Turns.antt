@@ -35,16 +35,22 @@ pub record IsApart (n : ℕ) (p q : World) : Type 0 where
   pub more : (x : Vote) → In x p.votes → In x q.votes
   pub letters : (x : Sent) → In x p.letters → In x q.letters
 
-pub apart_itself : (n : ℕ) (p : World) → IsApart n p p
-apart_itself n p = record {
-  acceptors = λ s place ne. refl;
-  known = λ s place ne. refl;
-  incs = λ s ne. refl;
-  proposers = λ s ne. refl;
-  votes = λ s place ballot command ne i. i;
-  more = λ x i. i;
-  letters = λ x i. i;
+-- a world of the same votes
+apart_but : (n : ℕ) (p q : World) → ((s place : ℕ) → s ≢ n → q.acceptors s place ≡ p.acceptors s place)
+    → ((s place : ℕ) → s ≢ n → q.known s place ≡ p.known s place) → ((s : ℕ) → s ≢ n → q.proposers s ≡ p.proposers s) → q.incs ≡ p.incs
+    → q.votes ≡ p.votes → ((x : Sent) → In x p.letters → In x q.letters) → IsApart n p q
+apart_but n p q acceptors known proposers incs votes letters = record {
+  acceptors = acceptors;
+  known = known;
+  incs = λ s ne. ap (λ f. f s) incs;
+  proposers = proposers;
+  votes = λ s place ballot command ne i. subst (In (vote s place ballot command)) votes i;
+  more = λ x i. subst (In x) (sym votes) i;
+  letters = letters;
 }
+
+pub apart_itself : (n : ℕ) (p : World) → IsApart n p p
+apart_itself n p = apart_but n p p (λ s place ne. refl) (λ s place ne. refl) (λ s ne. refl) refl refl (λ x i. i)
 
 pub apart_both : (n : ℕ) (p q r : World) → IsApart n p q → IsApart n q r → IsApart n p r
 apart_both n p q r a b = record {
@@ -58,15 +64,8 @@ apart_both n p q r a b = record {
 }
 
 pub apart_keep : (n : ℕ) (p : World) (place : ℕ) (a : Acceptor) → IsApart n p (keep p n place a)
-apart_keep n p place a = record {
-  acceptors = λ s j ne. put_at_away p.acceptors n place a s j ne;
-  known = λ s place ne. refl;
-  incs = λ s ne. refl;
-  proposers = λ s ne. refl;
-  votes = λ s place ballot command ne i. i;
-  more = λ x i. i;
-  letters = λ x i. i;
-}
+apart_keep n p place a =
+    apart_but n p (keep p n place a) (λ s j ne. put_at_away p.acceptors n place a s j ne) (λ s j ne. refl) (λ s ne. refl) refl refl (λ x i. i)
 
 other_vote : (s n place at : ℕ) (ballot b : Ballot) (command c : Command) → s ≢ n → vote s place ballot command ≡ vote n at b c → ⊥
 other_vote s n place at ballot b command c ne e = let f : s ≡ n = cc in ne f
@@ -83,37 +82,15 @@ apart_cast n p at b c = record {
 }
 
 pub apart_learn : (n : ℕ) (p : World) (place : ℕ) (c : Command) → IsApart n p (learn p n place c)
-apart_learn n p place c = record {
-  acceptors = λ s j ne. refl;
-  known = λ s j ne. put_at_away p.known n place (Some c) s j ne;
-  incs = λ s ne. refl;
-  proposers = λ s ne. refl;
-  votes = λ s place ballot command ne i. i;
-  more = λ x i. i;
-  letters = λ x i. i;
-}
+apart_learn n p place c =
+    apart_but n p (learn p n place c) (λ s j ne. refl) (λ s j ne. put_at_away p.known n place (Some c) s j ne) (λ s ne. refl) refl refl (λ x i. i)
 
 pub apart_send : (n : ℕ) (p : World) (said : Pax) → IsApart n p (send p n said)
-apart_send n p said = record {
-  acceptors = λ s j ne. refl;
-  known = λ s j ne. refl;
-  incs = λ s ne. refl;
-  proposers = λ s ne. refl;
-  votes = λ s place ballot command ne i. i;
-  more = λ x i. i;
-  letters = λ x i. in_there _ _ _ i;
-}
+apart_send n p said = apart_but n p (send p n said) (λ s j ne. refl) (λ s j ne. refl) (λ s ne. refl) refl refl (λ x i. in_there _ _ _ i)
 
 pub apart_turn : (n : ℕ) (p : World) (to : Option Phase) → IsApart n p (turn p n to)
-apart_turn n p to = record {
-  acceptors = λ s j ne. refl;
-  known = λ s j ne. refl;
-  incs = λ s ne. refl;
-  proposers = λ s ne. put_away p.proposers n to s ne;
-  votes = λ s place ballot command ne i. i;
-  more = λ x i. i;
-  letters = λ x i. i;
-}
+apart_turn n p to =
+    apart_but n p (turn p n to) (λ s j ne. refl) (λ s j ne. refl) (λ s ne. put_away p.proposers n to s ne) refl refl (λ x i. i)
 
 -- ### What stays so while letters are added
 

@@ -1,4 +1,8 @@
 -- What is kept of a world is kept by what one server does.
+use Rattle.petal_rules.specs.declared.job.Job.{Job}
+use Rattle.petal_rules.specs.Jobs.{here_of}
+use Rattle.petal_rules.specs.Log.{LogDone}
+use Rattle.law_log.proofs.Facts.{IsFair}
 use Rattle.std.proofs.Common.{◌≡◌, ◌<◌, ◌≤◌, ◌+◌, ◌⊎◌, inl, inr, ℕ, true, false, List, [], ◌∷◌, ◌++◌, length, Some, None, refl, sym, ap, ◌∙◌, subst, arith}
 use Rattle.global_tables.specs.Link.{link_at}
 use Rattle.global_tables.specs.declared.link.LinkRow.{LinkRow}
@@ -20,10 +24,10 @@ use Rattle.petal_state.specs.Command.{state_after}
 use Rattle.petal_rules.specs.Draining.{has_held_write}
 use Rattle.petal_rules.specs.Fills.{fill_of, region_to_move}
 use Rattle.petal_rules.specs.Posts.{Post, Sender, letters_of}
-use Rattle.petal_rules.specs.Server.{Life, Own, Server}
+use Rattle.petal_rules.specs.Server.{Life, Own, Server, Here, Here}
 use Rattle.petal_rules.specs.State.{State, is_in}
 use Rattle.petal_rules.specs.declared.step.Step.{Step}
-use Rattle.petal_rules.specs.World.{Setting, World, devices, stamped, acts}
+use Rattle.petal_rules.specs.World.{Setting, World, devices, stamped, acts, server_state}
 use Rattle.petal_rules.specs.declared.job.Job.TheVariants as job
 use Rattle.petal_rules.proofs.ListLemmas.{in-append, in_later}
 use Rattle.petal_rules.proofs.Tests.{all_put_apart}
@@ -157,68 +161,6 @@ AllRemember Was servers w v = (n : ℕ) → Remembers Was servers n (w.servers n
 pub same_life : (life : Life) → IsLaterLife life life
 same_life life = record { inc = omega arith; over = λ e. inl e }
 
-module _ {Was : Minded} (setting : Setting) (w : World) (events : List Event) (p : schedule.World) (l : IsLogged Was setting w events p)
-    (n stamp : ℕ) (what : Step) (who : Sender)
-    (member : n < setting.servers) (posts others : List Post) (to : Server)
-    (own : who.from ≡ actor.Server n) (life : IsLaterLife (w.servers n).life to.life)
-    (incs : inc_of to.log.records ≡ to.life.inc)
-    (wants : (c : Command) → Among c to.log.wants → IsCalledAnywhere setting w c)
-    (leaves : (c : Command) → Among c to.log.leaves → IsCalledAnywhere setting w c)
-    (queued : (letter : Letter) → Among (job.Letter letter) to.queue → Among letter w.sent) (started : KeepsStarted (w.servers n) to) where
-  abbrev After : World
-  After = (acts setting w n what stamp (record { server = to; letters = letters_of who 0 posts })).world
-
-  lives : (s : ℕ) → IsLaterLife (w.servers s).life (After.servers s).life
-  lives = all_put_apart w.servers n to (λ s (x : Server). IsLaterLife (w.servers s).life x.life) (λ s ne. same_life (w.servers s).life) life
-
-  pub more : (c : Command) → IsCalledAnywhere setting w c → IsCalledAnywhere setting After c
-  more = called_more setting w After (λ c h. h) lives
-
-  keeps_started : (s : ℕ) → KeepsStarted (w.servers s) (After.servers s)
-  keeps_started = all_put_apart w.servers n to (λ s (x : Server). KeepsStarted (w.servers s) x) (λ s ne. started_same (w.servers s)) started
-
-  pub kept_by : (new : List Event) (q : schedule.World)
-      → ((place : ℕ) (c : Command) → IsWanted new place c → MayWant Was setting w (put_at w.servers n to) p place c)
-      → Turns setting.servers n to.life.running to.log others p q
-      → ((post : Post) → Among post posts → IsBacked q (IsCalledAnywhere setting After) (λ said. In (sent n said) q.letters) post.body)
-      → IsLogged Was setting After (events ++ new) q
-  kept_by new q wanted t posted = record {
-    servers = all_put_apart w.servers n to (λ s (x : Server). IsSeenAt s x.log.records x.log.applied q)
-        (λ s ne. seen_apart s n (w.servers s).log.records (w.servers s).log.applied p q ne t.apart (l.servers s)) t.seen;
-    known = all_put_apart w.servers n to (λ s (x : Server). x.life.running ≡ true → s < setting.servers) (λ s ne. l.known s) (λ e. member);
-    incs = all_put_apart w.servers n to (λ s (x : Server). inc_of x.log.records ≡ x.life.inc) (λ s ne. l.incs s) incs;
-    first = all_put_apart w.servers n to (λ s (x : Server). 1 ≤ x.life.inc) (λ s ne. l.first s)
-        (let old = l.first n in let more = life.inc in omega arith);
-    busy = all_put_apart w.servers n to (λ s (x : Server). s < setting.servers → IsBusyAs setting.servers s x.life.running x.log.phase q)
-        (λ s ne lt. busy_same setting.servers s (w.servers s).life.running (w.servers s).log.phase p q t.apart.letters (t.apart.proposers s ne) (l.busy s lt))
-        (λ lt. t.busy);
-    low = t.low;
-    sent = λ letter i. elim (in-append letter (stamped stamp (letters_of who 0 posts)) w.sent i) [
-      | inl new ↦ (
-          let post = posted_by who stamp 0 posts letter new in
-          let backed = backed_more q q (IsCalledAnywhere setting After) (IsCalledAnywhere setting After) (λ said. In (sent n said) q.letters)
-          (IsSaidBy q letter.from)
-          (λ x i. i) (λ c h. h)
-          (λ said i. subst (λ who. IsSaidBy q who said) (sym (post.3 ∙ own)) i) post.0.body (posted post.0 post.1) in
-          subst (IsBacked q (IsCalledAnywhere setting After) (IsSaidBy q letter.from)) (sym post.2) backed)
-      | inr old ↦ backed_more p q _ _ (IsSaidBy p letter.from) (IsSaidBy q letter.from) t.apart.letters more
-          (said_more p q t.apart.letters letter.from) letter.body (l.sent letter old)
-    ];
-    wanted = λ place c h. elim (wanted_on events new place c h) [
-      | inl old ↦ may_more setting w After w.servers After.servers p q more keeps_started t.apart.letters place c (l.wanted place c old)
-      | inr now ↦ may_more setting w After After.servers After.servers p q more
-          (λ s. started_same (After.servers s)) t.apart.letters place c (wanted place c now)
-    ];
-    wants = all_put_apart w.servers n to (λ s (x : Server). (c : Command) → Among c x.log.wants → IsCalledAnywhere setting After c)
-        (λ s ne c i. more c (l.wants s c i)) (λ c i. more c (wants c i));
-    leaves = all_put_apart w.servers n to (λ s (x : Server). (c : Command) → Among c x.log.leaves → IsCalledAnywhere setting After c)
-        (λ s ne c i. more c (l.leaves s c i)) (λ c i. more c (leaves c i));
-    queued = all_put_apart w.servers n to (λ s (x : Server). (letter : Letter) → Among (job.Letter letter) x.queue → Among letter After.sent)
-        (λ s ne letter i. in_later letter _ w.sent (l.queued s letter i)) (λ letter i. in_later letter _ w.sent (queued letter i));
-    applied = λ c i command is. told_more p q t.apart.letters (i + 1) command (l.applied c i command is);
-    asked = l.asked;
-  }
-
 -- a server after a step, as a schedule has it
 pub record Acts (Was : Minded) (setting : Setting) (w : World) (p : schedule.World) (n : ℕ) (to : Server) (posts : List Post) : Type 0 where
   pub life : IsLaterLife (w.servers n).life to.life
@@ -229,10 +171,100 @@ pub record Acts (Was : Minded) (setting : Setting) (w : World) (p : schedule.Wor
   pub started : KeepsStarted (w.servers n) to
   pub turn : HasTurn setting.servers n to.life.running to.log posts p (MayWant Was setting w (put_at w.servers n to) p)
 
-module _ {Was : Minded} (setting : Setting) (w : World) (l : Logged Was setting w) (n stamp : ℕ) (what : Step) (who : Sender) (own : who.from ≡ actor.Server n)
-    (member : n < setting.servers) where
-  abbrev P : schedule.World
-  P = run setting.servers l.events begin
+-- a step of a server, behind a world that is logged
+pub record ServerStep : Type 1 where
+  pub Was : Minded
+  pub setting : Setting
+  pub fair : IsFair setting
+  pub w : World
+  pub l : Logged Was setting w
+  pub n : ℕ
+  pub stamp : ℕ
+  pub member : n < setting.servers
+  pub what : Step
+
+abbrev pub server_at : {Was : Minded} {setting : Setting} → IsFair setting → {w : World} → Logged Was setting w → (n stamp : ℕ) → n < setting.servers → Step
+    → ServerStep
+server_at {Was} {setting} fair {w} l n stamp member what =
+    record { Was = Was; setting = setting; fair = fair; w = w; l = l; n = n; stamp = stamp; member = member; what = what }
+
+-- the world of its schedule; where the server is; what may be wanted, where the step leaves the server so; and what a job of the log leaves,
+-- whatever it does to the pairs
+pub record Before : Type 1 where
+  pub P : schedule.World
+  pub here : Here
+  pub Good : Server → ℕ → Command → Type 0
+  pub left : LogDone → Own → List Job → Server
+
+abbrev pub before_of : ServerStep → Before
+before_of it = record {
+  P = run it.setting.servers it.l.events begin;
+  here = here_of (server_state it.setting it.w it.n) it.n (it.w.servers it.n);
+  Good = λ to. MayWant it.Was it.setting it.w (put_at it.w.servers it.n to) (run it.setting.servers it.l.events begin);
+  left = λ done own queue. record (it.w.servers it.n) { log = done.log; own = own; queue = queue };
+}
+
+module _ (it : ServerStep) (who : Sender) (own : who.from ≡ actor.Server it.n) where
+  open it use {Was, setting, w, l, n, stamp, member, what}
+  open before_of it use {P}
+
+  module _ (posts others : List Post) (to : Server) (acted : Acts Was setting w P n to others) where
+    open acted use {life, incs, wants, leaves, queued, started}
+
+    abbrev After : World
+    After = (acts setting w n what stamp (record { server = to; letters = letters_of who 0 posts })).world
+
+    lives : (s : ℕ) → IsLaterLife (w.servers s).life (After.servers s).life
+    lives = all_put_apart w.servers n to (λ s (x : Server). IsLaterLife (w.servers s).life x.life) (λ s ne. same_life (w.servers s).life) life
+
+    pub more : (c : Command) → IsCalledAnywhere setting w c → IsCalledAnywhere setting After c
+    more = called_more setting w After (λ c h. h) lives
+
+    keeps_started : (s : ℕ) → KeepsStarted (w.servers s) (After.servers s)
+    keeps_started = all_put_apart w.servers n to (λ s (x : Server). KeepsStarted (w.servers s) x) (λ s ne. started_same (w.servers s)) started
+
+    pub kept_by : (new : List Event) (q : schedule.World)
+        → ((place : ℕ) (c : Command) → IsWanted new place c → MayWant Was setting w (put_at w.servers n to) P place c)
+        → Turns setting.servers n to.life.running to.log others P q
+        → ((post : Post) → Among post posts → IsBacked q (IsCalledAnywhere setting After) (λ said. In (sent n said) q.letters) post.body)
+        → IsLogged Was setting After (l.events ++ new) q
+    kept_by new q wanted t posted = record {
+      servers = all_put_apart w.servers n to (λ s (x : Server). IsSeenAt s x.log.records x.log.applied q)
+          (λ s ne. seen_apart s n (w.servers s).log.records (w.servers s).log.applied P q ne t.apart (l.is.servers s)) t.seen;
+      known = all_put_apart w.servers n to (λ s (x : Server). x.life.running ≡ true → s < setting.servers) (λ s ne. l.is.known s) (λ e. member);
+      incs = all_put_apart w.servers n to (λ s (x : Server). inc_of x.log.records ≡ x.life.inc) (λ s ne. l.is.incs s) incs;
+      first = all_put_apart w.servers n to (λ s (x : Server). 1 ≤ x.life.inc) (λ s ne. l.is.first s)
+          (let old = l.is.first n in let more = life.inc in omega arith);
+      busy = all_put_apart w.servers n to (λ s (x : Server). s < setting.servers → IsBusyAs setting.servers s x.life.running x.log.phase q)
+          (λ s ne lt. busy_same setting.servers s (w.servers s).life.running (w.servers s).log.phase P q t.apart.letters (t.apart.proposers s ne)
+          (l.is.busy s lt))
+          (λ lt. t.busy);
+      low = t.low;
+      sent = λ letter i. elim (in-append letter (stamped stamp (letters_of who 0 posts)) w.sent i) [
+        | inl new ↦ (
+            let post = posted_by who stamp 0 posts letter new in
+            let backed = backed_more q q (IsCalledAnywhere setting After) (IsCalledAnywhere setting After) (λ said. In (sent n said) q.letters)
+            (IsSaidBy q letter.from)
+            (λ x i. i) (λ c h. h)
+            (λ said i. subst (λ who. IsSaidBy q who said) (sym (post.3 ∙ own)) i) post.0.body (posted post.0 post.1) in
+            subst (IsBacked q (IsCalledAnywhere setting After) (IsSaidBy q letter.from)) (sym post.2) backed)
+        | inr old ↦ backed_more P q _ _ (IsSaidBy P letter.from) (IsSaidBy q letter.from) t.apart.letters more
+            (said_more P q t.apart.letters letter.from) letter.body (l.is.sent letter old)
+      ];
+      wanted = λ place c h. elim (wanted_on l.events new place c h) [
+        | inl old ↦ may_more setting w After w.servers After.servers P q more keeps_started t.apart.letters place c (l.is.wanted place c old)
+        | inr now ↦ may_more setting w After After.servers After.servers P q more
+            (λ s. started_same (After.servers s)) t.apart.letters place c (wanted place c now)
+      ];
+      wants = all_put_apart w.servers n to (λ s (x : Server). (c : Command) → Among c x.log.wants → IsCalledAnywhere setting After c)
+          (λ s ne c i. more c (l.is.wants s c i)) (λ c i. more c (wants c i));
+      leaves = all_put_apart w.servers n to (λ s (x : Server). (c : Command) → Among c x.log.leaves → IsCalledAnywhere setting After c)
+          (λ s ne c i. more c (l.is.leaves s c i)) (λ c i. more c (leaves c i));
+      queued = all_put_apart w.servers n to (λ s (x : Server). (letter : Letter) → Among (job.Letter letter) x.queue → Among letter After.sent)
+          (λ s ne letter i. in_later letter _ w.sent (l.is.queued s letter i)) (λ letter i. in_later letter _ w.sent (queued letter i));
+      applied = λ c i command is. told_more P q t.apart.letters (i + 1) command (l.is.applied c i command is);
+      asked = l.is.asked;
+    }
 
   -- what it sends is backed by the world after the step
   pub server_sends : (to : Server) (posts others : List Post) → (acted : Acts Was setting w P n to others)
@@ -242,9 +274,7 @@ module _ {Was : Minded} (setting : Setting) (w : World) (l : Logged Was setting 
       → Goes Was setting w (acts setting w n what stamp (record { server = to; letters = letters_of who 0 posts })).world
   server_sends to posts others acted posted =
       let q = run setting.servers acted.turn.events P in
-      let kept = kept_by setting w l.events P l.is n stamp what who member posts others to own acted.life acted.incs acted.wants acted.leaves acted.queued
-      acted.started
-      acted.turn.events q acted.turn.wanted acted.turn.turns posted in
+      let kept = kept_by posts others to acted acted.turn.events q acted.turn.wanted acted.turn.turns posted in
       record {
         logged = record {
           events = l.events ++ acted.turn.events;

@@ -36,7 +36,7 @@ use Rattle.law_steps.specs.Operations.{progress}
 use Rattle.law_steps.specs.Ties.{HasOwnCaught}
 use Rattle.law_steps.proofs.Fronts.{front_itself}
 use Rattle.law_steps.proofs.Leading.{stage_live}
-use Rattle.law_steps.proofs.Ties.{stays_alone}
+use Rattle.law_steps.proofs.Ties.{running_fronts, stays_alone}
 use Rattle.law_stores.proofs.Ways.{At}
 use Rattle.law_copies.specs.Good.{pair_at}
 use Rattle.law_copies.specs.Pair.{AreCopies, PairOk, Working, far, pair_of}
@@ -201,7 +201,7 @@ module _ (script : Script) (sound : IsSound script) (records : List Record) (leg
       held : IsHeldBy (server_state setting w k) cell k → IsLedAs now
       held h =
           let has = holder_is_one (server_state setting w k) cell k h in
-          elim (stays_alone setting w (firm script sound records legal) k runs mine chosen (front_itself mine) mine_chosen (front_itself chosen) seat cell
+          elim (stays_alone (running_fronts (firm script sound records legal) k runs (front_itself mine) mine_chosen (front_itself chosen) seat) cell
           h.row h.is has (serves_its k h.row h.so) alive h.whole h.so) [
             | inl on ↦ (
                 let a = alone_row (chosen_state setting w) k cell on in

@@ -34,7 +34,7 @@ use Rattle.law_state.proofs.Roles.{secondary_is_one}
 use Rattle.law_state.proofs.Steady.{front_plain, log_steady}
 use Rattle.law_steps.specs.Operations.{progress}
 use Rattle.law_steps.proofs.Fronts.{front_on}
-use Rattle.law_steps.proofs.Ties.{stays_both}
+use Rattle.law_steps.proofs.Ties.{running_fronts, stays_both}
 use Rattle.law_stores.proofs.Ways.{At}
 use Rattle.law_copies.specs.Good.{AreTwins, Good, pair_at}
 use Rattle.law_copies.specs.Pair.{far}
@@ -101,7 +101,7 @@ module _ (script : Script) (sound : IsSound script) (front : List Record) (own :
       where
         by_later : (r : HasReached setting whole G.visits cell (G.reached cell)) → IsPrefix f r.front → G.reached cell ≤ place
         by_later r beyond =
-            elim (stays_both setting v (knows_now script sound front own legal) m runs f r.front on beyond r.prefix seat cell row linked one_of
+            elim (stays_both (running_fronts (knows_now script sound front own legal) m runs on beyond r.prefix seat) cell row linked one_of
             (ap (serves m row) both ∙ one_of) r.alive both) [
               | inl stays ↦ (
                   let same : place_by setting r.front r.row ≡ place = place_stays r beyond stays in

@@ -25,7 +25,7 @@ use Rattle.law_state.proofs.Steady.{front_plain, log_below, log_steady}
 use Rattle.law_state.proofs.Touching.{places_grow, same_place}
 use Rattle.law_steps.proofs.Fronts.{front_itself, front_on}
 use Rattle.law_steps.proofs.Histories.{runs_at}
-use Rattle.law_steps.proofs.Ties.{stays_both}
+use Rattle.law_steps.proofs.Ties.{running_fronts, stays_both}
 use Rattle.law_requests.specs.Asked.{IsOpen}
 use Rattle.law_requests.specs.Known.{Lives, seen, LedBy, IsLate, Is_past, Had_no_lead, Had_another, PendingFor}
 use Rattle.law_requests.proofs.Later.{either_front, one_log}
@@ -108,7 +108,7 @@ module _ (setting : Setting) (w : World) (firm : Firm setting w) (lives : Lives)
           let two = places_grow setting.servers log own row before in
           inl (led_at_place setting.servers p.upto log (front_plain setting.servers log _ firm.plain all) late n inc want.cell row known
           (omega arith) (unleft log all) upto_led))
-      | inr behind ↦ elim (stays_both setting w firm m runs own log (front_itself own) behind all seat want.cell row there has
+      | inr behind ↦ elim (stays_both (running_fronts firm m runs (front_itself own) behind all seat) want.cell row there has
           (ap (serves m row) both ∙ has) (below_four log all) both) [
             | inl stays ↦ inl (led_on log late all stays)
             | inr alone ↦ inr (record { behind = behind; alone = alone })

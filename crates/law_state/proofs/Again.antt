@@ -257,6 +257,19 @@ module _ (servers : ℕ) where
   gone_untouched s p (Moved of region link) plain cell row one other same gone first second first_on second_on = refl
   gone_untouched s p (Witness client seq turn) plain cell row one other same gone first second first_on second_on = refl
 
+  -- two servers that are In before these entries and after them are so behind the first one
+  ups_between : (entry : Command) (rest : List Command) (s : State) → IsPlainState servers s → IsPlainLog servers (entry ∷ rest)
+      → (row : LinkRow) (one other : ℕ) → is_up_as s row.primary one ≡ true → is_up_as s row.secondary other ≡ true
+      → is_up_as (fold after s (entry ∷ rest)) row.primary one ≡ true → is_up_as (fold after s (entry ∷ rest)) row.secondary other ≡ true
+      → (is_up_as (after s entry) row.primary one ≡ true) × (is_up_as (after s entry) row.secondary other ≡ true)
+  unfolding In
+  ups_between entry rest s p all row one other first second first_on second_on =
+      let t = after s entry in
+      let step = entering servers s entry p (all entry (inl refl)) in
+      let later = folding servers rest t step.plain (λ (other : Command) (h : In other rest). all other (inr h)) in
+      let ups = λ (n inc : ℕ). between s t (fold after t rest) n inc (step.grown.ages n) (later.grown.ages n) in
+      (ups row.primary one first first_on, ups row.secondary other second second_on)
+
   gone_quiet : (entries : List Command) (s : State) → IsPlainState servers s → IsPlainLog servers entries → (cell : Cell) (row : LinkRow) (one other : ℕ)
       → row.map ≡ cell.map → HasDied s cell → is_up_as s row.primary one ≡ true → is_up_as s row.secondary other ≡ true
       → is_up_as (fold after s entries) row.primary one ≡ true → is_up_as (fold after s entries) row.secondary other ≡ true → places_from s entries row ≡ 0
@@ -267,15 +280,13 @@ module _ (servers : ℕ) where
       let more = λ (other : Command) (h : In other rest). all other (inr h) in
       let t = after s entry in
       let step = entering servers s entry p plain in
-      let later = folding servers rest t step.plain more in
-      let first_now = between s t (fold after t rest) row.primary one (step.grown.ages row.primary) (later.grown.ages row.primary) first first_on in
-      let second_now = between s t (fold after t rest) row.secondary other (step.grown.ages row.secondary) (later.grown.ages row.secondary) second second_on in
+      let ups = ups_between entry rest s p all row one other first second first_on second_on in
       let off = gone_untouched s p entry plain cell row one other same gone (in_up s row.primary one first)
-      (in_up s row.secondary other second) first_now second_now in
+      (in_up s row.secondary other second) ups.0 ups.1 in
       ap (λ b. if b then places_from t rest row + 1 else places_from t rest row) off
       ∙ gone_quiet rest t step.plain more cell row one other same
       (still_dead servers s p (entry ∷ []) (λ c h. elim h [ inl e ↦ subst (IsPlain servers) (sym e) plain | inr none ↦ absurd none ]) cell gone)
-      first_now second_now first_on second_on
+      ups.0 ups.1 first_on second_on
 
   -- while a link is in Both, and both of its servers stay In, nothing touches it
   both_quiet : (entries : List Command) (s : State) → IsPlainState servers s → IsPlainLog servers entries → (cell : Cell) (row : LinkRow) (one other : ℕ)
@@ -288,21 +299,19 @@ module _ (servers : ℕ) where
       let more = λ (other : Command) (h : In other rest). all other (inr h) in
       let t = after s entry in
       let step = entering servers s entry p plain in
-      let later = folding servers rest t step.plain more in
-      let first_now = between s t (fold after t rest) row.primary one (step.grown.ages row.primary) (later.grown.ages row.primary) first first_on in
-      let second_now = between s t (fold after t rest) row.secondary other (step.grown.ages row.secondary) (later.grown.ages row.secondary) second second_on in
+      let ups = ups_between entry rest s p all row one other first second first_on second_on in
       by_bool (touches s entry row)
       (λ on. elim (touched servers s p cell row is ((plain_steady servers s p).linked cell row is).served entry plain on) [
         | By_leave left at seats ↦ true_false
-            (both_up (is_up t) row left.server (in_up t row.primary one first_now) (in_up t row.secondary other second_now) left.one_of)
+            (both_up (is_up t) row left.server (in_up t row.primary one ups.0) (in_up t row.secondary other ups.1) left.one_of)
             (out_by t left.server seats.here)
         | By_join joined at apart seats ↦ absurd (apart both)
         | By_caught acts stays ↦ alone_not_both row acts.holder acts.alone both
       ])
       (λ off. ap (λ b. if b then places_from t rest row + 1 else places_from t rest row) off
       ∙ elim (entry_stays servers s p cell row is entry plain off) [
-        | inl stays ↦ both_quiet rest t step.plain more cell row one other stays.same both first_now second_now first_on second_on
-        | inr gone ↦ gone_quiet rest t step.plain more cell row one other (map_of servers s p cell row is) gone first_now second_now first_on second_on
+        | inl stays ↦ both_quiet rest t step.plain more cell row one other stays.same both ups.0 ups.1 first_on second_on
+        | inr gone ↦ gone_quiet rest t step.plain more cell row one other (map_of servers s p cell row is) gone ups.0 ups.1 first_on second_on
       ])
 
 -- ### Fronts of a log

@@ -16,7 +16,7 @@ use Rattle.petal_rules.specs.Crossing.{touches_cell}
 use Rattle.petal_rules.specs.State.{State, live, lead, is_lead, row_in_both, in_both, first, second, primary, secondary, is_alone_on}
 use Rattle.petal_rules.proofs.Tests.{by_bool, true_false, none_some, same_some, same_numbers, number_itself, some_or_none, is_the_one}
 use Rattle.law_state.specs.Places.{By_caught, By_join, By_leave}
-use Rattle.law_state.specs.Rows.{IsServed, IsServedBy, ByBoth, ByNone, ByOne}
+use Rattle.law_state.specs.Rows.{IsServed, IsServedBy, ByBoth, ByNone, ByOne, IsLater}
 use Rattle.law_state.specs.Homes.{HasDied}
 use Rattle.law_state.specs.Steady.{IsSteady}
 use Rattle.law_state.specs.Below.{IsBelow}
@@ -179,25 +179,22 @@ module _ (state : State) (steady : IsSteady state) where
 -- ### A later state
 
 module _ (earlier later : State) (below : IsBelow earlier later) where
-  pub primary_on : (cell : Cell) (n : ℕ) → primary earlier cell ≡ Some n → (primary later cell ≡ Some n) ⊎ HasDied later cell
-  primary_on cell n e = elim (some_or_none (cell_link earlier cell)) [
+  -- a side of a cell's link
+  side_on : (side : LinkRow → ℕ) → ((row now : LinkRow) → IsLater row now → side now ≡ side row) → (cell : Cell) (n : ℕ)
+      → option_map side (cell_link earlier cell) ≡ Some n → (option_map side (cell_link later cell) ≡ Some n) ⊎ HasDied later cell
+  side_on side same cell n e = elim (some_or_none (cell_link earlier cell)) [
     | inl there ↦ elim (below.rows cell there.0 there.1) [
-      | inl now ↦ inl (ap (option_map (λ (r : LinkRow). r.primary)) now.is ∙ ap Some now.so.primary
-          ∙ sym (ap (option_map (λ (r : LinkRow). r.primary)) there.1) ∙ e)
+      | inl now ↦ inl (ap (option_map side) now.is ∙ ap Some (same there.0 now.now now.so) ∙ sym (ap (option_map side) there.1) ∙ e)
       | inr gone ↦ inr gone
     ]
-    | inr none ↦ none_some (ap (option_map (λ (r : LinkRow). r.primary)) none) e
+    | inr none ↦ none_some (ap (option_map side) none) e
   ]
 
+  pub primary_on : (cell : Cell) (n : ℕ) → primary earlier cell ≡ Some n → (primary later cell ≡ Some n) ⊎ HasDied later cell
+  primary_on = side_on (λ row. row.primary) (λ row now so. so.primary)
+
   pub secondary_on : (cell : Cell) (n : ℕ) → secondary earlier cell ≡ Some n → (secondary later cell ≡ Some n) ⊎ HasDied later cell
-  secondary_on cell n e = elim (some_or_none (cell_link earlier cell)) [
-    | inl there ↦ elim (below.rows cell there.0 there.1) [
-      | inl now ↦ inl (ap (option_map (λ (r : LinkRow). r.secondary)) now.is ∙ ap Some now.so.secondary
-          ∙ sym (ap (option_map (λ (r : LinkRow). r.secondary)) there.1) ∙ e)
-      | inr gone ↦ inr gone
-    ]
-    | inr none ↦ none_some (ap (option_map (λ (r : LinkRow). r.secondary)) none) e
-  ]
+  secondary_on = side_on (λ row. row.secondary) (λ row now so. so.secondary)
 
 -- ### An entry that touches a link
 

@@ -16,7 +16,7 @@ use Rattle.law_state.specs.Ages.{age_of}
 use Rattle.law_state.specs.Rows.{IsHeldOn, IsLater, IsLostOn, IsServed, IsServedBy, IsServedOn, ByBoth, ByNone, ByOne}
 use Rattle.law_state.specs.Tables.{IsPlainState}
 use Rattle.law_state.proofs.Ages.{in_up, no_less}
-use Rattle.law_state.proofs.Fences.{Acted, fences_queued, queued_on, requeued_itself}
+use Rattle.law_state.proofs.Fences.{Acted, queued_on, requeued_itself}
 use Rattle.law_state.proofs.Grown.{later_itself}
 use Rattle.law_state.proofs.Changing.{changing, link_changed}
 
@@ -122,8 +122,37 @@ act_caught P s of link holder holder_inc other other_inc acts stays =
     by_test P (may_catch holder other (link_at s.links of link) && is_up_as s holder holder_inc && is_up_as s other other_inc) (caught_by s of link) s
     (λ e. acts (catch_by s of link holder holder_inc other other_inc e)) (λ e. stays)
 
-module _ (servers : ℕ) (s : State) (p : IsPlainState servers s) (of link holder holder_inc other other_inc : ℕ)
-    (acts : IsCatch s of link holder holder_inc other other_inc) where
+-- a Caught that acts in a plain state
+pub record ActingCaught : Type 0 where
+  pub servers : ℕ
+  pub s : State
+  pub p : IsPlainState servers s
+  pub of : ℕ
+  pub link : ℕ
+  pub holder : ℕ
+  pub holder_inc : ℕ
+  pub other : ℕ
+  pub other_inc : ℕ
+  pub acts : IsCatch s of link holder holder_inc other other_inc
+
+abbrev pub acting_caught : {servers : ℕ} {s : State} → IsPlainState servers s → {of link holder holder_inc other other_inc : ℕ}
+    → IsCatch s of link holder holder_inc other other_inc → ActingCaught
+acting_caught {servers} {s} p {of} {link} {holder} {holder_inc} {other} {other_inc} acts = record {
+  servers = servers;
+  s = s;
+  p = p;
+  of = of;
+  link = link;
+  holder = holder;
+  holder_inc = holder_inc;
+  other = other;
+  other_inc = other_inc;
+  acts = acts;
+}
+
+module _ (it : ActingCaught) where
+  open it use {servers, s, p, of, link, holder, holder_inc, other, other_inc, acts}
+
   abbrev t : State
   t = caught_by s of link
 
@@ -165,7 +194,7 @@ module _ (servers : ℕ) (s : State) (p : IsPlainState servers s) (of link holde
   catching = changing servers s p s.view (row_caught of link) (later_caught of link) (record {
     many = p.many;
     members = p.members;
-    fences = queued_on s t (fences_queued s p.fences) refl (requeued_itself s.view.queue) p.fences.present;
+    fences = queued_on s t p.fences refl (requeued_itself s.view.queue) p.fences.present;
     ages = λ n. no_less (age_of s n);
     served = served_caught;
     on = on_caught;

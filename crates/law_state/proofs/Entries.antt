@@ -23,7 +23,7 @@ use Rattle.law_state.proofs.Fences.{Acted, acts_not, renumbered, untabled}
 use Rattle.law_state.proofs.Grown.{Step, grown_on, stays}
 use Rattle.law_state.proofs.Leaves.{leaving}
 use Rattle.law_state.proofs.Joins.{joining}
-use Rattle.law_state.proofs.Caughts.{act_caught, catching}
+use Rattle.law_state.proofs.Caughts.{act_caught, acting_caught, catching}
 use Rattle.law_state.proofs.Making.{making}
 use Rattle.law_state.proofs.Moves.{act_moved, act_start, begins, noting_acts}
 use Rattle.law_state.proofs.Passing.{settling}
@@ -36,7 +36,7 @@ acting servers s (Join server inc blank) p proper =
 acting servers s (Leave server inc) p proper =
     by_test (Acted servers s) (is_up_as s server inc) _ s (λ is. leaving servers s p server inc is) (λ no. acts_not servers s p)
 acting servers s (Caught of link holder holder_inc other other_inc) p proper =
-    act_caught (Acted servers s) s of link holder holder_inc other other_inc (catching servers s p of link holder holder_inc other other_inc)
+    act_caught (Acted servers s) s of link holder holder_inc other other_inc (λ acts. catching (acting_caught p acts))
     (acts_not servers s p)
 acting servers s (MakeDisk client seq name tuple) p proper =
     by_test (Acted servers s) (not (is_new seq (latest s client))) s _
@@ -50,7 +50,18 @@ acting servers s (Snap client seq disk name) p proper =
     (λ old. acts_not servers s p)
     (λ new none. untabled servers s.rev _ s s (acts_not servers s p))
     (λ new row found taken. untabled servers s.rev _ s s (acts_not servers s p))
-    (λ new row found free. untabled servers s.rev _ s (with_fence s (Whole row.id name client seq)) (snapping servers s p client seq disk name row found free))
+    (λ new row found free. untabled servers s.rev _ s (with_fence s (Whole row.id name client seq)) (snapping (record {
+      servers = servers;
+      s = s;
+      p = p;
+      client = client;
+      seq = seq;
+      disk = disk;
+      name = name;
+      row = row;
+      found = found;
+      free = free;
+    })))
 acting servers s (StartMove client seq disk tuple) p proper =
     act_start (Acted servers s) s client seq disk tuple
     (λ old. acts_not servers s p)
@@ -90,23 +101,25 @@ no_row row h = absurd h
 
 pub start_plain : (servers : ℕ) → IsPlainState servers (start servers)
 start_plain servers = record {
-  many = length-replicate servers (member.In 1);
-  members = λ n m e. let one : last_inc m ≡ 1 = ap last_inc (in_at_start servers n m e) in omega arith;
-  fences = record {
-    each = λ i fence e. none_some refl e;
-    apart = λ i j one other disk client seq later again name e f kind like. none_some refl e;
-    once = λ i j one other disk region later e f kind like. none_some refl e;
-    waits = λ fence e. none_some refl e;
-    present = λ fence n e waits. none_some refl e;
+  unsettled = record {
+    many = length-replicate servers (member.In 1);
+    members = λ n m e. let one : last_inc m ≡ 1 = ap last_inc (in_at_start servers n m e) in omega arith;
+    fences = record {
+      each = λ i fence e. none_some refl e;
+      apart = λ i j one other disk client seq later again name e f kind like. none_some refl e;
+      once = λ i j one other disk region later e f kind like. none_some refl e;
+      present = λ fence n e waits. none_some refl e;
+    };
+    made = refl;
+    homes = λ of disk e. none_some refl e;
+    rows = λ i row e. none_some refl e;
+    names = λ i j one other e. none_some refl e;
+    tuples = λ of tuple e. none_some refl e;
+    links = λ of link tuple e lt has. none_some refl e;
+    unlinked = λ of link none. refl;
+    found = λ row h. no_row row h;
   };
-  made = refl;
-  homes = λ of disk e. none_some refl e;
-  rows = λ i row e. none_some refl e;
-  names = λ i j one other e. none_some refl e;
-  tuples = λ of tuple e. none_some refl e;
-  links = λ of link tuple e lt has. none_some refl e;
-  unlinked = λ of link none. refl;
-  found = λ row h. no_row row h;
+  waits = λ fence e. none_some refl e;
 }
 
 pub log_plain : (servers : ℕ) (log : List Command) → IsPlainLog servers log → IsPlainState servers (state_after servers log)

@@ -7,7 +7,6 @@ use Rattle.std.specs.Option.{option_map_or}
 use Rattle.std.proofs.lemmas.Bool.Decides.{nat_tests}
 use Rattle.std.proofs.lemmas.Map.Views.{any-filter_same}
 use Rattle.std.proofs.lemmas.Option.{slice_get_within}
-use Rattle.petal_base.specs.Tuple.{is_tuple}
 use Rattle.global_tables.specs.declared.disk.DiskRow.{DiskRow}
 use Rattle.global_tables.specs.declared.disk.Latest.{Latest}
 use Rattle.global_tables.specs.declared.disk.Move.{Move}
@@ -17,74 +16,29 @@ use Rattle.global_tables.specs.declared.fence.FenceKind.{FenceKind}
 use Rattle.global_tables.specs.declared.fence.FenceKind.TheVariants.{Region, Whole}
 use Rattle.global_tables.specs.declared.fence.Member.{Member}
 use Rattle.global_tables.specs.declared.link.LinkRow.{LinkRow}
-use Rattle.global_tables.specs.Disk.{disk_at}
+use Rattle.global_tables.specs.Disk.{disk_at, snapshot_named}
 use Rattle.global_tables.specs.Link.{link_at}
-use Rattle.global_tables.specs.Map.{disk_of, tuple_of}
-use Rattle.global_tables.specs.View.{View, awaiting, behind, first_waiting, head, is_in, last_inc, queued, ready, reported, servers_in, stands_in}
-use Rattle.petal_state.specs.CellState.{owner}
+use Rattle.global_tables.specs.View.{View, awaiting, behind, first_waiting, head, is_in, queued, ready, reported, servers_in, stands_in}
 use Rattle.petal_state.specs.Command.{with_fence}
 use Rattle.petal_state.specs.State.{is_up}
 use Rattle.petal_rules.specs.Draining.{awaits}
-use Rattle.petal_rules.specs.Lists.{In}
 use Rattle.petal_rules.specs.State.{State}
 use Rattle.petal_rules.proofs.Tests.{both_true, by_bool, none_some, same_numbers, same_some, true_false}
 use Rattle.law_state.specs.Homes.{stage_at}
-use Rattle.law_state.specs.Tables.{AreFences, HasHome, HasLinkOf, IsFence, IsGrown, IsPlainState, IsRowAt, IsShape, Of_disk, Of_region}
+pub use Rattle.law_state.specs.Tables.{AreQueued, IsUnsettled}
+use Rattle.law_state.specs.Tables.{IsForRegion, IsForSnapshot, IsLinkOf, HasLinkOf, IsFence, IsGrown, IsPlainState, IsShape, Of_disk, Of_region}
 use Rattle.law_state.specs.Rows.{IsServed}
 use Rattle.law_state.proofs.Ages.{no_less}
 use Rattle.law_state.proofs.Places.{get_last}
 use Rattle.law_state.proofs.Grown.{grown_still, later_disk_itself, Step, grown_itself, grown_on}
-
--- fences each for a snapshot that nobody has and no other is for, or for a disk's next region; the active one waits only for servers that are In
-pub record AreQueued (state : State) : Type 0 where
-  pub each : (i : ℕ) (fence : Fence) → slice_get state.view.queue i ≡ Some fence → IsFence state fence
-  pub apart : (i j : ℕ) (one other : Fence) (disk client seq later again : ℕ) (name : List ℕ) → slice_get state.view.queue i ≡ Some one
-      → slice_get state.view.queue j ≡ Some other → one.kind ≡ Whole disk name client seq → other.kind ≡ Whole disk name later again → i ≡ j
-  pub once : (i j : ℕ) (one other : Fence) (disk region later : ℕ) → slice_get state.view.queue i ≡ Some one
-      → slice_get state.view.queue j ≡ Some other → one.kind ≡ Region disk region → other.kind ≡ Region disk later → i ≡ j
-  pub present : (fence : Fence) (n : ℕ) → head state.view.queue ≡ Some fence → awaits fence n ≡ true → is_up state n ≡ true
-
--- what a command makes of a plain state, before fences take effect
-pub record IsUnsettled (servers : ℕ) (state : State) : Type 0 where
-  pub many : length state.view.members ≡ servers
-  pub members : (n : ℕ) (member : Member) → slice_get state.view.members n ≡ Some member → 1 ≤ last_inc member
-  pub fences : AreQueued state
-  pub made : state.disks.made ≡ length state.disks.rows
-  pub homes : (of disk : ℕ) → disk_of state.maps of ≡ Some disk → HasHome state of disk
-  pub rows : (i : ℕ) (row : DiskRow) → slice_get state.disks.rows i ≡ Some row → IsRowAt state.maps i row
-  pub names : (i j : ℕ) (one other : DiskRow) → slice_get state.disks.rows i ≡ Some one → slice_get state.disks.rows j ≡ Some other
-      → one.name ≡ other.name → i ≡ j
-  pub tuples : (of : ℕ) (tuple : List ℕ) → tuple_of state.maps of ≡ Some tuple → is_tuple servers tuple ≡ true
-  pub links : (of link : ℕ) (tuple : List ℕ) → tuple_of state.maps of ≡ Some tuple → link < length tuple → owner state of ≢ None
-      → HasLinkOf state of tuple link
-  pub unlinked : (of link : ℕ) → owner state of ≡ None → link_at state.links of link ≡ None
-  pub found : (row : LinkRow) → In row state.links → link_at state.links row.map row.link ≡ Some row
 
 -- the state is so, and has grown from this one
 pub record Acted (servers : ℕ) (s t : State) : Type 0 where
   pub plain : IsUnsettled servers t
   pub grown : IsGrown s t
 
-pub fences_queued : (s : State) → AreFences s → AreQueued s
-fences_queued s h = record { each = h.each; apart = h.apart; once = h.once; present = h.present }
-
-pub unsettled : (servers : ℕ) (s : State) → IsPlainState servers s → IsUnsettled servers s
-unsettled servers s p = record {
-  many = p.many;
-  members = p.members;
-  fences = fences_queued s p.fences;
-  made = p.made;
-  homes = p.homes;
-  rows = p.rows;
-  names = p.names;
-  tuples = p.tuples;
-  links = p.links;
-  unlinked = p.unlinked;
-  found = p.found;
-}
-
 pub acts_not : (servers : ℕ) (s : State) → IsPlainState servers s → Acted servers s s
-acts_not servers s p = record { plain = unsettled servers s p; grown = grown_itself s }
+acts_not servers s p = record { plain = p.unsettled; grown = grown_itself s }
 
 -- a head that is not ready waits for somebody
 waits_for : (queue : List Fence) (fence : Fence) → ready queue ≡ None → head queue ≡ Some fence → fence.waiting ≢ []
@@ -94,25 +48,7 @@ waits_for (first ∷ rest) fence none is = λ e. none_some none
 
 -- where no fence is ready the state is plain
 pub settles : (servers : ℕ) (s : State) → IsUnsettled servers s → ready s.view.queue ≡ None → IsPlainState servers s
-settles servers s p none = record {
-  many = p.many;
-  members = p.members;
-  fences = record {
-    each = p.fences.each;
-    apart = p.fences.apart;
-    once = p.fences.once;
-    waits = λ fence is. waits_for s.view.queue fence none is;
-    present = p.fences.present;
-  };
-  made = p.made;
-  homes = p.homes;
-  rows = p.rows;
-  names = p.names;
-  tuples = p.tuples;
-  links = p.links;
-  unlinked = p.unlinked;
-  found = p.found;
-}
+settles servers s p none = record { unsettled = p; waits = λ fence is. waits_for s.view.queue fence none is }
 
 empty : (xs : List ℕ) → length xs ≡ 0 → xs ≡ []
 empty [] e = refl
@@ -126,7 +62,7 @@ none_ready (first ∷ rest) waits = by_bool (length first.waiting == 0)
     (λ f. ap (λ b. if b then Some first else None) f)
 
 pub not_ready : (servers : ℕ) (s : State) → IsPlainState servers s → ready s.view.queue ≡ None
-not_ready servers s p = none_ready s.view.queue p.fences.waits
+not_ready servers s p = none_ready s.view.queue p.waits
 
 -- the fence that is ready is the head, and waits for nobody
 pub record IsReady (queue : List Fence) (fence : Fence) : Type 0 where
@@ -143,28 +79,30 @@ ready_by (first ∷ rest) fence e = by_bool (length first.waiting == 0)
 
 -- ### A state of the same tables
 
+-- a fence for a snapshot stands in another state, where its disk has no such snapshot there either
+pub snapshot_on : (s t : State) (before fence : Fence) (h : IsForSnapshot s before) → fence.kind ≡ before.kind → (row : DiskRow)
+    → disk_at t.disks.rows h.disk ≡ Some row → snapshot_named row.snaps h.name ≡ None → IsFence t fence
+snapshot_on s t before fence h like row known fresh = Of_disk
+    (record { disk = h.disk; name = h.name; client = h.client; seq = h.seq; kind = like ∙ h.kind; row = row; known = known; fresh = fresh })
+
+-- and one for a region, where that is the next of its disk's move there, too
+pub region_on : (s t : State) (before fence : Fence) (h : IsForRegion s before) → fence.kind ≡ before.kind → (row : DiskRow) (move : Move)
+    → disk_at t.disks.rows h.disk ≡ Some row → row.moving ≡ Some move → IsShape move.regions h.region Old → IsFence t fence
+region_on s t before fence h like row move known moves shape = Of_region
+    (record { disk = h.disk; region = h.region; kind = like ∙ h.kind; row = row; known = known; move = move; moves = moves; shape = shape })
+
 -- the fence is as before, over the same disks
 pub fence_kept : (s t : State) (before fence : Fence) → t.disks.rows ≡ s.disks.rows → fence.kind ≡ before.kind → IsFence s before → IsFence t fence
-fence_kept s t before fence same like (Of_disk h) = Of_disk (record {
-  disk = h.disk;
-  name = h.name;
-  client = h.client;
-  seq = h.seq;
-  kind = like ∙ h.kind;
-  row = h.row;
-  known = ap (λ rows. disk_at rows h.disk) same ∙ h.known;
-  fresh = h.fresh;
-})
-fence_kept s t before fence same like (Of_region h) = Of_region (record {
-  disk = h.disk;
-  region = h.region;
-  kind = like ∙ h.kind;
-  row = h.row;
-  known = ap (λ rows. disk_at rows h.disk) same ∙ h.known;
-  move = h.move;
-  moves = h.moves;
-  shape = h.shape;
-})
+fence_kept s t before fence same like (Of_disk h) =
+    snapshot_on s t before fence h like h.row (ap (λ rows. disk_at rows h.disk) same ∙ h.known) h.fresh
+fence_kept s t before fence same like (Of_region h) =
+    region_on s t before fence h like h.row h.move (ap (λ rows. disk_at rows h.disk) same ∙ h.known) h.moves h.shape
+
+-- a row is what its tuple asks for in another state, too, where it is served there
+pub asked_on : (s t : State) (of : ℕ) (tuple : List ℕ) (link : ℕ) (row : LinkRow) → IsLinkOf s of tuple link row → IsServed t row
+    → IsLinkOf t of tuple link row
+asked_on s t of tuple link row asked served =
+    record { map = asked.map; place = asked.place; primary = asked.primary; secondary = asked.secondary; served = served }
 
 -- a link is as before, where links and members are
 pub link_kept : (s t : State) (of link : ℕ) (tuple : List ℕ) → t.links ≡ s.links → t.view.members ≡ s.view.members → HasLinkOf s of tuple link
@@ -172,13 +110,7 @@ pub link_kept : (s t : State) (of link : ℕ) (tuple : List ℕ) → t.links ≡
 link_kept s t of link tuple links members h = record {
   row = h.row;
   is = ap (λ l. link_at l of link) links ∙ h.is;
-  asked = record {
-    map = h.asked.map;
-    place = h.asked.place;
-    primary = h.asked.primary;
-    secondary = h.asked.secondary;
-    served = subst served_by (sym members) h.asked.served;
-  };
+  asked = asked_on s t of tuple link h.row h.asked (subst served_by (sym members) h.asked.served);
 }
   where
     served_by : List Member → Type 0
@@ -223,7 +155,7 @@ untabled servers rev verdicts s t h =
 
 pub renumbered : (servers rev : ℕ) (s t : State) → Step servers s t → Step servers s (record t { rev = rev })
 renumbered servers rev s t h =
-    let now = untabled servers rev t.verdicts s t (record { plain = unsettled servers t h.plain; grown = h.grown }) in
+    let now = untabled servers rev t.verdicts s t (record { plain = h.plain.unsettled; grown = h.grown }) in
     record { plain = settles servers (record t { rev = rev }) now.plain (not_ready servers t h.plain); grown = now.grown }
 
 -- ### Queues

@@ -24,7 +24,7 @@ use Rattle.law_state.specs.Rows.{IsBetween, IsHeldOn, IsLater, IsLostOn, IsServe
 use Rattle.law_state.specs.Tables.{IsPlainState}
 use Rattle.law_state.proofs.Ages.{in_up, may_by}
 use Rattle.law_state.proofs.Changing.{changed_by, changing, link_changed}
-use Rattle.law_state.proofs.Fences.{Acted, fences_queued, queued_on, requeued_itself}
+use Rattle.law_state.proofs.Fences.{Acted, queued_on, requeued_itself}
 use Rattle.law_state.proofs.Grown.{between_later, later_itself, one_before}
 use Rattle.law_state.proofs.Links.{either_false, or_true}
 use Rattle.law_state.proofs.Places.{get_set_here, get_set_beside}
@@ -233,7 +233,7 @@ module _ (servers : ℕ) (s : State) (p : IsPlainState servers s) (server inc : 
   joining = subst (Acted servers s) rows_are (changing servers s p t.view (row_joined server blank) (later_joined server blank) (record {
     many = length-set s.view.members server (member.In inc) ∙ p.many;
     members = members_now;
-    fences = queued_on s rows (fences_queued s p.fences) refl (requeued_itself s.view.queue)
+    fences = queued_on s rows p.fences refl (requeued_itself s.view.queue)
         (λ fence n e waits. up_on n (p.fences.present fence n e waits));
     ages = ages;
     served = λ row is. served_on row;

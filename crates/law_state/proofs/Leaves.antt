@@ -20,7 +20,7 @@ use Rattle.law_state.specs.Ages.{age, age_of}
 use Rattle.law_state.specs.Rows.{IsHeldOn, IsLostOn, IsServed, IsServedOn, IsBetween, IsLater, ByBoth, ByNone, ByOne}
 use Rattle.law_state.specs.Tables.{IsPlainState}
 use Rattle.law_state.proofs.Ages.{in_up, out_not}
-use Rattle.law_state.proofs.Fences.{Acted, fences_queued, head_awaiting, queued_on, requeued_awaiting, waits_present}
+use Rattle.law_state.proofs.Fences.{Acted, head_awaiting, queued_on, requeued_awaiting, waits_present}
 use Rattle.law_state.proofs.Grown.{later_itself}
 use Rattle.law_state.proofs.Changing.{changing, link_changed}
 use Rattle.law_state.proofs.Links.{either_false}
@@ -192,7 +192,7 @@ module _ (servers : ℕ) (s : State) (p : IsPlainState servers s) (server inc : 
   leaving = changing servers s p t.view (row_left server) (λ row. later_left row server) (record {
     many = length-set s.view.members server gone ∙ p.many;
     members = members_now;
-    fences = queued_on s t (fences_queued s p.fences) refl (requeued_awaiting (servers_in t.view.members) s.view.queue)
+    fences = queued_on s t p.fences refl (requeued_awaiting (servers_in t.view.members) s.view.queue)
         (λ fence n e. waits_present t.view.members fence n (head_awaiting (servers_in t.view.members) s.view.queue fence e));
     ages = ages;
     served = λ row is. served_left row;

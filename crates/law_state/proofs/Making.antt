@@ -21,7 +21,7 @@ use Rattle.petal_rules.proofs.Tests.{none_some, number_itself, same_some, some_o
 use Rattle.law_state.specs.Tables.{HasHome, HasLaterDisk, HasLinkOf, IsFence, IsPlainState, IsRowAt, Of_disk, Of_region}
 use Rattle.law_state.specs.Ages.{age_of}
 use Rattle.law_state.proofs.Ages.{no_less}
-use Rattle.law_state.proofs.Fences.{Acted, AreQueued}
+use Rattle.law_state.proofs.Fences.{Acted, AreQueued, asked_on, snapshot_on, region_on}
 use Rattle.law_state.proofs.Grown.{later_disk_itself, same_row}
 use Rattle.law_state.proofs.Owners.{home, home_later, kept_by, no_owner, owner_is, row_at_on, stages_later}
 use Rattle.law_state.proofs.Places.{get_front, get_in, get_last, none_find, find_front, find_behind, text_itself}
@@ -120,13 +120,7 @@ module _ (servers : ℕ) (s : State) (p : IsPlainState servers s) (tuple : List 
           | inl m ↦ (let old = p.links of link ids h lt (λ none. has (kept of m.0 m.1 none)) in record {
             row = old.row;
             is = find_front (is_link of link) s.links late old.row old.is;
-            asked = record {
-              map = old.asked.map;
-              place = old.asked.place;
-              primary = old.asked.primary;
-              secondary = old.asked.secondary;
-              served = old.asked.served;
-            };
+            asked = asked_on s mapped of ids link old.row old.asked old.asked.served;
           })
         ]
         | inr h ↦ record {
@@ -250,26 +244,10 @@ module _ (servers : ℕ) (s : State) (p : IsPlainState servers s) (name tuple : 
 
   -- what waits is for disks that were known
   fence_now : (fence : Fence) → IsFence s fence → IsFence t fence
-  fence_now fence (Of_disk h) = Of_disk (record {
-    disk = h.disk;
-    name = h.name;
-    client = h.client;
-    seq = h.seq;
-    kind = h.kind;
-    row = h.row;
-    known = find_front (is_disk h.disk) s.disks.rows (made_row ∷ []) h.row h.known;
-    fresh = h.fresh;
-  })
-  fence_now fence (Of_region h) = Of_region (record {
-    disk = h.disk;
-    region = h.region;
-    kind = h.kind;
-    row = h.row;
-    known = find_front (is_disk h.disk) s.disks.rows (made_row ∷ []) h.row h.known;
-    move = h.move;
-    moves = h.moves;
-    shape = h.shape;
-  })
+  fence_now fence (Of_disk h) =
+      snapshot_on s t fence fence h refl h.row (find_front (is_disk h.disk) s.disks.rows (made_row ∷ []) h.row h.known) h.fresh
+  fence_now fence (Of_region h) =
+      region_on s t fence fence h refl h.row h.move (find_front (is_disk h.disk) s.disks.rows (made_row ∷ []) h.row h.known) h.moves h.shape
 
   fences_now : AreQueued t
   fences_now = record {

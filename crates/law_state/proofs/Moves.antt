@@ -34,7 +34,7 @@ use Rattle.law_state.specs.Homes.{new_stage, stage_under}
 use Rattle.law_state.specs.Tables.{HasHome, HasLaterDisk, HasLinkOf, IsGone, IsLaterDisk, IsMove}
 use Rattle.law_state.specs.Tables.{IsPlainState, IsRowAt, IsShape, Of_disk, Of_region}
 use Rattle.law_state.proofs.Ages.{no_less}
-use Rattle.law_state.proofs.Fences.{Acted, AreQueued, IsUnsettled, fence_kept, region_queued, requeued, same_region, unsettled}
+use Rattle.law_state.proofs.Fences.{Acted, AreQueued, IsUnsettled, fence_kept, region_queued, requeued, same_region, asked_on}
 use Rattle.law_state.proofs.Grown.{grown_on, same_row}
 use Rattle.law_state.proofs.Making.{map_on, mapping, new_map}
 use Rattle.law_state.proofs.Making as making
@@ -85,7 +85,7 @@ module _ (servers : ℕ) (s : State) (p : IsPlainState servers s) (disk tuple : 
       disk_at_is s.disks.rows (λ i r e. (p.rows i r e).id) row.id ∙ ap (slice_get s.disks.rows) (p.rows at.0 row at.1).id ∙ at.1
 
   abbrev q : IsUnsettled servers s
-  q = unsettled servers s p
+  q = p.unsettled
 
   pub at_row : slice_get s.disks.rows row.id ≡ Some row
   at_row = here servers s q row.id row known (row_moving new)
@@ -320,7 +320,7 @@ module _ (servers : ℕ) (s : State) (p : IsPlainState servers s) (of region lin
   noted_state = record s { disks = noted s.disks h.row.id region link links }
 
   abbrev before : IsUnsettled servers s
-  before = unsettled servers s p
+  before = p.unsettled
 
   there : slice_get s.disks.rows h.row.id ≡ Some h.row
   there = here servers s before h.row.id h.row h.known noted_row
@@ -557,13 +557,7 @@ module _ (servers : ℕ) (s : State) (p : IsPlainState servers s) (of region lin
           record {
             row = old.row;
             is = kept_link map at ne ∙ old.is;
-            asked = record {
-              map = old.asked.map;
-              place = old.asked.place;
-              primary = old.asked.primary;
-              secondary = old.asked.secondary;
-              served = old.asked.served;
-            };
+            asked = asked_on s moved_state map tuple at old.row old.asked old.asked.served;
           })
     ]
 

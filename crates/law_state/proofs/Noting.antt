@@ -37,8 +37,8 @@ use Rattle.law_state.specs.Tables.{IsPlainState, Of_disk, Of_region}
 use Rattle.law_state.proofs.Caughts.{act_caught}
 use Rattle.law_state.proofs.Entries.{acting, entering, log_plain, start_plain}
 use Rattle.law_state.proofs.Eras.{fenced_apart}
-use Rattle.law_state.proofs.Fences.{Acted, IsUnsettled, head_get, ready_by, unsettled}
-use Rattle.law_state.proofs.Homes.{leaving_row, row_or_none, source_of}
+use Rattle.law_state.proofs.Fences.{Acted, IsUnsettled, head_get, ready_by}
+use Rattle.law_state.proofs.Homes.{leaving_row, row_or_none, source_of, HasRow}
 use Rattle.law_state.proofs.Joins.{joined_by}
 use Rattle.law_state.proofs.Leaves.{left_by}
 use Rattle.law_state.proofs.Making as making
@@ -330,34 +330,28 @@ passed_filled servers s p fence first cell link f =
     let of : disk_of s.maps cell.map ≡ Some at.0 = sym (ap (λ m. disk_of m cell.map) maps) ∙ at.1 in
     let links : links_of t cell.map ≡ links_of s cell.map = ap (λ m. option_map_or length (tuple_of m cell.map) 0) maps in
     let so : IsFilled cell link (links_of s cell.map) f.row = subst (λ n. IsFilled cell link n f.row) links f.so in
-    let same : slice_get s.disks.rows at.0 ≡ Some f.row → IsFilledAt s cell link = λ there. record {
-      row = f.row;
+    let stood : (row : DiskRow) → slice_get s.disks.rows at.0 ≡ Some row → IsFilled cell link (links_of s cell.map) row → IsFilledAt s cell link =
+    λ row there filled. record {
+      row = row;
       is = ap (option_and_then (slice_get s.disks.rows)) of ∙ there;
-      so = so;
+      so = filled;
     } in
     elim (p.fences.each 0 fence first) [
       | Of_disk h ↦ elim (same_or_apart at.0 h.disk) [
-        | inr ne ↦ same (sym (passed_beside servers s p fence first h at.0 ne) ∙ at.2)
+        | inr ne ↦ stood f.row (sym (passed_beside servers s p fence first h at.0 ne) ∙ at.2) so
         | inl e ↦
             let now : row_frozen h.name h.row ≡ f.row =
             same_some (sym (passed_here servers s p fence first h) ∙ ap (slice_get t.disks.rows) (sym e) ∙ at.2) in
-            record {
-              row = h.row;
-              is = ap (option_and_then (slice_get s.disks.rows)) of ∙ ap (slice_get s.disks.rows) e ∙ here_row servers s p fence first h;
-              so = subst (IsFilled cell link (links_of s cell.map)) (sym now) so;
-            }
+            stood h.row (ap (slice_get s.disks.rows) e ∙ here_row servers s p fence first h) (subst (IsFilled cell link (links_of s cell.map)) (sym now) so)
       ]
       | Of_region h ↦ elim (same_or_apart at.0 h.disk) [
-        | inr ne ↦ same (sym (region_beside servers s p fence first h at.0 ne) ∙ at.2)
+        | inr ne ↦ stood f.row (sym (region_beside servers s p fence first h at.0 ne) ∙ at.2) so
         | inl e ↦
             let now : row_fenced h.region h.row ≡ f.row =
             same_some (sym (region_here servers s p fence first h) ∙ ap (slice_get t.disks.rows) (sym e) ∙ at.2) in
-            record {
-              row = h.row;
-              is = ap (option_and_then (slice_get s.disks.rows)) of ∙ ap (slice_get s.disks.rows) e ∙ region_row servers s p fence first h;
-              so = fenced_comes cell link (links_of s cell.map) h.region h.row h.move h.moves h.shape.here
-                  (subst (IsFilled cell link (links_of s cell.map)) (sym now) so);
-            }
+            stood h.row (ap (slice_get s.disks.rows) e ∙ region_row servers s p fence first h)
+            (fenced_comes cell link (links_of s cell.map) h.region h.row h.move h.moves h.shape.here
+            (subst (IsFilled cell link (links_of s cell.map)) (sym now) so))
       ]
     ]
 
@@ -447,7 +441,7 @@ module _ (servers : ℕ) (s : State) (p : IsPlainState servers s) (cell : Cell) 
               | inr ne ↦ inl (record {
                 row = f.row;
                 is = ap (option_and_then (slice_get s.disks.rows)) of
-                    ∙ sym (beside servers s (unsettled servers s p) row.id row (known servers s p disk tuple row found still proper) (row_moving
+                    ∙ sym (beside servers s p.unsettled row.id row (known servers s p disk tuple row found still proper) (row_moving
                     (length s.maps)) at.0 ne)
                     ∙ at.2;
                 so = so;
@@ -468,7 +462,7 @@ module _ (servers : ℕ) (s : State) (p : IsPlainState servers s) (cell : Cell) 
   notes : (of region last : ℕ) (h : IsNoting s of region last) (t : State) (q : Acted servers s t) → t.maps ≡ s.maps
       → t.disks.rows ≡ (noted_state servers s p of region last h).disks.rows → Enters (Moved of region last) t
   notes of region last h t q maps rows f =
-      let u = unsettled servers s p in
+      let u = p.unsettled in
       let g = row_noted region last (links_of s of) in
       let at = home_at t cell.map f.row f.is in
       let place : disk_of s.maps cell.map ≡ Some at.0 = sym (ap (λ m. disk_of m cell.map) maps) ∙ at.1 in
@@ -569,42 +563,42 @@ log_filled servers whole all cell link f = elim (moved_among servers whole (star
   }
 ]
 
+-- a cell that has a stage has a disk
+has_row : (servers : ℕ) (s : State) (p : IsPlainState servers s) (cell : Cell) → 1 ≤ stage_at s cell → HasRow s p.rows p.homes cell
+has_row servers s p cell some = elim (row_or_none s p.rows p.homes cell) [
+  | inr none ↦
+      let zero : stage_at s cell ≡ 0 = stage_is s p.rows p.homes cell ∙ ap (stage_in cell) (no_home s p.rows p.homes cell.map none) in
+      absurd (omega arith)
+  | inl h ↦ h
+]
+
 pub log_noted : (servers : ℕ) (whole : List Command) (cell : Cell) (link : ℕ) → IsPlainLog servers whole → stage_at (state_after servers whole) cell ≡ 3
     → is_noted (state_after servers whole) cell.map (region_of cell.block) link ≡ true → HasMovedIn servers whole cell link
 log_noted servers whole cell link all three noted =
     let s = state_after servers whole in
     let p = log_plain servers whole all in
-    elim (row_or_none s p.rows p.homes cell) [
-      | inr none ↦
-          let zero_too : stage_at s cell ≡ 0 = stage_is s p.rows p.homes cell ∙ ap (stage_in cell) (no_home s p.rows p.homes cell.map none) in
-          absurd (omega arith)
-      | inl h ↦
-          let is : stage_of cell h.row ≡ 3 = sym (stage_is s p.rows p.homes cell ∙ ap (stage_in cell) h.is) ∙ three in
-          let left = (three_left cell h.row is).1 in
-          let mover : mover s cell.map ≡ Some h.row =
-          mover_is s p.rows cell.map ∙ ap (option_and_then (left_by_row cell.map)) h.is ∙ ap (λ b. if b then Some h.row else None) left in
-          log_filled servers whole all cell link (record {
-            row = h.row;
-            is = h.is;
-            so = inl (is, sym (ap (λ o. option_map_or (λ (r : DiskRow). noted_in (region_of cell.block) link r.moving) o false) mover) ∙ noted);
-          })
-    ]
+    let h = has_row servers s p cell (omega arith) in
+    let is : stage_of cell h.row ≡ 3 = sym (stage_is s p.rows p.homes cell ∙ ap (stage_in cell) h.is) ∙ three in
+    let left = (three_left cell h.row is).1 in
+    let mover : mover s cell.map ≡ Some h.row =
+    mover_is s p.rows cell.map ∙ ap (option_and_then (left_by_row cell.map)) h.is ∙ ap (λ b. if b then Some h.row else None) left in
+    log_filled servers whole all cell link (record {
+      row = h.row;
+      is = h.is;
+      so = inl (is, sym (ap (λ o. option_map_or (λ (r : DiskRow). noted_in (region_of cell.block) link r.moving) o false) mover) ∙ noted);
+    })
 
 pub log_dead : (servers : ℕ) (whole : List Command) (cell : Cell) (link : ℕ) → IsPlainLog servers whole → stage_at (state_after servers whole) cell ≡ 4
     → link < links_of (state_after servers whole) cell.map → HasMovedIn servers whole cell link
 log_dead servers whole cell link all four lt =
     let s = state_after servers whole in
     let p = log_plain servers whole all in
-    elim (row_or_none s p.rows p.homes cell) [
-      | inr none ↦
-          let zero_too : stage_at s cell ≡ 0 = stage_is s p.rows p.homes cell ∙ ap (stage_in cell) (no_home s p.rows p.homes cell.map none) in
-          absurd (omega arith)
-      | inl h ↦ log_filled servers whole all cell link (record {
-        row = h.row;
-        is = h.is;
-        so = inr (sym (stage_is s p.rows p.homes cell ∙ ap (stage_in cell) h.is) ∙ four, lt);
-      })
-    ]
+    let h = has_row servers s p cell (omega arith) in
+    log_filled servers whole all cell link (record {
+      row = h.row;
+      is = h.is;
+      so = inr (sym (stage_is s p.rows p.homes cell ∙ ap (stage_in cell) h.is) ∙ four, lt);
+    })
 
 -- ### The two cells of a move
 

@@ -44,7 +44,7 @@ use Rattle.law_state.proofs.Entries.{acting, entering, folding, log_plain}
 use Rattle.law_state.proofs.Eras.{HasRows, IsKept, era_low, fenced_apart, holds_before, kept_by_place, kept_by_stage, lives}
 use Rattle.law_state.proofs.Eras.{low_now, rows_of, stage_now, stage_was}
 use Rattle.law_state.proofs.Fences.{Acted, IsReady, IsUnsettled, head_awaiting, head_behind, head_get, head_queued, head_reported}
-use Rattle.law_state.proofs.Fences.{none_ready, present_waits, ready_by, unsettled, waits_still}
+use Rattle.law_state.proofs.Fences.{none_ready, present_waits, ready_by, waits_still}
 use Rattle.law_state.proofs.Joins.{joined_by}
 use Rattle.law_state.proofs.Leaves.{left_by}
 use Rattle.law_state.proofs.Making.{making}
@@ -204,14 +204,28 @@ module _ (which : Hold → Bool) (every : which All ≡ true) (nothing : which N
     is : entry ≡ Drained n inc fence
     holds : which (held s cell) ≡ true
 
-  module _ (servers : ℕ) (s : State) (p : IsPlainState servers s) (n inc : ℕ) (cell : Cell) (seated : is_up_as s n inc ≡ true)
-      (awaited : IsAwaited s n cell) (low : 1 ≤ stage_at s cell) (high : stage_at s cell ≤ 2) where
+  -- a server that is In, and that the active fence awaits where it holds the cell
+  record AwaitedServer : Type 0 where
+    servers : ℕ
+    s : State
+    p : IsPlainState servers s
+    n : ℕ
+    inc : ℕ
+    cell : Cell
+    seated : is_up_as s n inc ≡ true
+    awaited : IsAwaited s n cell
+    low : 1 ≤ stage_at s cell
+    high : stage_at s cell ≤ 2
+
+  module _ (it : AwaitedServer) where
+    open it use {servers, s, p, n, inc, cell, seated, awaited, low, high}
+
     -- what an entry comes to
     abbrev Comes : Command → State → Type 0
     Comes entry t = is_up_as t n inc ≡ true → IsStill s n cell t ⊎ IsReport s entry n inc cell
 
     abbrev u : IsUnsettled servers s
-    u = unsettled servers s p
+    u = p.unsettled
 
     same_state : IsStill s n cell s
     same_state = still_itself s n cell awaited low high
@@ -464,7 +478,18 @@ module _ (which : Hold → Bool) (every : which All ≡ true) (nothing : which N
       let step = entering servers s entry p plain in
       let later = folding servers rest t step.plain more in
       let still = between s t (fold after t rest) n inc (step.grown.ages n) (later.grown.ages n) is end in
-      elim (enters servers s p n inc cell is awaited low high entry plain still) [
+      elim (enters (record {
+        servers = servers;
+        s = s;
+        p = p;
+        n = n;
+        inc = inc;
+        cell = cell;
+        seated = is;
+        awaited = awaited;
+        low = low;
+        high = high;
+      }) entry plain still) [
         | inr report ↦ inr (record {
           before = [];
           fence = report.fence;

@@ -16,7 +16,7 @@ use Rattle.petal_rules.specs.State.{State}
 use Rattle.petal_rules.proofs.Tests.{by_bool, none_some, number_itself, same_numbers, same_or_apart, same_some, true_false}
 use Rattle.law_state.specs.Tables.{HasHome, HasLaterDisk, IsFence, IsForRegion, IsForSnapshot, IsLaterDisk}
 use Rattle.law_state.specs.Tables.{IsRowAt, IsShape, Of_disk, Of_region}
-use Rattle.law_state.proofs.Fences.{Acted, AreQueued, IsUnsettled, link_kept}
+use Rattle.law_state.proofs.Fences.{Acted, AreQueued, IsUnsettled, link_kept, snapshot_on, region_on}
 use Rattle.law_state.proofs.Grown.{grown_still, later_disk_itself}
 use Rattle.law_state.proofs.Owners.{disk_at_is, kept_by, owner_is, stages_later}
 use Rattle.law_state.proofs.Places.{get_set_beside, get_set_here}
@@ -125,50 +125,15 @@ module _ (servers : ℕ) (s : State) (p : IsUnsettled servers s) (disk : ℕ) (r
           → ((h : IsForRegion s before) → h.disk ≡ disk → (move : Move) × (now.moving ≡ Some move) × IsShape move.regions h.region Old)
           → IsFence rowed fence
       fence_then before fence like (Of_disk h) fresh next = elim (same_or_apart h.disk disk) [
-        | inl same ↦ Of_disk (record {
-          disk = h.disk;
-          name = h.name;
-          client = h.client;
-          seq = h.seq;
-          kind = like ∙ h.kind;
-          row = now;
-          known = disk_then h.disk now (ap (slice_get rows_then) same ∙ here_now);
-          fresh = fresh h same;
-        })
-        | inr ne ↦ Of_disk (record {
-          disk = h.disk;
-          name = h.name;
-          client = h.client;
-          seq = h.seq;
-          kind = like ∙ h.kind;
-          row = h.row;
-          known = disk_then h.disk h.row (beside h.disk ne ∙ sym (was_at h.disk) ∙ h.known);
-          fresh = h.fresh;
-        })
+        | inl same ↦ snapshot_on s rowed before fence h like now (disk_then h.disk now (ap (slice_get rows_then) same ∙ here_now)) (fresh h same)
+        | inr ne ↦ snapshot_on s rowed before fence h like h.row (disk_then h.disk h.row (beside h.disk ne ∙ sym (was_at h.disk) ∙ h.known)) h.fresh
       ]
       fence_then before fence like (Of_region h) fresh next = elim (same_or_apart h.disk disk) [
         | inl same ↦
             let m = next h same in
-            Of_region (record {
-              disk = h.disk;
-              region = h.region;
-              kind = like ∙ h.kind;
-              row = now;
-              known = disk_then h.disk now (ap (slice_get rows_then) same ∙ here_now);
-              move = m.0;
-              moves = m.1;
-              shape = m.2;
-            })
-        | inr ne ↦ Of_region (record {
-          disk = h.disk;
-          region = h.region;
-          kind = like ∙ h.kind;
-          row = h.row;
-          known = disk_then h.disk h.row (beside h.disk ne ∙ sym (was_at h.disk) ∙ h.known);
-          move = h.move;
-          moves = h.moves;
-          shape = h.shape;
-        })
+            region_on s rowed before fence h like now m.0 (disk_then h.disk now (ap (slice_get rows_then) same ∙ here_now)) m.1 m.2
+        | inr ne ↦
+            region_on s rowed before fence h like h.row h.move (disk_then h.disk h.row (beside h.disk ne ∙ sym (was_at h.disk) ∙ h.known)) h.moves h.shape
       ]
 
     module _ (so : IsLaterDisk row now) (then : IsRowAt s.maps disk now) where

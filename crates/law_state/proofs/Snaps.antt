@@ -17,8 +17,8 @@ use Rattle.petal_state.specs.Command.{act, is_head, is_new, is_taken, snap_targe
 use Rattle.petal_rules.specs.State.{State}
 use Rattle.petal_rules.proofs.Tests.{both_true, by_test, none_some, number_itself, same_numbers, same_some, true_false}
 use Rattle.law_state.specs.Tables.{IsPlainState, Of_disk}
-use Rattle.law_state.proofs.Fences.{Acted, AreQueued, fence_kept, fences_queued, head_queued, head_reported, queued_on, requeued}
-use Rattle.law_state.proofs.Fences.{requeued_reported, unsettled, waits_before, waits_present}
+use Rattle.law_state.proofs.Fences.{Acted, AreQueued, fence_kept, head_queued, head_reported, queued_on, requeued}
+use Rattle.law_state.proofs.Fences.{requeued_reported, waits_before, waits_present}
 use Rattle.law_state.proofs.Links.{either_false}
 use Rattle.law_state.proofs.Places.{find_here, found_at, get_last, text_itself}
 
@@ -81,8 +81,22 @@ act_drained P s server inc fence none acts =
 
 -- ### The queue
 
-module _ (servers : ℕ) (s : State) (p : IsPlainState servers s) (client seq : ℕ) (disk name : List ℕ) (row : DiskRow)
-    (found : named s.disks.rows disk ≡ Some row) (free : is_taken s name row ≡ false) where
+-- a snapshot that is asked for, of a disk that has none of this name, nor one that waits
+pub record NewSnapshot : Type 0 where
+  pub servers : ℕ
+  pub s : State
+  pub p : IsPlainState servers s
+  pub client : ℕ
+  pub seq : ℕ
+  pub disk : List ℕ
+  pub name : List ℕ
+  pub row : DiskRow
+  pub found : named s.disks.rows disk ≡ Some row
+  pub free : is_taken s name row ≡ false
+
+module _ (it : NewSnapshot) where
+  open it use {servers, s, p, client, seq, disk, name, row, found, free}
+
   abbrev t : State
   t = with_fence s (Whole row.id name client seq)
 
@@ -164,7 +178,7 @@ module _ (servers : ℕ) (s : State) (p : IsPlainState servers s) (client seq : 
   }
 
   pub snapping : Acted servers s t
-  snapping = requeued servers s (unsettled servers s p) s.rev t.view.queued t.view.queue s.verdicts fences_now
+  snapping = requeued servers s p.unsettled s.rev t.view.queued t.view.queue s.verdicts fences_now
 
 -- ### A report
 
@@ -173,8 +187,8 @@ module _ (servers : ℕ) (s : State) (p : IsPlainState servers s) (server : ℕ)
   u = record s { view = view.drained s.view server }
 
   pub draining : Acted servers s u
-  draining = requeued servers s (unsettled servers s p) s.rev s.view.queued u.view.queue s.verdicts
-      (queued_on s u (fences_queued s p.fences) refl (requeued_reported server s.view.queue)
+  draining = requeued servers s p.unsettled s.rev s.view.queued u.view.queue s.verdicts
+      (queued_on s u p.fences refl (requeued_reported server s.view.queue)
       (λ fence n e waits.
       let b = head_reported server s.view.queue fence e in
       p.fences.present b.0 n b.1 (waits_before server b.0 fence n b.2 waits)))

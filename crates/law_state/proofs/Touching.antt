@@ -32,7 +32,8 @@ use Rattle.law_state.specs.Homes.{HasDied}
 use Rattle.law_state.specs.Tables.{IsPlainState}
 use Rattle.law_state.proofs.Entries.{entering, folding, log_plain}
 use Rattle.law_state.specs.Rows.{IsServed, ByBoth, ByNone, ByOne}
-use Rattle.law_state.proofs.Caughts.{act_caught, alone_by, catch_so, caught_by, link_caught, row_in_both, row_uncaught, the_row, touch_by, touch_so}
+use Rattle.law_state.proofs.Caughts.{act_caught, acting_caught, alone_by, catch_so, caught_by, link_caught}
+use Rattle.law_state.proofs.Caughts.{row_in_both, row_uncaught, the_row, touch_by, touch_so}
 use Rattle.law_state.proofs.Changing.{found_itself}
 use Rattle.law_state.proofs.Grown.{alone_not_both, gone_on, lost_not_both}
 use Rattle.law_state.proofs.Joins.{joined_by, link_joined, row_beside, some_now, was_out}
@@ -116,7 +117,7 @@ module _ (servers : ℕ) (s : State) (p : IsPlainState servers s) (cell : Cell) 
       (λ on. true_false (touch_so s row of link holder holder_inc other other_inc on acts) off) (λ no. no) in
       inl (record {
         same = moved_link (caught_by s of link) row (λ ids e. e)
-            (λ at e. link_caught servers s p of link holder holder_inc other other_inc acts cell.map at
+            (λ at e. link_caught (acting_caught p acts) cell.map at
             ∙ ap (option_map (row_caught of link)) e ∙ ap Some (row_uncaught of link row away));
         primary = refl;
         secondary = refl;
@@ -221,7 +222,7 @@ module _ (servers : ℕ) (s : State) (p : IsPlainState servers s) (cell : Cell) 
   touched (Caught of link holder inc other other_inc) plain on =
       let h = touch_by s row of link holder inc other other_inc on in
       let k = both_true (row.map == of) (row.link == link) h.0 in
-      let found = the_row servers s p of link holder inc other other_inc h.1 row (found_row servers s p cell row is) h.0 in
+      let found = the_row (acting_caught p h.1) row (found_row servers s p cell row is) h.0 in
       let held = alone_by holder row.state found.alone in
       By_caught
       (record {
@@ -238,7 +239,7 @@ module _ (servers : ℕ) (s : State) (p : IsPlainState servers s) (cell : Cell) 
         same = row_after (Caught of link holder inc other other_inc) plain (record row { state = Both })
             (ap (λ b. cell_link (if b then caught_by s of link else s) cell) (catch_so s of link holder inc other other_inc h.1)
             ∙ moved_link servers s p cell row is (caught_by s of link) (record row { state = Both }) (λ ids e. e)
-            (λ at e. link_caught servers s p of link holder inc other other_inc h.1 cell.map at
+            (λ at e. link_caught (acting_caught p h.1) cell.map at
             ∙ ap (option_map (row_caught of link)) e ∙ ap Some (row_in_both of link row h.0)));
         primary = same_seat of link holder inc other other_inc plain row.primary;
         secondary = same_seat of link holder inc other other_inc plain row.secondary;

@@ -17,9 +17,9 @@ use Rattle.petal_rules.specs.State.{State}
 use Rattle.petal_rules.proofs.Tests.{by_bool, none_some, number_itself, same_numbers, same_some, true_false}
 use Rattle.law_state.specs.Homes.{epoch_at, new_stage, old_stage, stage_at, stage_of}
 use Rattle.law_state.specs.Plain.{IsPlainLog}
-use Rattle.law_state.specs.Tables.{HasLaterDisk, IsPlainState}
+use Rattle.law_state.specs.Tables.{HasLaterDisk, IsPlainState, IsRowAt}
 use Rattle.law_state.proofs.Entries.{log_plain}
-use Rattle.law_state.proofs.Homes.{HasRow, row_or_none}
+use Rattle.law_state.proofs.Homes.{row_or_none}
 use Rattle.law_state.proofs.Owners.{disk_on, epoch_in, epoch_is, kept_by, left_by, mover_is, no_home, owner_is, stage_in, stage_is}
 use Rattle.law_state.proofs.Noting.{gone_value, old_value, own_value}
 use Rattle.law_state.proofs.Steady.{front_plain, log_grown}
@@ -51,19 +51,20 @@ pub cells_same : (one other : Cell) → one.map ≡ other.map → one.block ≡ 
 cells_same one other a b = λ i. record { map = a i; block = b i }
 
 module _ (servers : ℕ) (s : State) (p : IsPlainState servers s) (old new : Cell) where
-  by_row : (h : HasRow s p.rows p.homes old) → leaves old.map h.row.moving ≡ true → h.row.map ≡ new.map → new.block ≡ old.block → IsMoved s old new
-  by_row h left map_is block =
-      let m = left_move h.row.moving old.map left in
-      let moving = h.so.moving m.0 m.1 in
+  by_row : (place : ℕ) (row : DiskRow) → slice_get s.disks.rows place ≡ Some row → IsRowAt s.maps place row → leaves old.map row.moving ≡ true
+      → row.map ≡ new.map → new.block ≡ old.block → IsMoved s old new
+  by_row place row stands so left map_is block =
+      let m = left_move row.moving old.map left in
+      let moving = so.moving m.0 m.1 in
       record {
-        place = h.place;
-        row = h.row;
-        stands = h.stands;
+        place = place;
+        row = row;
+        stands = stands;
         of = ap (disk_of s.maps) (sym m.2) ∙ moving.from;
-        made = ap (disk_of s.maps) (sym map_is) ∙ h.so.of;
+        made = ap (disk_of s.maps) (sym map_is) ∙ so.of;
         left = left;
         map_is = map_is;
-        less = subst (λ k. k < h.row.map) m.2 moving.old;
+        less = subst (λ k. k < row.map) m.2 moving.old;
         block = block;
       }
 
@@ -80,7 +81,7 @@ module _ (servers : ℕ) (s : State) (p : IsPlainState servers s) (old new : Cel
         by_bool (leaves old.map h.row.moving)
         (λ left.
         let same : record { map = h.row.map; block = old.block } ≡ new = same_some (sym (ap to_new (moves true left)) ∙ goes) in
-        by_row h left (ap (λ (c : Cell). c.map) same) (sym (ap (λ (c : Cell). c.block) same)))
+        by_row h.place h.row h.stands h.so left (ap (λ (c : Cell). c.map) same) (sym (ap (λ (c : Cell). c.block) same)))
         (λ stays. none_some (ap to_new (moves false stays)) goes)
   ]
 
@@ -109,19 +110,7 @@ module _ (servers : ℕ) (s : State) (p : IsPlainState servers s) (old new : Cel
         by_bool (has_map new.map h.row)
         (λ has.
         let f = from_move h.row (sym (ap (option_and_then (source_in new)) (owns true has)) ∙ comes) in
-        let m = left_move h.row.moving old.map f.1 in
-        let moving = h.so.moving m.0 m.1 in
-        record {
-          place = h.place;
-          row = h.row;
-          stands = h.stands;
-          of = ap (disk_of s.maps) (sym m.2) ∙ moving.from;
-          made = ap (disk_of s.maps) (sym f.0) ∙ h.so.of;
-          left = f.1;
-          map_is = f.0;
-          less = subst (λ k. k < h.row.map) m.2 moving.old;
-          block = f.2;
-        })
+        by_row h.place h.row h.stands h.so f.1 f.0 f.2)
         (λ out. none_some (ap (option_and_then (source_in new)) (owns false out)) comes)
   ]
 

@@ -79,14 +79,13 @@ pub data IsFence (state : State) (fence : Fence) : Type 0 where
   Of_disk : IsForSnapshot state fence → IsFence state fence
   Of_region : IsForRegion state fence → IsFence state fence
 
--- two of them are not for the same snapshot, nor for regions of one disk; and the active one waits for somebody, and only for servers that are In
-pub record AreFences (state : State) : Type 0 where
+-- two of them are not for the same snapshot, nor for regions of one disk; and the active one waits for servers only that are In
+pub record AreQueued (state : State) : Type 0 where
   pub each : (i : ℕ) (fence : Fence) → slice_get state.view.queue i ≡ Some fence → IsFence state fence
   pub apart : (i j : ℕ) (one other : Fence) (disk client seq later again : ℕ) (name : List ℕ) → slice_get state.view.queue i ≡ Some one
       → slice_get state.view.queue j ≡ Some other → one.kind ≡ Whole disk name client seq → other.kind ≡ Whole disk name later again → i ≡ j
   pub once : (i j : ℕ) (one other : Fence) (disk region later : ℕ) → slice_get state.view.queue i ≡ Some one
       → slice_get state.view.queue j ≡ Some other → one.kind ≡ Region disk region → other.kind ≡ Region disk later → i ≡ j
-  pub waits : (fence : Fence) → head state.view.queue ≡ Some fence → fence.waiting ≢ []
   pub present : (fence : Fence) (n : ℕ) → head state.view.queue ≡ Some fence → awaits fence n ≡ true → is_up state n ≡ true
 
 -- the row of a link that a tuple asks for: between neighbours, and served
@@ -111,10 +110,10 @@ pub record HasHome (state : State) (of disk : ℕ) : Type 0 where
 
 -- so many servers, whose incarnations count from 1; no two disks have one name; each map was made for a known disk, over a proper tuple, and
 -- has the links that its tuple asks for while a disk has it, as its own or the one that it leaves; and each is found by its map and number
-pub record IsPlainState (servers : ℕ) (state : State) : Type 0 where
+pub record IsUnsettled (servers : ℕ) (state : State) : Type 0 where
   pub many : length state.view.members ≡ servers
   pub members : (n : ℕ) (member : Member) → slice_get state.view.members n ≡ Some member → 1 ≤ last_inc member
-  pub fences : AreFences state
+  pub fences : AreQueued state
   pub made : state.disks.made ≡ length state.disks.rows
   pub homes : (of disk : ℕ) → disk_of state.maps of ≡ Some disk → HasHome state of disk
   pub rows : (i : ℕ) (row : DiskRow) → slice_get state.disks.rows i ≡ Some row → IsRowAt state.maps i row
@@ -125,6 +124,12 @@ pub record IsPlainState (servers : ℕ) (state : State) : Type 0 where
       → HasLinkOf state of tuple link
   pub unlinked : (of link : ℕ) → owner state of ≡ None → link_at state.links of link ≡ None
   pub found : (row : LinkRow) → In row state.links → link_at state.links row.map row.link ≡ Some row
+
+-- a state between entries: none of its fences has all its reports, so the active one waits for somebody
+pub record IsPlainState (servers : ℕ) (state : State) : Type 0 where
+  pub unsettled : IsUnsettled servers state
+  pub open unsettled use {many, members, fences, made, homes, rows, names, tuples, links, unlinked, found}
+  pub waits : (fence : Fence) → head state.view.queue ≡ Some fence → fence.waiting ≢ []
 
 -- the later row of a link
 pub record HasLaterRow (earlier later : State) (of link : ℕ) (row : LinkRow) : Type 0 where

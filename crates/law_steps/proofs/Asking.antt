@@ -13,7 +13,6 @@ use Rattle.petal_msg.specs.declared.copying.CopyAction.TheVariants as copy_actio
 use Rattle.petal_msg.specs.declared.copying.Copying.{Copying as Copy}
 use Rattle.petal_msg.specs.declared.copying.NextCopy.{NextCopy}
 use Rattle.petal_msg.specs.declared.copying.NextCopy.TheVariants.{Ask, Block, Wait, Nothing}
-use Rattle.petal_msg.specs.declared.body.Body.{Body}
 use Rattle.petal_msg.specs.declared.operation.Action.{Action}
 use Rattle.petal_msg.specs.declared.operation.Action.TheVariants as action
 use Rattle.petal_msg.specs.declared.operation.Pending.{Pending}
@@ -23,24 +22,21 @@ use Rattle.petal_rules.specs.Copies.{copy_awaited, copy_posts, copy_stage, next_
 use Rattle.petal_rules.specs.Fills.{fill_posts, fills_row}
 use Rattle.petal_rules.specs.Progress.{copying_on, has_proposed}
 use Rattle.petal_rules.specs.Lists.{In}
-use Rattle.petal_rules.specs.Log.{Log}
-use Rattle.petal_rules.specs.Server.{Own, Server, Here, Post, post_to}
+use Rattle.petal_rules.specs.Server.{Post, post_to}
 use Rattle.petal_rules.specs.State.{in_both, is_in, leads_link, live, other_in, second}
 use Rattle.petal_rules.specs.Store.{Stored, cell_cmp, chain_in, epochs_of, mark_left}
 use Rattle.petal_rules.specs.Writes.{pending_on, both_action, alone_action, next_stage}
 use Rattle.petal_rules.specs.Jobs.{voter_of}
 use Rattle.petal_rules.specs.Jobs.{tick_posts, sent_anew, copies_anew, awaited}
-use Rattle.petal_rules.specs.World.{Setting, World, server_state}
 use Rattle.petal_rules.proofs.ListLemmas.{in-append}
 use Rattle.petal_rules.proofs.CellTables.{cell_cmp_total}
 use Rattle.petal_rules.proofs.Tests.{by_test, by_bool, not_true, only, true_false}
-use Rattle.law_state.specs.Firm.{Firm}
-use Rattle.law_state.specs.Steady.{IsSteady}
 use Rattle.law_steps.specs.Operations.{IsStaged, Waiting, Putting, Copying, Answering, waiting, putting, copying, answering}
 use Rattle.law_steps.specs.DidLead.{Asks, A_trim, A_copied_entry, A_page, An_entry_to_move, Of_the_log, other_on}
-use Rattle.law_steps.specs.Happens.{IsSeated, Handled}
-use Rattle.law_steps.specs.Happens.{is_between, own_place}
-use Rattle.law_steps.specs.Ready.{IsRising, Rests}
+use Rattle.law_steps.specs.Happens.{IsSeated}
+use Rattle.law_steps.specs.Happens.{is_between}
+use Rattle.law_steps.specs.Ready.{IsRising}
+use Rattle.law_steps.proofs.KnownServer.{KnownServer, parts_of}
 use Rattle.law_steps.proofs.Tables.{at_row}
 use Rattle.law_steps.proofs.InvertFiller.{row_fills}
 use Rattle.law_steps.proofs.InvertHolder.{unpaged, untrue}
@@ -57,22 +53,9 @@ in_flat_map f (x ∷ xs) y h = elim (in-append y (f x) (flat_map f xs) h) [
   | inr later ↦ let found = in_flat_map f xs y later in (found.0, inr found.1, found.2)
 ]
 
-module _ (setting : Setting) (w : World) (rests : Rests setting w) (firm : Firm setting w) (n : ℕ)
-    (steady : IsSteady (server_state setting w n)) (stamp : ℕ) where
-  abbrev here : Here
-  here = own_place setting w n
-
-  abbrev server : Server
-  server = w.servers n
-
-  abbrev own : Own
-  own = (w.servers n).own
-
-  abbrev log : Log
-  log = (w.servers n).log
-
-  abbrev hears_server : Body → Type 0
-  hears_server = Handled w n
+module _ (it : KnownServer) where
+  open it use {rests, n, steady}
+  open parts_of it use {here, server, own, log, hears_server}
 
   abbrev A : Post → Type 0
   A post = Asks here own post

@@ -14,16 +14,13 @@ use Rattle.petal_rules.specs.Fills.{moving}
 use Rattle.petal_rules.specs.Returns.{caught_links, is_nothing, own_join, returning}
 use Rattle.petal_rules.specs.Lists.{In}
 use Rattle.petal_rules.specs.Log.{Log, Voter, rev_of, state_in}
-use Rattle.petal_rules.specs.Server.{Own, Server, Here}
+use Rattle.petal_rules.specs.Server.{Own, Here}
 use Rattle.petal_rules.specs.State.{id_of, is_in}
 use Rattle.petal_state.specs.State.{inc_of}
 use Rattle.petal_rules.specs.Jobs.{voter_of}
 use Rattle.petal_rules.specs.Jobs.{own_wants, wanted_by}
-use Rattle.petal_rules.specs.World.{Setting, World, server_state}
 use Rattle.petal_rules.proofs.ListLemmas.{in-append}
 use Rattle.petal_rules.proofs.Tests.{by_test, true_false}
-use Rattle.law_state.specs.Firm.{Firm}
-use Rattle.law_state.specs.Steady.{IsSteady}
 use Rattle.law_state.specs.Started.{is_caught}
 use Rattle.law_state.proofs.Entries.{log_plain}
 use Rattle.law_state.proofs.Steady.{front_plain}
@@ -35,8 +32,7 @@ use Rattle.law_log.proofs.Moving.{move_among}
 use Rattle.law_log.proofs.Proposing.{first_among}
 use Rattle.law_log.proofs.Servers.{join_only}
 use Rattle.law_steps.specs.Happens.{IsBallotFor, Starts}
-use Rattle.law_steps.specs.Happens.{own_place}
-use Rattle.law_steps.specs.Ready.{Rests}
+use Rattle.law_steps.proofs.KnownServer.{KnownServer, parts_of}
 
 -- what is wanted and no Caught of clients' or Leaves is of a link of the server's
 module _ (voter : Voter) (log : Log) (mine : List Command) where
@@ -67,19 +63,9 @@ caught_returns here own c is h = elim (in-append c (returning here own ++ draini
   | inr moved ↦ true_false is (ap is_caught (move_among here own c moved).is)
 ]
 
-module _ (setting : Setting) (w : World) (rests : Rests setting w) (firm : Firm setting w) (n : ℕ)
-    (steady : IsSteady (server_state setting w n)) (stamp : ℕ) where
-  abbrev here : Here
-  here = own_place setting w n
-
-  abbrev server : Server
-  server = w.servers n
-
-  abbrev own : Own
-  own = (w.servers n).own
-
-  abbrev log : Log
-  log = (w.servers n).log
+module _ (it : KnownServer) where
+  open it use {setting, firm, n}
+  open parts_of it use {here, server, own, log}
 
   -- a ballot for a Caught is of a link of which nothing is left to copy
   ballot_for : (of link holder inc other other_inc : ℕ) → In (Caught of link holder inc other other_inc) (returning here own)

@@ -79,21 +79,23 @@ same own done e caught rises says none = record {
   no_letters = none;
 }
 
+-- what a link's progress does not change, a block that is copied leaves
+pub copied_same : {X : Type 0} (f : Own → X) (row : Option LinkRow) (own : Own) (block : ℕ)
+    → ((r : LinkRow) (p : Progress) → f (with_progress own r p) ≡ f own) → f (with_copied row own block) ≡ f own
+copied_same f None own block same = refl
+copied_same f (Some row) own block same = by_test (λ (left : Own). f left ≡ f own) (above (progress_on own row).copied block)
+    (with_progress own row (record (progress_on own row) { copied = Some block })) own (λ t. same row (record (progress_on own row) { copied = Some block }))
+    (λ t. refl)
+
 copied_pairs : (row : Option LinkRow) (own : Own) (block : ℕ) → (with_copied row own block).pairs ≡ own.pairs
-copied_pairs None own block = refl
-copied_pairs (Some row) own block =
-    by_test (λ (left : Own). left.pairs ≡ own.pairs) (above (progress_on own row).copied block)
-    (with_progress own row (record (progress_on own row) { copied = Some block })) own (λ t. refl) (λ t. refl)
+copied_pairs row own block = copied_same (λ o. o.pairs) row own block (λ r p. refl)
 
 page_pairs : (own : Own) (row : LinkRow) (before : Progress) (block : Option ℕ) → (with_page own row before block).pairs ≡ own.pairs
 page_pairs own row before None = refl
 page_pairs own row before (Some block) = refl
 
 copied_pending : (row : Option LinkRow) (own : Own) (block : ℕ) → (with_copied row own block).copies.pending ≡ own.copies.pending
-copied_pending None own block = refl
-copied_pending (Some row) own block =
-    by_test (λ (left : Own). left.copies.pending ≡ own.copies.pending) (above (progress_on own row).copied block)
-    (with_progress own row (record (progress_on own row) { copied = Some block })) own (λ t. refl) (λ t. refl)
+copied_pending row own block = copied_same (λ o. o.copies.pending) row own block (λ r p. refl)
 
 page_pending : (own : Own) (row : LinkRow) (before : Progress) (block : Option ℕ) → (with_page own row before block).copies.pending ≡ own.copies.pending
 page_pending own row before None = refl

@@ -20,6 +20,7 @@ pub mod Fronts
 pub mod LogJobs
 pub mod Turning
 pub mod Idling
+pub mod KnownServer
 pub mod Asking
 pub mod Balloting
 pub mod Serving

@@ -76,15 +76,28 @@ not_dead state cell alive died =
     let dead = died.1 in
     absurd (omega arith)
 
--- what rests at an earlier state rests at a later one by which its server is In as the same incarnation, where no Caught of the server's
+-- what a server has pending by an earlier state, and a later one by which it is In as the same incarnation, where no Caught of the server's
 -- stands between them on the link of an operation
-module _ (servers : ℕ) (front whole : List Command) (plain : IsPlainLog servers whole) (prefix : IsPrefix front whole) (n inc : ℕ) (held : Cell → Bool)
-    (pending : Table Cell Pending)
-    (before : (cell : Cell) (op : Pending) → at cell_cmp pending cell ≡ Some op → is_in (state_after servers front) n inc ≡ true)
-    (still : (cell : Cell) (op : Pending) → at cell_cmp pending cell ≡ Some op → is_in (state_after servers whole) n inc ≡ true)
-    (caught : (cell : Cell) (op : Pending) → at cell_cmp pending cell ≡ Some op → (row : LinkRow) (copied : Bool)
-    → cell_link (state_after servers front) cell ≡ Some row → IsCaughtStill servers front whole cell row n copied → held cell ≡ true)
-    (ready : IsReady (state_after servers front) n held pending) where
+pub record LaterPending : Type 0 where
+  pub servers : ℕ
+  pub front : List Command
+  pub whole : List Command
+  pub plain : IsPlainLog servers whole
+  pub prefix : IsPrefix front whole
+  pub n : ℕ
+  pub inc : ℕ
+  pub held : Cell → Bool
+  pub pending : Table Cell Pending
+  pub before : (cell : Cell) (op : Pending) → at cell_cmp pending cell ≡ Some op → is_in (state_after servers front) n inc ≡ true
+  pub still : (cell : Cell) (op : Pending) → at cell_cmp pending cell ≡ Some op → is_in (state_after servers whole) n inc ≡ true
+  pub caught : (cell : Cell) (op : Pending) → at cell_cmp pending cell ≡ Some op → (row : LinkRow) (copied : Bool)
+      → cell_link (state_after servers front) cell ≡ Some row → IsCaughtStill servers front whole cell row n copied → held cell ≡ true
+  pub ready : IsReady (state_after servers front) n held pending
+
+-- what rests at the earlier state rests at the later one
+module _ (it : LaterPending) where
+  open it use {servers, front, whole, plain, prefix, n, inc, held, pending, before, still, caught, ready}
+
   abbrev earlier : State
   earlier = state_after servers front
 
@@ -227,12 +240,21 @@ module _ (setting : Setting) (w : World) (firm : Firm setting w) where
       → IsPrefix more (chosen_log setting w)
       → IsReady (state_after setting.servers more) n (has_proposed (server_state setting w n) (w.servers n).own) (w.servers n).own.pairs.pending
   ready_at rests n runs more on chosen =
-      ready_on setting.servers (w.servers n).log.applied more (front_plain setting.servers more _ firm.plain chosen) on n (w.servers n).life.inc
-      (has_proposed (server_state setting w n) (w.servers n).own) (w.servers n).own.pairs.pending
-      (λ cell op is. rests.seated n cell op runs is)
-      (λ cell op is. runs_at (w.servers n).log.applied more on chosen n runs (rests.seated n cell op runs is))
-      (λ cell op is row copied there found. caught_held n more on chosen runs (rests.seated n cell op runs is) cell row copied there found)
-      (rests.pending n)
+      ready_on (record {
+        servers = setting.servers;
+        front = (w.servers n).log.applied;
+        whole = more;
+        plain = front_plain setting.servers more _ firm.plain chosen;
+        prefix = on;
+        n = n;
+        inc = (w.servers n).life.inc;
+        held = has_proposed (server_state setting w n) (w.servers n).own;
+        pending = (w.servers n).own.pairs.pending;
+        before = λ cell op is. rests.seated n cell op runs is;
+        still = λ cell op is. runs_at (w.servers n).log.applied more on chosen n runs (rests.seated n cell op runs is);
+        caught = λ cell op is row copied there found. caught_held n more on chosen runs (rests.seated n cell op runs is) cell row copied there found;
+        ready = rests.pending n;
+      })
 
   pub ready_chosen : Rests setting w → (n : ℕ) → (w.servers n).life.running ≡ true
       → IsReady (chosen_state setting w) n (has_proposed (server_state setting w n) (w.servers n).own) (w.servers n).own.pairs.pending

@@ -1,6 +1,5 @@
 -- What the lead of a link of an old map remembers of the keys that the new map has changes by its own job alone.
 use Rattle.std.proofs.Common.{◌≡◌, ℕ, Option, Some, None, refl, ap, ◌∙◌}
-use Rattle.busy_marks.specs.Marks.{above}
 use Rattle.global_tables.specs.declared.link.LinkRow.{LinkRow}
 use Rattle.petal_base.specs.declared.cell.Cell.{Cell}
 use Rattle.petal_base.specs.declared.cell.Key.{Key}
@@ -18,7 +17,7 @@ use Rattle.petal_msg.specs.declared.operation.Far.TheVariants as far
 use Rattle.petal_msg.specs.declared.operation.Pending.{Pending}
 use Rattle.petal_state.specs.CellState.{cell_link}
 use Rattle.petal_rules.specs.Copies.{with_copied, with_page}
-use Rattle.petal_rules.specs.Progress.{progress_on, with_progress, without_copying}
+use Rattle.petal_rules.specs.Progress.{progress_on, without_copying}
 use Rattle.petal_rules.specs.Server.{Own, Here, Done}
 use Rattle.petal_rules.specs.State.{id_of, link_cmp}
 use Rattle.petal_rules.specs.Writes.{acts, gives_back, next_stage, tells, without_pending}
@@ -32,6 +31,7 @@ use Rattle.law_steps.specs.DidLead.{Unmarks_alone, Closes_alone, Goes_on_dead}
 use Rattle.law_steps.specs.DidOther.{DidOther, TrimStep, Is_trimmed, Drops_entry, Is_copied_to}
 use Rattle.law_steps.specs.DidOther.{Goes_on_trimming}
 use Rattle.law_steps.specs.DidSecond.{DidSecond, Sets_apart, Promises, Declines, Follows}
+use Rattle.law_steps.proofs.CopyFrames.{copied_same}
 use Rattle.law_steps.proofs.Subjects.{of_ending, of_read, of_sweep}
 use Rattle.law_steps.proofs.Taking.{taking}
 
@@ -60,10 +60,7 @@ told_kept here own new cell number far.Reserved e = record { same = e }
 told_kept here own new cell number far.Replicated e = record { same = e }
 
 copied_filled : (row : Option LinkRow) (own : Own) (block : ℕ) → (with_copied row own block).filled ≡ own.filled
-copied_filled None own block = refl
-copied_filled (Some row) own block =
-    by_test (λ (left : Own). left.filled ≡ own.filled) (above (progress_on own row).copied block)
-    (with_progress own row (record (progress_on own row) { copied = Some block })) own (λ t. refl) (λ t. refl)
+copied_filled row own block = copied_same (λ o. o.filled) row own block (λ r p. refl)
 
 page_filled : (own : Own) (row : LinkRow) (before : Progress) (block : Option ℕ) → (with_page own row before block).filled ≡ own.filled
 page_filled own row before None = refl

@@ -17,7 +17,7 @@ use Rattle.petal_rules.specs.Returns.{proposed}
 use Rattle.petal_rules.specs.Entries.{applies}
 use Rattle.petal_rules.specs.Lists.{In, put_at}
 use Rattle.petal_rules.specs.Log.{Log, LogDone, known, next_place, rev_of}
-use Rattle.petal_rules.specs.Server.{Own, Server, Here, Post, Sender, Done, silent, sender, letters_of}
+use Rattle.petal_rules.specs.Server.{Server, Post, Sender, Done, silent, sender, letters_of}
 use Rattle.petal_rules.specs.Writes.{pending_on}
 use Rattle.petal_rules.specs.Jobs.{Acted, works, job_done, crossing, entered, worked, is_overfull, stops, glances, glance_sender, is_log_job, voter_of}
 use Rattle.petal_rules.specs.Jobs.{tick_jobs, tick_posts, does, log_does, wanted_by}
@@ -33,14 +33,13 @@ use Rattle.petal_paxos.specs.Chosen.{chosen_log as chosen_by}
 use Rattle.petal_rules.proofs.ListLemmas.{in-append, put_same}
 use Rattle.petal_rules.proofs.Tests.{by_test, all_put, only, true_false}
 use Rattle.law_state.specs.Firm.{Firm}
-use Rattle.law_state.specs.Steady.{IsSteady}
 use Rattle.law_state.proofs.Steady.{log_rev}
 use Rattle.law_steps.specs.Operations.{IsStaged}
 use Rattle.law_steps.specs.DidLead.{Asks, Asks_for, Of_the_log}
 use Rattle.law_steps.specs.Did.{Did, Ignores, By_lead}
-use Rattle.law_steps.specs.Happens.{IsIdle, IsSeated, Handled, AreQueued, Starts, By_job, By_ballot, By_entry, Serving, Goes}
-use Rattle.law_steps.specs.Happens.{Ends, Stays, Wakes, Fails, served_so, stopped_so, own_place}
-use Rattle.law_steps.specs.Ready.{Rests}
+use Rattle.law_steps.specs.Happens.{IsIdle, IsSeated, AreQueued, Starts, By_job, By_ballot, By_entry, Serving, Goes}
+use Rattle.law_steps.specs.Happens.{Ends, Stays, Wakes, Fails, served_so, stopped_so}
+use Rattle.law_steps.proofs.KnownServer.{KnownServer, parts_of}
 use Rattle.law_steps.proofs.Inversion.{IsHeard, did}
 use Rattle.law_steps.proofs.LogJobs.{LogFrame, letter_frame_of, start_frame_of, applied_entry, applied_none}
 use Rattle.law_steps.proofs.Subjects.{no_letters}
@@ -61,31 +60,18 @@ chosen_same setting w n stamp what acted same =
     all_put w.servers n acted.server (λ m (x : Server). x.log.records ≡ (w.servers m).log.records) (λ m. refl) same in
     ap (chosen_by setting.servers) (λ i m. each m i)
 
-module _ (setting : Setting) (w : World) (rests : Rests setting w) (firm : Firm setting w) (n : ℕ)
-    (steady : IsSteady (server_state setting w n)) (stamp : ℕ) where
-  abbrev here : Here
-  here = own_place setting w n
-
-  abbrev server : Server
-  server = w.servers n
-
-  abbrev own : Own
-  own = (w.servers n).own
-
-  abbrev log : Log
-  log = (w.servers n).log
-
-  abbrev hears_server : Body → Type 0
-  hears_server = Handled w n
+module _ (it : KnownServer) where
+  open it use {setting, w, rests, firm, n, steady, stamp}
+  open parts_of it use {here, server, own, log, hears_server}
 
   abbrev A : Post → Type 0
   A post = Asks here own post
 
   staged : (cell : Cell) (op : Pending) → pending_on own cell ≡ Some op → IsStaged here.state n (has_proposed here.state own) cell op
-  staged = ticks.staged setting w rests firm n steady stamp
+  staged = ticks.staged it
 
   tick_asks : (post : Post) → In post (tick_posts here server) → A post
-  tick_asks = ticks.tick_asks setting w rests firm n steady stamp
+  tick_asks = ticks.tick_asks it
 
   queue_delivered : (letter : Letter) → In letter w.sent → letter.to ≡ actor.Server n → AreQueued w n (server.queue ++ job.Letter letter ∷ [])
   unfolding In
@@ -178,7 +164,7 @@ module _ (setting : Setting) (w : World) (rests : Rests setting w) (firm : Firm 
       let done = starts (voter_of here) log (wanted_by here server) in
       let f = start_frame_of (voter_of here) log (wanted_by here server) in
       let started = first_wanted log.phase (rev_of log) (wanted_by here server) in
-      A_ballot done.log started done.posts (rest ++ done.jobs) f.same (ballots.starts_for_it setting w rests firm n steady stamp started refl) f.says
+      A_ballot done.log started done.posts (rest ++ done.jobs) f.same (ballots.starts_for_it it started refl) f.says
       (queue_left job.Start rest done.jobs e f.jobs)
   job_worked first rest e = worked_worked first rest e
 
@@ -281,7 +267,7 @@ module _ (setting : Setting) (w : World) (rests : Rests setting w) (firm : Firm 
   server_serves Tick other may later =
       let done : Done = record { own = own; posts = tick_posts here server; jobs = [] } in
       Goes (asks_next (voter_of here) log) done _ may.runs
-      (By_job (asks_next (voter_of here) log) done refl (By_lead _ (Asks_for _ tick_asks)) (ticks.tick_seated setting w rests firm n steady stamp may.runs))
+      (By_job (asks_next (voter_of here) log) done refl (By_lead _ (Asks_for _ tick_asks)) (ticks.tick_seated it may.runs))
       queue_started
       (inr (record { same = refl; asks = tick_asks }))
   server_serves (Work work_end.Done) other may later = works_serve server.queue refl may.busy may.acts.runs later

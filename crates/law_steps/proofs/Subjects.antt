@@ -210,26 +210,17 @@ module _ (heard : Body → Type 0) (here : Here) (own : Own) where
       record { pending = refl; next = refl; finished = refl; copies = refl; no_jobs = refl; says = λ post i. ap subject_of (posted _ _ post i) }
   of_second _ (Follows number key version bytes h s is) = told _ _ number far.Replicated refl refl refl refl
 
+  filled : (to : Own) (posts : List Post) → to.pairs ≡ own.pairs → to.store ≡ own.store → to.copies.progress ≡ own.copies.progress
+      → to.copies.pending ≡ own.copies.pending → to.copies.last ≡ own.copies.last
+      → ((post : Post) → In post posts → subject_of post.body ≡ Filling) → FillerFrame own (record { own = to; posts = posts; jobs = [] })
+  filled to posts pairs store progress pending last says =
+      record { pairs = pairs; store = store; progress = progress; pending = pending; last = last; no_jobs = refl; says = says }
+
   pub of_filler : (done : Done) → DidFiller heard here own done → FillerFrame own done
   unfolding In
-  of_filler _ (Is_filled key row posts h next fills) = record {
-    pairs = refl;
-    store = refl;
-    progress = refl;
-    pending = refl;
-    last = refl;
-    no_jobs = refl;
-    says = λ post i. ap (λ (p : Post). subject_of p.body) (fills post i).is;
-  }
-  of_filler _ (Is_out_of_slots key row h next) = record {
-    pairs = refl;
-    store = refl;
-    progress = refl;
-    pending = refl;
-    last = refl;
-    no_jobs = refl;
-    says = λ post i. absurd i;
-  }
+  of_filler _ (Is_filled key row posts h next fills) =
+      filled _ posts refl refl refl refl refl (λ post i. ap (λ (p : Post). subject_of p.body) (fills post i).is)
+  of_filler _ (Is_out_of_slots key row h next) = filled _ [] refl refl refl refl refl (λ post i. absurd i)
 
   pub of_sweep : (done : Done) → DidSweep here own done → SweepFrame own done
   unfolding In

@@ -1,4 +1,5 @@
 -- What a pending operation is that a holder that is alone takes up.
+use Rattle.petal_table.specs.Table.{Table, put}
 use Rattle.std.proofs.Common.{◌≡◌, ◌≢◌, Bool, Some, refl}
 use Rattle.petal_base.specs.declared.cell.Cell.{Cell}
 use Rattle.petal_msg.specs.declared.operation.Pending.{Pending}
@@ -27,16 +28,23 @@ pub record IsTaken (own now : Own) (op : Pending) : Type 0 where
   pub copies : now.copies ≡ own.copies
   pub filled : now.filled ≡ own.filled
 
-pub taking : (own now : Own) (op : Pending) → Taken own now op → IsTaken own now op
-taking own _ _ (As_it_is op is) = record {
-  old = op;
-  reserved = op.stage.reserved;
-  paired = op.stage.paired;
-  is = refl;
-  was = is;
-  there = is;
-  others = λ cell ne. refl;
-  rises = λ h. h;
+-- a part of which only what is pending is changed
+abbrev with_table : Own → Table Cell Pending → Own
+with_table own t = record own { pairs = record own.pairs { pending = t } }
+
+taken_by : (own : Own) (t : Table Cell Pending) (op old : Pending) (reserved paired : Bool) → op ≡ told old reserved paired → pending_on own op.cell ≡ Some old
+    → pending_on (with_table own t) op.cell ≡ Some op
+    → ((cell : Cell) → cell ≢ op.cell → pending_on (with_table own t) cell ≡ pending_on own cell)
+    → (IsRising cell_cmp own.pairs.pending → IsRising cell_cmp t) → IsTaken own (with_table own t) op
+taken_by own t op old reserved paired is was there others rises = record {
+  old = old;
+  reserved = reserved;
+  paired = paired;
+  is = is;
+  was = was;
+  there = there;
+  others = others;
+  rises = rises;
   store = refl;
   next = refl;
   finished = refl;
@@ -44,22 +52,12 @@ taking own _ _ (As_it_is op is) = record {
   copies = refl;
   filled = refl;
 }
+
+pub taking : (own now : Own) (op : Pending) → Taken own now op → IsTaken own now op
+taking own _ _ (As_it_is op is) =
+    taken_by own own.pairs.pending op op op.stage.reserved op.stage.paired refl is is (λ cell ne. refl) (λ h. h)
 taking own _ _ (As_told op reserved paired is) =
     let t = own.pairs.pending in
     let new = told op reserved paired in
-    record {
-      old = op;
-      reserved = reserved;
-      paired = paired;
-      is = refl;
-      was = is;
-      there = cell_same t op.cell new;
-      others = λ cell ne. cell_apart t op.cell new cell ne;
-      rises = λ h. put_rises cell_cmp_total t op.cell new h;
-      store = refl;
-      next = refl;
-      finished = refl;
-      last = refl;
-      copies = refl;
-      filled = refl;
-    }
+    taken_by own (put cell_cmp t op.cell new) new op reserved paired refl is (cell_same t op.cell new) (λ cell ne. cell_apart t op.cell new cell ne)
+    (λ h. put_rises cell_cmp_total t op.cell new h)

@@ -31,11 +31,42 @@ use Rattle.law_steps.proofs.Fronts.{front_long, front_more, front_on, one_front}
 use Rattle.law_steps.proofs.Histories.{runs_at}
 use Rattle.law_steps.proofs.Minds.{held_as_flag}
 
-module _ (setting : Setting) (w : World) (firm : Firm setting w) (n : ℕ) (runs : (w.servers n).life.running ≡ true) (front more : List Command)
-    (own : IsPrefix (w.servers n).log.applied front) (prefix : IsPrefix front more) (chosen : IsPrefix more (chosen_log setting w))
-    (seat : is_in (state_after setting.servers front) n (w.servers n).life.inc ≡ true)
-    (cell : Cell) (row : LinkRow) (is : cell_link (state_after setting.servers front) cell ≡ Some row) (has : has_server n row ≡ true)
-    (serving : serves n row row.state ≡ true) (under : stage_at (state_after setting.servers more) cell < 4) where
+-- a server that runs, and two fronts of what is chosen that go on from its own entries; by the first one it is In as itself
+pub record RunningFronts : Type 0 where
+  pub setting : Setting
+  pub w : World
+  pub firm : Firm setting w
+  pub n : ℕ
+  pub runs : (w.servers n).life.running ≡ true
+  pub front : List Command
+  pub more : List Command
+  pub own : IsPrefix (w.servers n).log.applied front
+  pub prefix : IsPrefix front more
+  pub chosen : IsPrefix more (chosen_log setting w)
+  pub seat : is_in (state_after setting.servers front) n (w.servers n).life.inc ≡ true
+
+abbrev pub running_fronts : {setting : Setting} {w : World} → Firm setting w → (n : ℕ) → (w.servers n).life.running ≡ true → {front more : List Command}
+    → IsPrefix (w.servers n).log.applied front → IsPrefix front more → IsPrefix more (chosen_log setting w)
+    → is_in (state_after setting.servers front) n (w.servers n).life.inc ≡ true → RunningFronts
+running_fronts {setting} {w} firm n runs {front} {more} own prefix chosen seat = record {
+  setting = setting;
+  w = w;
+  firm = firm;
+  n = n;
+  runs = runs;
+  front = front;
+  more = more;
+  own = own;
+  prefix = prefix;
+  chosen = chosen;
+  seat = seat;
+}
+
+module _ (it : RunningFronts) (cell : Cell) (row : LinkRow) (is : cell_link (state_after it.setting.servers it.front) cell ≡ Some row)
+    (has : has_server it.n row ≡ true) (serving : serves it.n row row.state ≡ true)
+    (under : stage_at (state_after it.setting.servers it.more) cell < 4) where
+  open it use {setting, w, firm, n, runs, front, more, own, prefix, chosen, seat}
+
   abbrev earlier : State
   earlier = state_after setting.servers front
 

@@ -1,0 +1,86 @@
+-- One entry more of the chosen log, and what is so of the world and of the log before it.
+use Rattle.std.proofs.Common.{◌==◌, if◌then◌else◌, ◌≡◌, ◌++◌, ◌⊎◌, ℕ, List, [], ◌∷◌, true, false}
+use Rattle.std.proofs.Common.{None}
+use Rattle.petal_base.specs.declared.cell.Cell.{Cell}
+use Rattle.petal_command.specs.declared.command.Command.{Command}
+use Rattle.petal_command.specs.declared.command.Command.TheVariants.{Caught}
+use Rattle.petal_history.specs.Claims.{IsPrefix}
+use Rattle.petal_history.specs.Legal.{world_after}
+use Rattle.petal_history.specs.declared.record.Record.{Record}
+use Rattle.petal_state.specs.Command.{state_after}
+use Rattle.petal_rules.specs.Blanked.{joins_blank}
+use Rattle.petal_rules.specs.State.{State, is_in}
+use Rattle.petal_rules.specs.Store.{Store}
+use Rattle.petal_rules.specs.World.{Setting, World, blank_joins_in, server_state, start}
+use Rattle.law_log.specs.Requested.{WasStarted}
+use Rattle.law_state.specs.Plain.{IsPlainLog}
+use Rattle.law_steps.proofs.Fronts.{front_on}
+use Rattle.law_copies.specs.Good.{Good}
+use Rattle.law_copies.specs.Pair.{HaveMarks}
+use Rattle.law_copies.specs.Visits.{Visits, with_stores}
+
+-- every server has applied entries of this log alone, now and at each world on the way
+pub record IsBehind (setting : Setting) (records : List Record) (top : List Command) (w : World) : Type 0 where
+  pub now : (n : ℕ) → IsPrefix (w.servers n).log.applied top
+  pub ever : (before later : List Record) → records ≡ before ++ later → (n : ℕ)
+      → IsPrefix ((world_after setting (start setting) before).servers n).log.applied top
+
+pub behind_on : (setting : Setting) (records : List Record) (top more : List Command) (w : World) → IsPrefix top more → IsBehind setting records top w
+    → IsBehind setting records more w
+behind_on setting records top more w prefix behind = record {
+  now = λ n. front_on _ top more (behind.now n) prefix;
+  ever = λ before later is n. front_on _ top more (behind.ever before later is n) prefix;
+}
+
+-- what is kept of this front of the log, with these visits and places that count
+pub record IsGrownTo (setting : Setting) (records : List Record) (w : World) (visits : Visits) (reached : Cell → ℕ) (log : List Command) : Type 0 where
+  pub good : Good setting records log w
+  pub visits_are : (n place : ℕ) (cell : Cell) → good.visits n place cell ≡ visits n place cell
+  pub reached_is : (cell : Cell) → good.reached cell ≡ reached cell
+
+-- ### One entry more
+
+-- the server's store is empty once the entry counts: the server is not In as itself by its own entries, and has nothing pending
+pub record IsRenewed (setting : Setting) (u : World) (n : ℕ) (store : Store) : Type 0 where
+  pub chains : store.chains ≡ []
+  pub marks : store.marks ≡ []
+  pub out : is_in (server_state setting u n) n (u.servers n).life.inc ≡ false
+  pub rested : ((u.servers n).life.running ≡ true) ⊎ (u.before_blank n ≡ None) → HaveMarks (server_state setting u n) (u.servers n).own.pairs.pending store
+
+-- the stores that count once the entry does
+pub record AreRecounted (setting : Setting) (u : World) (here : State) (entry : Command) (old new : ℕ → Store) : Type 0 where
+  pub same : (n : ℕ) → joins_blank here entry n ≡ false → new n ≡ old n
+  pub renewed : (n : ℕ) → joins_blank here entry n ≡ true → IsRenewed setting u n (new n)
+
+-- the log gets this entry, whose stores count from then on; where it is a link's Caught its holder had started the ballot for it
+pub record AtNext : Type 0 where
+  pub setting : Setting
+  pub records : List Record
+  pub top : List Command
+  pub entry : Command
+  pub u : World
+  pub old : ℕ → Store
+  pub new : ℕ → Store
+  pub good : Good setting records top (with_stores u old)
+  pub behind : IsBehind setting records top u
+  pub all : IsPlainLog setting.servers (top ++ entry ∷ [])
+  pub started : (of link holder inc other other_inc : ℕ) → entry ≡ Caught of link holder inc other other_inc
+      → WasStarted setting records holder inc top (record { map = of; link = link })
+  pub recounts : AreRecounted setting u (state_after setting.servers top) entry old new
+
+-- the log and its state then, the world by the stores that count then, and all stores: a server that comes back with nothing has a store more
+pub record Next : Type 0 where
+  pub next : List Command
+  pub here : State
+  pub then_state : State
+  pub v : World
+  pub stores : ℕ → ℕ → Store
+
+abbrev pub next_of : AtNext → Next
+next_of it = record {
+  next = it.top ++ it.entry ∷ [];
+  here = state_after it.setting.servers it.top;
+  then_state = state_after it.setting.servers (it.top ++ it.entry ∷ []);
+  v = with_stores it.u it.new;
+  stores = λ n joins. if joins == blank_joins_in it.setting (it.top ++ it.entry ∷ []) n then it.new n else it.good.stores n joins;
+}

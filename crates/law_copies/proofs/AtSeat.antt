@@ -1,0 +1,21 @@
+-- A running server that is In as itself, and what is so of the world then.
+use Rattle.std.proofs.Common.{◌≡◌, ℕ, true}
+use Rattle.petal_rules.specs.State.{is_in}
+use Rattle.petal_rules.specs.Store.{Store}
+use Rattle.petal_rules.specs.World.{Setting, World, blank_joins_in, chosen_log, server_state}
+use Rattle.law_copies.proofs.Ground.{Ground}
+
+-- a running server that is In as itself: its store is the one that counts, and no Join of it with an empty store is chosen behind its
+-- own entries
+pub record IsAtWork (setting : Setting) (w : World) (stores : ℕ → Store) (k : ℕ) : Type 0 where
+  pub runs : (w.servers k).life.running ≡ true
+  pub seat : is_in (server_state setting w k) k (w.servers k).life.inc ≡ true
+  pub real : stores k ≡ (w.servers k).own.store
+  pub counts : blank_joins_in setting (w.servers k).log.applied k ≡ blank_joins_in setting (chosen_log setting w) k
+
+-- such a server
+pub record AtSeat : Type 0 where
+  pub ground : Ground
+  pub open ground use {setting, records, w, stores, good, firm, rests}
+  pub k : ℕ
+  pub works : IsAtWork setting w stores k
