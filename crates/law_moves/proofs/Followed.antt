@@ -135,7 +135,8 @@ module _ (it : OneMore) (all : AllKnown it.prior.script it.prior.records) where
         no_early none =
             let one = numbered_then was.before was.later was.is row.primary cell op pending_then in
             let least =
-            begun_by _ _ far_is (at cell_cmp (half (visit row.primary) (store_by setting G.stores f row.primary)).pairs.pending cell) op (twins it s three).pair.copies
+            begun_by _ _ far_is (at cell_cmp (half (visit row.primary) (store_by setting G.stores f row.primary)).pairs.pending cell) op
+            (twins it s three).pair.copies
             (ap (λ o. at cell_cmp (half o (store_by setting G.stores f row.primary)).pairs.pending cell) there ∙ pending) put in
             let zero_far : far_is ≡ 0 = ap (λ k. progress (at cell_cmp (half (visit k) (store_by setting G.stores f k)).pairs.last cell)) second
             ∙ ap (λ o. progress (at cell_cmp (half o (store_by setting G.stores f m)).pairs.last cell)) none ∙ ap progress (at-empty cell_cmp cell) in

@@ -24,11 +24,11 @@ use Rattle.petal_rules.specs.Jobs.{Acted, down_posts}
 use Rattle.petal_rules.specs.Lists.{In}
 use Rattle.petal_rules.specs.Log.{Log, rev_of}
 use Rattle.petal_rules.specs.Server.{Own, Pairs, Here, Post, Sender, Done, sender, letters_of}
-use Rattle.petal_rules.specs.State.{State, servers_of}
+use Rattle.petal_rules.specs.State.{servers_of}
 use Rattle.petal_rules.specs.Progress.{copying_on}
 use Rattle.petal_rules.specs.Store.{Store, cell_cmp, chain_in}
 use Rattle.petal_rules.specs.Writes.{is_under_way}
-use Rattle.petal_rules.specs.World.{Setting, World, acts, before_blanks, stamped, chosen_log, chosen_state, server_state}
+use Rattle.petal_rules.specs.World.{World, acts, before_blanks, stamped, chosen_log, chosen_state, server_state}
 use Rattle.petal_rules.specs.declared.job.Job.{Job}
 use Rattle.petal_rules.specs.declared.step.Step.{Step}
 use Rattle.petal_rules.proofs.Settled.{IsSettling, settling}
@@ -42,9 +42,9 @@ use Rattle.law_steps.specs.Happens.{own_place, without_rev, served_so, stopped_s
 use Rattle.law_steps.proofs.Letters.{said}
 use Rattle.law_steps.proofs.Serving.{chosen_same}
 use Rattle.law_copies.specs.Pair.{owns_of}
-use Rattle.law_run.specs.Follow.{Ground, Follow}
+use Rattle.law_run.specs.Follow.{Ground}
 use Rattle.law_run.specs.Onward.{Onward}
-use Rattle.law_run.proofs.Along.{Along, rows_in}
+use Rattle.law_run.proofs.Along.{Along}
 use Rattle.law_moves.proofs.Chains.{did_stores, NeverDead}
 use Rattle.law_run.proofs.Frames.{AreKept, As_before, Anew, OwnFollow, Runs, SaysOk, kept_own}
 use Rattle.law_run.proofs.LogSteps.{IsOfKind, Of_the_log, Of_a_boot, Of_the_rest}
@@ -56,6 +56,7 @@ use Rattle.law_run.proofs.Says.{IsUnended, is_written, did_says, downs_unended, 
 use Rattle.law_run.proofs.ServerJobs.{did_job}
 use Rattle.law_run.proofs.Freezing.{assembled}
 use Rattle.law_run.proofs.Votes.{votes_told}
+use Rattle.law_run.proofs.Scenes.{Followed}
 
 -- letters that end no request
 module _ (this : ServerStep) (who : Sender) (posts : List Post) (is : letters this ≡ stamped this.stamp (letters_of who 0 posts))
@@ -78,13 +79,8 @@ none_pending own cell free = by (at cell_cmp own.pairs.pending cell) free
 
 -- a server of this world
 pub record ServesAt : Type 0 where
-  pub setting : Setting
-  pub state : State
-  pub w : World
-  pub m : Plain
-  pub along : Along setting state w
-  pub ground : Ground setting state w
-  pub follow : Follow setting (rows_in setting w) w m
+  pub told : Followed
+  pub open told use *
   pub n : ℕ
   pub within : n < setting.servers
   pub stamp : ℕ
@@ -106,13 +102,7 @@ module _ (at : ServesAt) where
 
   abbrev pub step_of : (acted : Acted) → Serving at.setting at.w at.n at.what acted → Next acted → ServerStep
   step_of acted serving next = record {
-    setting = at.setting;
-    state = at.state;
-    w = at.w;
-    m = at.m;
-    along = at.along;
-    ground = at.ground;
-    follow = at.follow;
+    told = at.told;
     n = at.n;
     within = at.within;
     stamp = at.stamp;
@@ -150,7 +140,8 @@ module _ (at : ServesAt) where
       pub legal : IsLegalFrom at.setting v at.later
 
     never : (at.w.servers at.n).life.running ≡ true → NeverDead here own
-    never = never_dead at.setting at.state at.along.steady at.w at.along.firm at.ground at.n
+    never =
+        never_dead (record { setting = at.setting; state = at.state; w = at.w; firm = at.along.firm; ground = at.ground }) at.along.steady at.n
 
     abbrev IsSame : Acted → Type 0
     IsSame acted = chosen_log at.setting (after_step acted) ≡ chosen_log at.setting at.w
