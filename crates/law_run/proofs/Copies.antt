@@ -81,7 +81,8 @@ nothing_left own caught (inr whole) = caught.copied whole.0 whole.1
 pub counted_lives : (state : State) (cell : Cell) (n : ℕ) → authority state cell ≡ Some n → live state cell ≡ true
 counted_lives state cell n counts = by_bool (live state cell) (λ t. t) (λ f. none_some (dead_authority state cell f) counts)
 
-module _ (g : Grounded) (n : ℕ) (runs : (g.w.servers n).life.running ≡ true) (new : Own) (puts : PutsCopy (Handled g.w n) (own_place g.setting g.w n) (owns_of g.w n) new) (alive : AliveIn (chosen_state g.setting g.w) puts.cell) where
+module _ (g : Grounded) (n : ℕ) (runs : (g.w.servers n).life.running ≡ true) (new : Own)
+    (puts : PutsCopy (Handled g.w n) (own_place g.setting g.w n) (owns_of g.w n) new) (alive : AliveIn (chosen_state g.setting g.w) puts.cell) where
   open g use {setting, w, firm, ground}
 
   abbrev chosen : List Command

@@ -41,7 +41,8 @@ use Rattle.law_run.proofs.Contents.{IsGiven, AreGiven, Taken, all_given, given_h
 use Rattle.law_run.proofs.Entries.{entry_below, entry_put}
 use Rattle.law_run.proofs.Frames.{OwnFollow, SaysOk, CountsOk}
 use Rattle.law_run.proofs.Placed.{Placed}
-use Rattle.law_run.proofs.Steps.{ServerStep, TakesTold, ends_of, frozen_same, grounded, joined_now, joined_then, kept_here, later_world, new, own_after, same_entry}
+use Rattle.law_run.proofs.Steps.{ServerStep, TakesTold, ends_of, frozen_same, grounded, joined_now, joined_then, kept_here, later_world, new}
+use Rattle.law_run.proofs.Steps.{own_after, same_entry}
 use Rattle.law_run.proofs.Takes.{block_there}
 
 module _ (this : ServerStep) (same : chosen_log this.setting (later_world this) ≡ chosen_log this.setting this.w) where

@@ -82,11 +82,23 @@ module _ (this : ServerStep) (same : chosen_log this.setting (later_world this) 
       let one : known.row ≡ f.row = one_row this.setting (chosen_log this.setting this.w) firm.plain
       (this.w.servers this.n).log.applied known.known.upto cell
       f.row known.row (firm.servers this.n) upto f.shares.linked known.linked (sym known.at) in
-      open_beside this.setting this.w firm this.ground.lives f.row.primary known.inc
-      (asked_for cell f.putting.op) f.putting.op.rev known.known
-      this.n runs a.seat f.row f.shares.linked f.shares.has f.shares.both
-      (subst (λ r. IsLinked this.setting known.known.upto cell r) one known.linked)
-      (sym known.at ∙ ap (place_by this.setting known.known.upto) one) timely.stays
+      open_beside this.setting this.w firm this.ground.lives (record {
+        n = f.row.primary;
+        inc = known.inc;
+        want = asked_for cell f.putting.op;
+        rev = f.putting.op.rev;
+        p = known.known;
+        m = this.n;
+        runs = runs;
+        seat = a.seat;
+        row = f.row;
+        there = f.shares.linked;
+        has = f.shares.has;
+        both = f.shares.both;
+        known = subst (λ r. IsLinked this.setting known.known.upto cell r) one known.linked;
+        place = sym known.at ∙ ap (place_by this.setting known.known.upto) one;
+        most = timely.stays;
+      })
 
   -- ### What is told
 
