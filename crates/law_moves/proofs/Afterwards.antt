@@ -32,7 +32,7 @@ use Rattle.law_moves.proofs.Rule.{rule_kept}
 use Rattle.law_moves.proofs.EqualCopies.{frozen_on}
 use Rattle.law_moves.proofs.There.{told_already}
 use Rattle.law_moves.proofs.Worlds.{rests}
-use Rattle.law_moves.proofs.Scenes.{History, cut, end_of}
+use Rattle.law_epochs.proofs.Scenes.{History, cut, end_of}
 
 module _ (script : Script) (records : List Record) (sound : IsSound script) (legal : IsLegal script records) where
   abbrev h : History

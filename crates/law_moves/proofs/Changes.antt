@@ -52,7 +52,7 @@ use Rattle.law_epochs.proofs.Histories.{running_timely}
 use Rattle.law_moves.proofs.Chains.{A_copy, An_asked, An_own, CopiesSo, Is_dropped, Is_dropped_first, Is_put, NeverDead, Nothing_new}
 use Rattle.law_moves.proofs.Chains.{Of_the_dead, StoresSo, copied_apart, did_stores}
 use Rattle.law_moves.proofs.Worlds.{firm, good, own_counts, rests, steady_at, up}
-use Rattle.law_moves.proofs.Scenes.{History, end_of}
+use Rattle.law_epochs.proofs.Scenes.{History, end_of}
 
 -- no fill is pending at a server that runs but while its cell comes
 abbrev pub AreOpenedComing : Setting → World → Type 0

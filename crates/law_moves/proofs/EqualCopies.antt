@@ -40,7 +40,8 @@ use Rattle.law_moves.proofs.Opened.{opened_within}
 use Rattle.law_moves.proofs.Over.{AllMoved}
 use Rattle.law_moves.proofs.There.{told_already}
 use Rattle.law_moves.proofs.Worlds.{chosen_twins, good, rests, row_serving}
-use Rattle.law_moves.proofs.Scenes.{FillsSo, History, OneMore, cut, ends_of}
+use Rattle.law_epochs.proofs.Scenes.{History, OneMore, cut, ends_of}
+use Rattle.law_moves.proofs.Scenes.{FillsSo}
 
 -- what is known of an entry that moves stays so
 pub frozen_on : (script : Script) (sound : IsSound script) (past later : List Record) (legal : IsLegal script (past ++ later)) (rev : ℕ) (key : Key)

@@ -44,7 +44,8 @@ use Rattle.law_moves.proofs.There.{told_already}
 use Rattle.law_moves.proofs.Worlds.{good, own_counts, rests, row_serving}
 use Rattle.law_moves.proofs.SecondPlaces.{IsThereNow, last, one_of, second_place, there_so, twins}
 use Rattle.law_moves.proofs.StillFollowed.{past_so}
-use Rattle.law_moves.proofs.Scenes.{AsksToPut, FillsSo, History, IsSecondAt, OneMore, cut, ends_of}
+use Rattle.law_epochs.proofs.Scenes.{History, OneMore, cut, ends_of}
+use Rattle.law_moves.proofs.Scenes.{AsksToPut, FillsSo, IsSecondAt}
 
 -- an operation is pending there only where the server was there
 op_there : (visit : Option Own) (store : Store) (cell : Cell) (op : Pending) → at cell_cmp (half visit store).pairs.pending cell ≡ Some op

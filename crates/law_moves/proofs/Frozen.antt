@@ -22,7 +22,7 @@ use Rattle.law_steps.proofs.Fronts.{below_itself}
 use Rattle.law_steps.proofs.Histories.{last_happens}
 use Rattle.law_stores.proofs.Ways.{At, along, before_part}
 use Rattle.law_copies.proofs.Places.{at_most_or_above}
-use Rattle.law_moves.proofs.Scenes.{OneMore, ends_of, one_more}
+use Rattle.law_epochs.proofs.Scenes.{OneMore, ends_of, one_more}
 
 -- ### One step
 

@@ -46,7 +46,7 @@ use Rattle.law_copies.proofs.Later.{holder_is_one, other_than, same_only, serves
 use Rattle.law_copies.proofs.Places.{alive_on, linked_between, places_up, rows_later, state_next}
 use Rattle.law_moves.proofs.Steps.{Awakes, Enters, HasGone, Is_blanked, Raises, Rests, Starts_ballot, Works, gone, knows, middle}
 use Rattle.law_moves.proofs.Worlds.{row_serving}
-use Rattle.law_moves.proofs.Scenes.{OneMore, ends_of}
+use Rattle.law_epochs.proofs.Scenes.{OneMore, ends_of}
 
 -- nobody who serves a link has been at a later place than the one by all that is chosen
 pub top_last : (setting : Setting) (records : List Record) (top : List Command) (w : World) → IsPlainLog setting.servers top

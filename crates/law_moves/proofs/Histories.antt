@@ -43,7 +43,8 @@ use Rattle.law_moves.proofs.Telling.{asked_next, sent_next}
 use Rattle.law_moves.proofs.Then.{frozen_early}
 use Rattle.law_moves.proofs.There.{born_next, filled_next}
 use Rattle.law_moves.proofs.Visits.{unsaid_at}
-use Rattle.law_moves.proofs.Scenes.{FillsSo, OneMore, ends_of, one_more}
+use Rattle.law_epochs.proofs.Scenes.{OneMore, ends_of, one_more}
+use Rattle.law_moves.proofs.Scenes.{FillsSo}
 
 module _ (it : OneMore) (all : AllKnown it.prior.script it.prior.records) where
   open it use {prior.{script, sound, records as front}, legal}

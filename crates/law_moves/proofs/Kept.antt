@@ -37,7 +37,8 @@ use Rattle.law_moves.proofs.Knows.{AllKnown, Known}
 use Rattle.law_moves.proofs.Steps.{Awakes, Enters, Goes_on, HasGone, HasStore, Is_bare, Is_blanked, Raises, Rests}
 use Rattle.law_moves.proofs.Steps.{Starts_ballot, Works, is_off, knows, stored}
 use Rattle.law_moves.proofs.Worlds.{steady_at, up}
-use Rattle.law_moves.proofs.Scenes.{IsSecondAt, OneMore, ends_of}
+use Rattle.law_epochs.proofs.Scenes.{OneMore, ends_of}
+use Rattle.law_moves.proofs.Scenes.{IsSecondAt}
 
 -- what an entry leaves of a chain
 pub has_put : (old new : Chain) (epoch e : ℕ) (bytes : List ℕ) → IsPutOn old new epoch bytes → Has old e → Has new e

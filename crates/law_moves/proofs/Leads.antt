@@ -40,7 +40,8 @@ use Rattle.law_copies.proofs.Later.{both_since, same_only, serves_alone, serves_
 use Rattle.law_copies.proofs.Places.{at_most_or_above, one_row, places_up, rows_later}
 use Rattle.law_moves.specs.Fills.{Has}
 use Rattle.law_moves.proofs.Worlds.{chosen_twins, facts_at, firm, good, own_counts, rests, steady_at, up}
-use Rattle.law_moves.proofs.Scenes.{History, LeadsAt, TwoLeads, end_of}
+use Rattle.law_epochs.proofs.Scenes.{History, end_of}
+use Rattle.law_moves.proofs.Scenes.{LeadsAt, TwoLeads}
 
 -- ### Two copies
 

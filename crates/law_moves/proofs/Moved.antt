@@ -49,7 +49,7 @@ use Rattle.law_moves.proofs.Knows.{Known}
 use Rattle.law_moves.proofs.NextFill.{none_left, nothing_left}
 use Rattle.law_moves.proofs.Over.{AllMoved, plain, until_lies}
 use Rattle.law_moves.proofs.Serving.{link_lead_serves}
-use Rattle.law_moves.proofs.Scenes.{History, end_of}
+use Rattle.law_epochs.proofs.Scenes.{History, end_of}
 
 -- ### Letters stay
 

@@ -25,7 +25,8 @@ use Rattle.law_moves.specs.Left.{IsKept, IsKnown, IsOurs}
 use Rattle.law_moves.proofs.Knows.{Known}
 use Rattle.law_moves.proofs.Moved.{mover_leads}
 use Rattle.law_moves.proofs.Serving.{link_lead_serves}
-use Rattle.law_moves.proofs.Scenes.{History, IsMover, end_of}
+use Rattle.law_epochs.proofs.Scenes.{History, end_of}
+use Rattle.law_moves.proofs.Scenes.{IsMover}
 
 module _ (it : History) (known : Known it.script it.records) (y : ℕ) (mover : IsMover (end_of it).setting (end_of it).w y) where
   open it use {script, sound, records, legal}

@@ -50,7 +50,7 @@ use Rattle.law_moves.proofs.Steps.{chosen_on, gone, knows, knows_now, sent}
 use Rattle.law_moves.proofs.Telling.{frozen_on, next_frozen}
 use Rattle.law_moves.proofs.Then.{frozen_then}
 use Rattle.law_moves.proofs.Told.{HasTold, lift, told_before, told_now}
-use Rattle.law_moves.proofs.Scenes.{OneMore, ends_of}
+use Rattle.law_epochs.proofs.Scenes.{OneMore, ends_of}
 
 module _ (it : OneMore) (known : Known it.prior.script it.prior.records) (old : AllNewest (ends_of it).setting (ends_of it).w) where
   open it use {prior, prior.{script, sound, records as front}, legal}

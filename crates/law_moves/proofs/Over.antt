@@ -34,7 +34,7 @@ use Rattle.law_steps.proofs.Coming.{stage_facts}
 use Rattle.law_steps.proofs.Fronts.{front_more, front_on}
 use Rattle.law_copies.proofs.Places.{fronts_meet}
 use Rattle.law_moves.specs.Fills.{AllFilled, AreFilled, Has, HaveComeOver, IsOnWay, WasFilled}
-use Rattle.law_moves.proofs.Scenes.{History, end_of}
+use Rattle.law_epochs.proofs.Scenes.{History, end_of}
 
 -- at each Moved of a link that is chosen, while a cell of the link was leaving, the new map was told to have each entry of the cell
 abbrev pub AllMoved : Setting → World → Type 0

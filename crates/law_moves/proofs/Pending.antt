@@ -44,7 +44,8 @@ use Rattle.law_moves.proofs.Steps.{Starts_ballot, Works, chosen_on, gone, sent, 
 use Rattle.law_moves.proofs.EqualCopies.{moved_now}
 use Rattle.law_moves.proofs.There.{filled_key, kept_own, no_other, told_already}
 use Rattle.law_moves.proofs.Worlds.{facts_at, firm, good, own_counts, rests, steady_at, up}
-use Rattle.law_moves.proofs.Scenes.{OneMore, TwoLeads, ends_of}
+use Rattle.law_epochs.proofs.Scenes.{OneMore, ends_of}
+use Rattle.law_moves.proofs.Scenes.{TwoLeads}
 
 module _ (it : OneMore) (all : AllKnown it.prior.script it.prior.records) where
   open it use {prior, prior.{script, records as front}}

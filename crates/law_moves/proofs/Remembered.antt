@@ -29,7 +29,7 @@ use Rattle.law_moves.proofs.Knows.{HasBegun, HaveBegun, Known}
 use Rattle.law_moves.proofs.Steps.{Awakes, Enters, HasGone, IsJob, Is_blanked, Raises, Rests}
 use Rattle.law_moves.proofs.Steps.{Starts_ballot, Works, gone}
 use Rattle.law_moves.proofs.Told.{HasTold, begun_here, told_before, told_now}
-use Rattle.law_moves.proofs.Scenes.{OneMore, ends_of}
+use Rattle.law_epochs.proofs.Scenes.{OneMore, ends_of}
 
 -- ### What is remembered
 

@@ -1,5 +1,5 @@
--- What the lemmas of moves are told of: a legal history, and one with a record more; and of whom in it.
-use Rattle.std.proofs.Common.{◌≡◌, ◌≢◌, ◌≤◌, ℕ, true, false, List, [], ◌∷◌, ◌++◌, Some, length, refl, subst}
+-- Of whom in a history the lemmas of moves are told.
+use Rattle.std.proofs.Common.{◌≡◌, ◌≢◌, ◌≤◌, ℕ, true, false, List, Some, length}
 use Rattle.global_tables.specs.declared.link.LinkRow.{LinkRow}
 use Rattle.global_tables.specs.declared.link.LinkState.TheVariants.{Both}
 use Rattle.petal_base.specs.Cells.{cell_of}
@@ -10,98 +10,17 @@ use Rattle.petal_table.specs.Table.{at}
 use Rattle.petal_msg.specs.declared.body.Body.TheVariants as body
 use Rattle.petal_msg.specs.declared.letter.Letter.{Letter}
 use Rattle.petal_msg.specs.declared.operation.Pending.{Pending}
-use Rattle.script_lines.specs.declared.script.Script.{Script}
 use Rattle.petal_state.specs.Command.{state_after}
 use Rattle.petal_rules.specs.Server.{Pairs}
-use Rattle.petal_rules.specs.State.{State, id_of, is_in, leads_link, link_named}
+use Rattle.petal_rules.specs.State.{id_of, is_in, leads_link, link_named}
 use Rattle.petal_rules.specs.Store.{cell_cmp}
-use Rattle.petal_rules.specs.World.{Setting, World, chosen_log, chosen_state, server_state, setting_of}
+use Rattle.petal_rules.specs.World.{Setting, World, chosen_log, chosen_state, server_state}
 use Rattle.petal_rules.specs.Writes.{is_clients, pending_on}
 use Rattle.petal_rules.specs.Fills.{region_to_move}
 use Rattle.petal_history.specs.Claims.{IsPrefix}
-use Rattle.petal_history.specs.Legal.{IsLegal}
-use Rattle.petal_history.specs.Sound.{IsSound}
-use Rattle.petal_history.specs.declared.record.Record.{Record}
-use Rattle.law_state.specs.Plain.{IsPlainLog}
-use Rattle.law_log.proofs.Histories.{history_grows, history_is_firm}
 use Rattle.law_state.specs.Homes.{stage_at}
-use Rattle.law_stores.proofs.Ways.{At, before_part}
 use Rattle.law_copies.specs.Visits.{IsLinked, place_by}
 use Rattle.law_moves.specs.Fills.{IsFrozen, IsThere, WasFilled}
-
--- a legal history of a sound script
-pub record History : Type 0 where
-  pub script : Script
-  pub sound : IsSound script
-  pub records : List Record
-  pub legal : IsLegal script records
-
--- where it has led
-pub record End : Type 0 where
-  pub setting : Setting
-  pub w : World
-  pub chosen : List Command
-  pub By : List Command → State
-
-abbrev pub end_of : History → End
-end_of h = record {
-  setting = setting_of h.script;
-  w = At h.script h.records;
-  chosen = chosen_log (setting_of h.script) (At h.script h.records);
-  By = state_after h.script.servers;
-}
-
--- a front of it
-abbrev pub cut : (h : History) (front later : List Record) → h.records ≡ front ++ later → History
-cut h front later is = record {
-  script = h.script;
-  sound = h.sound;
-  records = front;
-  legal = before_part h.script front later (subst (IsLegal h.script) is h.legal);
-}
-
--- a legal history with one record more
-pub record OneMore : Type 0 where
-  pub prior : History
-  pub own : Record
-  pub legal : IsLegal prior.script (prior.records ++ own ∷ [])
-
-abbrev pub one_more : (script : Script) → IsSound script → (front : List Record) (own : Record) → IsLegal script (front ++ own ∷ []) → OneMore
-one_more script sound front own legal = record {
-  prior = record { script = script; sound = sound; records = front; legal = before_part script front (own ∷ []) legal };
-  own = own;
-  legal = legal;
-}
-
--- where it had led before the last record, and where it leads with it
-pub record Ends (script : Script) : Type 0 where
-  pub setting : Setting
-  pub records : List Record
-  pub present : History
-  pub w : World
-  pub v : World
-  pub top : List Command
-  pub whole : List Command
-  pub By : List Command → State
-  pub top_whole : IsPrefix top whole
-  pub plain : IsPlainLog script.servers whole
-
-abbrev pub ends_of : (it : OneMore) → Ends it.prior.script
-ends_of it =
-    let h = it.prior in
-    let all = h.records ++ it.own ∷ [] in
-    record {
-      setting = setting_of h.script;
-      records = all;
-      present = record { script = h.script; sound = h.sound; records = all; legal = it.legal };
-      w = At h.script h.records;
-      v = At h.script all;
-      top = chosen_log (setting_of h.script) (At h.script h.records);
-      whole = chosen_log (setting_of h.script) (At h.script all);
-      By = state_after h.script.servers;
-      top_whole = history_grows h.script all h.sound it.legal h.records (it.own ∷ []) refl;
-      plain = (history_is_firm h.script all h.sound it.legal).plain;
-    }
 
 -- ### Servers
 

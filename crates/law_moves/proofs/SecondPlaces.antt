@@ -35,7 +35,8 @@ use Rattle.law_copies.proofs.Later.{serves_alone}
 use Rattle.law_copies.proofs.Places.{fronts_meet, linked_between, one_place, one_row, places_up}
 use Rattle.law_moves.proofs.Steps.{knows_now}
 use Rattle.law_moves.proofs.Worlds.{good, up}
-use Rattle.law_moves.proofs.Scenes.{IsSecondAt, OneMore, ends_of}
+use Rattle.law_epochs.proofs.Scenes.{OneMore, ends_of}
+use Rattle.law_moves.proofs.Scenes.{IsSecondAt}
 
 module _ (it : OneMore) where
   open it use {prior.{script}}

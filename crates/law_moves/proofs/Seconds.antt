@@ -39,7 +39,7 @@ use Rattle.law_moves.proofs.Afterwards.{born_after, filling_after, keyed}
 use Rattle.law_moves.proofs.Histories.{known_after}
 use Rattle.law_moves.proofs.There.{told_already}
 use Rattle.law_moves.proofs.Worlds.{firm, good, own_counts, row_serving, serving_on, up, was_seen}
-use Rattle.law_moves.proofs.Scenes.{History, end_of}
+use Rattle.law_epochs.proofs.Scenes.{History, end_of}
 
 -- a server that runs, and by its own entries is In and the second one of a link in Both, where the first one had a fill pending that it has not followed
 record IsToFill (setting : Setting) (records : List Record) (w : World) : Type 0 where

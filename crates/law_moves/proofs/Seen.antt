@@ -20,7 +20,7 @@ use Rattle.law_copies.specs.Good.{Good}
 use Rattle.law_copies.specs.Visits.{WasThere, is_at}
 use Rattle.law_copies.proofs.Histories.{start_good, step_goes}
 use Rattle.law_copies.proofs.Visited.{at_by}
-use Rattle.law_moves.proofs.Scenes.{OneMore, ends_of, one_more}
+use Rattle.law_epochs.proofs.Scenes.{OneMore, ends_of, one_more}
 
 abbrev GoodAt : Script → List Record → Type 0
 GoodAt script records =

@@ -46,7 +46,7 @@ use Rattle.law_stores.proofs.Ways.{At, along, before_last}
 use Rattle.law_copies.specs.Good.{Good}
 use Rattle.law_copies.proofs.Histories.{good_after, step_goes}
 use Rattle.law_epochs.proofs.Within.{asked_none, is_of_entries, logged_none}
-use Rattle.law_moves.proofs.Scenes.{OneMore, ends_of, one_more}
+use Rattle.law_epochs.proofs.Scenes.{OneMore, ends_of, one_more}
 
 module _ (it : OneMore) where
   open it use {prior, prior.{script, sound, records as front}, own, legal}

@@ -36,7 +36,8 @@ use Rattle.law_moves.proofs.Over.{dead_moved}
 use Rattle.law_moves.proofs.Steps.{Goes_on, HasStore, Is_bare, here, stored}
 use Rattle.law_moves.proofs.Worlds.{facts_at, own_counts, serving_on, steady_at, up}
 use Rattle.law_moves.proofs.EqualCopies.{equal_now}
-use Rattle.law_moves.proofs.Scenes.{FillsSo, OneMore, ends_of}
+use Rattle.law_epochs.proofs.Scenes.{OneMore, ends_of}
+use Rattle.law_moves.proofs.Scenes.{FillsSo}
 
 module _ (it : OneMore) (all : AllKnown it.prior.script it.prior.records) where
   open it use {prior, prior.{script, sound, records as front}, own, legal}

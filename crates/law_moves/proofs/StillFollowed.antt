@@ -48,7 +48,8 @@ use Rattle.law_moves.proofs.Saying.{Asks_copy, Is_done, Is_done_alone, Is_neithe
 use Rattle.law_moves.proofs.Steps.{Awakes, Before, Enters, HasGone, IsPosted, Is_blanked, Other, Posted, Raises, Rests, Starts_ballot}
 use Rattle.law_moves.proofs.Steps.{Works, gone, here, sent}
 use Rattle.law_moves.proofs.Worlds.{good, rests, up}
-use Rattle.law_moves.proofs.Scenes.{AsksToPut, IsSecondAt, OneMore, ends_of}
+use Rattle.law_epochs.proofs.Scenes.{OneMore, ends_of}
+use Rattle.law_moves.proofs.Scenes.{AsksToPut, IsSecondAt}
 
 replicate_key : {number other v1 v2 : ℕ} {key one : Key} {b1 b2 : List ℕ} → body.Replicate number key v1 b1 ≡ body.Replicate other one v2 b2 → key ≡ one
 replicate_key e = cc

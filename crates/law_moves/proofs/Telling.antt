@@ -47,7 +47,8 @@ use Rattle.law_moves.proofs.Steps.{Awakes, Before, Enters, HasGone, IsJob, IsPos
 use Rattle.law_moves.proofs.Steps.{Starts_ballot, Works, chosen_on, gone, knows, sent}
 use Rattle.law_moves.proofs.Told.{HasTold, lift, same_frozen}
 use Rattle.law_moves.proofs.Remembered.{done_told}
-use Rattle.law_moves.proofs.Scenes.{IsMover, OneMore, ends_of}
+use Rattle.law_epochs.proofs.Scenes.{OneMore, ends_of}
+use Rattle.law_moves.proofs.Scenes.{IsMover}
 
 is_lower : (a b : ℕ) → a < b → nat_lt a b ≡ true
 is_lower a b lt = grind (arith, nat_tests)

@@ -26,7 +26,7 @@ use Rattle.law_epochs.proofs.Within.{AreWithin}
 use Rattle.law_moves.specs.Fills.{Has}
 use Rattle.law_moves.proofs.Frozen.{frozen_at, frozen_same, none_early}
 use Rattle.law_moves.proofs.Knows.{AreFrozenEarly}
-use Rattle.law_moves.proofs.Scenes.{OneMore, ends_of, one_more}
+use Rattle.law_epochs.proofs.Scenes.{OneMore, ends_of, one_more}
 
 pub entry_of : (chain : Chain) (epoch : ℕ) → Has chain epoch → (entry : Stored) × (at nat_cmp chain epoch ≡ Some entry)
 entry_of chain epoch has = elim (some_or_none (at nat_cmp chain epoch)) [ inl h ↦ h | inr none ↦ true_false has (ap is_some none) ]
@@ -69,7 +69,7 @@ module _ (it : OneMore) (known : AreFrozenThen it.prior.script (At it.prior.scri
         let log = (w.servers n).log.applied in
         let all : AreWithin (IsKnownBy script.servers log) (kept setting v n).chains =
         kept_by (λ (s : Store). AreWithin (IsKnownBy script.servers log) s.chains) (blank_joins_in setting (chosen_log setting v) n) (v.before_blank n)
-        (v.servers n).own.store (before_then script sound front own legal early n) (now_then script sound front own legal early n) in
+        (v.servers n).own.store (before_then it early n) (now_then it early n) in
         let within = (all old epoch entry is).within in
         let firm = history_is_firm script front sound prior.legal in
         let up = (log_below script.servers log (chosen_log setting w) firm.plain (firm.servers n)).epochs old in

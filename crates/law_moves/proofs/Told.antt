@@ -46,7 +46,8 @@ use Rattle.law_moves.proofs.Moved.{filled_stays}
 use Rattle.law_moves.proofs.Movers.{had, known_told, three}
 use Rattle.law_moves.proofs.NextFill.{here_or_before, next_is}
 use Rattle.law_moves.proofs.Over.{link_slot, one_goal, plain}
-use Rattle.law_moves.proofs.Scenes.{IsMover, OneMore, ends_of}
+use Rattle.law_epochs.proofs.Scenes.{OneMore, ends_of}
+use Rattle.law_moves.proofs.Scenes.{IsMover}
 
 -- a cell is as far as another one of its map and region
 stage_region : (s : State) (one other : Cell) → one.map ≡ other.map → region_of one.block ≡ region_of other.block → stage_at s one ≡ stage_at s other

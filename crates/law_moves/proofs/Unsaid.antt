@@ -51,7 +51,8 @@ use Rattle.law_moves.proofs.Steps.{mine_top, mine_whole}
 use Rattle.law_moves.proofs.EqualCopies.{frozen_on}
 use Rattle.law_moves.proofs.There.{filled_key, told_already}
 use Rattle.law_moves.proofs.Worlds.{chosen_twins, facts_at, good, own_counts, rests, steady_at, up, was_seen}
-use Rattle.law_moves.proofs.Scenes.{FillAtPlace, History, LeadsAt, OneMore, cut, ends_of}
+use Rattle.law_epochs.proofs.Scenes.{History, OneMore, cut, ends_of}
+use Rattle.law_moves.proofs.Scenes.{FillAtPlace, LeadsAt}
 
 module _ (it : OneMore) (all : AllKnown it.prior.script it.prior.records) where
   open it use {prior, prior.{script, sound, records as front}}

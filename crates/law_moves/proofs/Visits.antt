@@ -33,7 +33,8 @@ use Rattle.law_moves.proofs.Steps.{Awakes, Before, Enters, HasGone, IsPosted, Is
 use Rattle.law_moves.proofs.Steps.{gone, not_new, sent, mine_whole}
 use Rattle.law_moves.proofs.There.{no_other}
 use Rattle.law_moves.proofs.Unsaid.{unsaid_new, unsaid_there}
-use Rattle.law_moves.proofs.Scenes.{FillAtPlace, OneMore, ends_of}
+use Rattle.law_epochs.proofs.Scenes.{OneMore, ends_of}
+use Rattle.law_moves.proofs.Scenes.{FillAtPlace}
 
 module _ (it : OneMore) (all : AllKnown it.prior.script it.prior.records) where
   open it use {prior.{script, records as front}, own}

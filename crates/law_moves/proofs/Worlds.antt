@@ -39,7 +39,7 @@ use Rattle.law_copies.specs.Good.{AreTwins, Good}
 use Rattle.law_copies.specs.Visits.{AliveIn, IsLast, IsLinked, WasThere, place_by}
 use Rattle.law_copies.proofs.Places.{places_up}
 use Rattle.law_moves.proofs.Seen.{seen_after, were}
-use Rattle.law_moves.proofs.Scenes.{History, end_of}
+use Rattle.law_epochs.proofs.Scenes.{History, end_of}
 
 -- who serves a link is told by its row
 pub serving_row : (state : State) (n : ℕ) (cell : Cell) (row : LinkRow) → cell_link state cell ≡ Some row → IsServing state n cell
