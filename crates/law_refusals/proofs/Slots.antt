@@ -111,17 +111,21 @@ pub record JobRefuses (S : ℕ → ℕ → Type 0) (setting : Setting) (w : Worl
   pub declined : (post : Post) (number : ℕ) (cell : Cell) → In post posts → post.body ≡ body.PairFull number cell
       → TellsNone S setting w n post number cell
 
--- a job of a running server in a world where R holds of each request that was refused so far, which implies what is to hold after
--- the job
-pub record Scene (R S : ℕ → ℕ → Type 0) : Type 0 where
+-- a world where R holds of each request that was refused so far, which implies what is to hold after the next step
+pub record WereRefused (R S : ℕ → ℕ → Type 0) : Type 0 where
   pub setting : Setting
   pub w : World
   pub firm : Firm setting w
   pub rests : Rests setting w
-  pub n : ℕ
-  pub runs : (w.servers n).life.running ≡ true
   pub more : (c seq : ℕ) → R c seq → S c seq
   pub refusals : Refusals R setting w
+
+-- a job of a running server in it
+pub record Scene (R S : ℕ → ℕ → Type 0) : Type 0 where
+  pub were : WereRefused R S
+  pub open were use *
+  pub n : ℕ
+  pub runs : (w.servers n).life.running ≡ true
 
 -- a job that refuses nothing
 module _ (S : ℕ → ℕ → Type 0) (setting : Setting) (w : World) (n : ℕ) where
