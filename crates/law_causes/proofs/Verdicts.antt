@@ -328,7 +328,8 @@ module _ (servers : ℕ) (log : List Command) (plain : IsPlainLog servers log) w
         exists taken acted =
             judged s d q verdict.Exists answer.Exists (MakeDisk d q name tuple) refl refl there new (λ one two.
             let a = asks one two in
-            (a.0, ap (is_name_taken s) a.1 ∙ taken, tt)) (old_queue s (told s d q verdict.Exists) (requeued_itself s.view.queue)) acted
+            (a.0, ap (is_name_taken s) a.1 ∙ taken, tt))
+            (old_queue s (told s d q verdict.Exists) (requeued_itself s.view.queue)) acted
 
         makes : named s.disks.rows name ≡ None → Acted servers s (told (with_disk s name tuple) d q verdict.Ok)
             → Has (told (with_disk s name tuple) d q verdict.Ok) × Stays s (told (with_disk s name tuple) d q verdict.Ok)
@@ -351,14 +352,16 @@ module _ (servers : ℕ) (log : List Command) (plain : IsPlainLog servers log) w
         unknown none acted =
             judged s d q verdict.NoDisk answer.NoDisk (Snap d q of name) refl refl there new (λ one two.
             let a = wants one two in
-            (a.0, ap (lacks_disk s) a.1 ∙ ap is_none none, tt)) (old_queue s (told s d q verdict.NoDisk) (requeued_itself s.view.queue)) acted
+            (a.0, ap (lacks_disk s) a.1 ∙ ap is_none none, tt))
+            (old_queue s (told s d q verdict.NoDisk) (requeued_itself s.view.queue)) acted
 
         name_taken : (row : DiskRow) → named s.disks.rows of ≡ Some row → is_taken s name row ≡ true → Acted servers s (told s d q verdict.Exists)
             → Has (told s d q verdict.Exists) × Stays s (told s d q verdict.Exists)
         name_taken row found taken acted =
             judged s d q verdict.Exists answer.Exists (Snap d q of name) refl refl there new (λ one two.
             let a = wants one two in
-            (a.0, ap (is_name_taken s) a.1 ∙ ap (λ o. option_map_or (is_taken s name) o false) found ∙ taken, tt)) (old_queue s (told s d q verdict.Exists) (requeued_itself s.view.queue)) acted
+            (a.0, ap (is_name_taken s) a.1 ∙ ap (λ o. option_map_or (is_taken s name) o false) found ∙ taken, tt))
+            (old_queue s (told s d q verdict.Exists) (requeued_itself s.view.queue)) acted
 
         -- the state in which its fence waits
         module _ (row : DiskRow) (found : named s.disks.rows of ≡ Some row) (free : is_taken s name row ≡ false) where
@@ -418,14 +421,16 @@ module _ (servers : ℕ) (log : List Command) (plain : IsPlainLog servers log) w
         of_nobody none acted =
             judged s d q verdict.NoDisk answer.NoDisk (StartMove d q of tuple) refl refl there new (λ one two.
             let a = moves_it one two in
-            (a.0, ap (lacks_disk s) a.1 ∙ ap is_none none, tt)) (old_queue s (told s d q verdict.NoDisk) (requeued_itself s.view.queue)) acted
+            (a.0, ap (lacks_disk s) a.1 ∙ ap is_none none, tt))
+            (old_queue s (told s d q verdict.NoDisk) (requeued_itself s.view.queue)) acted
 
         of_busy : (row : DiskRow) → named s.disks.rows of ≡ Some row → is_some row.moving ≡ true → Acted servers s (told s d q verdict.Moving)
             → Has (told s d q verdict.Moving) × Stays s (told s d q verdict.Moving)
         of_busy row found busy acted =
             judged s d q verdict.Moving answer.Moving (StartMove d q of tuple) refl refl there new (λ one two.
             let a = moves_it one two in
-            (a.0, ap (is_moving s) a.1 ∙ ap (λ o. option_map_or (λ (r : DiskRow). is_some r.moving) o false) found ∙ busy, tt)) (old_queue s (told s d q verdict.Moving) (requeued_itself s.view.queue)) acted
+            (a.0, ap (is_moving s) a.1 ∙ ap (λ o. option_map_or (λ (r : DiskRow). is_some r.moving) o false) found ∙ busy, tt))
+            (old_queue s (told s d q verdict.Moving) (requeued_itself s.view.queue)) acted
 
         begins : (row : DiskRow) → named s.disks.rows of ≡ Some row → row.moving ≡ None → Acted servers s (told (with_move s tuple row.id) d q verdict.Ok)
             → Has (told (with_move s tuple row.id) d q verdict.Ok) × Stays s (told (with_move s tuple row.id) d q verdict.Ok)

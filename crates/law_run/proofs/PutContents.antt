@@ -29,7 +29,7 @@ use Rattle.petal_rules.specs.Store.{Chain, Store, Stored, cell_cmp, chain_in, ch
 use Rattle.petal_rules.specs.World.{blank_joins_in, chosen_log, chosen_state, counted, kept}
 use Rattle.petal_rules.proofs.CellTables.{cell_same}
 use Rattle.petal_history.specs.Contents.{entry_before, entry_by, entry_of, first_entry, old_cell}
-use Rattle.petal_history.specs.Events.{change_by, open_write}
+use Rattle.petal_history.specs.Events.{change_by}
 use Rattle.law_steps.specs.Ready.{IsRising}
 use Rattle.law_stores.specs.Waiting.{IsOwn}
 use Rattle.law_copies.specs.Visits.{AliveIn}
@@ -40,7 +40,7 @@ use Rattle.law_run.proofs.Along.{named_high, named_map_is, one_row_of, plain_now
 use Rattle.law_run.proofs.Contents.{IsGiven, AreGiven, Taken, all_given, given_held, takes_of, was_kept, now_has, now_kept, StaysAt, was_has}
 use Rattle.law_run.proofs.Entries.{entry_below, entry_put}
 use Rattle.law_run.proofs.Frames.{OwnFollow, SaysOk, CountsOk}
-use Rattle.law_run.proofs.Placed.{Placed}
+use Rattle.law_run.proofs.Placed.{Placed, placed_given}
 use Rattle.law_run.proofs.Steps.{ServerStep, TakesTold, ends_of, frozen_same, grounded, joined_now, joined_then, kept_here, later_world, new}
 use Rattle.law_run.proofs.Steps.{own_after, same_entry}
 use Rattle.law_run.proofs.Takes.{block_there}
@@ -234,16 +234,8 @@ module _ (this : ServerStep) (same : chosen_log this.setting (later_world this) 
         ap (λ (s : Store). at cell_cmp s.chains (named_cell place.row place.block)) (own_after this own_counts (joined_same this.n))
         ∙ ap (λ c. at cell_cmp c (named_cell place.row place.block)) chains
         ∙ ap (at cell_cmp (chains_with own.store.chains key entry)) (sym place.at_block) ∙ cell_same own.store.chains (cell_of key) chain in
-        record {
-          write = place.write;
-          within = subst (λ c. c < 9) (sym place.own) place.within;
-          under_way = ap (open_write this.w) place.own ∙ place.under_way;
-          disk_is = place.disk_is;
-          block_is = place.block_is;
-          bytes_is = place.bytes_is ∙ sym put_here;
-          below = put_below;
-          looked = block_there (change_by this.setting this.w v) this.n (named_cell place.row place.block).map place.block chain this.within stored;
-        }
+        placed_given this op (cell_of key) place put_here put_below
+        (block_there (change_by this.setting this.w v) this.n (named_cell place.row place.block).map place.block chain this.within stored)
 
     pub given_put : AreGiven this
     given_put row h b = elim (same_cell_or_apart (named_cell row b) (cell_of key)) [

@@ -49,9 +49,9 @@ use Rattle.law_run.proofs.ClientSteps.{begins_by, turn_told}
 use Rattle.law_run.proofs.LogSteps.{step_kind}
 use Rattle.law_run.proofs.Looks.{AreGrounded}
 use Rattle.law_run.proofs.Machine.{Obeys-append, replay-append}
-use Rattle.law_run.proofs.ServerSteps.{ServesAt, step_told}
+use Rattle.law_run.proofs.ServerSteps.{step_told}
 use Rattle.law_run.proofs.Blanks.{blank_follow, blank_told}
-use Rattle.law_run.proofs.Steps.{IsMiddle}
+use Rattle.law_run.proofs.Steps.{IsMiddle, ServesAt}
 use Rattle.law_run.proofs.Still.{contents_still}
 use Rattle.law_run.proofs.Footings.{along_at, grown_at, Footing, next_ground, none_chosen, FirstGround, first_ground}
 use Rattle.law_run.proofs.Scenes.{Followed}

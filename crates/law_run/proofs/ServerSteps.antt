@@ -3,10 +3,10 @@ use Rattle.law_run.proofs.Grounds.{never_dead, proposed_store}
 use Rattle.law_run.proofs.NotHere.{not_here_told}
 use Rattle.law_steps.specs.DidRead.{Not_here, Shows}
 use Rattle.law_run.proofs.Shows.{AreCalm, data_of, show_told}
-use Rattle.law_run.proofs.Steps.{later_world, new, IsMiddle, ServerStep, ServerTold, LooksTold, letters, kept_here, quiet_looks}
+use Rattle.law_run.proofs.Steps.{IsMiddle, LooksTold, ServerStep, ServerTold, ServesAt, kept_here, later_world, letters, new, quiet_looks}
 use Rattle.petal_history.specs.Legal.{IsLegalFrom}
 use Rattle.petal_state.specs.CellState.{named_cell}
-use Rattle.std.proofs.Common.{◌≡◌, ◌<◌, ◌+◌, ℕ, List, [], true, Some, refl, sym, ap, ◌∙◌, subst, inl, ◌||◌, false, Option, None}
+use Rattle.std.proofs.Common.{◌≡◌, ◌+◌, ℕ, List, [], true, Some, refl, sym, ap, ◌∙◌, subst, inl, ◌||◌, false, Option, None}
 use Rattle.std.specs.Prelude.{is_some}
 use Rattle.petal_base.specs.declared.cell.Cell.{Cell}
 use Rattle.petal_table.specs.Table.{at}
@@ -28,13 +28,11 @@ use Rattle.petal_rules.specs.State.{servers_of}
 use Rattle.petal_rules.specs.Progress.{copying_on}
 use Rattle.petal_rules.specs.Store.{Store, cell_cmp, chain_in}
 use Rattle.petal_rules.specs.Writes.{is_under_way}
-use Rattle.petal_rules.specs.World.{World, acts, before_blanks, stamped, chosen_log, chosen_state, server_state}
+use Rattle.petal_rules.specs.World.{World, acts, stamped, chosen_log, chosen_state, server_state}
 use Rattle.petal_rules.specs.declared.job.Job.{Job}
-use Rattle.petal_rules.specs.declared.step.Step.{Step}
 use Rattle.petal_rules.proofs.Settled.{IsSettling, settling}
 use Rattle.petal_rules.proofs.Tests.{true_false}
 use Rattle.petal_history.specs.Claims.{IsPrefix}
-use Rattle.petal_history.specs.declared.record.Record.{Record}
 use Rattle.law_state.specs.Tables.{IsGrown}
 use Rattle.law_steps.specs.Did.{Did, By_read}
 use Rattle.law_steps.specs.Happens.{Handled, Worked, By_job, By_ballot, By_entry, IsSeated, Serving, Goes, Ends, Stays, Wakes, Fails}
@@ -56,7 +54,6 @@ use Rattle.law_run.proofs.Says.{IsUnended, is_written, did_says, downs_unended, 
 use Rattle.law_run.proofs.ServerJobs.{did_job}
 use Rattle.law_run.proofs.Freezing.{assembled}
 use Rattle.law_run.proofs.Votes.{votes_told}
-use Rattle.law_run.proofs.Scenes.{Followed}
 
 -- letters that end no request
 module _ (this : ServerStep) (who : Sender) (posts : List Post) (is : letters this ≡ stamped this.stamp (letters_of who 0 posts))
@@ -77,17 +74,6 @@ none_pending own cell free = by (at cell_cmp own.pairs.pending cell) free
     by None e = refl
     by (Some op) e = true_false refl e
 
--- a server of this world
-pub record ServesAt : Type 0 where
-  pub told : Followed
-  pub open told use *
-  pub n : ℕ
-  pub within : n < setting.servers
-  pub stamp : ℕ
-  pub what : Step
-  pub unblanked : before_blanks what setting w n ≡ w.before_blank
-  pub later : List Record
-
 module _ (at : ServesAt) where
   abbrev pub after_step : Acted → World
   after_step acted = (acts at.setting at.w at.n at.what at.stamp acted).world
@@ -102,20 +88,14 @@ module _ (at : ServesAt) where
 
   abbrev pub step_of : (acted : Acted) → Serving at.setting at.w at.n at.what acted → Next acted → ServerStep
   step_of acted serving next = record {
-    told = at.told;
-    n = at.n;
-    within = at.within;
-    stamp = at.stamp;
-    what = at.what;
+    at = at;
     acted = acted;
-    unblanked = at.unblanked;
     serving = serving;
     next = next.along;
     onward = next.onward;
     grows = next.grows;
     grown = next.grown;
     middle = next.middle;
-    later = at.later;
   }
 
   abbrev here : Here
@@ -155,6 +135,18 @@ module _ (at : ServesAt) where
         (λ mine. ap (λ c. chain_in c (named_cell row b)) (kept_here this chains (joined_same this same this.n))) epoch in
         (is.has, is.bytes)
 
+    -- the one letter of a job that answers a client
+    abbrev letter_to : ℕ → Body → Letter
+    letter_to client said = record {
+      from = actor.Server at.n;
+      inc = (at.w.servers at.n).life.inc;
+      to = actor.Client client;
+      rev = (server_state at.setting at.w at.n).rev;
+      stamp = at.stamp;
+      nth = 0;
+      body = said;
+    }
+
     module _ (log : Log) (runs : (at.w.servers at.n).life.running ≡ true) where
       job_looks : (done : Done) (did : Did hears here own done) (queue : List Job)
           (serving : Serving at.setting at.w at.n at.what (served_so at.setting at.w at.n log done queue))
@@ -164,31 +156,13 @@ module _ (at : ServesAt) where
       unfolding In
       job_looks _ (By_read _ (Shows client seq cell epoch readable there)) queue serving next same later =
           let this = step_of _ serving next in
-          let letter : Letter =
-          record {
-            from = actor.Server at.n;
-            inc = (at.w.servers at.n).life.inc;
-            to = actor.Client client;
-            rev = (server_state at.setting at.w at.n).rev;
-            stamp = at.stamp;
-            nth = 0;
-            body = body.Data seq (data_of this cell epoch);
-          } in
+          let letter = letter_to client (body.Data seq (data_of this cell epoch)) in
           show_told this numbered runs client seq cell epoch readable there
           (λ lead. none_pending own cell (readable.idle lead)) letter refl refl refl same (calm this same refl)
           (λ number e. who_accepts at.setting at.state (later_world this) at.later later.grounds later.legal letter seq _ number (inl refl) refl e)
       job_looks _ (By_read _ (Not_here client seq cell epoch readable comes none)) queue serving next same later =
           let this = step_of _ serving next in
-          let letter : Letter =
-          record {
-            from = actor.Server at.n;
-            inc = (at.w.servers at.n).life.inc;
-            to = actor.Client client;
-            rev = (server_state at.setting at.w at.n).rev;
-            stamp = at.stamp;
-            nth = 0;
-            body = body.NotHere seq;
-          } in
+          let letter = letter_to client (body.NotHere seq) in
           not_here_told this numbered runs client seq cell epoch readable comes none
           (λ lead. none_pending own cell (readable.idle lead)) letter refl refl refl refl same (calm this same refl) later.grounds later.legal
       job_looks done d queue serving next same later =

@@ -58,24 +58,28 @@ pub record IsMiddle (setting : Setting) (w v : World) (records : List Record) (v
   pub good : Good setting records (chosen_log setting w) (counted_by setting (chosen_log setting w) v)
   pub visits_are : (n place : ℕ) (cell : Cell) → good.visits n place cell ≡ visits n place cell
 
--- a server's step, at a state from what is chosen on: the world and the machine before it, what is chosen after it, and the
--- records that follow
-pub record ServerStep : Type 0 where
+-- a server, at a state from what is chosen on: the world and the machine before its step, and the records that follow
+pub record ServesAt : Type 0 where
   pub told : Followed
   pub open told use *
   pub n : ℕ
   pub within : n < setting.servers
   pub stamp : ℕ
   pub what : Step
-  pub acted : Acted
   pub unblanked : before_blanks what setting w n ≡ w.before_blank
+  pub later : List Record
+
+-- its step, and what is chosen after it
+pub record ServerStep : Type 0 where
+  pub at : ServesAt
+  pub open at use *
+  pub acted : Acted
   pub serving : Serving setting w n what acted
   pub next : Along setting state (acts setting w n what stamp acted).world
   pub onward : Ground setting state (acts setting w n what stamp acted).world
   pub grows : IsPrefix (chosen_log setting w) (chosen_log setting (acts setting w n what stamp acted).world)
   pub grown : IsGrown (chosen_state setting w) (chosen_state setting (acts setting w n what stamp acted).world)
   pub middle : IsMiddle setting w (acts setting w n what stamp acted).world onward.records onward.good.visits
-  pub later : List Record
 
 abbrev pub grounded : ServerStep → Grounded
 grounded this = record { setting = this.setting; state = this.state; w = this.w; firm = this.along.firm; ground = this.ground }

@@ -1,6 +1,6 @@
 -- What is chosen grows: where a cell's second server leaves, and the first one is one put ahead, the machine takes the first one's write; all
 -- else that is told of a block is as before. Of a link that is Lost nothing is told.
-use Rattle.std.proofs.Common.{◌≡◌, ◌<◌, ◌+◌, ℕ, Bool, true, false, Some, None, is_some, refl, sym, ap, ◌∙◌, subst, ◌⊎◌}
+use Rattle.std.proofs.Common.{◌≡◌, ◌+◌, ℕ, Bool, true, false, Some, None, is_some, refl, sym, ap, ◌∙◌, subst, ◌⊎◌}
 use Rattle.std.proofs.Common.{inl, inr, arith, ◌≤◌, ◌&&◌, ◌||◌, Option}
 use Rattle.std.specs.Ordering.{nat_cmp}
 use Rattle.petal_base.specs.Cells.{cell_of}
@@ -30,7 +30,7 @@ use Rattle.petal_rules.specs.World.{counted, kept}
 use Rattle.petal_rules.proofs.Tests.{all_put_apart, by_bool, none_some, same_some, true_false}
 use Rattle.petal_history.specs.Claims.{one_put_ahead}
 use Rattle.petal_history.specs.Contents.{entry_before, entry_by, entry_of, first_entry, old_cell}
-use Rattle.petal_history.specs.Events.{change_by, open_write}
+use Rattle.petal_history.specs.Events.{change_by}
 use Rattle.law_state.proofs.Alone.{so_both}
 use Rattle.law_steps.proofs.Fronts.{front_itself}
 use Rattle.law_steps.proofs.Histories.{own_below}
@@ -47,7 +47,7 @@ use Rattle.law_run.proofs.Contents.{IsGiven, AreGiven, Taken, all_given, given_h
 use Rattle.law_run.proofs.Frames.{AreKept, Runs, CountsOk, kept_before, kept_own}
 use Rattle.law_run.proofs.Freezing.{assembled}
 use Rattle.law_run.proofs.Machine.{held_onward}
-use Rattle.law_run.proofs.Placed.{Placed}
+use Rattle.law_run.proofs.Placed.{Placed, placed_given}
 use Rattle.law_run.proofs.Says.{is_written, unended_data, unended_written, is_reply}
 use Rattle.law_run.proofs.Steps.{ServerStep, ServerTold, ends_of, grounded, grounded_after, letters, new, quiet_looks}
 use Rattle.law_run.proofs.Seats.{chosen_store, chosen_twins, half_store, op_leads, shared_before, visit_here, alive_here, op_high}
@@ -227,23 +227,15 @@ module _ (this : ServerStep) (same_store : (new this).store.chains ≡ (owns_of 
             bytes put_at.row.epoch ∙ ap (λ o. bytes_of (first_entry o (entry_before this.w (old_cell put_at.row put_at.block) put_at.row.epoch))) there_now
 
     written_given : IsGiven this put_at.row put_at.block
-    written_given = record {
-      write = put_at.write;
-      within = subst (λ c. c < 9) (sym put_at.own) put_at.within;
-      under_way = ap (open_write this.w) put_at.own ∙ put_at.under_way;
-      disk_is = put_at.disk_is;
-      block_is = put_at.block_is;
-      bytes_is = put_at.bytes_is ∙ sym written_bytes;
-      below = λ e lt. same_stays put_at.row put_at.there put_at.block
-          (ap (λ (c : Cell). is_some (authority chosen c)) (sym put_at.at_block) ∙ ap is_some left.was) e
-          (ap (λ (c : Cell). entry_of chosen (counted this.setting this.w) c e) (sym put_at.at_block)
-          ∙ below_entry this same_store cell left a.own a.visit a.op a.is a.ahead clients e lt
-          ∙ ap (λ (c : Cell). entry_of after (counted this.setting v) c e) put_at.at_block);
-      looked =
-          (let stored = there this same_store cell left a.own a.visit a.op a.is a.ahead in
-          block_there (change_by this.setting this.w v) left.link.primary (named_cell put_at.row put_at.block).map put_at.block stored.0 left.within
-          (ap (at cell_cmp (kept this.setting v left.link.primary).chains) (sym put_at.at_block) ∙ stored.1));
-    }
+    written_given = placed_given this a.op cell put_at written_bytes
+        (λ e lt. same_stays put_at.row put_at.there put_at.block
+        (ap (λ (c : Cell). is_some (authority chosen c)) (sym put_at.at_block) ∙ ap is_some left.was) e
+        (ap (λ (c : Cell). entry_of chosen (counted this.setting this.w) c e) (sym put_at.at_block)
+        ∙ below_entry this same_store cell left a.own a.visit a.op a.is a.ahead clients e lt
+        ∙ ap (λ (c : Cell). entry_of after (counted this.setting v) c e) put_at.at_block))
+        (let stored = there this same_store cell left a.own a.visit a.op a.is a.ahead in
+        block_there (change_by this.setting this.w v) left.link.primary (named_cell put_at.row put_at.block).map put_at.block stored.0 left.within
+        (ap (at cell_cmp (kept this.setting v left.link.primary).chains) (sym put_at.at_block) ∙ stored.1))
 
     -- and it has had them, where the cell takes writes still
     written_held : stage_at after cell ≤ 2 → (taken : Taken this) → is_held (replay this.m taken.es) a.op.client ≡ true
