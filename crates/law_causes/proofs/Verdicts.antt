@@ -44,7 +44,7 @@ use Rattle.law_causes.specs.Asked.{asker}
 use Rattle.law_causes.proofs.Asked.{asker_of}
 use Rattle.law_causes.proofs.Folds.{told_answers, act_make, judged_last, judged_old, old_now, onward_new, passed_old, passed_or}
 use Rattle.law_causes.proofs.Folds.{passed_stays, settled_old, told_old, told_or, told_stays}
-use Rattle.law_causes.proofs.Wanted.{nobody_told, named_on, last_found, has_kept, made_on, asks_disk, asks_snap, asks_move, same_whole}
+use Rattle.law_causes.proofs.Wanted.{nobody_told, named_on, last_found, has_kept, made_on, asks_it, request_of, same_whole}
 use Rattle.law_causes.proofs.Wanted.{no_whole, row_known_at, settled_moving, IsMoving}
 use Rattle.law_causes.proofs.Numbers.{at_next, entry_plain, many_at, old_on, own_old, plain_at}
 
@@ -304,63 +304,58 @@ module _ (servers : ℕ) (log : List Command) (plain : IsPlainLog servers log) w
         known = λ is. (subst Judges is judged).2;
       }
 
+      -- the command that stands here is the request's, where it is of its client and number
+      is_own : (d q : ℕ) (command : Command) → slice_get log k ≡ Some command → asker command ≡ Some (d, q) → d ≡ c → q ≡ seq
+          → (command_of c seq asked ≡ Some command) × (asked ≡ request_of command)
+      is_own d q command there of_it one two =
+          let mine = own k command there (of_it ∙ λ i. Some (one i, two i)) in (mine, asks_it c seq asked command mine)
+
       -- a new command is told its verdict
       judged : (u : State) (d q : ℕ) (v : Verdict) (given : Answer) (command : Command) → u.verdicts ≡ s.verdicts → verdict_answer v ≡ Some given
-          → slice_get log k ≡ Some command → is_new q (latest s d) ≡ true
-          → (d ≡ c → q ≡ seq → (command_of c seq asked ≡ Some command) × Judges given × Keeps (told u d q v) given)
+          → asker command ≡ Some (d, q) → slice_get log k ≡ Some command → is_new q (latest s d) ≡ true
+          → (asked ≡ request_of command → Judges given × Keeps (told u d q v) given)
           → ((i : ℕ) (fence : Fence) → slice_get (told u d q v).view.queue i ≡ Some fence → OldOrWaits s (told u d q v) fence)
           → Acted servers s (told u d q v) → Has (told u d q v) × Stays s (told u d q v)
-      judged u d q v given command same is there new why queue acted =
+      judged u d q v given command same is of_it there new why queue acted =
           has_next s (told u d q v) p h acted
           (telling u d q v same new (λ one two other e.
-          let w = why one two in
+          let mine = is_own d q command there of_it one two in
+          let w = why mine.1 in
           subst (λ g. Placed g × (g ≡ answer.Ok → has_kept (told u d q v) asked ≡ true)) (same_some (sym is ∙ e))
-          (placed_here command given w.0 there (new_at d q one two new) w.1, λ ok. subst (Keeps (told u d q v)) ok w.2))) queue
+          (placed_here command given mine.0 there (new_at d q one two new) w.0, λ ok. subst (Keeps (told u d q v)) ok w.1))) queue
 
       -- a disk that is made, or not
       module _ (d q : ℕ) (name tuple : List ℕ) (there : slice_get log k ≡ Some (MakeDisk d q name tuple)) (new : is_new q (latest s d) ≡ true) where
-        asks : d ≡ c → q ≡ seq → (command_of c seq asked ≡ Some (MakeDisk d q name tuple)) × (asked ≡ request.Disk name tuple)
-        asks one two =
-            let mine = own k (MakeDisk d q name tuple) there (λ i. Some (one i, two i)) in (mine, asks_disk c seq d q name tuple asked mine)
-
         exists : is_some (named s.disks.rows name) ≡ true → Acted servers s (told s d q verdict.Exists)
             → Has (told s d q verdict.Exists) × Stays s (told s d q verdict.Exists)
         exists taken acted =
-            judged s d q verdict.Exists answer.Exists (MakeDisk d q name tuple) refl refl there new (λ one two.
-            let a = asks one two in
-            (a.0, ap (is_name_taken s) a.1 ∙ taken, tt))
+            judged s d q verdict.Exists answer.Exists (MakeDisk d q name tuple) refl refl refl there new (λ a.
+            (ap (is_name_taken s) a ∙ taken, tt))
             (old_queue s (told s d q verdict.Exists) (requeued_itself s.view.queue)) acted
 
         makes : named s.disks.rows name ≡ None → Acted servers s (told (with_disk s name tuple) d q verdict.Ok)
             → Has (told (with_disk s name tuple) d q verdict.Ok) × Stays s (told (with_disk s name tuple) d q verdict.Ok)
         makes none acted =
-            judged (with_disk s name tuple) d q verdict.Ok answer.Ok (MakeDisk d q name tuple) refl refl there new (λ one two.
-            let a = asks one two in (
-              a.0,
-              (ap (is_moving s) a.1, ap (is_name_taken s) a.1 ∙ ap is_some none, ap (lacks_disk s) a.1),
-              ap (has_kept (told (with_disk s name tuple) d q verdict.Ok)) a.1
+            judged (with_disk s name tuple) d q verdict.Ok answer.Ok (MakeDisk d q name tuple) refl refl refl there new (λ a. (
+              (ap (is_moving s) a, ap (is_name_taken s) a ∙ ap is_some none, ap (lacks_disk s) a),
+              ap (has_kept (told (with_disk s name tuple) d q verdict.Ok)) a
                   ∙ last_found (λ (row : DiskRow). same_name row.name name) s.disks.rows _ (text_itself name),
             )) (old_queue s (told (with_disk s name tuple) d q verdict.Ok) (requeued_itself s.view.queue)) acted
 
       -- a snapshot that is asked for
       module _ (d q : ℕ) (of name : List ℕ) (there : slice_get log k ≡ Some (Snap d q of name)) (new : is_new q (latest s d) ≡ true) where
-        wants : d ≡ c → q ≡ seq → (command_of c seq asked ≡ Some (Snap d q of name)) × (asked ≡ request.Snap of name)
-        wants one two = let mine = own k (Snap d q of name) there (λ i. Some (one i, two i)) in (mine, asks_snap c seq d q of name asked mine)
-
         unknown : named s.disks.rows of ≡ None → Acted servers s (told s d q verdict.NoDisk)
             → Has (told s d q verdict.NoDisk) × Stays s (told s d q verdict.NoDisk)
         unknown none acted =
-            judged s d q verdict.NoDisk answer.NoDisk (Snap d q of name) refl refl there new (λ one two.
-            let a = wants one two in
-            (a.0, ap (lacks_disk s) a.1 ∙ ap is_none none, tt))
+            judged s d q verdict.NoDisk answer.NoDisk (Snap d q of name) refl refl refl there new (λ a.
+            (ap (lacks_disk s) a ∙ ap is_none none, tt))
             (old_queue s (told s d q verdict.NoDisk) (requeued_itself s.view.queue)) acted
 
         name_taken : (row : DiskRow) → named s.disks.rows of ≡ Some row → is_taken s name row ≡ true → Acted servers s (told s d q verdict.Exists)
             → Has (told s d q verdict.Exists) × Stays s (told s d q verdict.Exists)
         name_taken row found taken acted =
-            judged s d q verdict.Exists answer.Exists (Snap d q of name) refl refl there new (λ one two.
-            let a = wants one two in
-            (a.0, ap (is_name_taken s) a.1 ∙ ap (λ o. option_map_or (is_taken s name) o false) found ∙ taken, tt))
+            judged s d q verdict.Exists answer.Exists (Snap d q of name) refl refl refl there new (λ a.
+            (ap (is_name_taken s) a ∙ ap (λ o. option_map_or (is_taken s name) o false) found ∙ taken, tt))
             (old_queue s (told s d q verdict.Exists) (requeued_itself s.view.queue)) acted
 
         -- the state in which its fence waits
@@ -374,7 +369,7 @@ module _ (servers : ℕ) (log : List Command) (plain : IsPlainLog servers log) w
           late_waits : (disk : ℕ) (text : List ℕ) → Whole row.id name d q ≡ Whole disk text c seq → Waits waiting disk text
           late_waits disk text kind =
               let same = same_whole row.id disk d c q seq name text kind in
-              let a = wants same.2 same.3 in
+              let a = is_own d q (Snap d q of name) there refl same.2 same.3 in
               let is_new_here = new_at d q same.2 same.3 new in
               record {
                 placed = placed_here (Snap d q of name) answer.Ok a.0 there is_new_here (
@@ -413,37 +408,30 @@ module _ (servers : ℕ) (log : List Command) (plain : IsPlainLog servers log) w
 
       -- a move that is asked for
       module _ (d q : ℕ) (of tuple : List ℕ) (there : slice_get log k ≡ Some (StartMove d q of tuple)) (new : is_new q (latest s d) ≡ true) where
-        moves_it : d ≡ c → q ≡ seq → (command_of c seq asked ≡ Some (StartMove d q of tuple)) × (asked ≡ request.Move of tuple)
-        moves_it one two = let mine = own k (StartMove d q of tuple) there (λ i. Some (one i, two i)) in (mine, asks_move c seq d q of tuple asked mine)
-
         of_nobody : named s.disks.rows of ≡ None → Acted servers s (told s d q verdict.NoDisk)
             → Has (told s d q verdict.NoDisk) × Stays s (told s d q verdict.NoDisk)
         of_nobody none acted =
-            judged s d q verdict.NoDisk answer.NoDisk (StartMove d q of tuple) refl refl there new (λ one two.
-            let a = moves_it one two in
-            (a.0, ap (lacks_disk s) a.1 ∙ ap is_none none, tt))
+            judged s d q verdict.NoDisk answer.NoDisk (StartMove d q of tuple) refl refl refl there new (λ a.
+            (ap (lacks_disk s) a ∙ ap is_none none, tt))
             (old_queue s (told s d q verdict.NoDisk) (requeued_itself s.view.queue)) acted
 
         of_busy : (row : DiskRow) → named s.disks.rows of ≡ Some row → is_some row.moving ≡ true → Acted servers s (told s d q verdict.Moving)
             → Has (told s d q verdict.Moving) × Stays s (told s d q verdict.Moving)
         of_busy row found busy acted =
-            judged s d q verdict.Moving answer.Moving (StartMove d q of tuple) refl refl there new (λ one two.
-            let a = moves_it one two in
-            (a.0, ap (is_moving s) a.1 ∙ ap (λ o. option_map_or (λ (r : DiskRow). is_some r.moving) o false) found ∙ busy, tt))
+            judged s d q verdict.Moving answer.Moving (StartMove d q of tuple) refl refl refl there new (λ a.
+            (ap (is_moving s) a ∙ ap (λ o. option_map_or (λ (r : DiskRow). is_some r.moving) o false) found ∙ busy, tt))
             (old_queue s (told s d q verdict.Moving) (requeued_itself s.view.queue)) acted
 
         begins : (row : DiskRow) → named s.disks.rows of ≡ Some row → row.moving ≡ None → Acted servers s (told (with_move s tuple row.id) d q verdict.Ok)
             → Has (told (with_move s tuple row.id) d q verdict.Ok) × Stays s (told (with_move s tuple row.id) d q verdict.Ok)
         begins row found free acted =
-            judged (with_move s tuple row.id) d q verdict.Ok answer.Ok (StartMove d q of tuple) refl refl there new (λ one two.
-            let a = moves_it one two in (
-              a.0,
+            judged (with_move s tuple row.id) d q verdict.Ok answer.Ok (StartMove d q of tuple) refl refl refl there new (λ a. (
               (
-                ap (is_moving s) a.1 ∙ ap (λ o. option_map_or (λ (r : DiskRow). is_some r.moving) o false) found ∙ ap is_some free,
-                ap (is_name_taken s) a.1,
-                ap (lacks_disk s) a.1 ∙ ap is_none found,
+                ap (is_moving s) a ∙ ap (λ o. option_map_or (λ (r : DiskRow). is_some r.moving) o false) found ∙ ap is_some free,
+                ap (is_name_taken s) a,
+                ap (lacks_disk s) a ∙ ap is_none found,
               ),
-              ap (has_kept (told (with_move s tuple row.id) d q verdict.Ok)) a.1,
+              ap (has_kept (told (with_move s tuple row.id) d q verdict.Ok)) a,
             )) (region_queued_then (told (with_move s tuple row.id) d q verdict.Ok) row.id 0) acted
 
       -- a Moved tells nobody
