@@ -44,7 +44,7 @@ use Rattle.law_causes.specs.Asked.{asker}
 use Rattle.law_causes.proofs.Asked.{asker_of}
 use Rattle.law_causes.proofs.Folds.{told_answers, act_make, judged_last, judged_old, old_now, onward_new, passed_old, passed_or}
 use Rattle.law_causes.proofs.Folds.{passed_stays, settled_old, told_old, told_or, told_stays}
-use Rattle.law_causes.proofs.Wanted.{nobody_told, named_on, last_found, has_kept, made_on, asks_disk, asks_snap, asks_move, same_whole}
+use Rattle.law_causes.proofs.Wanted.{nobody_told, named_on, last_found, has_kept, made_on, asks_it, request_of, same_whole}
 use Rattle.law_causes.proofs.Wanted.{no_whole, row_known_at, settled_moving, IsMoving}
 use Rattle.law_causes.proofs.Numbers.{at_next, entry_plain, many_at, old_on, own_old, plain_at}
 
@@ -275,117 +275,88 @@ module _ (servers : ℕ) (log : List Command) (plain : IsPlainLog servers log) w
             stays = λ given e. told_stays u d c q seq v given (ap (is_new q) (at_u d) ∙ new) (ap (verdict_for seq) (at_u c) ∙ e);
           }
 
+      -- what the state before says of the request, by what its command is answered
+      abbrev Judges : Answer → Type 0
+      Judges answer.Exists = is_name_taken s asked ≡ true
+      Judges answer.NoDisk = lacks_disk s asked ≡ true
+      Judges answer.Moving = is_moving s asked ≡ true
+      Judges answer.Ok = (is_moving s asked ≡ false) × (is_name_taken s asked ≡ false) × (lacks_disk s asked ≡ false)
+      Judges _ = Unit
+
+      -- and the state after it
+      abbrev Keeps : State → Answer → Type 0
+      Keeps t answer.Ok = has_kept t asked ≡ true
+      Keeps t _ = Unit
+
+      placed_here : (command : Command) (given : Answer) → command_of c seq asked ≡ Some command → slice_get log k ≡ Some command
+          → is_new seq (latest s c) ≡ true → Judges given → Placed given
+      placed_here command given of_it there new judged = record {
+        place = k;
+        command = command;
+        of_it = of_it;
+        is = there;
+        new = new;
+        taken = λ is. subst Judges is judged;
+        unknown = λ is. subst Judges is judged;
+        moving = λ is. subst Judges is judged;
+        still = λ is. (subst Judges is judged).0;
+        free = λ is. (subst Judges is judged).1;
+        known = λ is. (subst Judges is judged).2;
+      }
+
+      -- the command that stands here is the request's, where it is of its client and number
+      is_own : (d q : ℕ) (command : Command) → slice_get log k ≡ Some command → asker command ≡ Some (d, q) → d ≡ c → q ≡ seq
+          → (command_of c seq asked ≡ Some command) × (asked ≡ request_of command)
+      is_own d q command there of_it one two =
+          let mine = own k command there (of_it ∙ λ i. Some (one i, two i)) in (mine, asks_it c seq asked command mine)
+
+      -- a new command is told its verdict
+      judged : (u : State) (d q : ℕ) (v : Verdict) (given : Answer) (command : Command) → u.verdicts ≡ s.verdicts → verdict_answer v ≡ Some given
+          → asker command ≡ Some (d, q) → slice_get log k ≡ Some command → is_new q (latest s d) ≡ true
+          → (asked ≡ request_of command → Judges given × Keeps (told u d q v) given)
+          → ((i : ℕ) (fence : Fence) → slice_get (told u d q v).view.queue i ≡ Some fence → OldOrWaits s (told u d q v) fence)
+          → Acted servers s (told u d q v) → Has (told u d q v) × Stays s (told u d q v)
+      judged u d q v given command same is of_it there new why queue acted =
+          has_next s (told u d q v) p h acted
+          (telling u d q v same new (λ one two other e.
+          let mine = is_own d q command there of_it one two in
+          let w = why mine.1 in
+          subst (λ g. Placed g × (g ≡ answer.Ok → has_kept (told u d q v) asked ≡ true)) (same_some (sym is ∙ e))
+          (placed_here command given mine.0 there (new_at d q one two new) w.0, λ ok. subst (Keeps (told u d q v)) ok w.1))) queue
+
       -- a disk that is made, or not
       module _ (d q : ℕ) (name tuple : List ℕ) (there : slice_get log k ≡ Some (MakeDisk d q name tuple)) (new : is_new q (latest s d) ≡ true) where
-        asks : d ≡ c → q ≡ seq → (command_of c seq asked ≡ Some (MakeDisk d q name tuple)) × (asked ≡ request.Disk name tuple)
-        asks one two =
-            let mine = own k (MakeDisk d q name tuple) there (λ i. Some (one i, two i)) in (mine, asks_disk c seq d q name tuple asked mine)
-
         exists : is_some (named s.disks.rows name) ≡ true → Acted servers s (told s d q verdict.Exists)
             → Has (told s d q verdict.Exists) × Stays s (told s d q verdict.Exists)
         exists taken acted =
-            has_next s (told s d q verdict.Exists) p h acted
-            (telling s d q verdict.Exists refl new
-            (λ one two given e.
-            let a = asks one two in
-            let is_so : answer.Exists ≡ given = same_some e in (
-              record {
-                place = k;
-                command = MakeDisk d q name tuple;
-                of_it = a.0;
-                is = there;
-                new = new_at d q one two new;
-                taken = λ is. ap (is_name_taken s) a.1 ∙ taken;
-                unknown = λ is. (let f : answer.Exists ≡ answer.NoDisk = is_so ∙ is in absurd cc);
-                moving = λ is. (let f : answer.Exists ≡ answer.Moving = is_so ∙ is in absurd cc);
-                still = λ is. ap (is_moving s) a.1;
-                free = λ is. (let f : answer.Exists ≡ answer.Ok = is_so ∙ is in absurd cc);
-                known = λ is. (let f : answer.Exists ≡ answer.Ok = is_so ∙ is in absurd cc);
-              },
-              λ is. (let f : answer.Exists ≡ answer.Ok = is_so ∙ is in absurd cc),
-            )))
-            (old_queue s (told s d q verdict.Exists) (requeued_itself s.view.queue))
+            judged s d q verdict.Exists answer.Exists (MakeDisk d q name tuple) refl refl refl there new (λ a.
+            (ap (is_name_taken s) a ∙ taken, tt))
+            (old_queue s (told s d q verdict.Exists) (requeued_itself s.view.queue)) acted
 
         makes : named s.disks.rows name ≡ None → Acted servers s (told (with_disk s name tuple) d q verdict.Ok)
             → Has (told (with_disk s name tuple) d q verdict.Ok) × Stays s (told (with_disk s name tuple) d q verdict.Ok)
         makes none acted =
-            let t = told (with_disk s name tuple) d q verdict.Ok in
-            has_next s t p h acted
-            (telling (with_disk s name tuple) d q verdict.Ok refl new
-            (λ one two given e.
-            let a = asks one two in
-            let is_so : answer.Ok ≡ given = same_some e in (
-              record {
-                place = k;
-                command = MakeDisk d q name tuple;
-                of_it = a.0;
-                is = there;
-                new = new_at d q one two new;
-                taken = λ is. (let f : answer.Ok ≡ answer.Exists = is_so ∙ is in absurd cc);
-                unknown = λ is. (let f : answer.Ok ≡ answer.NoDisk = is_so ∙ is in absurd cc);
-                moving = λ is. (let f : answer.Ok ≡ answer.Moving = is_so ∙ is in absurd cc);
-                still = λ is. ap (is_moving s) a.1;
-                free = λ is. ap (is_name_taken s) a.1 ∙ ap is_some none;
-                known = λ is. ap (lacks_disk s) a.1;
-              },
-              λ is. ap (has_kept t) a.1 ∙ last_found (λ (row : DiskRow). same_name row.name name) s.disks.rows _ (text_itself name),
-            )))
-            (old_queue s t (requeued_itself s.view.queue))
+            judged (with_disk s name tuple) d q verdict.Ok answer.Ok (MakeDisk d q name tuple) refl refl refl there new (λ a. (
+              (ap (is_moving s) a, ap (is_name_taken s) a ∙ ap is_some none, ap (lacks_disk s) a),
+              ap (has_kept (told (with_disk s name tuple) d q verdict.Ok)) a
+                  ∙ last_found (λ (row : DiskRow). same_name row.name name) s.disks.rows _ (text_itself name),
+            )) (old_queue s (told (with_disk s name tuple) d q verdict.Ok) (requeued_itself s.view.queue)) acted
 
       -- a snapshot that is asked for
       module _ (d q : ℕ) (of name : List ℕ) (there : slice_get log k ≡ Some (Snap d q of name)) (new : is_new q (latest s d) ≡ true) where
-        wants : d ≡ c → q ≡ seq → (command_of c seq asked ≡ Some (Snap d q of name)) × (asked ≡ request.Snap of name)
-        wants one two = let mine = own k (Snap d q of name) there (λ i. Some (one i, two i)) in (mine, asks_snap c seq d q of name asked mine)
-
         unknown : named s.disks.rows of ≡ None → Acted servers s (told s d q verdict.NoDisk)
             → Has (told s d q verdict.NoDisk) × Stays s (told s d q verdict.NoDisk)
         unknown none acted =
-            has_next s (told s d q verdict.NoDisk) p h acted
-            (telling s d q verdict.NoDisk refl new
-            (λ one two given e.
-            let a = wants one two in
-            let is_so : answer.NoDisk ≡ given = same_some e in (
-              record {
-                place = k;
-                command = Snap d q of name;
-                of_it = a.0;
-                is = there;
-                new = new_at d q one two new;
-                taken = λ is. (let f : answer.NoDisk ≡ answer.Exists = is_so ∙ is in absurd cc);
-                unknown = λ is. ap (lacks_disk s) a.1 ∙ ap is_none none;
-                moving = λ is. (let f : answer.NoDisk ≡ answer.Moving = is_so ∙ is in absurd cc);
-                still = λ is. ap (is_moving s) a.1;
-                free = λ is. (let f : answer.NoDisk ≡ answer.Ok = is_so ∙ is in absurd cc);
-                known = λ is. (let f : answer.NoDisk ≡ answer.Ok = is_so ∙ is in absurd cc);
-              },
-              λ is. (let f : answer.NoDisk ≡ answer.Ok = is_so ∙ is in absurd cc),
-            )))
-            (old_queue s (told s d q verdict.NoDisk) (requeued_itself s.view.queue))
+            judged s d q verdict.NoDisk answer.NoDisk (Snap d q of name) refl refl refl there new (λ a.
+            (ap (lacks_disk s) a ∙ ap is_none none, tt))
+            (old_queue s (told s d q verdict.NoDisk) (requeued_itself s.view.queue)) acted
 
         name_taken : (row : DiskRow) → named s.disks.rows of ≡ Some row → is_taken s name row ≡ true → Acted servers s (told s d q verdict.Exists)
             → Has (told s d q verdict.Exists) × Stays s (told s d q verdict.Exists)
         name_taken row found taken acted =
-            has_next s (told s d q verdict.Exists) p h acted
-            (telling s d q verdict.Exists refl new
-            (λ one two given e.
-            let a = wants one two in
-            let is_so : answer.Exists ≡ given = same_some e in (
-              record {
-                place = k;
-                command = Snap d q of name;
-                of_it = a.0;
-                is = there;
-                new = new_at d q one two new;
-                taken = λ is. ap (is_name_taken s) a.1 ∙ ap (λ o. option_map_or (is_taken s name) o false) found ∙ taken;
-                unknown = λ is. (let f : answer.Exists ≡ answer.NoDisk = is_so ∙ is in absurd cc);
-                moving = λ is. (let f : answer.Exists ≡ answer.Moving = is_so ∙ is in absurd cc);
-                still = λ is. ap (is_moving s) a.1;
-                free = λ is. (let f : answer.Exists ≡ answer.Ok = is_so ∙ is in absurd cc);
-                known = λ is. (let f : answer.Exists ≡ answer.Ok = is_so ∙ is in absurd cc);
-              },
-              λ is. (let f : answer.Exists ≡ answer.Ok = is_so ∙ is in absurd cc),
-            )))
-            (old_queue s (told s d q verdict.Exists) (requeued_itself s.view.queue))
+            judged s d q verdict.Exists answer.Exists (Snap d q of name) refl refl refl there new (λ a.
+            (ap (is_name_taken s) a ∙ ap (λ o. option_map_or (is_taken s name) o false) found ∙ taken, tt))
+            (old_queue s (told s d q verdict.Exists) (requeued_itself s.view.queue)) acted
 
         -- the state in which its fence waits
         module _ (row : DiskRow) (found : named s.disks.rows of ≡ Some row) (free : is_taken s name row ≡ false) where
@@ -398,22 +369,14 @@ module _ (servers : ℕ) (log : List Command) (plain : IsPlainLog servers log) w
           late_waits : (disk : ℕ) (text : List ℕ) → Whole row.id name d q ≡ Whole disk text c seq → Waits waiting disk text
           late_waits disk text kind =
               let same = same_whole row.id disk d c q seq name text kind in
-              let a = wants same.2 same.3 in
+              let a = is_own d q (Snap d q of name) there refl same.2 same.3 in
               let is_new_here = new_at d q same.2 same.3 new in
               record {
-                placed = record {
-                  place = k;
-                  command = Snap d q of name;
-                  of_it = a.0;
-                  is = there;
-                  new = is_new_here;
-                  taken = λ is. (let f : answer.Ok ≡ answer.Exists = is in absurd cc);
-                  unknown = λ is. (let f : answer.Ok ≡ answer.NoDisk = is in absurd cc);
-                  moving = λ is. (let f : answer.Ok ≡ answer.Moving = is in absurd cc);
-                  still = λ is. ap (is_moving s) a.1;
-                  free = λ is. ap (is_name_taken s) a.1 ∙ ap (λ o. option_map_or (is_taken s name) o false) found ∙ free;
-                  known = λ is. ap (lacks_disk s) a.1 ∙ ap is_none found;
-                };
+                placed = placed_here (Snap d q of name) answer.Ok a.0 there is_new_here (
+                  ap (is_moving s) a.1,
+                  ap (is_name_taken s) a.1 ∙ ap (λ o. option_map_or (is_taken s name) o false) found ∙ free,
+                  ap (lacks_disk s) a.1 ∙ ap is_none found,
+                );
                 of = of;
                 asks = a.1 ∙ ap (request.Snap of) same.1;
                 row = row;
@@ -445,84 +408,31 @@ module _ (servers : ℕ) (log : List Command) (plain : IsPlainLog servers log) w
 
       -- a move that is asked for
       module _ (d q : ℕ) (of tuple : List ℕ) (there : slice_get log k ≡ Some (StartMove d q of tuple)) (new : is_new q (latest s d) ≡ true) where
-        moves_it : d ≡ c → q ≡ seq → (command_of c seq asked ≡ Some (StartMove d q of tuple)) × (asked ≡ request.Move of tuple)
-        moves_it one two = let mine = own k (StartMove d q of tuple) there (λ i. Some (one i, two i)) in (mine, asks_move c seq d q of tuple asked mine)
-
         of_nobody : named s.disks.rows of ≡ None → Acted servers s (told s d q verdict.NoDisk)
             → Has (told s d q verdict.NoDisk) × Stays s (told s d q verdict.NoDisk)
         of_nobody none acted =
-            has_next s (told s d q verdict.NoDisk) p h acted
-            (telling s d q verdict.NoDisk refl new
-            (λ one two given e.
-            let a = moves_it one two in
-            let is_so : answer.NoDisk ≡ given = same_some e in (
-              record {
-                place = k;
-                command = StartMove d q of tuple;
-                of_it = a.0;
-                is = there;
-                new = new_at d q one two new;
-                taken = λ is. (let f : answer.NoDisk ≡ answer.Exists = is_so ∙ is in absurd cc);
-                unknown = λ is. ap (lacks_disk s) a.1 ∙ ap is_none none;
-                moving = λ is. (let f : answer.NoDisk ≡ answer.Moving = is_so ∙ is in absurd cc);
-                still = λ is. (let f : answer.NoDisk ≡ answer.Ok = is_so ∙ is in absurd cc);
-                free = λ is. (let f : answer.NoDisk ≡ answer.Ok = is_so ∙ is in absurd cc);
-                known = λ is. (let f : answer.NoDisk ≡ answer.Ok = is_so ∙ is in absurd cc);
-              },
-              λ is. (let f : answer.NoDisk ≡ answer.Ok = is_so ∙ is in absurd cc),
-            )))
-            (old_queue s (told s d q verdict.NoDisk) (requeued_itself s.view.queue))
+            judged s d q verdict.NoDisk answer.NoDisk (StartMove d q of tuple) refl refl refl there new (λ a.
+            (ap (lacks_disk s) a ∙ ap is_none none, tt))
+            (old_queue s (told s d q verdict.NoDisk) (requeued_itself s.view.queue)) acted
 
         of_busy : (row : DiskRow) → named s.disks.rows of ≡ Some row → is_some row.moving ≡ true → Acted servers s (told s d q verdict.Moving)
             → Has (told s d q verdict.Moving) × Stays s (told s d q verdict.Moving)
         of_busy row found busy acted =
-            has_next s (told s d q verdict.Moving) p h acted
-            (telling s d q verdict.Moving refl new
-            (λ one two given e.
-            let a = moves_it one two in
-            let is_so : answer.Moving ≡ given = same_some e in (
-              record {
-                place = k;
-                command = StartMove d q of tuple;
-                of_it = a.0;
-                is = there;
-                new = new_at d q one two new;
-                taken = λ is. (let f : answer.Moving ≡ answer.Exists = is_so ∙ is in absurd cc);
-                unknown = λ is. (let f : answer.Moving ≡ answer.NoDisk = is_so ∙ is in absurd cc);
-                moving = λ is. ap (is_moving s) a.1 ∙ ap (λ o. option_map_or (λ (r : DiskRow). is_some r.moving) o false) found ∙ busy;
-                still = λ is. (let f : answer.Moving ≡ answer.Ok = is_so ∙ is in absurd cc);
-                free = λ is. (let f : answer.Moving ≡ answer.Ok = is_so ∙ is in absurd cc);
-                known = λ is. (let f : answer.Moving ≡ answer.Ok = is_so ∙ is in absurd cc);
-              },
-              λ is. (let f : answer.Moving ≡ answer.Ok = is_so ∙ is in absurd cc),
-            )))
-            (old_queue s (told s d q verdict.Moving) (requeued_itself s.view.queue))
+            judged s d q verdict.Moving answer.Moving (StartMove d q of tuple) refl refl refl there new (λ a.
+            (ap (is_moving s) a ∙ ap (λ o. option_map_or (λ (r : DiskRow). is_some r.moving) o false) found ∙ busy, tt))
+            (old_queue s (told s d q verdict.Moving) (requeued_itself s.view.queue)) acted
 
         begins : (row : DiskRow) → named s.disks.rows of ≡ Some row → row.moving ≡ None → Acted servers s (told (with_move s tuple row.id) d q verdict.Ok)
             → Has (told (with_move s tuple row.id) d q verdict.Ok) × Stays s (told (with_move s tuple row.id) d q verdict.Ok)
         begins row found free acted =
-            let t = told (with_move s tuple row.id) d q verdict.Ok in
-            has_next s t p h acted
-            (telling (with_move s tuple row.id) d q verdict.Ok refl new
-            (λ one two given e.
-            let a = moves_it one two in
-            let is_so : answer.Ok ≡ given = same_some e in (
-              record {
-                place = k;
-                command = StartMove d q of tuple;
-                of_it = a.0;
-                is = there;
-                new = new_at d q one two new;
-                taken = λ is. (let f : answer.Ok ≡ answer.Exists = is_so ∙ is in absurd cc);
-                unknown = λ is. (let f : answer.Ok ≡ answer.NoDisk = is_so ∙ is in absurd cc);
-                moving = λ is. (let f : answer.Ok ≡ answer.Moving = is_so ∙ is in absurd cc);
-                still = λ is. ap (is_moving s) a.1 ∙ ap (λ o. option_map_or (λ (r : DiskRow). is_some r.moving) o false) found ∙ ap is_some free;
-                free = λ is. ap (is_name_taken s) a.1;
-                known = λ is. ap (lacks_disk s) a.1 ∙ ap is_none found;
-              },
-              λ is. ap (has_kept t) a.1,
-            )))
-            (region_queued_then t row.id 0)
+            judged (with_move s tuple row.id) d q verdict.Ok answer.Ok (StartMove d q of tuple) refl refl refl there new (λ a. (
+              (
+                ap (is_moving s) a ∙ ap (λ o. option_map_or (λ (r : DiskRow). is_some r.moving) o false) found ∙ ap is_some free,
+                ap (is_name_taken s) a,
+                ap (lacks_disk s) a ∙ ap is_none found,
+              ),
+              ap (has_kept (told (with_move s tuple row.id) d q verdict.Ok)) a,
+            )) (region_queued_then (told (with_move s tuple row.id) d q verdict.Ok) row.id 0) acted
 
       -- a Moved tells nobody
       noted_by : (of region link : ℕ) (n : IsNoting s of region link) → Acted servers s (note s of n.row.id region link)

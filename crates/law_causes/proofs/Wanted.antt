@@ -108,43 +108,18 @@ made_on servers s t p q g _ h = true_false h refl
 
 -- ### Requests that have commands
 
-pub asks_disk : (c seq d q : ℕ) (name tuple : List ℕ) (asked : Request) → command_of c seq asked ≡ Some (MakeDisk d q name tuple)
-    → asked ≡ request.Disk name tuple
-asks_disk c seq d q name tuple (request.Disk n t) e =
-    let f : MakeDisk c seq n t ≡ MakeDisk d q name tuple = same_some e in
-    let one : n ≡ name = cc in
-    let two : t ≡ tuple = cc in
-    (λ i. request.Disk (one i) (two i))
-asks_disk c seq d q name tuple (request.Snap n snap) e =
-    let f : Snap c seq n snap ≡ MakeDisk d q name tuple = same_some e in absurd cc
-asks_disk c seq d q name tuple (request.Move n t) e =
-    let f : StartMove c seq n t ≡ MakeDisk d q name tuple = same_some e in absurd cc
-asks_disk c seq d q name tuple _ e = none_some refl e
+-- the request that a client's command is of
+abbrev pub request_of : Command → Request
+request_of (MakeDisk client seq name tuple) = request.Disk name tuple
+request_of (Snap client seq name snap) = request.Snap name snap
+request_of (StartMove client seq name tuple) = request.Move name tuple
+request_of _ = request.Settle
 
-pub asks_snap : (c seq d q : ℕ) (name snap : List ℕ) (asked : Request) → command_of c seq asked ≡ Some (Snap d q name snap) → asked ≡ request.Snap name snap
-asks_snap c seq d q name snap (request.Snap n t) e =
-    let f : Snap c seq n t ≡ Snap d q name snap = same_some e in
-    let one : n ≡ name = cc in
-    let two : t ≡ snap = cc in
-    (λ i. request.Snap (one i) (two i))
-asks_snap c seq d q name snap (request.Disk n tuple) e =
-    let f : MakeDisk c seq n tuple ≡ Snap d q name snap = same_some e in absurd cc
-asks_snap c seq d q name snap (request.Move n tuple) e =
-    let f : StartMove c seq n tuple ≡ Snap d q name snap = same_some e in absurd cc
-asks_snap c seq d q name snap _ e = none_some refl e
-
-pub asks_move : (c seq d q : ℕ) (name tuple : List ℕ) (asked : Request) → command_of c seq asked ≡ Some (StartMove d q name tuple)
-    → asked ≡ request.Move name tuple
-asks_move c seq d q name tuple (request.Move n t) e =
-    let f : StartMove c seq n t ≡ StartMove d q name tuple = same_some e in
-    let one : n ≡ name = cc in
-    let two : t ≡ tuple = cc in
-    (λ i. request.Move (one i) (two i))
-asks_move c seq d q name tuple (request.Disk n t) e =
-    let f : MakeDisk c seq n t ≡ StartMove d q name tuple = same_some e in absurd cc
-asks_move c seq d q name tuple (request.Snap n snap) e =
-    let f : Snap c seq n snap ≡ StartMove d q name tuple = same_some e in absurd cc
-asks_move c seq d q name tuple _ e = none_some refl e
+pub asks_it : (c seq : ℕ) (asked : Request) (command : Command) → command_of c seq asked ≡ Some command → asked ≡ request_of command
+asks_it c seq (request.Disk name tuple) command e = ap request_of (same_some e)
+asks_it c seq (request.Snap name snap) command e = ap request_of (same_some e)
+asks_it c seq (request.Move name tuple) command e = ap request_of (same_some e)
+asks_it c seq _ command e = none_some refl e
 
 -- two fences that are for one snapshot of one client
 pub same_whole : (disk other d c q seq : ℕ) (name text : List ℕ) → Whole disk name d q ≡ Whole other text c seq

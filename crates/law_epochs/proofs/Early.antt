@@ -1,6 +1,6 @@
 -- Every step keeps that no server has an entry of an epoch that it doesn't know of, or of a cell that is not live yet, nor a letter of its
 -- revision tells of one.
-use Rattle.std.proofs.Common.{◌≡◌, ◌≢◌, ◌≤◌, ◌++◌, ◌==◌, ℕ, false, List, [], ◌∷◌, Some, length, refl, sym, ap, ◌∙◌, subst, inl, inr, arith}
+use Rattle.std.proofs.Common.{◌≡◌, ◌≢◌, ◌≤◌, ◌==◌, ℕ, false, List, [], ◌∷◌, Some, length, refl, sym, ap, ◌∙◌, subst, inl, inr, arith}
 use Rattle.std.specs.List.{range_with_len}
 use Rattle.std.specs.Ordering.{nat_cmp}
 use Rattle.std.specs.Prelude.{filter, not, slice_get}
@@ -23,17 +23,15 @@ use Rattle.petal_rules.specs.Log.{Log}
 use Rattle.petal_rules.specs.Server.{Own, Post, Sender, Done, letters_of, sender}
 use Rattle.petal_rules.specs.State.{State}
 use Rattle.petal_rules.specs.Store.{Chain, Store, chain_in}
-use Rattle.petal_rules.specs.World.{Setting, World, chosen_log, chosen_state, setting_of, stamped}
+use Rattle.petal_rules.specs.World.{World, chosen_state, setting_of, stamped}
 use Rattle.petal_rules.specs.declared.step.Step.{Step}
 use Rattle.petal_rules.proofs.ListLemmas.{in-append}
-use Rattle.petal_history.specs.Claims.{IsPrefix}
 use Rattle.petal_history.specs.Legal.{IsLegal}
 use Rattle.petal_history.specs.Sound.{IsSound}
 use Rattle.petal_history.specs.declared.record.Record.{Record}
 use Rattle.law_state.specs.Homes.{stage_at}
 use Rattle.law_state.specs.Firm.{Firm}
 use Rattle.law_state.proofs.Steady.{log_rev}
-use Rattle.law_log.proofs.Histories.{history_grows}
 use Rattle.law_log.proofs.Proposing.{said_to_all}
 use Rattle.law_steps.specs.Happens.{Handled, Happens, Serves, Blanks, Turns, Worked, By_job, By_ballot, By_entry, Serving, Goes}
 use Rattle.law_steps.specs.Happens.{Ends, Stays, Wakes, Fails, own_place, without_rev}
@@ -44,7 +42,7 @@ use Rattle.law_steps.proofs.Fronts.{below_itself, front_on}
 use Rattle.law_steps.proofs.Histories.{last_happens, own_plain}
 use Rattle.law_steps.proofs.Letters.{said}
 use Rattle.law_steps.proofs.Sending.{turned_asks}
-use Rattle.law_stores.proofs.Ways.{At, along, before_part}
+use Rattle.law_stores.proofs.Ways.{At, along}
 use Rattle.law_copies.proofs.Sent.{none_in}
 use Rattle.law_epochs.specs.Early.{AreEarly, HaveEarlyEntries}
 use Rattle.law_epochs.proofs.Keys.{at_key}
@@ -56,6 +54,7 @@ use Rattle.law_epochs.proofs.Within.{AreWithin, IsWithin, OfKey, asked_none, is_
 pub use Rattle.law_epochs.proofs.KnownEntries.{IsKnownBy, kept_by}
 use Rattle.law_epochs.proofs.KnownEntries.{AllEarly, IsKnown, before_within, fills_within, known_more, known_on, now_within, pending_within}
 use Rattle.law_epochs.proofs.KnownEntries.{start_early, stores_within, told_within}
+use Rattle.law_epochs.proofs.Scenes.{OneMore, ends_of, one_more}
 
 posted_so : (P : Body → Type 0) (who : Sender) (stamp : ℕ) (posts : List Post) → ((post : Post) → In post posts → P post.body)
     → (letter : Letter) → In letter (stamped stamp (letters_of who 0 posts)) → P letter.body
@@ -67,28 +66,15 @@ downs_mute n inc servers post i = ap (λ (b : Body). is_of_entries (subject_of b
 
 -- ### A step
 
-module _ (script : Script) (sound : IsSound script) (front : List Record) (own : Record) (legal : IsLegal script (front ++ own ∷ []))
-    (old : AllEarly (setting_of script) (At script front)) where
-  abbrev setting : Setting
-  setting = setting_of script
-
-  abbrev w : World
-  w = At script front
-
-  abbrev v : World
-  v = At script (front ++ own ∷ [])
-
-  part : IsLegal script front
-  part = before_part script front (own ∷ []) legal
+module _ (it : OneMore) (old : AllEarly (ends_of it).setting (ends_of it).w) where
+  open it use {prior, prior.{script, sound, records as front}, own, legal}
+  open ends_of it use {setting, w, v, top_whole, records}
 
   knows : Firm setting w
-  knows = firm script sound front part
+  knows = firm script sound front prior.legal
 
   knows_now : Firm setting v
-  knows_now = firm script sound (front ++ own ∷ []) legal
-
-  chosen_on : IsPrefix (chosen_log setting w) (chosen_log setting v)
-  chosen_on = history_grows script (front ++ own ∷ []) sound legal front (own ∷ []) refl
+  knows_now = firm script sound records legal
 
   abbrev Own_log : ℕ → List Command
   Own_log n = (w.servers n).log.applied
@@ -125,15 +111,15 @@ module _ (script : Script) (sound : IsSound script) (front : List Record) (own :
   worked_said : (n : ℕ) (log : Log) (done : Done) → Worked setting w n log done → (post : Post) → In post done.posts
       → OfKey (IsWithin (bound n)) post.body
   worked_said n _ _ (By_job log done same did seat) =
-      did_said (bound n) (Handled w n) (own_place setting w n) (w.servers n).own (now_within script sound front own legal old n)
-      (pending_within script sound front own legal old n) (told_within script sound front own legal old n) (moves_within n) done did
+      did_said (bound n) (Handled w n) (own_place setting w n) (w.servers n).own (now_within it old n)
+      (pending_within it old n) (told_within it old n) (moves_within n) done did
   worked_said n _ _ (By_ballot log started posts same starts says) = λ post i.
       of_no_key (IsWithin (bound n)) post.body (logged_none (subject_of post.body) (says post i))
   worked_said n _ _ (By_entry log entry more onward) = λ post i. none_in post i
 
   -- a server says of its own revision what it knows
   own_known : (n rev : ℕ) → length (Own_log n) ≡ rev → (key : Key) → IsWithin (bound n) key → IsKnown setting v rev key
-  own_known n rev long key early = record { front = Own_log n; lies = front_on (Own_log n) _ _ (knows.servers n) chosen_on; long = long; early = early }
+  own_known n rev long key early = record { front = Own_log n; lies = front_on (Own_log n) _ _ (knows.servers n) top_whole; long = long; early = early }
 
   serves_said : (n stamp : ℕ) (what : Step) (acted : Acted) → Serving setting w n what acted → (letter : Letter)
       → In letter (stamped stamp acted.letters) → OfKey (IsKnown setting v letter.rev) letter.body
@@ -150,7 +136,7 @@ module _ (script : Script) (sound : IsSound script) (front : List Record) (own :
 
   was_said : (letter : Letter) → In letter w.sent → OfKey (IsKnown setting v letter.rev) letter.body
   was_said letter i = of_key_on (IsKnown setting w letter.rev) (IsKnown setting v letter.rev)
-      (known_on script sound front own legal old letter.rev) letter.body (old.letters letter i)
+      (known_on it old letter.rev) letter.body (old.letters letter i)
 
   letters_said : (state : State) (u : World) → Happens setting state w u → (letter : Letter) → In letter u.sent
       → OfKey (IsKnown setting v letter.rev) letter.body
@@ -171,36 +157,36 @@ module _ (script : Script) (sound : IsSound script) (front : List Record) (own :
 
   grown : (n : ℕ) (cell : Cell) (epoch : ℕ) → bound n cell epoch → IsKnownBy setting.servers (v.servers n).log.applied cell epoch
   grown n = known_more script.servers (Own_log n) (v.servers n).log.applied (own_plain setting v knows_now n)
-      (grows script sound (front ++ own ∷ []) legal front (own ∷ []) refl n)
+      (grows script sound records legal front (own ∷ []) refl n)
 
   -- also by what the server had applied before the step
   pub now_then : (n : ℕ) → AreWithin (bound n) (v.servers n).own.store.chains
   now_then =
       let state = chosen_state setting v in
-      stores_within script sound front own legal old state v
-      (last_happens script front own (always_firm script (front ++ own ∷ []) sound legal) legal state (below_itself state))
+      stores_within it old state v
+      (last_happens script front own (always_firm script records sound legal) legal state (below_itself state))
 
   pub before_then : (n : ℕ) (b : BeforeBlank) → v.before_blank n ≡ Some b → AreWithin (bound n) b.store.chains
   before_then =
       let state = chosen_state setting v in
-      before_within script sound front own legal old state v
-      (last_happens script front own (always_firm script (front ++ own ∷ []) sound legal) legal state (below_itself state))
+      before_within it old state v
+      (last_happens script front own (always_firm script records sound legal) legal state (below_itself state))
 
   pub early_next : AllEarly setting v
   early_next =
       let state = chosen_state setting v in
-      let happened = last_happens script front own (always_firm script (front ++ own ∷ []) sound legal) legal state (below_itself state) in
+      let happened = last_happens script front own (always_firm script records sound legal) legal state (below_itself state) in
       record {
-        now = λ n cell epoch entry is. grown n cell epoch (stores_within script sound front own legal old state v happened n cell epoch entry is);
+        now = λ n cell epoch entry is. grown n cell epoch (stores_within it old state v happened n cell epoch entry is);
         before = λ n b is cell epoch entry there. grown n cell epoch
-            (before_within script sound front own legal old state v happened n b is cell epoch entry there);
-        fills = λ n cell op is fills. grown n (cell_of op.key) op.key.epoch (fills_within script sound front own legal old state v happened n cell op is fills);
+            (before_within it old state v happened n b is cell epoch entry there);
+        fills = λ n cell op is fills. grown n (cell_of op.key) op.key.epoch (fills_within it old state v happened n cell op is fills);
         letters = letters_said state v happened;
       }
 
 pub all_early : (script : Script) (records : List Record) → IsSound script → IsLegal script records → AllEarly (setting_of script) (At script records)
 all_early script records sound legal =
-    along script (AllEarly (setting_of script)) (λ front own part old. early_next script sound front own part old) [] records legal
+    along script (AllEarly (setting_of script)) (λ front own part. early_next (one_more script sound front own part)) [] records legal
     (start_early (setting_of script))
 
 -- ### As it is told above

@@ -1,5 +1,5 @@
 -- The laws, over every legal history of a sound script.
-use Rattle.std.proofs.Common.{◌≡◌, ◌≤◌, ℕ, List, Some, length, true}
+use Rattle.std.proofs.Common.{◌≡◌, ◌≤◌, ℕ, List, Some, length, refl, true}
 use Rattle.global_tables.specs.declared.link.LinkRow.{LinkRow}
 use Rattle.global_tables.specs.declared.link.LinkState.TheVariants.{Both}
 use Rattle.petal_base.specs.declared.cell.Cell.{Cell}
@@ -39,7 +39,8 @@ pub place_timely : (script : Script) (records : List Record) → IsSound script 
     → IsLinked (setting_of script) front cell row → place_by (setting_of script) front row ≡ place → op.rev ≤ length front
     → IsTimely script.servers front cell op
 place_timely script records sound legal n place cell pairs op front row was is clients lies linked =
-    timely_known script sound records legal n place cell pairs op was is clients front front row lies linked lies
+    timely_known (record { script = script; sound = sound; records = records; legal = legal })
+    (record { n = n; place = place; cell = cell; pairs = pairs; op = op; was = was; is = is; clients = clients }) front front row lies linked lies
 
 pub second_timely : (script : Script) (records : List Record) → IsSound script → IsLegal script records → (n m : ℕ) (cell : Cell) (pairs : Pairs)
     (op : Pending) (row : LinkRow) → ((At script records).servers m).life.running ≡ true
@@ -51,7 +52,21 @@ pub second_timely : (script : Script) (records : List Record) → IsSound script
     → place_by (setting_of script) front now ≡ place_by (setting_of script) ((At script records).servers m).log.applied row → op.rev ≤ length front
     → IsTimely script.servers (chosen_log (setting_of script) (At script records)) cell op
 second_timely script records sound legal n m cell pairs op row runs seat linked both first second was is clients front now lies linked_now at_place le =
-    timely_now script sound records legal m n cell pairs op row runs seat linked both was is clients front now lies linked_now at_place le
+    timely_now (record { script = script; sound = sound; records = records; legal = legal }) m (record {
+      had = record { n = n; place = _; cell = cell; pairs = pairs; op = op; was = was; is = is; clients = clients };
+      row = row;
+      runs = runs;
+      seat = seat;
+      linked = linked;
+      both = both;
+      at_own = refl;
+      front = front;
+      now = now;
+      lies = lies;
+      linked_now = linked_now;
+      at_place = at_place;
+      le = le;
+    })
 
 pub early_after : (script : Script) (records : List Record) → IsSound script → IsLegal script records
     → HaveEarlyEntries script.servers (At script records)

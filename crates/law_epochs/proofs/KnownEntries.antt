@@ -1,5 +1,5 @@
 -- Every step keeps that no server has in its stores, nor has pending, an entry of an epoch that it doesn't know of, or of a cell that is not live yet.
-use Rattle.std.proofs.Common.{◌≡◌, ◌≤◌, ◌++◌, ◌==◌, ℕ, false, true, List, [], ◌∷◌, Option, Some, None, length, refl, sym, ap, ◌∙◌, subst, arith}
+use Rattle.std.proofs.Common.{◌≡◌, ◌≤◌, ◌==◌, ℕ, false, true, List, [], Option, Some, None, length, refl, sym, ap, ◌∙◌, subst, arith}
 use Rattle.petal_base.specs.declared.cell.Cell.{Cell}
 use Rattle.petal_base.specs.Cells.{cell_of}
 use Rattle.petal_base.specs.declared.cell.Key.{Key}
@@ -9,7 +9,6 @@ use Rattle.petal_table.proofs.Rows.{at-empty}
 use Rattle.petal_msg.specs.declared.body.Body.{Body}
 use Rattle.petal_msg.specs.declared.letter.Letter.{Letter}
 use Rattle.petal_msg.specs.declared.operation.Pending.{Pending}
-use Rattle.script_lines.specs.declared.script.Script.{Script}
 use Rattle.petal_state.specs.Command.{state_after}
 use Rattle.petal_rules.specs.Blanked.{BeforeBlank, kept_store}
 use Rattle.petal_rules.specs.Boots.{blanked}
@@ -21,30 +20,26 @@ use Rattle.petal_rules.specs.Server.{Pairs, Server, Done}
 use Rattle.petal_rules.specs.State.{State}
 use Rattle.petal_rules.specs.Store.{Store, cell_cmp}
 use Rattle.petal_rules.specs.Writes.{is_clients}
-use Rattle.petal_rules.specs.World.{Setting, World, blank_joins_in, chosen_log, kept, server_state, setting_of, start}
+use Rattle.petal_rules.specs.World.{Setting, World, blank_joins_in, chosen_log, kept, server_state, start}
 use Rattle.petal_rules.specs.declared.step.Step.{Step}
 use Rattle.petal_rules.proofs.Settled.{settling}
 use Rattle.petal_rules.proofs.Tests.{all_put, by_bool, by_test, none_some, same_some, true_false}
 use Rattle.petal_history.specs.Claims.{IsPrefix}
-use Rattle.petal_history.specs.Legal.{IsLegal}
-use Rattle.petal_history.specs.Sound.{IsSound}
-use Rattle.petal_history.specs.declared.record.Record.{Record}
 use Rattle.law_state.specs.Homes.{epoch_at, stage_at}
 use Rattle.law_state.specs.Firm.{Firm}
 use Rattle.law_state.specs.Plain.{IsPlainLog}
 use Rattle.law_state.proofs.Steady.{log_below}
-use Rattle.law_log.proofs.Histories.{history_grows}
 use Rattle.law_steps.specs.Happens.{Handled, Happens, Serves, Blanks, Turns, Worked, By_job, By_ballot, By_entry, Serving, Goes}
 use Rattle.law_steps.specs.Happens.{Ends, Stays, Wakes, Fails, own_place}
 use Rattle.law_steps.proofs.Filling.{Fills, Stood, Writes, did_come}
 use Rattle.law_steps.proofs.Fronts.{front_on, one_front}
 use Rattle.law_steps.proofs.Histories.{own_plain, proposed_pairs}
 use Rattle.law_stores.proofs.Jobs.{ballot_store}
-use Rattle.law_stores.proofs.Ways.{At, before_part}
 use Rattle.law_epochs.proofs.Present.{firm, opened_by, was_opened}
 use Rattle.law_epochs.proofs.Puts.{did_kept}
 use Rattle.law_epochs.proofs.Reports.{resting}
 use Rattle.law_epochs.proofs.Within.{AreWithin, IsWithin, OfKey, none_within, of_key_on}
+use Rattle.law_epochs.proofs.Scenes.{OneMore, ends_of}
 
 -- by these entries the epoch is one that the cell's disk has, or has had, and the cell is live, or has been
 pub record IsKnownBy (servers : ℕ) (log : List Command) (cell : Cell) (epoch : ℕ) : Type 0 where
@@ -94,25 +89,12 @@ kept_by P joins None store before now = now
 kept_by P joins (Some b) store before now = by_test P (b.joins == joins) b.store store (λ same. before b refl) (λ other. now)
 
 -- what is posted of this is said of this
-module _ (script : Script) (sound : IsSound script) (front : List Record) (own : Record) (legal : IsLegal script (front ++ own ∷ []))
-    (old : AllEarly (setting_of script) (At script front)) where
-  abbrev setting : Setting
-  setting = setting_of script
-
-  abbrev w : World
-  w = At script front
-
-  abbrev v : World
-  v = At script (front ++ own ∷ [])
-
-  part : IsLegal script front
-  part = before_part script front (own ∷ []) legal
+module _ (it : OneMore) (old : AllEarly (ends_of it).setting (ends_of it).w) where
+  open it use {prior, prior.{script, sound, records as front}}
+  open ends_of it use {setting, w, v, top_whole}
 
   knows : Firm setting w
-  knows = firm script sound front part
-
-  chosen_on : IsPrefix (chosen_log setting w) (chosen_log setting v)
-  chosen_on = history_grows script (front ++ own ∷ []) sound legal front (own ∷ []) refl
+  knows = firm script sound front prior.legal
 
   abbrev Own_log : ℕ → List Command
   Own_log n = (w.servers n).log.applied
@@ -122,16 +104,16 @@ module _ (script : Script) (sound : IsSound script) (front : List Record) (own :
   bound n = IsKnownBy setting.servers (Own_log n)
 
   pub known_on : (rev : ℕ) (key : Key) → IsKnown setting w rev key → IsKnown setting v rev key
-  known_on rev key k = record { front = k.front; lies = front_on k.front _ _ k.lies chosen_on; long = k.long; early = k.early }
+  known_on rev key k = record { front = k.front; lies = front_on k.front _ _ k.lies top_whole; long = k.long; early = k.early }
 
   -- what a server has pending is known to it: a write was asked for at an epoch of then, and an entry that moves was heard of
   write_within : (n : ℕ) (cell : Cell) (op : Pending) → at cell_cmp (w.servers n).own.pairs.pending cell ≡ Some op → is_clients op.kind ≡ true
       → IsWithin (bound n) op.key
   write_within n cell op is clients =
-      let o = was_opened script sound front part n cell op is clients in
-      let on = opened_by script sound front part n cell op is clients in
+      let o = was_opened script sound front prior.legal n cell op is clients in
+      let on = opened_by script sound front prior.legal n cell op is clients in
       let epoch = o.timely.epoch in
-      let keyed = (((resting script sound front part).pending n).staged cell op is).keyed in
+      let keyed = (((resting script sound front prior.legal).pending n).staged cell op is).keyed in
       known_more script.servers o.opened (Own_log n) (own_plain setting w knows n) on (cell_of op.key) op.key.epoch
       (subst (λ (q : Cell). IsKnownBy script.servers o.opened q op.key.epoch) (sym keyed) (record { within = omega arith; born = o.timely.born }))
 

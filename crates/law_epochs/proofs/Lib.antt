@@ -1,3 +1,4 @@
+pub mod Scenes
 pub mod Keys
 pub mod Parts
 pub mod Timely

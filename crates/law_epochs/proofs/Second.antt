@@ -1,6 +1,6 @@
 -- A client's write that a second server can still put is in time. Where its link was touched after its own entries, that was by a Leave, after
 -- which the era rises only once the second server has reported; and it has applied no more than its own entries.
-use Rattle.std.proofs.Common.{◌≡◌, ◌≤◌, ◌++◌, ℕ, true, List, [], ◌∷◌, Some, length, length-append, refl, sym, ap}
+use Rattle.std.proofs.Common.{◌≡◌, ◌≤◌, ◌++◌, ℕ, true, List, [], ◌∷◌, length, length-append, refl, sym, ap}
 use Rattle.std.proofs.Common.{◌∙◌, subst, inl, inr, arith, append_assoc}
 use Rattle.std.specs.Prelude.{fold}
 use Rattle.std.proofs.lemmas.Grind.{fold-append}
@@ -9,21 +9,14 @@ use Rattle.global_tables.specs.declared.link.LinkState.TheVariants.{Both}
 use Rattle.petal_base.specs.declared.cell.Cell.{Cell}
 use Rattle.petal_command.specs.declared.command.Command.{Command}
 use Rattle.petal_command.specs.declared.command.Command.TheVariants.{Leave}
-use Rattle.petal_table.specs.Table.{at}
 use Rattle.petal_msg.specs.declared.operation.Pending.{Pending}
-use Rattle.script_lines.specs.declared.script.Script.{Script}
-use Rattle.petal_state.specs.Command.{after, state_after}
+use Rattle.petal_state.specs.Command.{after}
 use Rattle.petal_state.specs.Place.{places_from, touches}
 use Rattle.petal_state.specs.State.{is_up_as, start}
-use Rattle.petal_rules.specs.Server.{Pairs}
-use Rattle.petal_rules.specs.State.{State, is_in}
-use Rattle.petal_rules.specs.Store.{cell_cmp}
-use Rattle.petal_rules.specs.Writes.{is_clients}
-use Rattle.petal_rules.specs.World.{Setting, World, chosen_log, server_state, setting_of}
+use Rattle.petal_rules.specs.State.{is_in}
+use Rattle.petal_rules.specs.World.{Setting, World, chosen_log, server_state}
 use Rattle.petal_rules.proofs.Tests.{same_or_apart}
 use Rattle.petal_history.specs.Claims.{IsPrefix}
-use Rattle.petal_history.specs.Legal.{IsLegal}
-use Rattle.petal_history.specs.Sound.{IsSound}
 use Rattle.petal_history.specs.declared.record.Record.{Record}
 use Rattle.law_state.specs.Epochs.{era_at}
 use Rattle.law_state.specs.Firm.{Firm}
@@ -36,33 +29,41 @@ use Rattle.law_steps.proofs.Fronts.{front_itself, front_long, front_more, front_
 use Rattle.law_steps.proofs.Histories.{runs_at, runs_now}
 use Rattle.law_stores.proofs.Counts.{stands_in}
 use Rattle.law_stores.proofs.Ways.{At}
-use Rattle.law_copies.specs.Visits.{IsLinked, WasThere, place_by}
+use Rattle.law_copies.specs.Visits.{IsLinked, place_by}
 use Rattle.law_copies.proofs.Places.{at_most_or_above, place_of_later, place_touched}
 use Rattle.law_epochs.specs.Timely.{IsTimely}
 use Rattle.law_epochs.proofs.Parts.{IsFirst, first_touch}
 use Rattle.law_epochs.proofs.Present.{chosen_plain, firm}
 use Rattle.law_epochs.proofs.Reports.{grows}
-use Rattle.law_epochs.proofs.There.{timely_known}
+use Rattle.law_epochs.proofs.There.{HadWrite, timely_known}
 use Rattle.law_epochs.proofs.Timely.{on_time}
+use Rattle.law_epochs.proofs.Scenes.{History, end_of}
 
-module _ (script : Script) (sound : IsSound script) (records : List Record) (legal : IsLegal script records) (m : ℕ) where
-  abbrev setting : Setting
-  setting = setting_of script
+-- the server, and a front at the place that is no shorter than the operation's revision
+pub record IsToPut (setting : Setting) (records : List Record) (w : World) (m : ℕ) : Type 0 where
+  pub had : HadWrite setting records
+  pub row : LinkRow
+  pub runs : (w.servers m).life.running ≡ true
+  pub seat : is_in (server_state setting w m) m (w.servers m).life.inc ≡ true
+  pub linked : IsLinked setting (w.servers m).log.applied had.cell row
+  pub both : row.state ≡ Both
+  pub at_own : place_by setting (w.servers m).log.applied row ≡ had.place
+  pub front : List Command
+  pub now : LinkRow
+  pub lies : IsPrefix front (chosen_log setting w)
+  pub linked_now : IsLinked setting front had.cell now
+  pub at_place : place_by setting front now ≡ place_by setting (w.servers m).log.applied row
+  pub le : had.op.rev ≤ length front
 
-  abbrev w : World
-  w = At script records
-
-  abbrev chosen : List Command
-  chosen = chosen_log setting w
+module _ (it : History) (m : ℕ) where
+  open it use {script, sound, records, legal}
+  open end_of it use {setting, w, chosen, By}
 
   abbrev own : List Command
   own = (w.servers m).log.applied
 
   abbrev inc : ℕ
   inc = (w.servers m).life.inc
-
-  abbrev By : List Command → State
-  By log = state_after script.servers log
 
   known : Firm setting w
   known = firm script sound records legal
@@ -96,17 +97,15 @@ module _ (script : Script) (sound : IsSound script) (records : List Record) (leg
               absurd (omega (arith, length-append mid (Leave other other_inc ∷ []))))
         ]
 
-  module _ (n : ℕ) (cell : Cell) (pairs : Pairs) (op : Pending) (row : LinkRow) (runs : (w.servers m).life.running ≡ true)
-      (seat : is_in (server_state setting w m) m inc ≡ true) (linked : IsLinked setting own cell row) (both : row.state ≡ Both)
-      (was : WasThere setting records n (place_by setting own row) cell pairs) (is : at cell_cmp pairs.pending cell ≡ Some op)
-      (clients : is_clients op.kind ≡ true) (front : List Command) (now : LinkRow) (lies : IsPrefix front chosen) (linked_now : IsLinked setting front cell now)
-      (at_place : place_by setting front now ≡ place_by setting own row) (le : op.rev ≤ length front) where
+  module _ (s : IsToPut setting records w m) where
+    open s use {row, had, runs, seat, linked, both, at_own, front, now, lies, linked_now, at_place, le, had.{cell, op}}
+
     -- at a front at the place that is no shorter
     timely_by : (log : List Command) → IsPrefix log chosen → place_by setting log row ≡ place_by setting own row → length front ≤ length log
         → IsTimely script.servers log cell op
     timely_by log log_chosen same long =
-        timely_known script sound records legal n (place_by setting own row) cell pairs op was is clients own log row own_chosen linked log_chosen same
-        (omega arith)
+        timely_known it had own log row own_chosen linked log_chosen (same ∙ at_own)
+        (let most = le in omega arith)
 
     module _ (more : 1 ≤ places_from (By own) own_chosen.later row) where
       first : IsFirst (By own) own_chosen.later row
@@ -149,6 +148,7 @@ module _ (script : Script) (sound : IsSound script) (records : List Record) (leg
             let one_row = place_of_later setting chosen known.plain own front front cell row now
             (front_on own after_it front (front_on own mid after_it onward (front_more mid first.entry)) on) lies linked linked_now in
             let same = same_mid in
+            let at_it = at_place in
             absurd (omega arith))
       ]
 

@@ -7,7 +7,6 @@ use Rattle.petal_base.specs.declared.cell.Cell.{Cell}
 use Rattle.petal_command.specs.declared.command.Command.{Command}
 use Rattle.petal_table.specs.Table.{at}
 use Rattle.petal_msg.specs.declared.operation.Pending.{Pending}
-use Rattle.script_lines.specs.declared.script.Script.{Script}
 use Rattle.petal_state.specs.Command.{state_after}
 use Rattle.petal_state.specs.Place.{places_from}
 use Rattle.petal_state.specs.State.{start}
@@ -15,10 +14,9 @@ use Rattle.petal_rules.specs.Server.{Pairs}
 use Rattle.petal_rules.specs.State.{is_in}
 use Rattle.petal_rules.specs.Store.{cell_cmp}
 use Rattle.petal_rules.specs.Writes.{is_clients}
-use Rattle.petal_rules.specs.World.{Setting, World, chosen_log, setting_of}
+use Rattle.petal_rules.specs.World.{Setting, World, chosen_log}
 use Rattle.petal_history.specs.Claims.{IsPrefix}
 use Rattle.petal_history.specs.Legal.{IsLegal}
-use Rattle.petal_history.specs.Sound.{IsSound}
 use Rattle.petal_history.specs.declared.record.Record.{Record}
 use Rattle.law_state.specs.Homes.{stage_at}
 use Rattle.law_state.specs.Plain.{IsPlainLog}
@@ -41,18 +39,26 @@ use Rattle.law_epochs.proofs.Present.{IsOpened, IsReported, chosen_plain, firm, 
 use Rattle.law_epochs.proofs.Reports.{grows, not_held}
 use Rattle.law_epochs.proofs.Seats.{led_has}
 use Rattle.law_epochs.proofs.Timely.{was_leaving}
+use Rattle.law_epochs.proofs.Scenes.{History, cut, end_of}
 
-module _ (script : Script) (sound : IsSound script) (records : List Record) (legal : IsLegal script records) (n place : ℕ) (cell : Cell)
-    (pairs : Pairs) (op : Pending) (was : WasThere (setting_of script) records n place cell pairs) (is : at cell_cmp pairs.pending cell ≡ Some op)
-    (clients : is_clients op.kind ≡ true) where
-  abbrev setting : Setting
-  setting = setting_of script
+-- the write, and the place
+pub record HadWrite (setting : Setting) (records : List Record) : Type 0 where
+  pub n : ℕ
+  pub place : ℕ
+  pub cell : Cell
+  pub pairs : Pairs
+  pub op : Pending
+  pub was : WasThere setting records n place cell pairs
+  pub is : at cell_cmp pairs.pending cell ≡ Some op
+  pub clients : is_clients op.kind ≡ true
+
+module _ (it : History) (had : HadWrite (end_of it).setting it.records) where
+  open it use {script, sound, records, legal}
+  open end_of it use {setting, chosen}
+  open had use {n, place, cell, pairs, op, was, is, clients}
 
   abbrev servers : ℕ
   servers = script.servers
-
-  abbrev chosen : List Command
-  chosen = chosen_log setting (At script records)
 
   abbrev then : World
   then = At script was.before
@@ -61,7 +67,7 @@ module _ (script : Script) (sound : IsSound script) (records : List Record) (leg
   entries = (then.servers n).log.applied
 
   legal_then : IsLegal script was.before
-  legal_then = before_part script was.before was.later (subst (IsLegal script) was.is legal)
+  legal_then = (cut it was.before was.later was.is).legal
 
   pending_then : at cell_cmp (then.servers n).own.pairs.pending cell ≡ Some op
   pending_then = ap (λ (p : Pairs). at cell_cmp p.pending cell) was.had ∙ is

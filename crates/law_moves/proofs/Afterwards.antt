@@ -11,7 +11,7 @@ use Rattle.script_lines.specs.declared.script.Script.{Script}
 use Rattle.petal_rules.specs.Server.{Pairs}
 use Rattle.petal_rules.specs.Store.{Chain, cell_cmp}
 use Rattle.petal_rules.specs.Writes.{is_clients}
-use Rattle.petal_rules.specs.World.{chosen_log, chosen_state, setting_of}
+use Rattle.petal_rules.specs.World.{chosen_state}
 use Rattle.petal_history.specs.Claims.{Moves}
 use Rattle.petal_history.specs.Legal.{IsLegal}
 use Rattle.petal_history.specs.Sound.{IsSound}
@@ -20,7 +20,7 @@ use Rattle.law_state.specs.Homes.{stage_at}
 use Rattle.law_state.proofs.Steady.{log_below}
 use Rattle.law_log.proofs.Histories.{history_grows, history_is_firm}
 use Rattle.law_steps.proofs.Fronts.{front_on}
-use Rattle.law_stores.proofs.Ways.{At, before_part}
+use Rattle.law_stores.proofs.Ways.{At}
 use Rattle.law_copies.specs.Visits.{IsLinked, WasThere, place_by}
 use Rattle.law_copies.proofs.Places.{at_most_or_above}
 use Rattle.law_moves.specs.Fills.{HaveComeOver, IsFrozen}
@@ -32,34 +32,40 @@ use Rattle.law_moves.proofs.Rule.{rule_kept}
 use Rattle.law_moves.proofs.EqualCopies.{frozen_on}
 use Rattle.law_moves.proofs.There.{told_already}
 use Rattle.law_moves.proofs.Worlds.{rests}
+use Rattle.law_epochs.proofs.Scenes.{History, cut, end_of}
 
 module _ (script : Script) (records : List Record) (sound : IsSound script) (legal : IsLegal script records) where
+  abbrev h : History
+  h = record { script = script; sound = sound; records = records; legal = legal }
+
+  open end_of h use {setting, w, chosen}
+
   known : Known script records
   known = known_after script sound records legal
 
-  pub over_after : HaveComeOver (setting_of script) (At script records)
-  over_after = come_over script sound records legal known.filled
+  pub over_after : HaveComeOver setting w
+  over_after = come_over h known.filled
 
-  pub rule_after : Moves (setting_of script) (At script records)
-  rule_after = rule_kept script sound records legal known.still known.filled
+  pub rule_after : Moves setting w
+  rule_after = rule_kept h known.still known.filled
 
   -- a cell that has left was frozen
-  pub dead_frozen : (cell : Cell) → stage_at (chosen_state (setting_of script) (At script records)) cell ≡ 4
-      → (before : Chain) × ((At script records).frozen cell ≡ Some before)
+  pub dead_frozen : (cell : Cell) → stage_at (chosen_state setting w) cell ≡ 4
+      → (before : Chain) × (w.frozen cell ≡ Some before)
   dead_frozen cell four =
-      let m = dead_moved script sound records legal cell four in
-      let lies = until_lies script sound records legal m.until (Moved cell.map (region_of cell.block) m.row.link) m.stands in
-      let goes = (facts script sound records legal m.until lies cell).targets m.leaves in
+      let m = dead_moved h cell four in
+      let lies = until_lies h m.until (Moved cell.map (region_of cell.block) m.row.link) m.stands in
+      let goes = (facts h m.until lies cell).targets m.leaves in
       let earlier = λ (before : List Record) (own : Record) (later : List Record) (e : records ≡ before ++ own ∷ later).
       all_known script sound records legal before (own ∷ later) e in (
         _,
-        had_now script sound records legal earlier m.until cell goes.0 m.row m.stands
+        had_now h earlier m.until cell goes.0 m.row m.stands
             (record { stage = m.leaves; to = goes.1; linked = m.linked }),
       )
 
   -- ### An entry that a server had under way
 
-  module _ (n place : ℕ) (cell : Cell) (pairs : Pairs) (op : Pending) (there : WasThere (setting_of script) records n place cell pairs)
+  module _ (n place : ℕ) (cell : Cell) (pairs : Pairs) (op : Pending) (there : WasThere setting records n place cell pairs)
       (is : at cell_cmp pairs.pending cell ≡ Some op) (fills : is_clients op.kind ≡ false) where
     pending_then : at cell_cmp ((At script there.before).servers n).own.pairs.pending cell ≡ Some op
     pending_then = ap (λ (p : Pairs). at cell_cmp p.pending cell) there.had ∙ is
@@ -67,41 +73,51 @@ module _ (script : Script) (records : List Record) (sound : IsSound script) (leg
     whole : IsLegal script (there.before ++ there.later)
     whole = subst (IsLegal script) there.is legal
 
-    legal_then : IsLegal script there.before
-    legal_then = before_part script there.before there.later whole
+    abbrev then : History
+    then = cut h there.before there.later there.is
 
     -- it is a frozen one
-    pub filling_after : IsFrozen (setting_of script) (At script records) op.rev op.key op.bytes
+    pub filling_after : IsFrozen setting w op.rev op.key op.bytes
     filling_after =
-        subst (λ rs. IsFrozen (setting_of script) (At script rs) op.rev op.key op.bytes) (sym there.is)
+        subst (λ rs. IsFrozen setting (At script rs) op.rev op.key op.bytes) (sym there.is)
         (frozen_on script sound there.before there.later whole op.rev op.key op.bytes
         ((all_known script sound records legal there.before there.later there.is).filled.asked n cell op pending_then fills))
 
     pub keyed : cell_of op.key ≡ cell
-    keyed = (((rests script sound there.before legal_then).pending n).staged cell op pending_then).keyed
+    keyed = (((rests then).pending n).staged cell op pending_then).keyed
 
     -- its cell is live, or has been
-    pub born_after : 1 ≤ stage_at (chosen_state (setting_of script) (At script records)) cell
+    pub born_after : 1 ≤ stage_at (chosen_state setting w) cell
     born_after =
-        let born = (((rests script sound there.before legal_then).pending n).staged cell op pending_then).born in
+        let born = (((rests then).pending n).staged cell op pending_then).born in
         let log = ((At script there.before).servers n).log.applied in
-        let chosen = chosen_log (setting_of script) (At script records) in
-        let lies = front_on log _ chosen ((history_is_firm script there.before sound legal_then).servers n)
+        let lies = front_on log _ chosen ((history_is_firm script there.before sound then.legal).servers n)
         (history_grows script records sound legal there.before there.later there.is) in
         let rise = (log_below script.servers log chosen (history_is_firm script records sound legal).plain lies).stages cell in
         omega arith
 
     -- and while the link is at the place, its region is on its way
-    pub comes_after : (row : LinkRow) → IsLinked (setting_of script) (chosen_log (setting_of script) (At script records)) cell row
-        → place_by (setting_of script) (chosen_log (setting_of script) (At script records)) row ≡ place
-        → stage_at (chosen_state (setting_of script) (At script records)) cell ≡ 1
+    pub comes_after : (row : LinkRow) → IsLinked setting chosen cell row
+        → place_by setting chosen row ≡ place
+        → stage_at (chosen_state setting w) cell ≡ 1
     comes_after row linked at_place =
         let born = born_after in
-        elim (at_most_or_above (stage_at (chosen_state (setting_of script) (At script records)) cell) 1) [
+        elim (at_most_or_above (stage_at (chosen_state setting w) cell) 1) [
           | inl one ↦ (omega arith)
           | inr two ↦
-              let of_key : 2 ≤ stage_at (chosen_state (setting_of script) (At script records)) (cell_of op.key) =
-              subst (λ (q : Cell). 2 ≤ stage_at (chosen_state (setting_of script) (At script records)) q) (sym keyed) two in
-              let told = told_already script sound records legal known.filled.moved op.rev op.key op.bytes filling_after of_key in
-              absurd (known.visits n place cell pairs op row there is fills linked at_place told)
+              let of_key : 2 ≤ stage_at (chosen_state setting w) (cell_of op.key) =
+              subst (λ (q : Cell). 2 ≤ stage_at (chosen_state setting w) q) (sym keyed) two in
+              let told = told_already h known.filled.moved op.rev op.key op.bytes filling_after of_key in
+              absurd (known.visits (record {
+                n = n;
+                place = place;
+                cell = cell;
+                pairs = pairs;
+                op = op;
+                row = row;
+                is = is;
+                fills = fills;
+                linked = linked;
+                spot = at_place;
+              }) there told)
         ]

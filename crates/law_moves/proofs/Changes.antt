@@ -19,7 +19,6 @@ use Rattle.petal_msg.specs.declared.copying.Copying.{Copying}
 use Rattle.petal_msg.specs.declared.copying.LastCopy.{LastCopy}
 use Rattle.petal_msg.specs.declared.operation.Far.TheVariants as far
 use Rattle.petal_msg.specs.declared.operation.Pending.{Pending}
-use Rattle.script_lines.specs.declared.script.Script.{Script}
 use Rattle.petal_state.specs.CellState.{serves}
 use Rattle.petal_state.specs.Command.{is_alone, state_after}
 use Rattle.petal_rules.specs.Copies.{cell_holder}
@@ -27,13 +26,10 @@ use Rattle.petal_rules.specs.Progress.{copying_on, last_copy}
 use Rattle.petal_rules.specs.Server.{Done, Own}
 use Rattle.petal_rules.specs.State.{id_of, is_alone_on, is_in, is_second, live}
 use Rattle.petal_rules.specs.Store.{Chain, Store, Stored, cell_cmp, chain_in, chains_with}
-use Rattle.petal_rules.specs.World.{Setting, World, chosen_log, chosen_state, kept, server_state, setting_of}
+use Rattle.petal_rules.specs.World.{Setting, World, chosen_state, kept, server_state}
 use Rattle.petal_rules.specs.Writes.{is_clients, last_on}
 use Rattle.petal_rules.proofs.Tests.{by_bool, none_some, number_itself, same_numbers, same_some, true_false}
 use Rattle.petal_history.specs.Claims.{IsPrefix}
-use Rattle.petal_history.specs.Legal.{IsLegal}
-use Rattle.petal_history.specs.Sound.{IsSound}
-use Rattle.petal_history.specs.declared.record.Record.{Record}
 use Rattle.law_log.proofs.Histories.{chosen_caught_was}
 use Rattle.law_state.specs.Below.{IsServing}
 use Rattle.law_state.specs.Homes.{stage_at}
@@ -46,7 +42,6 @@ use Rattle.law_steps.proofs.Fronts.{front_itself}
 use Rattle.law_steps.proofs.Leading.{stage_live}
 use Rattle.law_steps.proofs.Staged.{same_cell_or_apart}
 use Rattle.law_steps.proofs.Taking.{taking}
-use Rattle.law_stores.proofs.Ways.{At}
 use Rattle.law_copies.specs.Copied.{AreCopying, HasSent, IsCaught, IsLeft, IsTold, links_of}
 use Rattle.law_copies.specs.Visits.{AliveIn, IsLinked, place_by}
 use Rattle.law_copies.proofs.Chains.{chain_apart, chain_put}
@@ -57,6 +52,7 @@ use Rattle.law_epochs.proofs.Histories.{running_timely}
 use Rattle.law_moves.proofs.Chains.{A_copy, An_asked, An_own, CopiesSo, Is_dropped, Is_dropped_first, Is_put, NeverDead, Nothing_new}
 use Rattle.law_moves.proofs.Chains.{Of_the_dead, StoresSo, copied_apart, did_stores}
 use Rattle.law_moves.proofs.Worlds.{firm, good, own_counts, rests, steady_at, up}
+use Rattle.law_epochs.proofs.Scenes.{History, end_of}
 
 -- no fill is pending at a server that runs but while its cell comes
 abbrev pub AreOpenedComing : Setting → World → Type 0
@@ -72,16 +68,9 @@ pub put_on : (chains : Table Cell Chain) (key : Key) (entry : Stored) (cell : Ce
 put_on chains key entry cell e =
     subst (λ (q : Cell). chain_in (chains_with chains key entry) q ≡ put nat_cmp (chain_in chains q) key.epoch entry) e (chain_put chains (cell_of key) _)
 
-module _ (script : Script) (sound : IsSound script) (records : List Record) (legal : IsLegal script records)
-    (opened : AreOpenedComing (setting_of script) (At script records)) (n : ℕ) (runs : ((At script records).servers n).life.running ≡ true) where
-  abbrev setting : Setting
-  setting = setting_of script
-
-  abbrev w : World
-  w = At script records
-
-  abbrev chosen : List Command
-  chosen = chosen_log setting w
+module _ (it : History) (opened : AreOpenedComing (end_of it).setting (end_of it).w) (n : ℕ) (runs : ((end_of it).w.servers n).life.running ≡ true) where
+  open it use {script, sound, records, legal}
+  open end_of it use {setting, w, chosen}
 
   abbrev own : Own
   own = (w.servers n).own
@@ -90,15 +79,15 @@ module _ (script : Script) (sound : IsSound script) (records : List Record) (leg
   mine = (w.servers n).log.applied
 
   mine_chosen : IsPrefix mine chosen
-  mine_chosen = (firm script sound records legal).servers n
+  mine_chosen = (firm it).servers n
 
   -- nothing is pending on a dead cell
   pub never_dead : NeverDead (own_place setting w n) own
   never_dead now op taken off =
       let k = taking own now op taken in
-      let staged = ((rests script sound records legal).pending n).staged op.cell k.old k.was in
+      let staged = ((rests it).pending n).staged op.cell k.old k.was in
       let born = staged.born in
-      let le = up script sound records legal mine chosen mine_chosen (front_itself chosen) op.cell in
+      let le = up it mine chosen mine_chosen (front_itself chosen) op.cell in
       let low : stage_at (server_state setting w n) op.cell ≤ 2 = by_bool (is_clients k.old.kind)
       (λ clients. let stays = (running_timely script records sound legal n op.cell k.old runs k.was clients).stays in omega arith)
       (λ fills. let one = opened n op.cell k.old runs k.was fills in omega arith) in
@@ -108,7 +97,7 @@ module _ (script : Script) (sound : IsSound script) (records : List Record) (leg
       (seat : is_in (server_state setting w n) n (w.servers n).life.inc ≡ true) (cell : Cell)
       (low : stage_at (state_after script.servers front) cell ≤ 3) (serving : IsServing (state_after script.servers front) n cell) where
     own_alive : AliveIn (server_state setting w n) cell
-    own_alive = let le = up script sound records legal mine front on lies cell in omega arith
+    own_alive = let le = up it mine front on lies cell in omega arith
 
     abbrev stores : ℕ → Store
     stores = kept setting w
@@ -140,7 +129,7 @@ module _ (script : Script) (sound : IsSound script) (records : List Record) (leg
           ap (λ (r : LinkRow). r.state) (same_some (sym o.1.is ∙ a.is)) ∙ a.alone
 
       steady : IsSteady (server_state setting w n)
-      steady = steady_at script sound records legal mine mine_chosen
+      steady = steady_at it mine mine_chosen
 
       apart : (h == n) ≡ false
       apart = by_bool (h == n) (λ t. absurd (other_apart row n (steady.linked cell row o.1.is).apart (same_numbers h n t))) (λ f. f)
@@ -152,28 +141,28 @@ module _ (script : Script) (sound : IsSound script) (records : List Record) (leg
       place = place_by setting mine row
 
       abbrev visit : ℕ → Option Own
-      visit k = (good script sound records legal).visits k place cell
+      visit k = (good it).visits k place cell
 
       -- what it has in memory of the place is what it has now
       visit_mine : visit (other_of h row) ≡ Some own
       visit_mine =
-          let here = (good script sound records legal).here n cell row is seat own_alive in
+          let here = (good it).here n cell row is seat own_alive in
           ap visit other_is ∙ here.is
-          ∙ ap Some (here.same ∙ (λ i. record own { store = own_counts script sound records legal n runs mine mine_chosen seat i }))
+          ∙ ap Some (here.same ∙ (λ i. record own { store = own_counts it n runs mine mine_chosen seat i }))
 
       -- the holder had started a ballot for the Caught at the place
       flagged : (by : Own) × (visit h ≡ Some by) × (is_flagged by (id_of row) ≡ true)
-      flagged = elim (alone_or_flagged setting records w stores (firm script sound records legal) (good script sound records legal)
+      flagged = elim (alone_or_flagged setting records w stores (firm it) (good it)
           (chosen_caught_was script records sound legal) mine front cell row serving.row h whole on lies is alone serving.is (omega arith)
-          (λ p lt. ap (λ k. (good script sound records legal).visits k p cell) other_is
-          ∙ unseen_beyond setting records w stores (firm script sound records legal) (good script sound records legal) n cell row is p lt)) [
+          (λ p lt. ap (λ k. (good it).visits k p cell) other_is
+          ∙ unseen_beyond setting records w stores (firm it) (good it) n cell row is p lt)) [
             | inl still ↦ true_false (ap (λ k. k == n) (sym (serves_alone h n serving.row still.1 serving.so)) ∙ number_itself n) apart
             | inr (inl lost) ↦ true_false serving.so (ap (serves n serving.row) lost)
             | inr (inr flag) ↦ flag
           ]
 
       copying : AreCopying (links_of (server_state setting w n) cell.map) row cell (visit h) (visit (other_of h row))
-      copying = ((good script sound records legal).alone mine cell row h whole mine_chosen is alone).copying
+      copying = ((good it).alone mine cell row h whole mine_chosen is alone).copying
 
       caught : IsCaught flagged.0 row cell
       caught = copying.caught flagged.0 flagged.1 flagged.2
@@ -190,7 +179,7 @@ module _ (script : Script) (sound : IsSound script) (records : List Record) (leg
 
       told : (said : Body) → Handled w n said → (about said).cell ≡ Some cell → IsTold row (visit h) (visit (other_of h row)) said
       told said hears of = subst (λ (b : Body). (about b).cell ≡ Some cell → IsTold row (visit h) (visit (other_of h row)) b) hears.is
-          (((good script sound records legal).letters hears.letter hears.sent mine cell row mine_chosen (sym hears.at) is own_alive).alone h whole alone)
+          (((good it).letters hears.letter hears.sent mine cell row mine_chosen (sym hears.at) is own_alive).alone h whole alone)
           of
 
       never_copied : (chains : Table Cell Chain) → CopiesSo (Handled w n) own cell chains → ⊥
@@ -232,7 +221,7 @@ module _ (script : Script) (sound : IsSound script) (records : List Record) (leg
     stored_so : (new : Own) → StoresSo (Handled w n) (own_place setting w n) own new → ChainSo (chain_in new.store.chains cell)
     stored_so new (Nothing_new same) = Same (ap (λ c. chain_in c cell) same)
     stored_so new (An_own p) =
-        let keyed = (((rests script sound records legal).pending n).staged p.op.cell p.op p.is).keyed in
+        let keyed = (((rests it).pending n).staged p.op.cell p.op p.is).keyed in
         elim (same_cell_or_apart cell p.op.cell) [
           | inl e ↦ Own_put p.op (ap (at cell_cmp own.pairs.pending) e ∙ p.is) p.fresh (
             p.entry,
@@ -266,8 +255,8 @@ module _ (script : Script) (sound : IsSound script) (records : List Record) (leg
               | inl zero_or ↦ omega arith
               | inr more ↦ true_false (stage_live (server_state setting w n) cell more own_alive) off
             ] in
-            let bare = ((good script sound records legal).unheard n cell none).bare in
-            ap (λ (x : Store). chain_in x.chains cell) (sym (own_counts script sound records legal n runs mine mine_chosen seat)) ∙ bare.chain
+            let bare = ((good it).unheard n cell none).bare in
+            ap (λ (x : Store). chain_in x.chains cell) (sym (own_counts it n runs mine mine_chosen seat)) ∙ bare.chain
 
     pub chain_so : (done : Done) → Did (Handled w n) (own_place setting w n) own done → IsSeated (own_place setting w n) own done
         → ChainSo (chain_in done.own.store.chains cell)

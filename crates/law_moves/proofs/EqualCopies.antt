@@ -1,22 +1,19 @@
 -- Where a region begins to leave, the two copies of a link in Both are equal: whatever its first server has pending then, the second one has followed.
-use Rattle.std.proofs.Common.{◌≡◌, ◌≤◌, ◌+◌, ◌++◌, ℕ, Bool, true, false, List, [], ◌∷◌, Option, Some, None, is_some}
+use Rattle.std.proofs.Common.{◌≡◌, ◌≤◌, ◌+◌, ◌++◌, ℕ, Bool, true, false, List, Option, Some, None, is_some}
 use Rattle.std.proofs.Common.{refl, sym, ap, ◌∙◌, subst, inl, inr, arith}
 use Rattle.global_tables.specs.declared.link.LinkRow.{LinkRow}
 use Rattle.global_tables.specs.declared.link.LinkState.TheVariants.{Both}
 use Rattle.petal_base.specs.Cells.{cell_of}
 use Rattle.petal_base.specs.declared.cell.Cell.{Cell}
 use Rattle.petal_base.specs.declared.cell.Key.{Key}
-use Rattle.petal_command.specs.declared.command.Command.{Command}
 use Rattle.petal_table.specs.Table.{at}
 use Rattle.petal_table.proofs.Rows.{at-empty}
 use Rattle.petal_msg.specs.declared.operation.Pending.{Pending}
 use Rattle.script_lines.specs.declared.script.Script.{Script}
 use Rattle.petal_state.specs.CellState.{serves}
-use Rattle.petal_state.specs.Command.{state_after}
 use Rattle.petal_rules.specs.Server.{Own, Pairs}
-use Rattle.petal_rules.specs.State.{State}
 use Rattle.petal_rules.specs.Store.{Chain, Store, cell_cmp, chain_in}
-use Rattle.petal_rules.specs.World.{Setting, World, blank_joins_in, chosen_log, kept, setting_of}
+use Rattle.petal_rules.specs.World.{blank_joins_in, kept, setting_of}
 use Rattle.petal_rules.specs.Writes.{is_clients}
 use Rattle.petal_rules.proofs.Tests.{by_bool, none_some, true_false}
 use Rattle.petal_history.specs.Legal.{IsLegal}
@@ -28,13 +25,13 @@ use Rattle.law_state.specs.Homes.{stage_at}
 use Rattle.law_state.proofs.Roles.{secondary_is_one}
 use Rattle.law_steps.proofs.Fronts.{front_itself, front_long, front_on}
 use Rattle.law_steps.proofs.Records.{split_last}
-use Rattle.law_stores.proofs.Ways.{At, before_last, before_part}
+use Rattle.law_stores.proofs.Ways.{At, before_last}
 use Rattle.law_copies.specs.Good.{AreTwins, pair_at}
 use Rattle.law_copies.specs.Pair.{AreCopies, Working, far}
 use Rattle.law_copies.specs.Visits.{IsLinked, WasThere, half, place_by}
 use Rattle.law_copies.proofs.Places.{at_most_or_above}
 use Rattle.law_epochs.proofs.Histories.{place_timely}
-use Rattle.law_moves.specs.Fills.{Has, IsFrozen, IsThere, WasFilled}
+use Rattle.law_moves.specs.Fills.{Has, IsFrozen}
 use Rattle.law_moves.proofs.Frozen.{frozen_stays}
 use Rattle.law_moves.proofs.Knows.{AllKnown}
 use Rattle.law_moves.proofs.Leads.{half_store}
@@ -43,6 +40,8 @@ use Rattle.law_moves.proofs.Opened.{opened_within}
 use Rattle.law_moves.proofs.Over.{AllMoved}
 use Rattle.law_moves.proofs.There.{told_already}
 use Rattle.law_moves.proofs.Worlds.{chosen_twins, good, rests, row_serving}
+use Rattle.law_epochs.proofs.Scenes.{History, OneMore, cut, ends_of}
+use Rattle.law_moves.proofs.Scenes.{FillsSo}
 
 -- what is known of an entry that moves stays so
 pub frozen_on : (script : Script) (sound : IsSound script) (past later : List Record) (legal : IsLegal script (past ++ later)) (rev : ℕ) (key : Key)
@@ -59,38 +58,23 @@ frozen_on script sound past later legal rev key bytes f = record {
   newer = λ epoch lt has. filled_stays script past later sound legal _ (f.newer epoch lt has);
 }
 
-module _ (script : Script) (sound : IsSound script) (front : List Record) (own : Record) (legal : IsLegal script (front ++ own ∷ []))
-    (all : AllKnown script front) where
-  abbrev setting : Setting
-  setting = setting_of script
-
-  abbrev records : List Record
-  records = front ++ own ∷ []
-
-  abbrev v : World
-  v = At script records
-
-  abbrev whole : List Command
-  whole = chosen_log setting v
-
-  abbrev By : List Command → State
-  By log = state_after script.servers log
+module _ (it : OneMore) (all : AllKnown it.prior.script it.prior.records) where
+  open it use {prior.{script, sound, records as front}, own, legal}
+  open ends_of it use {setting, records, v, whole, By, present}
 
   -- at each Moved that is chosen all of its link was told to be at the new map
   pub moved_now : AllMoved setting v
-  moved_now = moved_all script sound records legal (λ past one later e. let rest = before_last front own past one later e in all past rest.0 rest.1)
+  moved_now = moved_all present (λ past one later e. let rest = before_last front own past one later e in all past rest.0 rest.1)
 
   -- ### Where the region begins to leave
 
   -- what a server had pending at a place was pending at that moment, for an entry that moves
-  module _ (there_now : (key : Key) → WasFilled v key → IsThere setting v (cell_of key) key.epoch)
-      (asked_now : (m : ℕ) (cell : Cell) (op : Pending) → at cell_cmp (v.servers m).own.pairs.pending cell ≡ Some op → is_clients op.kind ≡ false
-      → IsFrozen setting v op.rev op.key op.bytes) where
+  module _ (now_so : FillsSo setting v) where
     pub asked_then : (past later : List Record) → records ≡ past ++ later → (m : ℕ) (cell : Cell) (op : Pending)
         → at cell_cmp ((At script past).servers m).own.pairs.pending cell ≡ Some op → is_clients op.kind ≡ false
         → IsFrozen setting v op.rev op.key op.bytes
     asked_then past later e m cell op is fills = elim (split_last front own past later e) [
-      | inl same ↦ asked_now m cell op (subst (λ rs. at cell_cmp ((At script rs).servers m).own.pairs.pending cell ≡ Some op) same is) fills
+      | inl same ↦ now_so.asked m cell op (subst (λ rs. at cell_cmp ((At script rs).servers m).own.pairs.pending cell ≡ Some op) same is) fills
       | inr more ↦ subst (λ rs. IsFrozen setting (At script rs) op.rev op.key op.bytes) (sym e)
           (frozen_on script sound past later (subst (IsLegal script) e legal) op.rev op.key op.bytes ((all past more.0 more.1).filled.asked m cell op is fills))
     ]
@@ -101,13 +85,13 @@ module _ (script : Script) (sound : IsSound script) (front : List Record) (own :
       place = place_by setting whole row
 
       abbrev visit : ℕ → Option Own
-      visit n = (good script sound records legal).visits n place cell
+      visit n = (good present).visits n place cell
 
       abbrev stores : ℕ → Store
-      stores n = (good script sound records legal).stores n (blank_joins_in setting whole n)
+      stores n = (good present).stores n (blank_joins_in setting whole n)
 
-      twins : AreTwins stores (good script sound records legal).visits place cell row.primary row.secondary
-      twins = chosen_twins script sound records legal cell row is both (omega arith)
+      twins : AreTwins stores (good present).visits place cell row.primary row.secondary
+      twins = chosen_twins present cell row is both (omega arith)
 
       second_serves : IsServing (By whole) row.secondary cell
       second_serves =
@@ -116,18 +100,18 @@ module _ (script : Script) (sound : IsSound script) (front : List Record) (own :
 
       module _ (by : Own) (op : Pending) (there : visit row.primary ≡ Some by) (pending : at cell_cmp by.pairs.pending cell ≡ Some op) where
         was : WasThere setting records row.primary place cell by.pairs
-        was = (good script sound records legal).came row.primary place cell by there
+        was = (good present).came row.primary place cell by there
 
         pending_then : at cell_cmp ((At script was.before).servers row.primary).own.pairs.pending cell ≡ Some op
         pending_then = ap (λ (p : Pairs). at cell_cmp p.pending cell) was.had ∙ pending
 
-        legal_then : IsLegal script was.before
-        legal_then = before_part script was.before was.later (subst (IsLegal script) was.is legal)
+        abbrev then : History
+        then = cut present was.before was.later was.is
 
         -- no client's write is
         no_write : is_clients op.kind ≡ true → ⊥
         no_write clients =
-            let rev = opened_within script sound was.before legal_then row.primary cell op pending_then clients in
+            let rev = opened_within then row.primary cell op pending_then clients in
             let on = history_grows script records sound legal was.before was.later was.is in
             let long = front_long _ whole on in
             let stays = (place_timely script records sound legal row.primary place cell by.pairs op whole row was pending clients (front_itself whole) is
@@ -137,22 +121,22 @@ module _ (script : Script) (sound : IsSound script) (front : List Record) (own :
         -- and a fill that is was told to be there
         told : is_clients op.kind ≡ false → Has (chain_in (kept setting v row.secondary).chains cell) op.key.epoch
         told fills =
-            let keyed = (((rests script sound was.before legal_then).pending row.primary).staged cell op pending_then).keyed in
+            let keyed = (((rests then).pending row.primary).staged cell op pending_then).keyed in
             let frozen = asked_then was.before was.later was.is row.primary cell op pending_then fills in
             let two : 2 ≤ stage_at (By whole) (cell_of op.key) = subst (λ (q : Cell). 2 ≤ stage_at (By whole) q) (sym keyed) (omega arith) in
-            let said = told_already script sound records legal moved_now op.rev op.key op.bytes frozen two in
+            let said = told_already present moved_now op.rev op.key op.bytes frozen two in
             subst (λ (q : Cell). 1 ≤ stage_at (By whole) q → stage_at (By whole) q ≤ 3 → IsServing (By whole) row.secondary q
-            → Has (chain_in (kept setting v row.secondary).chains q) op.key.epoch) keyed ((there_now op.key said).now row.secondary) (omega arith) (omega arith)
-            second_serves
+            → Has (chain_in (kept setting v row.secondary).chains q) op.key.epoch) keyed ((now_so.there op.key said).now row.secondary) (omega arith)
+            (omega arith) second_serves
 
         followed : is_clients op.kind ≡ false
-            → op.op + op.op + 1 ≤ far (pair_at stores (good script sound records legal).visits place cell row.primary row.secondary)
+            → op.op + op.op + 1 ≤ far (pair_at stores (good present).visits place cell row.primary row.secondary)
         followed fills = elim (at_most_or_above (op.op + op.op + 1)
-            (far (pair_at stores (good script sound records legal).visits place cell row.primary row.secondary))) [
+            (far (pair_at stores (good present).visits place cell row.primary row.secondary))) [
               | inl past ↦ past
               | inr low ↦
                   let lacks = twins.lacks by op there pending fills (omega arith) in
-                  let has = subst (λ (s : Store). Has (chain_in s.chains cell) op.key.epoch) (sym ((good script sound records legal).now row.secondary))
+                  let has = subst (λ (s : Store). Has (chain_in s.chains cell) op.key.epoch) (sym ((good present).now row.secondary))
                   (told fills) in
                   true_false has (ap is_some lacks)
             ]
@@ -167,17 +151,17 @@ module _ (script : Script) (sound : IsSound script) (front : List Record) (own :
           by true ahead = ahead.even (past op refl)
 
       has_followed : (op : Pending) → at cell_cmp (half (visit row.primary) (stores row.primary)).pairs.pending cell ≡ Some op
-          → op.op + op.op + 1 ≤ far (pair_at stores (good script sound records legal).visits place cell row.primary row.secondary)
+          → op.op + op.op + 1 ≤ far (pair_at stores (good present).visits place cell row.primary row.secondary)
       has_followed op is_op = by (visit row.primary) refl is_op
         where
           by : (o : Option Own) → visit row.primary ≡ o → at cell_cmp (half o (stores row.primary)).pairs.pending cell ≡ Some op
-              → op.op + op.op + 1 ≤ far (pair_at stores (good script sound records legal).visits place cell row.primary row.secondary)
+              → op.op + op.op + 1 ≤ far (pair_at stores (good present).visits place cell row.primary row.secondary)
           by None e there = none_some (at-empty cell_cmp cell) there
           by (Some o) e there = by_bool (is_clients op.kind) (λ clients. absurd (no_write o op e there clients)) (λ fills. followed o op e there fills)
 
       pub equal_now : chain_in (kept setting v row.primary).chains cell ≡ chain_in (kept setting v row.secondary).chains cell
       equal_now =
-          let pair = pair_at stores (good script sound records legal).visits place cell row.primary row.secondary in
-          let of = λ (n : ℕ). ap (λ (s : Store). chain_in s.chains cell) (half_store (visit n) (stores n) ∙ (good script sound records legal).now n) in
+          let pair = pair_at stores (good present).visits place cell row.primary row.secondary in
+          let of = λ (n : ℕ). ap (λ (s : Store). chain_in s.chains cell) (half_store (visit n) (stores n) ∙ (good present).now n) in
           sym (of row.primary) ∙ equal_by pair.first pair.second (far pair) pair.pending twins.pair.copies has_followed ∙ of row.secondary
       -- what is frozen is the copy that counts, and so is that of each server that serves the link

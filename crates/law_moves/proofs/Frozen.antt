@@ -22,6 +22,7 @@ use Rattle.law_steps.proofs.Fronts.{below_itself}
 use Rattle.law_steps.proofs.Histories.{last_happens}
 use Rattle.law_stores.proofs.Ways.{At, along, before_part}
 use Rattle.law_copies.proofs.Places.{at_most_or_above}
+use Rattle.law_epochs.proofs.Scenes.{OneMore, ends_of, one_more}
 
 -- ### One step
 
@@ -36,15 +37,9 @@ frozen_is setting state w _ (Blanks n stamp lt within asleep) cell = refl
 frozen_is setting state w v (Turns c stamp in_call reacted lt within turned onward) cell =
     stays_frozen (leaving (chosen_state setting w) cell) (chain_that_counts setting v cell) (w.frozen cell)
 
-module _ (script : Script) (sound : IsSound script) (front : List Record) (own : Record) (legal : IsLegal script (front ++ own ∷ [])) (cell : Cell) where
-  abbrev setting : Setting
-  setting = setting_of script
-
-  abbrev w : World
-  w = At script front
-
-  abbrev v : World
-  v = At script (front ++ own ∷ [])
+module _ (it : OneMore) (cell : Cell) where
+  open it use {prior.{script, sound, records as front}, own, legal}
+  open ends_of it use {setting, w, v, records}
 
   abbrev stage_was : ℕ
   stage_was = stage_at (chosen_state setting w) cell
@@ -55,18 +50,18 @@ module _ (script : Script) (sound : IsSound script) (front : List Record) (own :
   was_frozen : v.frozen cell ≡ frozen_by setting w v cell
   was_frozen =
       let state = chosen_state setting v in
-      frozen_is setting state w v (last_happens script front own (always_firm script (front ++ own ∷ []) sound legal) legal state (below_itself state)) cell
+      frozen_is setting state w v (last_happens script front own (always_firm script records sound legal) legal state (below_itself state)) cell
 
   plain_was : IsPlainLog script.servers (chosen_log setting w)
   plain_was = (history_is_firm script front sound (before_part script front (own ∷ []) legal)).plain
 
   plain_now : IsPlainLog script.servers (chosen_log setting v)
-  plain_now = (history_is_firm script (front ++ own ∷ []) sound legal).plain
+  plain_now = (history_is_firm script records sound legal).plain
 
   pub stage_grows : stage_was ≤ stage_now
   stage_grows =
       (log_below script.servers (chosen_log setting w) (chosen_log setting v) plain_now
-      (history_grows script (front ++ own ∷ []) sound legal front (own ∷ []) refl)).stages cell
+      (history_grows script records sound legal front (own ∷ []) refl)).stages cell
 
   facts_was : HasStage (chosen_state setting w) cell
   facts_was = stage_facts script.servers (chosen_log setting w) plain_was cell
@@ -118,8 +113,8 @@ NoneEarly script w = (cell : Cell) → stage_at (chosen_state (setting_of script
 pub none_early : (script : Script) (records : List Record) → IsSound script → IsLegal script records → NoneEarly script (At script records)
 none_early script records sound legal =
     along script (NoneEarly script) (λ front own part old cell low.
-    let up = stage_grows script sound front own part cell in
-    frozen_same script sound front own part cell (inr (λ three. omega arith)) ∙ old cell (omega arith)) [] records legal (λ cell low. refl)
+    let up = stage_grows (one_more script sound front own part) cell in
+    frozen_same (one_more script sound front own part) cell (inr (λ three. omega arith)) ∙ old cell (omega arith)) [] records legal (λ cell low. refl)
 
 -- so what is frozen stays so
 pub frozen_stays : (script : Script) (front back : List Record) (cell : Cell) (before : Chain) → IsSound script → IsLegal script (front ++ back)
@@ -129,5 +124,5 @@ frozen_stays script front back cell before sound legal is =
     let early = none_early script moment sound (before_part script moment (own ∷ []) part) cell in
     elim (at_most_or_above (stage_at (chosen_state (setting_of script) (At script moment)) cell) 2) [
       | inl low ↦ none_some (early low) old
-      | inr high ↦ frozen_same script sound moment own part cell (inl high) ∙ old
+      | inr high ↦ frozen_same (one_more script sound moment own part) cell (inl high) ∙ old
     ]) front back legal is

@@ -13,18 +13,15 @@ use Rattle.petal_command.specs.declared.command.Command.{Command}
 use Rattle.petal_command.specs.declared.command.Command.TheVariants.{Caught, Join, Leave}
 use Rattle.petal_table.specs.Table.{at}
 use Rattle.petal_table.proofs.Rows.{at-empty}
-use Rattle.script_lines.specs.declared.script.Script.{Script}
 use Rattle.petal_state.specs.CellState.{cell_link, serves}
-use Rattle.petal_state.specs.Command.{state_after}
 use Rattle.petal_msg.specs.declared.copying.Progress.{Progress}
 use Rattle.petal_rules.specs.Server.{Copies, Own, Server, no_copies}
 use Rattle.petal_rules.specs.State.{State, id_of, link_cmp}
 use Rattle.petal_rules.specs.Store.{Chain, Store, chain_in}
-use Rattle.petal_rules.specs.World.{Setting, World, blank_joins_in, chosen_log, counted_by, kept_by, setting_of}
+use Rattle.petal_rules.specs.World.{Setting, World, blank_joins_in, chosen_log, counted_by, kept_by}
 use Rattle.petal_rules.proofs.Tests.{by_bool, number_itself, same_or_apart, true_false}
 use Rattle.petal_history.specs.Claims.{IsPrefix}
 use Rattle.petal_history.specs.Legal.{IsLegal}
-use Rattle.petal_history.specs.Sound.{IsSound}
 use Rattle.petal_history.specs.declared.record.Record.{Record}
 use Rattle.law_log.specs.Requested.{WasStarted}
 use Rattle.law_log.proofs.Histories.{chosen_caught_was, history_grows, history_is_firm}
@@ -47,8 +44,9 @@ use Rattle.law_copies.specs.Good.{Good}
 use Rattle.law_copies.specs.Visits.{AliveIn, IsLast, IsLinked, place_by}
 use Rattle.law_copies.proofs.Later.{holder_is_one, other_than, same_only, serves_alone, serves_its}
 use Rattle.law_copies.proofs.Places.{alive_on, linked_between, places_up, rows_later, state_next}
-use Rattle.law_moves.proofs.Steps.{Awakes, Enters, HasGone, Is_blanked, Raises, Rests, Starts_ballot, Works, chosen_on, gone, knows, knows_now, middle, part}
+use Rattle.law_moves.proofs.Steps.{Awakes, Enters, HasGone, Is_blanked, Raises, Rests, Starts_ballot, Works, gone, knows, middle}
 use Rattle.law_moves.proofs.Worlds.{row_serving}
+use Rattle.law_epochs.proofs.Scenes.{OneMore, ends_of}
 
 -- nobody who serves a link has been at a later place than the one by all that is chosen
 pub top_last : (setting : Setting) (records : List Record) (top : List Command) (w : World) → IsPlainLog setting.servers top
@@ -67,27 +65,9 @@ join_server e = cc
 join_blank : {n inc m other : ℕ} {blank bare : Bool} → Join n inc blank ≡ Join m other bare → blank ≡ bare
 join_blank e = cc
 
-module _ (script : Script) (sound : IsSound script) (front : List Record) (own : Record) (legal : IsLegal script (front ++ own ∷ [])) where
-  abbrev setting : Setting
-  setting = setting_of script
-
-  abbrev w : World
-  w = At script front
-
-  abbrev v : World
-  v = At script (front ++ own ∷ [])
-
-  abbrev top : List Command
-  top = chosen_log setting w
-
-  abbrev whole : List Command
-  whole = chosen_log setting v
-
-  abbrev By : List Command → State
-  By log = state_after script.servers log
-
-  plain : IsPlainLog script.servers whole
-  plain = (knows_now script sound front own legal).plain
+module _ (it : OneMore) where
+  open it use {prior, prior.{script, sound, records as front}, own, legal}
+  open ends_of it use {setting, w, v, top, whole, By, top_whole, plain, records}
 
   plain_at : (f : List Command) → IsPrefix f whole → IsPlainLog script.servers f
   plain_at f lies = front_plain script.servers f whole plain lies
@@ -95,20 +75,17 @@ module _ (script : Script) (sound : IsSound script) (front : List Record) (own :
   steady_at : (f : List Command) → IsPrefix f whole → IsSteady (By f)
   steady_at f lies = log_steady script.servers f (plain_at f lies)
 
-  top_whole : IsPrefix top whole
-  top_whole = chosen_on script sound front own legal
-
-  mid : Good setting (front ++ own ∷ []) top (counted_by setting top v)
-  mid = middle script sound front own legal
+  mid : Good setting records top (counted_by setting top v)
+  mid = middle it
 
   -- a server has applied no more than was chosen before the step, unless it has just booted
   within_or_awake : (n : ℕ) → IsPrefix (v.servers n).log.applied top ⊎ ((v.servers n).own.copies ≡ no_copies)
-  within_or_awake n = by (v.servers n) (gone script sound front own legal n)
+  within_or_awake n = by (v.servers n) (gone it n)
     where
       old : IsPrefix (w.servers n).log.applied top
-      old = (knows script sound front own legal).servers n
+      old = (knows it).servers n
 
-      by : (to : Server) → HasGone script sound front own legal n to → IsPrefix to.log.applied top ⊎ (to.own.copies ≡ no_copies)
+      by : (to : Server) → HasGone it n to → IsPrefix to.log.applied top ⊎ (to.own.copies ≡ no_copies)
       by to (Rests same) = inl (subst (λ (s : Server). IsPrefix s.log.applied top) (sym same) old)
       by to (Works job) = inl (subst (λ l. IsPrefix l top) (sym job.log_is) old)
       by to (Starts_ballot ballot) = inl (subst (λ l. IsPrefix l top) (sym ballot.log_is) old)
@@ -118,10 +95,10 @@ module _ (script : Script) (sound : IsSound script) (front : List Record) (own :
       by to (Is_blanked asleep same) = inl (subst (λ (s : Server). IsPrefix s.log.applied top) (sym same) old)
 
   -- the holder of a Caught that is chosen had applied the entries before it, so they were chosen before the step
-  started_within : (holder inc : ℕ) (f : List Command) (row : LinkRow) → WasStarted setting (front ++ own ∷ []) holder inc f (id_of row) → IsPrefix f top
+  started_within : (holder inc : ℕ) (f : List Command) (row : LinkRow) → WasStarted setting records holder inc f (id_of row) → IsPrefix f top
   started_within holder inc f row was = elim (split_last front own was.before was.later was.is) [
     | inr more ↦
-        let part_front = part script sound front own legal in
+        let part_front = prior.legal in
         let legal_there = before_part script was.before more.0 (subst (IsLegal script) more.1 part_front) in
         subst (λ l. IsPrefix l top) was.at (front_on _ (chosen_log setting (At script was.before)) top
         ((history_is_firm script was.before sound legal_there).servers holder)
@@ -136,7 +113,7 @@ module _ (script : Script) (sound : IsSound script) (front : List Record) (own :
 
   pub caught_within : (f : List Command) (entry : Command) (row : LinkRow) → IsPrefix (f ++ entry ∷ []) whole → IsCaughtBy (By f) entry row → IsPrefix f top
   caught_within f entry row stands acts =
-      started_within acts.holder acts.inc f row (chosen_caught_was script (front ++ own ∷ []) sound legal f row.map row.link acts.holder acts.inc
+      started_within acts.holder acts.inc f row (chosen_caught_was script records sound legal f row.map row.link acts.holder acts.inc
       (other_of acts.holder row) acts.other_inc (subst (λ c. IsPrefix (f ++ c ∷ []) whole) acts.is stands))
 
   -- so none stands behind more than that
@@ -264,11 +241,11 @@ module _ (script : Script) (sound : IsSound script) (front : List Record) (own :
 
       last : IsLast mid.reached setting c.until cell was
       last = subst (λ l. IsLinked setting l cell was → IsLast mid.reached setting l cell was) (sym at_top)
-          (top_last setting (front ++ own ∷ []) top (counted_by setting top v) (front_plain script.servers top whole plain top_whole) mid cell was) c.was
+          (top_last setting records top (counted_by setting top v) (front_plain script.servers top whole plain top_whole) mid cell was) c.was
 
       mind : (by : Own) × (mid.visits c.acts.holder (place_by setting c.until was) cell ≡ Some by) × (is_flagged by (id_of was) ≡ true)
       mind = mid.started c.acts.holder c.acts.inc c.acts.whole c.until cell was until_top c.was until_alive c.acts.alone c.acts.holds
-          (chosen_caught_was script (front ++ own ∷ []) sound legal c.until was.map was.link c.acts.holder c.acts.inc
+          (chosen_caught_was script records sound legal c.until was.map was.link c.acts.holder c.acts.inc
           (other_of c.acts.holder was) c.acts.other_inc (subst (λ e. IsPrefix (c.until ++ e ∷ []) whole) c.acts.is stands))
 
       equal : chain_in (mid.stores c.acts.holder (blank_joins_in setting c.until c.acts.holder)).chains cell

@@ -21,12 +21,12 @@ use Rattle.petal_rules.specs.Lists.{In}
 use Rattle.petal_rules.specs.State.{id_of, link_cmp}
 use Rattle.petal_rules.specs.Store.{cell_cmp}
 use Rattle.petal_paxos.specs.Chosen.{chosen_from, vote_place}
-use Rattle.petal_rules.specs.World.{Setting, World, chosen_log, chosen_state, devices, setting_of, start}
+use Rattle.petal_rules.specs.World.{Setting, chosen_log, chosen_state, devices, setting_of, start}
 use Rattle.petal_rules.specs.Writes.{is_clients}
 use Rattle.petal_rules.proofs.Tests.{none_some}
 use Rattle.law_state.specs.Homes.{stage_at}
 use Rattle.law_steps.proofs.Records.{none_before_none, split_last}
-use Rattle.law_stores.proofs.Ways.{At, before_part}
+use Rattle.law_stores.proofs.Ways.{before_part}
 use Rattle.law_moves.specs.Fills.{AreFilled, IsFrozen, IsThere, WasFilled}
 use Rattle.law_moves.specs.Still.{AreStill}
 use Rattle.law_moves.proofs.Followed.{followed_next}
@@ -43,54 +43,55 @@ use Rattle.law_moves.proofs.Telling.{asked_next, sent_next}
 use Rattle.law_moves.proofs.Then.{frozen_early}
 use Rattle.law_moves.proofs.There.{born_next, filled_next}
 use Rattle.law_moves.proofs.Visits.{unsaid_at}
+use Rattle.law_epochs.proofs.Scenes.{OneMore, ends_of, one_more}
+use Rattle.law_moves.proofs.Scenes.{FillsSo}
 
-module _ (script : Script) (sound : IsSound script) (front : List Record) (own : Record) (legal : IsLegal script (front ++ own ∷ []))
-    (all : AllKnown script front) where
-  abbrev setting : Setting
-  setting = setting_of script
-
-  abbrev v : World
-  v = At script (front ++ own ∷ [])
+module _ (it : OneMore) (all : AllKnown it.prior.script it.prior.records) where
+  open it use {prior.{script, sound, records as front}, legal}
+  open ends_of it use {setting, v, records, present}
 
   known : Known script front
-  known = before script sound front own legal all
+  known = before it all
 
   there : (key : Key) → WasFilled v key → IsThere setting v (cell_of key) key.epoch
-  there = filled_next script sound front own legal all
+  there = filled_next it all
 
   asked : (m : ℕ) (cell : Cell) (op : Pending) → at cell_cmp (v.servers m).own.pairs.pending cell ≡ Some op → is_clients op.kind ≡ false
       → IsFrozen setting v op.rev op.key op.bytes
-  asked = asked_next script sound front own legal known
+  asked = asked_next it known
 
   numbered : (m : ℕ) (cell : Cell) (op : Pending) → at cell_cmp (v.servers m).own.pairs.pending cell ≡ Some op → 1 ≤ op.op
-  numbered = numbered_next script sound front own legal all known.numbered
+  numbered = numbered_next it all known.numbered
+
+  so : FillsSo setting v
+  so = record { there = there; asked = asked; numbered = numbered }
 
   newest : AllNewest setting v
-  newest = newest_next script sound front own legal known known.newest
+  newest = newest_next it known known.newest
 
   filled : AreFilled setting v
   filled = record {
-    sent = sent_next script sound front own legal known;
+    sent = sent_next it known;
     filled = there;
-    opened = opened_next script sound front own legal all asked;
+    opened = opened_next it all asked;
     asked = asked;
-    unsaid = unsaid_next script sound front own legal all;
-    lacks = lacks_next script sound front own legal all asked;
-    stored = stored_newest script sound (front ++ own ∷ []) legal newest there;
-    told = told_next script sound front own legal known;
-    moved = moved_now script sound front own legal all;
+    unsaid = unsaid_next it all;
+    lacks = lacks_next it all asked;
+    stored = stored_newest present newest there;
+    told = told_next it known;
+    moved = moved_now it all;
   }
 
-  pub known_next : Known script (front ++ own ∷ [])
+  pub known_next : Known script records
   known_next = record {
-    still = still_next script sound front own legal all there asked;
+    still = still_next it all so;
     filled = filled;
-    early = frozen_early script (front ++ own ∷ []) sound legal;
-    begun = begun_next script sound front own legal known;
-    followed = followed_next script sound front own legal all there asked numbered;
-    visits = unsaid_at script sound front own legal all;
-    born = born_next script sound front own legal all;
-    puts = puts_next script sound front own legal all;
+    early = frozen_early script records sound legal;
+    begun = begun_next it known;
+    followed = followed_next it all so;
+    visits = unsaid_at it all;
+    born = born_next it all;
+    puts = puts_next it all;
     newest = newest;
     numbered = numbered;
   }
@@ -151,8 +152,8 @@ start_known setting = record {
   filled = start_filled setting;
   early = λ cell frozen epoch is has. none_some refl is;
   begun = λ y id last is. none_some (at-empty link_cmp id) is;
-  followed = λ m f cell row letter number key version bytes runs on lies seat linked both second low high i. absurd i;
-  visits = λ n place cell pairs op row was is fills linked at told. absurd told.sent;
+  followed = λ s a three i. absurd i;
+  visits = λ a was told. absurd told.sent;
   born = λ key told. absurd told.sent;
   puts = λ m cell op runs is fills put. none_some (at-empty cell_cmp cell) is;
   newest = start_newest setting;
@@ -167,7 +168,7 @@ start_all script past later e = subst (Known script) (sym (none_before_none past
 all_next : (script : Script) → IsSound script → (front : List Record) (own : Record) → IsLegal script (front ++ own ∷ []) → AllKnown script front
     → AllKnown script (front ++ own ∷ [])
 all_next script sound front own legal all past later e = elim (split_last front own past later e) [
-  | inl whole ↦ subst (Known script) (sym whole) (known_next script sound front own legal all)
+  | inl whole ↦ subst (Known script) (sym whole) (known_next (one_more script sound front own legal) all)
   | inr part ↦ all past part.0 part.1
 ]
 

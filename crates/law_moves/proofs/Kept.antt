@@ -1,5 +1,5 @@
 -- What a step leaves of a cell at a server that serves its link: no entry goes, and of a cell that is leaving, or has left, none comes.
-use Rattle.std.proofs.Common.{◌≡◌, ◌≤◌, ◌+◌, ◌++◌, ◌==◌, ℕ, true, false, List, [], ◌∷◌, Option, Some, None, is_some, sym, ap, ◌∙◌, subst, inl, inr, arith}
+use Rattle.std.proofs.Common.{◌≡◌, ◌≤◌, ◌+◌, ◌==◌, ℕ, true, false, List, [], Option, Some, None, is_some, sym, ap, ◌∙◌, subst, inl, inr, arith}
 use Rattle.std.specs.Prelude.{if◌then◌else◌}
 use Rattle.std.specs.Ordering.{nat_cmp}
 use Rattle.std.proofs.lemmas.List.{append-nil}
@@ -12,21 +12,17 @@ use Rattle.petal_table.proofs.Rows.{at_apart, at_same}
 use Rattle.petal_msg.specs.declared.body.Body.TheVariants as body
 use Rattle.petal_msg.specs.declared.operation.Far.TheVariants as far
 use Rattle.petal_msg.specs.declared.operation.Pending.{Pending}
-use Rattle.script_lines.specs.declared.script.Script.{Script}
 use Rattle.petal_state.specs.Command.{state_after}
 use Rattle.petal_rules.specs.Blanked.{BeforeBlank, kept_store}
 use Rattle.petal_rules.specs.Crossing.{crossed}
 use Rattle.petal_rules.specs.Server.{Own, Server}
 use Rattle.petal_rules.specs.State.{is_in, is_second, second}
 use Rattle.petal_rules.specs.Store.{Chain, Store, cell_cmp, chain_in}
-use Rattle.petal_rules.specs.World.{Setting, World, blank_joins_in, chosen_log, chosen_state, kept, kept_by, server_state, setting_of}
+use Rattle.petal_rules.specs.World.{blank_joins_in, chosen_state, kept, kept_by, server_state}
 use Rattle.petal_rules.specs.Writes.{is_clients, last_on}
 use Rattle.petal_rules.proofs.Settled.{settling}
 use Rattle.petal_rules.proofs.Tests.{by_bool, is_the_one, number_itself, same_or_apart}
 use Rattle.petal_history.specs.Claims.{IsPrefix}
-use Rattle.petal_history.specs.Legal.{IsLegal}
-use Rattle.petal_history.specs.Sound.{IsSound}
-use Rattle.petal_history.specs.declared.record.Record.{Record}
 use Rattle.law_state.specs.Below.{IsServing}
 use Rattle.law_state.specs.Homes.{stage_at}
 use Rattle.law_state.proofs.Cells.{second_by}
@@ -34,14 +30,15 @@ use Rattle.law_steps.specs.Happens.{Handled, own_place}
 use Rattle.law_steps.specs.Operations.{progress}
 use Rattle.law_steps.proofs.Fronts.{front_itself}
 use Rattle.law_stores.proofs.Jobs.{ballot_store}
-use Rattle.law_stores.proofs.Ways.{At}
 use Rattle.law_epochs.proofs.Histories.{running_timely}
 use Rattle.law_moves.specs.Fills.{Has}
 use Rattle.law_moves.proofs.Changes.{Asked_put, IsPutOn, Own_put, Same, chain_so}
 use Rattle.law_moves.proofs.Knows.{AllKnown, Known}
 use Rattle.law_moves.proofs.Steps.{Awakes, Enters, Goes_on, HasGone, HasStore, Is_bare, Is_blanked, Raises, Rests}
-use Rattle.law_moves.proofs.Steps.{Starts_ballot, Works, is_off, knows, part, stored}
+use Rattle.law_moves.proofs.Steps.{Starts_ballot, Works, is_off, knows, stored}
 use Rattle.law_moves.proofs.Worlds.{steady_at, up}
+use Rattle.law_epochs.proofs.Scenes.{OneMore, ends_of}
+use Rattle.law_moves.proofs.Scenes.{IsSecondAt}
 
 -- what an entry leaves of a chain
 pub has_put : (old new : Chain) (epoch e : ℕ) (bytes : List ℕ) → IsPutOn old new epoch bytes → Has old e → Has new e
@@ -60,28 +57,15 @@ kept_map P joins (Some b) s t was step = by_bool (b.joins == joins)
     (λ yes. subst P (ap (λ x. if x then b.store else t) (sym yes)) (subst P (ap (λ x. if x then b.store else s) yes) was))
     (λ no. subst P (ap (λ x. if x then b.store else t) (sym no)) (step (subst P (ap (λ x. if x then b.store else s) no) was)))
 
-module _ (script : Script) (sound : IsSound script) (front : List Record) (own : Record) (legal : IsLegal script (front ++ own ∷ []))
-    (all : AllKnown script front) where
-  abbrev setting : Setting
-  setting = setting_of script
-
-  abbrev w : World
-  w = At script front
-
-  abbrev v : World
-  v = At script (front ++ own ∷ [])
-
-  abbrev top : List Command
-  top = chosen_log setting w
+module _ (it : OneMore) (all : AllKnown it.prior.script it.prior.records) where
+  open it use {prior, prior.{script, sound, records as front}}
+  open ends_of it use {setting, w, v, top}
 
   pub before : Known script front
   before = all front [] (sym (append-nil front))
 
-  legal_was : IsLegal script front
-  legal_was = part script sound front own legal
-
   abbrev Gone : (n : ℕ) → Server → Type 0
-  Gone n to = HasGone script sound front own legal n to
+  Gone n to = HasGone it n to
 
   abbrev chain_of : Server → Cell → Chain
   chain_of server cell = chain_in server.own.store.chains cell
@@ -101,11 +85,11 @@ module _ (script : Script) (sound : IsSound script) (front : List Record) (own :
           → last_on (w.servers n).own cell ≡ Some (record { op = number; far = far.Reserved })
           → IsPutOn (chain_of (w.servers n) cell) new key.epoch bytes → HasChanged new
 
-    changed_by : (to : Server) (g : Gone n to) → is_off script sound front own legal g ≡ false → HasChanged (chain_of to cell)
+    changed_by : (to : Server) (g : Gone n to) → is_off it g ≡ false → HasChanged (chain_of to cell)
     changed_by to (Rests same) live = Stays_so (ap (λ (s : Server). chain_of s cell) same)
     changed_by to (Works job) live = elim job.seat [
       | inr apart ↦ Stays_so (ap (λ (o : Own). chain_in o.store.chains cell) (job.own_is ∙ apart.same))
-      | inl seat ↦ elim (chain_so script sound front legal_was before.filled.opened n job.runs f on lies seat cell low serving job.done job.did job.seat) [
+      | inl seat ↦ elim (chain_so prior before.filled.opened n job.runs f on lies seat cell low serving job.done job.did job.seat) [
         | Same e ↦ Stays_so (ap (λ (o : Own). chain_in o.store.chains cell) job.own_is ∙ e)
         | Own_put op is fresh p ↦ Put_own op job.runs is fresh (p.0, p.1, ap (λ (o : Own). chain_in o.store.chains cell) job.own_is ∙ p.2)
         | Asked_put number key version bytes hears of seconds last p ↦ Put_asked number key version bytes job.runs seat hears of seconds last
@@ -124,7 +108,7 @@ module _ (script : Script) (sound : IsSound script) (front : List Record) (own :
     changed_by to (Is_blanked asleep same) live = let f : true ≡ false = live in absurd cc
 
     -- no entry goes
-    pub has_on : (to : Server) (g : Gone n to) → is_off script sound front own legal g ≡ false → (epoch : ℕ) → Has (chain_of (w.servers n) cell) epoch
+    pub has_on : (to : Server) (g : Gone n to) → is_off it g ≡ false → (epoch : ℕ) → Has (chain_of (w.servers n) cell) epoch
         → Has (chain_of to cell) epoch
     has_on to g live epoch has = elim (changed_by to g live) [
       | Stays_so e ↦ subst (λ (c : Chain). Has c epoch) (sym e) has
@@ -137,7 +121,7 @@ module _ (script : Script) (sound : IsSound script) (front : List Record) (own :
     module _ (three : 3 ≤ stage_at (chosen_state setting w) cell) where
       not_own : (op : Pending) → (w.servers n).life.running ≡ true → at cell_cmp (w.servers n).own.pairs.pending cell ≡ Some op → ⊥
       not_own op runs is = by_bool (is_clients op.kind)
-          (λ clients. let stays = (running_timely script front sound legal_was n cell op runs is clients).stays in absurd (omega arith))
+          (λ clients. let stays = (running_timely script front sound prior.legal n cell op runs is clients).stays in absurd (omega arith))
           (λ fills. let one = before.filled.opened n cell op runs is fills in absurd (omega arith))
 
       not_asked : (number : ℕ) (key : Key) (version : ℕ) (bytes : List ℕ) → (w.servers n).life.running ≡ true
@@ -146,17 +130,39 @@ module _ (script : Script) (sound : IsSound script) (front : List Record) (own :
           → last_on (w.servers n).own cell ≡ Some (record { op = number; far = far.Reserved }) → ⊥
       not_asked number key version bytes runs seat hears of seconds last =
           let mine = (w.servers n).log.applied in
-          let mine_top = (knows script sound front own legal).servers n in
-          let b = second_by (server_state setting w n) (steady_at script sound front legal_was mine mine_top) cell n
+          let mine_top = (knows it).servers n in
+          let b = second_by (server_state setting w n) (steady_at prior mine mine_top) cell n
           (is_the_one (second (server_state setting w n) cell) n seconds) in
-          let le = up script sound front legal_was mine f on lies cell in
-          let past = before.followed n mine cell b.0.row hears.letter number key version bytes runs (front_itself mine) mine_top seat b.0.is b.0.so b.1
-          (omega arith) three hears.sent hears.is of hears.at in
+          let le = up prior mine f on lies cell in
+          let here : IsSecondAt setting w = record {
+            m = n;
+            f = mine;
+            cell = cell;
+            row = b.0.row;
+            runs = runs;
+            on = front_itself mine;
+            lies = mine_top;
+            seat = seat;
+            linked = b.0.is;
+            both = b.0.so;
+            second = b.1;
+            low = omega arith;
+          } in
+          let past = before.followed here (record {
+            letter = hears.letter;
+            number = number;
+            key = key;
+            version = version;
+            bytes = bytes;
+            is = hears.is;
+            of = of;
+            rev = hears.at;
+          }) three hears.sent in
           let e : progress (last_on (w.servers n).own cell) ≡ number + number = ap progress last in
           let lt = past.1 in
           absurd (omega arith)
 
-      pub same_on : (to : Server) (g : Gone n to) → is_off script sound front own legal g ≡ false → chain_of to cell ≡ chain_of (w.servers n) cell
+      pub same_on : (to : Server) (g : Gone n to) → is_off it g ≡ false → chain_of to cell ≡ chain_of (w.servers n) cell
       same_on to g live = elim (changed_by to g live) [
         | Stays_so e ↦ e
         | Put_own op runs is fresh p ↦ absurd (not_own op runs is)
@@ -170,14 +176,14 @@ module _ (script : Script) (sound : IsSound script) (front : List Record) (own :
 
   -- what goes on to be so of the server's own store, goes on to be so of the one that counts
   kept_from : (n : ℕ) (P : Store → Type 0) → P (kept setting w n)
-      → ((g : Gone n (v.servers n)) → is_off script sound front own legal g ≡ false → P (w.servers n).own.store → P (v.servers n).own.store)
+      → ((g : Gone n (v.servers n)) → is_off it g ≡ false → P (w.servers n).own.store → P (v.servers n).own.store)
       → P (now_kept n)
-  kept_from n P was step = by (v.before_blank n) (stored script sound front own legal n)
+  kept_from n P was step = by (v.before_blank n) (stored it n)
     where
       joins : ℕ
       joins = blank_joins_in setting top n
 
-      by : (b : Option BeforeBlank) → HasStore script sound front own legal n (v.servers n) b
+      by : (b : Option BeforeBlank) → HasStore it n (v.servers n) b
           → P (kept_store (blank_joins_in setting top n) b (v.servers n).own.store)
       by b (Goes_on g live same) =
           subst (λ o. P (kept_store (blank_joins_in setting top n) o (v.servers n).own.store)) (sym same)
@@ -188,7 +194,7 @@ module _ (script : Script) (sound : IsSound script) (front : List Record) (own :
 
   module _ (n : ℕ) (cell : Cell) (low : stage_at (chosen_state setting w) cell ≤ 3) (serving : IsServing (chosen_state setting w) n cell) where
     mine_on : IsPrefix (w.servers n).log.applied top
-    mine_on = (knows script sound front own legal).servers n
+    mine_on = (knows it).servers n
 
     pub kept_has : (epoch : ℕ) → Has (chain_in (kept setting w n).chains cell) epoch → Has (chain_in (now_kept n).chains cell) epoch
     kept_has epoch has = kept_from n (λ (s : Store). Has (chain_in s.chains cell) epoch) has

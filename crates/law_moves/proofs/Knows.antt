@@ -1,22 +1,17 @@
 -- What is kept of moves after the records of a history, all of it: each step keeps it where it held after each front of the records.
-use Rattle.std.specs.Prelude.{◌≡◌, ◌≤◌, ◌+◌, ◌++◌, ℕ, true, false, List, length, Some}
-use Rattle.global_tables.specs.declared.link.LinkRow.{LinkRow}
-use Rattle.global_tables.specs.declared.link.LinkState.TheVariants.{Both}
+use Rattle.std.specs.Prelude.{◌≡◌, ◌≤◌, ◌+◌, ◌++◌, ℕ, true, false, List, Some}
 use Rattle.petal_base.specs.Cells.{cell_of}
 use Rattle.petal_base.specs.declared.cell.Cell.{Cell}
 use Rattle.petal_base.specs.declared.cell.Key.{Key}
 use Rattle.petal_command.specs.declared.command.Command.{Command}
 use Rattle.petal_table.specs.Table.{at}
-use Rattle.petal_msg.specs.declared.body.Body.TheVariants as body
 use Rattle.petal_msg.specs.declared.copying.LinkId.{LinkId}
-use Rattle.petal_msg.specs.declared.letter.Letter.{Letter}
 use Rattle.petal_msg.specs.declared.operation.Pending.{Pending}
 use Rattle.script_lines.specs.declared.script.Script.{Script}
 use Rattle.petal_history.specs.Claims.{IsPrefix}
 use Rattle.petal_history.specs.declared.record.Record.{Record}
 use Rattle.petal_rules.specs.Lists.{In}
-use Rattle.petal_rules.specs.Server.{Pairs}
-use Rattle.petal_rules.specs.State.{is_in, link_cmp}
+use Rattle.petal_rules.specs.State.{link_cmp}
 use Rattle.petal_rules.specs.Store.{Chain, cell_cmp, chain_in}
 use Rattle.petal_rules.specs.World.{Setting, World, chosen_log, chosen_state, setting_of}
 use Rattle.petal_rules.specs.Writes.{is_clients}
@@ -24,10 +19,11 @@ use Rattle.petal_state.specs.Command.{state_after}
 use Rattle.law_state.specs.Homes.{epoch_at, stage_at}
 use Rattle.law_steps.specs.Operations.{progress}
 use Rattle.law_stores.proofs.Ways.{At}
-use Rattle.law_copies.specs.Visits.{IsLinked, WasThere, place_by}
+use Rattle.law_copies.specs.Visits.{WasThere, place_by}
 use Rattle.law_moves.specs.Fills.{AreFilled, Has, WasFilled}
 use Rattle.law_moves.specs.Still.{AreStill}
 use Rattle.law_moves.proofs.Newness.{AllNewest}
+use Rattle.law_moves.proofs.Scenes.{AsksToPut, FillAtPlace, IsSecondAt}
 
 -- what is frozen is of no epoch above that of the cell's disk
 abbrev pub AreFrozenEarly : Setting → World → Type 0
@@ -48,19 +44,13 @@ HaveBegun setting w = (y : ℕ) (id : LinkId) (last : Key) → at link_cmp (w.se
 -- of a cell that is leaving, or has left, no second server will put what its lead asked for: each such letter of a front of the log at which the
 -- server is second is one that it followed, at this place
 abbrev pub HaveFollowed : Setting → World → Type 0
-HaveFollowed setting w = (m : ℕ) (front : List Command) (cell : Cell) (row : LinkRow) (letter : Letter) (number : ℕ) (key : Key) (version : ℕ)
-    (bytes : List ℕ) → (w.servers m).life.running ≡ true → IsPrefix (w.servers m).log.applied front → IsPrefix front (chosen_log setting w)
-    → is_in (state_after setting.servers front) m (w.servers m).life.inc ≡ true → IsLinked setting front cell row → row.state ≡ Both → row.secondary ≡ m
-    → stage_at (state_after setting.servers front) cell ≤ 3 → 3 ≤ stage_at (chosen_state setting w) cell
-    → In letter w.sent → letter.body ≡ body.Replicate number key version bytes → cell_of key ≡ cell → letter.rev ≡ length front
-    → (place_by setting (w.servers m).log.applied row ≡ place_by setting front row)
-    × (number + number + 1 ≤ progress (at cell_cmp (w.servers m).own.pairs.last cell))
+HaveFollowed setting w = (s : IsSecondAt setting w) (a : AsksToPut s.f s.cell) → 3 ≤ stage_at (chosen_state setting w) s.cell → In a.letter w.sent
+    → (place_by setting (w.servers s.m).log.applied s.row ≡ place_by setting s.f s.row)
+    × (a.number + a.number + 1 ≤ progress (at cell_cmp (w.servers s.m).own.pairs.last s.cell))
 
 -- a fill that a server had pending when it was last at the place that a link has by what is chosen: no letter says that its entry is there
 abbrev pub AreUnsaid : Setting → List Record → World → Type 0
-AreUnsaid setting records w = (n place : ℕ) (cell : Cell) (pairs : Pairs) (op : Pending) (row : LinkRow) → WasThere setting records n place cell pairs
-    → at cell_cmp pairs.pending cell ≡ Some op → is_clients op.kind ≡ false → IsLinked setting (chosen_log setting w) cell row
-    → place_by setting (chosen_log setting w) row ≡ place → WasFilled w op.key → ⊥
+AreUnsaid setting records w = (a : FillAtPlace setting (chosen_log setting w)) → WasThere setting records a.n a.place a.cell a.pairs → WasFilled w a.op.key → ⊥
 
 -- what was told to be there was told of a cell that is live, or has been
 abbrev pub AreBorn : Setting → World → Type 0

@@ -1,6 +1,6 @@
 -- What a lead of a cell, by its own state, has of it while nothing of its own is under way, or its second server has followed: each server that serves the
 -- link by what is chosen has it too. And of two such leads the one has just held the link alone, and is behind its own Caught.
-use Rattle.std.proofs.Common.{◌≡◌, ◌≢◌, ◌≤◌, ◌<◌, ◌+◌, ◌==◌, ◌⊎◌, ℕ, Bool, true, false, List, Option, Some, None, is_some}
+use Rattle.std.proofs.Common.{◌≡◌, ◌≤◌, ◌<◌, ◌+◌, ◌==◌, ◌⊎◌, ℕ, Bool, true, false, List, Option, Some, None, is_some}
 use Rattle.std.proofs.Common.{refl, sym, ap, ◌∙◌, subst, inl, inr, arith}
 use Rattle.std.specs.Prelude.{option_and_then}
 use Rattle.std.specs.Ordering.{nat_cmp}
@@ -12,19 +12,15 @@ use Rattle.petal_command.specs.declared.command.Command.{Command}
 use Rattle.petal_table.specs.Table.{at, put}
 use Rattle.petal_table.proofs.Rows.{at-empty, at_apart, at_same}
 use Rattle.petal_msg.specs.declared.operation.Pending.{Pending}
-use Rattle.script_lines.specs.declared.script.Script.{Script}
 use Rattle.petal_state.specs.CellState.{cell_link, row_lead}
 use Rattle.petal_rules.specs.Progress.{has_proposed}
 use Rattle.petal_rules.specs.Server.{Own}
-use Rattle.petal_rules.specs.State.{in_both, is_alone_on, is_in, leads_link}
+use Rattle.petal_rules.specs.State.{in_both, is_alone_on}
 use Rattle.petal_rules.specs.Store.{Chain, Store, cell_cmp, chain_in}
-use Rattle.petal_rules.specs.World.{Setting, World, chosen_log, chosen_state, kept, server_state, setting_of, blank_joins_in}
+use Rattle.petal_rules.specs.World.{chosen_state, kept, server_state, blank_joins_in}
 use Rattle.petal_rules.specs.Writes.{is_clients, pending_on}
 use Rattle.petal_rules.proofs.Tests.{by_bool, is_the_one, none_some, same_numbers, same_or_apart, same_some, true_false}
 use Rattle.petal_history.specs.Claims.{IsPrefix, one_put_ahead}
-use Rattle.petal_history.specs.Legal.{IsLegal}
-use Rattle.petal_history.specs.Sound.{IsSound}
-use Rattle.petal_history.specs.declared.record.Record.{Record}
 use Rattle.law_state.specs.Below.{IsServing}
 use Rattle.law_state.specs.Homes.{stage_at}
 use Rattle.law_state.proofs.Alone.{alone_not_both, alone_row, so_both}
@@ -37,7 +33,6 @@ use Rattle.law_steps.specs.Ties.{HasOwnCaught}
 use Rattle.law_steps.proofs.Fronts.{front_itself}
 use Rattle.law_steps.proofs.Leading.{stage_live}
 use Rattle.law_steps.proofs.Ties.{running_fronts, stays_alone}
-use Rattle.law_stores.proofs.Ways.{At}
 use Rattle.law_copies.specs.Good.{pair_at}
 use Rattle.law_copies.specs.Pair.{AreCopies, PairOk, Working, far, pair_of}
 use Rattle.law_copies.specs.Visits.{AliveIn, IsLinked, half, place_by}
@@ -45,6 +40,8 @@ use Rattle.law_copies.proofs.Later.{both_since, same_only, serves_alone, serves_
 use Rattle.law_copies.proofs.Places.{at_most_or_above, one_row, places_up, rows_later}
 use Rattle.law_moves.specs.Fills.{Has}
 use Rattle.law_moves.proofs.Worlds.{chosen_twins, facts_at, firm, good, own_counts, rests, steady_at, up}
+use Rattle.law_epochs.proofs.Scenes.{History, end_of}
+use Rattle.law_moves.proofs.Scenes.{LeadsAt, TwoLeads}
 
 -- ### Two copies
 
@@ -114,19 +111,10 @@ module _ (one other : Option Own) (a b : Store) (cell : Cell) (ok : PairOk (pair
 
 -- ### A lead
 
-module _ (script : Script) (sound : IsSound script) (records : List Record) (legal : IsLegal script records) (k : ℕ)
-    (runs : ((At script records).servers k).life.running ≡ true)
-    (seat : is_in (server_state (setting_of script) (At script records) k) k ((At script records).servers k).life.inc ≡ true) (cell : Cell)
-    (low : stage_at (chosen_state (setting_of script) (At script records)) cell ≤ 3)
-    (leads : leads_link (server_state (setting_of script) (At script records) k) k cell ≡ true) where
-  abbrev setting : Setting
-  setting = setting_of script
-
-  abbrev w : World
-  w = At script records
-
-  abbrev chosen : List Command
-  chosen = chosen_log setting w
+module _ (it : History) (cell : Cell) (k : ℕ) (lead : LeadsAt (end_of it).setting (end_of it).w cell k) where
+  open it use {records}
+  open end_of it use {setting, w, chosen}
+  open lead use {runs, seat, low, leads}
 
   abbrev own : Own
   own = (w.servers k).own
@@ -135,28 +123,28 @@ module _ (script : Script) (sound : IsSound script) (records : List Record) (leg
   mine = (w.servers k).log.applied
 
   mine_chosen : IsPrefix mine chosen
-  mine_chosen = (firm script sound records legal).servers k
+  mine_chosen = (firm it).servers k
 
   alive : AliveIn (chosen_state setting w) cell
   alive = omega arith
 
   mine_alive : AliveIn (server_state setting w k) cell
-  mine_alive = let le = up script sound records legal mine chosen mine_chosen (front_itself chosen) cell in omega arith
+  mine_alive = let le = up it mine chosen mine_chosen (front_itself chosen) cell in omega arith
 
   abbrev stores : ℕ → Store
   stores = kept setting w
 
   mine_kept : kept setting w k ≡ own.store
-  mine_kept = own_counts script sound records legal k runs mine mine_chosen seat
+  mine_kept = own_counts it k runs mine mine_chosen seat
 
   -- what it was at its own place it is now
-  pub visit_mine : (row : LinkRow) → IsLinked setting mine cell row → (good script sound records legal).visits k (place_by setting mine row) cell ≡ Some own
+  pub visit_mine : (row : LinkRow) → IsLinked setting mine cell row → (good it).visits k (place_by setting mine row) cell ≡ Some own
   visit_mine row is =
-      let here = (good script sound records legal).here k cell row is seat mine_alive in
+      let here = (good it).here k cell row is seat mine_alive in
       here.is ∙ ap Some (here.same ∙ (λ i. record own { store = mine_kept i }))
 
   leading : ((b : IsInBoth (server_state setting w k) cell) × (b.row.primary ≡ k)) ⊎ IsHeldBy (server_state setting w k) cell k
-  leading = link_led_by (server_state setting w k) (steady_at script sound records legal mine mine_chosen) cell k
+  leading = link_led_by (server_state setting w k) (steady_at it mine mine_chosen) cell k
       (is_the_one (option_and_then (row_lead (server_state setting w k)) (cell_link (server_state setting w k) cell)) k leads)
 
   -- where the link is by what is chosen: in Both at the place where this server is the first one; or the server holds it alone; or it is in Both by the
@@ -169,7 +157,7 @@ module _ (script : Script) (sound : IsSound script) (records : List Record) (leg
 
   pub record IsBehind (now : LinkRow) : Type 0 where
     pub both : now.state ≡ Both
-    pub unseen : (good script sound records legal).visits k (place_by setting chosen now) cell ≡ None
+    pub unseen : (good it).visits k (place_by setting chosen now) cell ≡ None
     pub one_of : has_server k now ≡ true
     pub flagged : has_proposed (server_state setting w k) own cell ≡ true
 
@@ -182,10 +170,10 @@ module _ (script : Script) (sound : IsSound script) (records : List Record) (leg
   led_as now end = elim leading [
     | inl b ↦
         let has = primary_is_one b.0.row k b.1 in
-        elim (both_since setting records w stores (firm script sound records legal) (good script sound records legal) k runs seat cell b.0.row b.0.is
+        elim (both_since setting records w stores (firm it) (good it) k runs seat cell b.0.row b.0.is
         b.0.so has chosen now mine_chosen (front_itself chosen) end alive) [
           | inl same ↦ (
-              let one = one_row setting chosen (firm script sound records legal).plain mine chosen cell b.0.row now mine_chosen (front_itself chosen) b.0.is
+              let one = one_row setting chosen (firm it).plain mine chosen cell b.0.row now mine_chosen (front_itself chosen) b.0.is
               end (sym same) in
               As_first (record {
                 both = ap (λ (r : LinkRow). r.state) one ∙ b.0.so;
@@ -201,7 +189,7 @@ module _ (script : Script) (sound : IsSound script) (records : List Record) (leg
       held : IsHeldBy (server_state setting w k) cell k → IsLedAs now
       held h =
           let has = holder_is_one (server_state setting w k) cell k h in
-          elim (stays_alone (running_fronts (firm script sound records legal) k runs (front_itself mine) mine_chosen (front_itself chosen) seat) cell
+          elim (stays_alone (running_fronts (firm it) k runs (front_itself mine) mine_chosen (front_itself chosen) seat) cell
           h.row h.is has (serves_its k h.row h.so) alive h.whole h.so) [
             | inl on ↦ (
                 let a = alone_row (chosen_state setting w) k cell on in
@@ -213,20 +201,20 @@ module _ (script : Script) (sound : IsSound script) (records : List Record) (leg
           behind h caught =
               let same : caught.now ≡ now = same_some (sym caught.since.same ∙ end) in
               let both : now.state ≡ Both = ap (λ (r : LinkRow). r.state) (sym same) ∙ caught.both in
-              let le = places_up setting chosen (firm script sound records legal).plain mine chosen cell h.row now mine_chosen (front_itself chosen) h.is end in
+              let le = places_up setting chosen (firm it).plain mine chosen cell h.row now mine_chosen (front_itself chosen) h.is end in
               let lt : place_by setting mine h.row < place_by setting chosen now =
               elim (at_most_or_above (place_by setting chosen now) (place_by setting mine h.row)) [
                 | inr above ↦ above
                 | inl most ↦ (
-                    let one = one_row setting chosen (firm script sound records legal).plain mine chosen cell h.row now mine_chosen (front_itself chosen)
+                    let one = one_row setting chosen (firm it).plain mine chosen cell h.row now mine_chosen (front_itself chosen)
                     h.is end (omega arith) in
                     let f : Only k h.whole ≡ Both = sym h.so ∙ ap (λ (r : LinkRow). r.state) (sym one) ∙ both in absurd cc)
               ] in
               Behind (record {
                 both = both;
-                unseen = unseen_beyond setting records w stores (firm script sound records legal) (good script sound records legal) k cell h.row h.is
+                unseen = unseen_beyond setting records w stores (firm it) (good it) k cell h.row h.is
                     (place_by setting chosen now) lt;
-                one_of = one_before h.row now k (rows_later setting chosen (firm script sound records legal).plain mine chosen cell h.row now mine_chosen
+                one_of = one_before h.row now k (rows_later setting chosen (firm it).plain mine chosen cell h.row now mine_chosen
                     (front_itself chosen) h.is end)
                     ∙ holder_is_one (server_state setting w k) cell k h;
                 flagged = caught.proposed;
@@ -246,7 +234,7 @@ module _ (script : Script) (sound : IsSound script) (records : List Record) (leg
     not_flagged : (op : Pending) → pending_on own cell ≡ Some op → has_proposed (server_state setting w k) own cell ≡ true → ⊥
     not_flagged op is flagged =
         true_false flagged
-        ((((rests script sound records legal).pending k).staged cell op is).unheld (stage_live (server_state setting w k) cell born mine_alive))
+        ((((rests it).pending k).staged cell op is).unheld (stage_live (server_state setting w k) cell born mine_alive))
 
     kept_mine : Has (chain_in (kept setting w k).chains cell) epoch
     kept_mine = subst (λ (s : Store). Has (chain_in s.chains cell) epoch) (sym mine_kept) has
@@ -257,16 +245,16 @@ module _ (script : Script) (sound : IsSound script) (records : List Record) (leg
     -- two servers in Both
     module _ (now : LinkRow) (end : IsLinked setting chosen cell now) (both : now.state ≡ Both) where
       abbrev visit : ℕ → Option Own
-      visit n = (good script sound records legal).visits n (place_by setting chosen now) cell
+      visit n = (good it).visits n (place_by setting chosen now) cell
 
       ok : PairOk (pair_of (half (visit now.primary) (kept setting w now.primary)) (half (visit now.secondary) (kept setting w now.secondary)) cell)
       ok =
-          let counts = (good script sound records legal).now in
+          let counts = (good it).now in
           subst (λ (s : Store). PairOk (pair_of (half (visit now.primary) (kept setting w now.primary)) (half (visit now.secondary) s) cell))
           (counts now.secondary)
           (subst (λ (s : Store). PairOk (pair_of (half (visit now.primary) s)
-          (half (visit now.secondary) ((good script sound records legal).stores now.secondary (blank_joins_in setting chosen now.secondary))) cell))
-          (counts now.primary) (chosen_twins script sound records legal cell now end both alive).pair)
+          (half (visit now.secondary) ((good it).stores now.secondary (blank_joins_in setting chosen now.secondary))) cell))
+          (counts now.primary) (chosen_twins it cell now end both alive).pair)
 
       -- the first one has it, and nothing that the second one has not
       to_second : HasIt now.primary → IsSettledBy (at cell_cmp (half (visit now.primary) (kept setting w now.primary)).pairs.pending cell) → HasIt now.secondary
@@ -286,7 +274,7 @@ module _ (script : Script) (sound : IsSound script) (records : List Record) (leg
       by_first f n one =
           let first : HasIt now.primary = subst HasIt (sym f.first) kept_mine in
           let there : visit now.primary ≡ Some own =
-          ap visit f.first ∙ ap (λ p. (good script sound records legal).visits k p cell) f.place ∙ visit_mine now f.linked in
+          ap visit f.first ∙ ap (λ p. (good it).visits k p cell) f.place ∙ visit_mine now f.linked in
           let pending = half_some (visit now.primary) (kept setting w now.primary) own cell there in
           either n one first (to_second first (elim idle [
             | Nothing none ↦ inl (pending ∙ none)
@@ -320,82 +308,66 @@ module _ (script : Script) (sound : IsSound script) (records : List Record) (leg
 -- ### Two leads
 
 -- a server has a fill pending, and another one leads the cell by its own state: that one has nothing pending, and nothing of the fill's epoch
-module _ (script : Script) (sound : IsSound script) (records : List Record) (legal : IsLegal script records) (m k : ℕ) (apart : m ≢ k) (cell : Cell)
-    (low : stage_at (chosen_state (setting_of script) (At script records)) cell ≤ 3)
-    (m_runs : ((At script records).servers m).life.running ≡ true)
-    (m_seat : is_in (server_state (setting_of script) (At script records) m) m ((At script records).servers m).life.inc ≡ true)
-    (m_leads : leads_link (server_state (setting_of script) (At script records) m) m cell ≡ true)
-    (m_born : 1 ≤ stage_at (server_state (setting_of script) (At script records) m) cell)
-    (op : Pending) (is : pending_on ((At script records).servers m).own cell ≡ Some op)
-    (runs : ((At script records).servers k).life.running ≡ true)
-    (seat : is_in (server_state (setting_of script) (At script records) k) k ((At script records).servers k).life.inc ≡ true)
-    (leads : leads_link (server_state (setting_of script) (At script records) k) k cell ≡ true)
-    (born : 1 ≤ stage_at (server_state (setting_of script) (At script records) k) cell) where
-  abbrev this : Setting
-  this = setting_of script
-
-  abbrev u : World
-  u = At script records
-
-  abbrev by_all : List Command
-  by_all = chosen_log this u
+module _ (it : History) (two : TwoLeads (end_of it).setting (end_of it).w) where
+  open end_of it use {setting as this, w as u, chosen as by_all}
+  open two use {m, k, apart, cell, one, one_born, op, is, other, other_born, one.{low}}
 
   unheld : (n : ℕ) → 1 ≤ stage_at (server_state this u n) cell → (o : Pending) → pending_on (u.servers n).own cell ≡ Some o
       → has_proposed (server_state this u n) (u.servers n).own cell ≡ true → ⊥
   unheld n one o there flagged =
-      let le = up script sound records legal (u.servers n).log.applied by_all ((firm script sound records legal).servers n) (front_itself by_all) cell in
+      let le = up it (u.servers n).log.applied by_all ((firm it).servers n) (front_itself by_all) cell in
       true_false flagged
-      ((((rests script sound records legal).pending n).staged cell o there).unheld (stage_live (server_state this u n) cell one (omega arith)))
+      ((((rests it).pending n).staged cell o there).unheld (stage_live (server_state this u n) cell one (omega arith)))
 
   -- the link by what is chosen, with both in their places
   pub record AreApart : Type 0 where
     pub now : LinkRow
     pub end : IsLinked this by_all cell now
-    pub first : IsFirstAt script sound records legal m m_runs m_seat cell low m_leads now
-    pub second : IsBehind script sound records legal k runs seat cell low leads now
+    pub first : IsFirstAt it cell m one now
+    pub second : IsBehind it cell k other now
 
   pub are_apart : AreApart
   are_apart =
       let mine = (u.servers m).log.applied in
-      let mine_all = (firm script sound records legal).servers m in
-      let le = up script sound records legal mine by_all mine_all (front_itself by_all) cell in
-      let lives = (steady_at script sound records legal by_all (front_itself by_all)).lives cell
-      ((facts_at script sound records legal by_all (front_itself by_all) cell).alive (omega arith) low) in
-      elim (led_as script sound records legal m m_runs m_seat cell low m_leads lives.row lives.is) [
-        | As_first f ↦ elim (led_as script sound records legal k runs seat cell low leads lives.row lives.is) [
+      let mine_all = (firm it).servers m in
+      let le = up it mine by_all mine_all (front_itself by_all) cell in
+      let lives = (steady_at it by_all (front_itself by_all)).lives cell
+      ((facts_at it by_all (front_itself by_all) cell).alive (omega arith) low) in
+      elim (led_as it cell m one lives.row lives.is) [
+        | As_first f ↦ elim (led_as it cell k other lives.row lives.is) [
           | As_first g ↦ absurd (apart (sym f.first ∙ g.first))
           | Alone whole so ↦ (let e : Only k whole ≡ Both = sym so ∙ f.both in absurd cc)
           | Behind b ↦ record { now = lives.row; end = lives.is; first = f; second = b }
         ]
-        | Alone whole so ↦ elim (led_as script sound records legal k runs seat cell low leads lives.row lives.is) [
+        | Alone whole so ↦ elim (led_as it cell k other lives.row lives.is) [
           | As_first g ↦ (let e : Only m whole ≡ Both = sym so ∙ g.both in absurd cc)
           | Alone other also ↦ absurd (apart (same_only (sym so ∙ also)))
           | Behind b ↦ (let e : Only m whole ≡ Both = sym so ∙ b.both in absurd cc)
         ]
-        | Behind b ↦ absurd (unheld m m_born op is b.flagged)
+        | Behind b ↦ absurd (unheld m one_born op is b.flagged)
       ]
 
   pub other_idle : (o : Pending) → pending_on (u.servers k).own cell ≡ Some o → ⊥
-  other_idle o there = unheld k born o there are_apart.second.flagged
+  other_idle o there = unheld k other_born o there are_apart.second.flagged
 
   pub other_lacks : is_clients op.kind ≡ false → at nat_cmp (chain_in (u.servers k).own.store.chains cell) op.key.epoch ≡ None
   other_lacks fills =
       let a = are_apart in
       let now = a.now in
-      let good_now = good script sound records legal in
+      let good_now = good it in
       let visit : ℕ → Option Own = λ n. good_now.visits n (place_by this by_all now) cell in
       let there : visit now.primary ≡ Some (u.servers m).own =
       ap visit a.first.first ∙ ap (λ p. good_now.visits m p cell) a.first.place
-      ∙ visit_mine script sound records legal m m_runs m_seat cell low m_leads now a.first.linked in
+      ∙ visit_mine it cell m one now a.first.linked in
       let second_is : now.secondary ≡ k = same_numbers now.secondary k (either_true (now.primary == k) (now.secondary == k) a.second.one_of
       (by_bool (now.primary == k) (λ t. absurd (apart (sym a.first.first ∙ same_numbers now.primary k t))) (λ f. f))) in
       let far_is : far
       (pair_at (λ n. good_now.stores n (blank_joins_in this by_all n)) good_now.visits (place_by this by_all now) cell now.primary now.secondary) ≡ 0 =
       ap (λ o. progress (at cell_cmp (half o (good_now.stores now.secondary (blank_joins_in this by_all now.secondary))).pairs.last cell))
       (ap visit second_is ∙ a.second.unseen) ∙ ap progress (at-empty cell_cmp cell) in
-      let mine_all = (firm script sound records legal).servers k in
-      let lacks = (chosen_twins script sound records legal cell now a.end a.first.both (omega arith)).lacks (u.servers m).own op there is fills (omega arith) in
+      let mine_all = (firm it).servers k in
+      let lacks = (chosen_twins it cell now a.end a.first.both (omega arith)).lacks (u.servers m).own op there is fills (omega arith) in
       ap (λ (s : Store). at nat_cmp (chain_in s.chains cell) op.key.epoch)
-      (sym (own_counts script sound records legal k runs (u.servers k).log.applied mine_all seat) ∙ sym (good_now.now k)
+      (sym (own_counts it k other.runs (u.servers k).log.applied mine_all other.seat) ∙ sym (good_now.now k)
       ∙ ap (λ n. good_now.stores n (blank_joins_in this by_all n)) (sym second_is))
       ∙ lacks

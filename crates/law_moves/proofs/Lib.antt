@@ -1,3 +1,4 @@
+pub mod Scenes
 pub mod NextFill
 pub mod Newness
 pub mod Knows

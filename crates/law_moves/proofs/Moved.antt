@@ -16,7 +16,6 @@ use Rattle.petal_msg.specs.declared.letter.Letter.{Letter}
 use Rattle.petal_table.specs.Table.{at}
 use Rattle.script_lines.specs.declared.script.Script.{Script}
 use Rattle.petal_state.specs.CellState.{region_leaving, row_lead}
-use Rattle.petal_state.specs.Command.{state_after}
 use Rattle.petal_state.specs.Role.{is_the}
 use Rattle.petal_rules.specs.Fills.{next_fill, not_noted, region_to_move}
 use Rattle.petal_rules.specs.Lists.{In}
@@ -50,6 +49,7 @@ use Rattle.law_moves.proofs.Knows.{Known}
 use Rattle.law_moves.proofs.NextFill.{none_left, nothing_left}
 use Rattle.law_moves.proofs.Over.{AllMoved, plain, until_lies}
 use Rattle.law_moves.proofs.Serving.{link_lead_serves}
+use Rattle.law_epochs.proofs.Scenes.{History, end_of}
 
 -- ### Letters stay
 
@@ -78,16 +78,10 @@ mover_leads state me region row =
     by_test (λ (o : Option ℕ). o ≡ Some region → is_the (row_lead state row) me ≡ true) (is_the (row_lead state row) me)
     (not_noted state row (region_leaving state row.map)) None (λ leads e. leads) (λ other e. none_some refl e)
 
-module _ (script : Script) (sound : IsSound script) (records : List Record) (legal : IsLegal script records)
-    (known : (before : List Record) (own : Record) (later : List Record) → records ≡ before ++ own ∷ later → Known script before) where
-  abbrev setting : Setting
-  setting = setting_of script
-
-  abbrev w : World
-  w = At script records
-
-  abbrev By : List Command → State
-  By log = state_after script.servers log
+module _ (it : History)
+    (known : (before : List Record) (own : Record) (later : List Record) → it.records ≡ before ++ own ∷ later → Known it.script before) where
+  open it use {script, sound, records, legal}
+  open end_of it use {setting, w, By}
 
   module _ (front : List Command) (old new : Cell) (row : LinkRow)
       (stands : IsPrefix (front ++ Moved old.map (region_of old.block) row.link ∷ []) (chosen_log setting w))
@@ -123,7 +117,7 @@ module _ (script : Script) (sound : IsSound script) (records : List Record) (leg
     one_row : was.row ≡ row
     one_row =
         let map_is = map_of script.servers (By front)
-        (log_plain script.servers front (plain script sound records legal front (until_lies script sound records legal front _ stands))) old row way.linked in
+        (log_plain script.servers front (plain it front (until_lies it front _ stands))) old row way.linked in
         same_some (sym was.linked ∙ ap (λ k. link_named (By front) (record { map = k; link = row.link })) (sym map_is)
         ∙ row_named (By front) old row way.linked)
 
@@ -131,7 +125,7 @@ module _ (script : Script) (sound : IsSound script) (records : List Record) (leg
     serving =
         let leads = mover_leads (By front) was.server (region_of old.block) was.row was.moves in
         link_lead_serves (By front)
-        (log_steady script.servers front (plain script sound records legal front (until_lies script sound records legal front _ stands))) old was.server
+        (log_steady script.servers front (plain it front (until_lies it front _ stands))) old was.server
         (ap (option_and_then (row_lead (By front))) (way.linked ∙ ap Some (sym one_row)) ∙ is_the_one (row_lead (By front) was.row) was.server leads)
 
     -- what it had was frozen

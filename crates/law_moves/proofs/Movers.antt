@@ -1,23 +1,17 @@
 -- A server that is to move a link, by its own entries: each cell of the link and the region is leaving, the server serves it, and has what was
 -- frozen of it; and of what it knows to be there it was told.
-use Rattle.std.proofs.Common.{◌≡◌, ℕ, List, true, Some, sym, ap, ◌∙◌}
+use Rattle.std.proofs.Common.{◌≡◌, ℕ, List, Some, sym, ap, ◌∙◌}
 use Rattle.std.specs.Prelude.{option_and_then}
-use Rattle.global_tables.specs.declared.link.LinkRow.{LinkRow}
 use Rattle.petal_base.specs.Cells.{key_at}
 use Rattle.petal_base.specs.declared.cell.Cell.{Cell}
 use Rattle.petal_command.specs.declared.command.Command.{Command}
-use Rattle.script_lines.specs.declared.script.Script.{Script}
 use Rattle.petal_state.specs.CellState.{cell_link, row_lead, target}
-use Rattle.petal_rules.specs.Fills.{region_to_move}
 use Rattle.petal_rules.specs.Server.{Own}
-use Rattle.petal_rules.specs.State.{State, id_of, is_in, link_named}
+use Rattle.petal_rules.specs.State.{State, id_of}
 use Rattle.petal_rules.specs.Store.{chain_in}
-use Rattle.petal_rules.specs.World.{Setting, World, chosen_log, server_state, setting_of}
+use Rattle.petal_rules.specs.World.{chosen_log, server_state}
 use Rattle.petal_rules.proofs.Tests.{is_the_one}
 use Rattle.petal_history.specs.Claims.{IsPrefix}
-use Rattle.petal_history.specs.Legal.{IsLegal}
-use Rattle.petal_history.specs.Sound.{IsSound}
-use Rattle.petal_history.specs.declared.record.Record.{Record}
 use Rattle.law_state.specs.Below.{IsServing}
 use Rattle.law_state.specs.Homes.{stage_at}
 use Rattle.law_state.specs.Plain.{IsPlainLog}
@@ -26,23 +20,18 @@ use Rattle.law_log.proofs.Histories.{history_is_firm}
 use Rattle.law_steps.proofs.Coming.{leaves_with, region_left, stage_facts}
 use Rattle.law_steps.proofs.Fronts.{front_itself}
 use Rattle.law_steps.proofs.Resting.{on_row}
-use Rattle.law_stores.proofs.Ways.{At}
 use Rattle.law_moves.specs.Fills.{IsOnWay, WasFilled}
 use Rattle.law_moves.specs.Left.{IsKept, IsKnown, IsOurs}
 use Rattle.law_moves.proofs.Knows.{Known}
 use Rattle.law_moves.proofs.Moved.{mover_leads}
 use Rattle.law_moves.proofs.Serving.{link_lead_serves}
+use Rattle.law_epochs.proofs.Scenes.{History, end_of}
+use Rattle.law_moves.proofs.Scenes.{IsMover}
 
-module _ (script : Script) (sound : IsSound script) (records : List Record) (legal : IsLegal script records) (known : Known script records) (y : ℕ)
-    (runs : ((At script records).servers y).life.running ≡ true)
-    (seat : is_in (server_state (setting_of script) (At script records) y) y ((At script records).servers y).life.inc ≡ true) (row : LinkRow)
-    (there : link_named (server_state (setting_of script) (At script records) y) (id_of row) ≡ Some row) (region : ℕ)
-    (moves : region_to_move (server_state (setting_of script) (At script records) y) y row ≡ Some region) where
-  abbrev setting : Setting
-  setting = setting_of script
-
-  abbrev w : World
-  w = At script records
+module _ (it : History) (known : Known it.script it.records) (y : ℕ) (mover : IsMover (end_of it).setting (end_of it).w y) where
+  open it use {script, sound, records, legal}
+  open end_of it use {setting, w}
+  open mover use {runs, seat, row, there, region, moves}
 
   abbrev log : List Command
   log = (w.servers y).log.applied

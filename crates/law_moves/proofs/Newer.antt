@@ -1,5 +1,5 @@
 -- Each step keeps that what a new map has of a block, and what letters tell of it, is newest.
-use Rattle.std.proofs.Common.{◌≡◌, ◌≤◌, ◌++◌, ℕ, List, [], ◌∷◌, true, false, length, Option, Some, refl, sym, ap, ◌∙◌, subst, inl, inr, arith}
+use Rattle.std.proofs.Common.{◌≡◌, ◌≤◌, ℕ, List, true, false, length, Option, Some, refl, sym, ap, ◌∙◌, subst, inl, inr, arith}
 use Rattle.petal_base.specs.Cells.{cell_of, key_at}
 use Rattle.petal_base.specs.declared.cell.Cell.{Cell}
 use Rattle.petal_command.specs.declared.command.Command.{Command}
@@ -8,9 +8,7 @@ use Rattle.petal_msg.specs.declared.letter.Letter.{Letter}
 use Rattle.petal_msg.specs.declared.operation.OpKind.TheVariants as kind
 use Rattle.petal_msg.specs.declared.operation.Pending.{Pending}
 use Rattle.petal_table.specs.Table.{Table, at}
-use Rattle.script_lines.specs.declared.script.Script.{Script}
 use Rattle.petal_state.specs.CellState.{source}
-use Rattle.petal_state.specs.Command.{state_after}
 use Rattle.petal_rules.specs.Blanked.{BeforeBlank}
 use Rattle.petal_rules.specs.Crossing.{crossed}
 use Rattle.petal_rules.specs.Lists.{In}
@@ -18,13 +16,10 @@ use Rattle.petal_rules.specs.Server.{Own, Post, Server}
 use Rattle.petal_rules.specs.State.{State}
 use Rattle.petal_rules.specs.Store.{Chain, Store, cell_cmp}
 use Rattle.petal_rules.specs.Writes.{is_clients}
-use Rattle.petal_rules.specs.World.{Setting, World, blank_joins_in, chosen_log, chosen_state, kept, server_state, setting_of, start}
+use Rattle.petal_rules.specs.World.{World, blank_joins_in, chosen_log, chosen_state, kept, server_state, start}
 use Rattle.petal_rules.proofs.Settled.{settling}
 use Rattle.petal_rules.proofs.Tests.{all_put, by_bool, same_some, true_false}
 use Rattle.petal_history.specs.Claims.{IsPrefix}
-use Rattle.petal_history.specs.Legal.{IsLegal}
-use Rattle.petal_history.specs.Sound.{IsSound}
-use Rattle.petal_history.specs.declared.record.Record.{Record}
 use Rattle.law_state.specs.Homes.{stage_at}
 use Rattle.law_state.proofs.Steady.{log_below}
 use Rattle.law_state.proofs.Twins.{log_comes}
@@ -38,7 +33,6 @@ use Rattle.law_steps.proofs.Firms.{always_firm}
 use Rattle.law_steps.proofs.Fronts.{below_itself, front_itself, front_on}
 use Rattle.law_steps.proofs.Histories.{last_happens, own_plain, start_rests}
 use Rattle.law_stores.proofs.Jobs.{ballot_store}
-use Rattle.law_stores.proofs.Ways.{At}
 use Rattle.law_copies.proofs.Places.{fronts_meet}
 use Rattle.law_epochs.proofs.Early.{kept_by}
 use Rattle.law_epochs.proofs.Present.{was_opened}
@@ -52,27 +46,15 @@ use Rattle.law_moves.proofs.Newest.{at_coming, frozen_newest, has_left}
 use Rattle.law_moves.proofs.Newness.{AllNewest, IsNewest}
 use Rattle.law_moves.proofs.Over.{facts, plain}
 use Rattle.law_moves.proofs.Steps.{Awakes, Before, Enters, HasGone, Is_blanked, Other, Posted, Raises, Rests, Starts_ballot, Works}
-use Rattle.law_moves.proofs.Steps.{chosen_on, gone, knows, knows_now, part, sent}
+use Rattle.law_moves.proofs.Steps.{chosen_on, gone, knows, knows_now, sent}
 use Rattle.law_moves.proofs.Telling.{frozen_on, next_frozen}
 use Rattle.law_moves.proofs.Then.{frozen_then}
 use Rattle.law_moves.proofs.Told.{HasTold, lift, told_before, told_now}
+use Rattle.law_epochs.proofs.Scenes.{OneMore, ends_of}
 
-module _ (script : Script) (sound : IsSound script) (front : List Record) (own_record : Record) (legal : IsLegal script (front ++ own_record ∷ []))
-    (known : Known script front) (old : AllNewest (setting_of script) (At script front)) where
-  abbrev setting : Setting
-  setting = setting_of script
-
-  abbrev all : List Record
-  all = front ++ own_record ∷ []
-
-  abbrev w : World
-  w = At script front
-
-  abbrev v : World
-  v = At script all
-
-  abbrev By : List Command → State
-  By log = state_after script.servers log
+module _ (it : OneMore) (known : Known it.prior.script it.prior.records) (old : AllNewest (ends_of it).setting (ends_of it).w) where
+  open it use {prior, prior.{script, sound, records as front}, legal}
+  open ends_of it use {setting, w, records, v, By, present}
 
   abbrev Was : ℕ → Server
   Was n = w.servers n
@@ -81,15 +63,12 @@ module _ (script : Script) (sound : IsSound script) (front : List Record) (own_r
   New = IsNewest setting v
 
   on : IsPrefix (chosen_log setting w) (chosen_log setting v)
-  on = chosen_on script sound front own_record legal
-
-  was_legal : IsLegal script front
-  was_legal = part script sound front own_record legal
+  on = chosen_on it
 
   -- a cell that was born by some of what was chosen is so by all that is chosen now
   born_on : (log : List Command) → IsPrefix log (chosen_log setting v) → (cell : Cell) → 1 ≤ stage_at (By log) cell → 1 ≤ stage_at (chosen_state setting v) cell
   born_on log lies cell born =
-      let up = (log_below script.servers log (chosen_log setting v) (knows_now script sound front own_record legal).plain lies).stages cell in omega arith
+      let up = (log_below script.servers log (chosen_log setting v) (knows_now it).plain lies).stages cell in omega arith
 
   -- ### What was newest is so still
 
@@ -105,10 +84,10 @@ module _ (script : Script) (sound : IsSound script) (front : List Record) (own_r
   known_then f old_cell cell lies comes low born = elim (fronts_meet f (chosen_log setting w) (chosen_log setting v) lies on) [
     | inl back ↦ record { f = f; lies = back; comes = comes; low = low }
     | inr more ↦
-        let plain_f = plain script sound all legal f lies in
+        let plain_f = plain present f lies in
         let up = (log_below script.servers (chosen_log setting w) f plain_f more).stages cell in
         let moved = log_comes script.servers f plain_f old_cell cell comes in
-        let there = at_coming script sound all legal f (chosen_log setting w) lies on old_cell cell moved (omega arith) in
+        let there = at_coming present f (chosen_log setting w) lies on old_cell cell moved (omega arith) in
         record { f = chosen_log setting w; lies = front_itself (chosen_log setting w); comes = there.0; low = (omega arith) }
   ]
 
@@ -116,25 +95,25 @@ module _ (script : Script) (sound : IsSound script) (front : List Record) (own_r
   grown cell epoch k = record {
     born = born_on (chosen_log setting w) on cell k.born;
     newest = λ f old_cell before later lies comes low frozen lt has.
-        let moved = log_comes script.servers f (plain script sound all legal f lies) old_cell cell comes in
-        let left = has_left script sound all legal f (chosen_log setting w) lies on old_cell cell moved low k.born in
-        let was : w.frozen old_cell ≡ Some before = sym (frozen_same script sound front own_record legal old_cell (inl left.three)) ∙ frozen in
+        let moved = log_comes script.servers f (plain present f lies) old_cell cell comes in
+        let left = has_left present f (chosen_log setting w) lies on old_cell cell moved low k.born in
+        let was : w.frozen old_cell ≡ Some before = sym (frozen_same it old_cell (inl left.three)) ∙ frozen in
         let t = known_then f old_cell cell lies comes low k.born in
-        lift script sound front own_record legal known 0 (key_at cell later) (k.newest t.f old_cell before later t.lies t.comes t.low was lt has);
+        lift it known 0 (key_at cell later) (k.newest t.f old_cell before later t.lies t.comes t.low was lt has);
   }
 
   -- ### What is pending
 
   write_newest : (n : ℕ) (cell : Cell) (op : Pending) → at cell_cmp (Was n).own.pairs.pending cell ≡ Some op → is_clients op.kind ≡ true → New cell op.key.epoch
   write_newest n cell op is clients =
-      let o = was_opened script sound front was_legal n cell op is clients in
+      let o = was_opened script sound front prior.legal n cell op is clients in
       let opened = front_on o.opened (chosen_log setting w) (chosen_log setting v) o.lies on in
       record {
         born = born_on o.opened opened cell o.timely.born;
         newest = λ f old_cell before later lies comes low frozen lt has.
-            let moved = log_comes script.servers f (plain script sound all legal f lies) old_cell cell comes in
-            let left = has_left script sound all legal f o.opened lies opened old_cell cell moved low o.timely.born in
-            let le = frozen_then script all sound legal old_cell before later o.opened frozen has opened left.three in
+            let moved = log_comes script.servers f (plain present f lies) old_cell cell comes in
+            let left = has_left present f o.opened lies opened old_cell cell moved low o.timely.born in
+            let le = frozen_then script records sound legal old_cell before later o.opened frozen has opened left.three in
             let epoch = o.timely.epoch in
             let one = left.epochs in
             absurd (omega arith);
@@ -143,7 +122,7 @@ module _ (script : Script) (sound : IsSound script) (front : List Record) (own_r
   coming_born : (rev : ℕ) (cell : Cell) → WasComing setting w rev cell → 1 ≤ stage_at (chosen_state setting v) cell
   coming_born rev cell c =
       let lies = front_on c.front (chosen_log setting w) (chosen_log setting v) c.lies on in
-      let one = (facts script sound all legal c.front lies cell).comes c.coming in
+      let one = (facts present c.front lies cell).comes c.coming in
       born_on c.front lies cell (omega arith)
 
   is_fill : (op : Pending) → IsOpenedFor op → is_clients op.kind ≡ false → op.kind ≡ kind.Fill
@@ -152,14 +131,14 @@ module _ (script : Script) (sound : IsSound script) (front : List Record) (own_r
 
   pending_newest : (n : ℕ) (cell : Cell) (op : Pending) → at cell_cmp (Was n).own.pairs.pending cell ≡ Some op → IsWithin New op.key
   pending_newest n cell op is =
-      let staged = ((resting script sound front was_legal).pending n).staged cell op is in
+      let staged = ((resting script sound front prior.legal).pending n).staged cell op is in
       by_bool (is_clients op.kind)
       (λ clients. subst (λ (c : Cell). New c op.key.epoch) (sym staged.keyed) (write_newest n cell op is clients))
       (λ fills.
-      let frozen = frozen_on script sound front own_record legal known op.rev op.key op.bytes (known.filled.asked n cell op is fills) in
-      let comes = (comes_after setting (start setting) front (always_firm script front sound was_legal) (start_rests script)
-      (start_comes script) was_legal).opened n cell op is (is_fill op staged.opened fills) in
-      frozen_newest script sound all legal op.rev op.key op.bytes frozen
+      let frozen = frozen_on it known op.rev op.key op.bytes (known.filled.asked n cell op is fills) in
+      let comes = (comes_after setting (start setting) front (always_firm script front sound prior.legal) (start_rests script)
+      (start_comes script) prior.legal).opened n cell op is (is_fill op staged.opened fills) in
+      frozen_newest present op.rev op.key op.bytes frozen
       (subst (λ (c : Cell). 1 ≤ stage_at (chosen_state setting v) c) (sym staged.keyed) (coming_born op.rev cell comes)))
 
   told_newest : (n : ℕ) (said : Body) → Handled w n said → OfKey (IsWithin New) said
@@ -170,19 +149,19 @@ module _ (script : Script) (sound : IsSound script) (front : List Record) (own_r
   moves_newest : (n : ℕ) → (Was n).life.running ≡ true → (now : Own) (post : Post) → IsMoverOwn (Handled w n) (own_place setting w n) (Was n).own now
       → IsNextFill (own_place setting w n) now post → OfKey (IsWithin New) post.body
   moves_newest n runs now post mover f =
-      let T = HasTold script sound front own_record legal known n in
+      let T = HasTold it known n in
       let told : T now.filled = elim mover [
-        | inl same ↦ subst T (ap (λ (o : Own). o.filled) (sym same)) (told_before script sound front own_record legal known n runs)
-        | inr t ↦ subst T (ap (λ (o : Own). o.filled) (sym t.is)) (told_now script sound front own_record legal known n runs t.key t.row t.told t.next)
+        | inl same ↦ subst T (ap (λ (o : Own). o.filled) (sym same)) (told_before it known n runs)
+        | inr t ↦ subst T (ap (λ (o : Own). o.filled) (sym t.is)) (told_now it known n runs t.key t.row t.told t.next)
       ] in
       let kept_store = mover_store (Handled w n) (own_place setting w n) (Was n).own now mover in
-      let frozen = next_frozen script sound front own_record legal known n runs now post kept_store told f in
+      let frozen = next_frozen it known n runs now post kept_store told f in
       let log = (Was n).log.applied in
-      let lies = front_on log (chosen_log setting w) (chosen_log setting v) ((knows script sound front own_record legal).servers n) on in
-      let comes = next_comes script.servers log (own_plain setting w (knows script sound front own_record legal) n) (own_place setting w n) refl now post f in
-      let one = (facts script sound all legal log lies f.cell).comes comes in
+      let lies = front_on log (chosen_log setting w) (chosen_log setting v) ((knows it).servers n) on in
+      let comes = next_comes script.servers log (own_plain setting w (knows it) n) (own_place setting w n) refl now post f in
+      let one = (facts present log lies f.cell).comes comes in
       subst (λ (p : Post). OfKey (IsWithin New) p.body) (sym f.is)
-      (frozen_newest script sound all legal (length log) (key_at f.cell f.key.epoch) f.entry.bytes frozen (born_on log lies f.cell (omega arith)))
+      (frozen_newest present (length log) (key_at f.cell f.key.epoch) f.entry.bytes frozen (born_on log lies f.cell (omega arith)))
 
   -- ### Stores
 
@@ -192,7 +171,7 @@ module _ (script : Script) (sound : IsSound script) (front : List Record) (own_r
   now_newest : (n : ℕ) → AreNew (Was n).own.store.chains
   now_newest n cell epoch entry is = grown cell epoch (old.now n cell epoch entry is)
 
-  stores_by : (n : ℕ) (to : Server) → HasGone script sound front own_record legal n to → AreNew to.own.store.chains
+  stores_by : (n : ℕ) (to : Server) → HasGone it n to → AreNew to.own.store.chains
   stores_by n to (Rests same) = subst (λ (s : Server). AreNew s.own.store.chains) (sym same) (now_newest n)
   stores_by n to (Works job) =
       subst (λ (o : Own). AreNew o.store.chains) (sym job.own_is)
@@ -229,7 +208,7 @@ module _ (script : Script) (sound : IsSound script) (front : List Record) (own_r
   -- ### Letters
 
   letters_newest : (letter : Letter) → In letter v.sent → OfKey (IsWithin New) letter.body
-  letters_newest letter i = elim (sent script sound front own_record legal letter i) [
+  letters_newest letter i = elim (sent it letter i) [
     | Before was ↦
         of_key_on (IsWithin (IsNewest setting w)) (IsWithin New) (λ key k. grown (cell_of key) key.epoch k) letter.body (old.letters letter was)
     | Posted p ↦
@@ -243,7 +222,7 @@ module _ (script : Script) (sound : IsSound script) (front : List Record) (own_r
   newest_next =
       let state = chosen_state setting v in
       record {
-        now = λ n. stores_by n (v.servers n) (gone script sound front own_record legal n);
-        before = before_by state v (last_happens script front own_record (always_firm script all sound legal) legal state (below_itself state));
+        now = λ n. stores_by n (v.servers n) (gone it n);
+        before = before_by state v (last_happens script front it.own (always_firm script records sound legal) legal state (below_itself state));
         letters = letters_newest;
       }

@@ -5,23 +5,16 @@ use Rattle.petal_base.specs.Cells.{cell_of, key_at}
 use Rattle.petal_base.specs.declared.cell.Cell.{Cell}
 use Rattle.petal_base.specs.declared.cell.Key.{Key}
 use Rattle.petal_command.specs.declared.command.Command.{Command}
-use Rattle.script_lines.specs.declared.script.Script.{Script}
 use Rattle.petal_state.specs.CellState.{source}
-use Rattle.petal_state.specs.Command.{state_after}
-use Rattle.petal_rules.specs.State.{State}
 use Rattle.petal_rules.specs.Store.{Chain, Store, chain_in}
-use Rattle.petal_rules.specs.World.{Setting, World, blank_joins_in, chosen_log, chosen_state, kept, setting_of}
+use Rattle.petal_rules.specs.World.{blank_joins_in, chosen_state, kept}
 use Rattle.petal_rules.proofs.Tests.{same_some}
 use Rattle.petal_history.specs.Claims.{HasNewer, IsFilledFrom, IsPrefix}
-use Rattle.petal_history.specs.Legal.{IsLegal}
-use Rattle.petal_history.specs.Sound.{IsSound}
-use Rattle.petal_history.specs.declared.record.Record.{Record}
 use Rattle.law_state.specs.Below.{IsServing}
 use Rattle.law_state.specs.Homes.{epoch_at, stage_at}
 use Rattle.law_state.proofs.Steady.{log_below}
 use Rattle.law_state.proofs.Twins.{IsMoved, gone_twin, log_comes, start_same, twins_later}
 use Rattle.law_steps.proofs.Fronts.{front_itself}
-use Rattle.law_stores.proofs.Ways.{At}
 use Rattle.law_copies.proofs.Places.{at_most_or_above, fronts_meet}
 use Rattle.law_epochs.proofs.Early.{kept_by}
 use Rattle.law_epochs.proofs.Within.{AreWithin}
@@ -29,27 +22,19 @@ use Rattle.law_moves.specs.Fills.{Has, IsFrozen, IsThere, WasFilled}
 use Rattle.law_moves.proofs.Newness.{AllNewest, IsNewest}
 use Rattle.law_moves.proofs.Over.{facts, plain}
 use Rattle.law_moves.proofs.Then.{entry_of}
+use Rattle.law_epochs.proofs.Scenes.{History, end_of}
 
-module _ (script : Script) (sound : IsSound script) (records : List Record) (legal : IsLegal script records) where
-  abbrev setting : Setting
-  setting = setting_of script
-
-  abbrev w : World
-  w = At script records
-
-  abbrev chosen : List Command
-  chosen = chosen_log setting w
-
-  abbrev By : List Command → State
-  By log = state_after script.servers log
+module _ (it : History) where
+  open it use {script}
+  open end_of it use {setting, w, chosen, By}
 
   -- ### The two cells of a move
 
   pub one_start : (a b : List Command) → IsPrefix a chosen → IsPrefix b chosen → (old other cell : Cell) → IsMoved (By a) old cell → IsMoved (By b) other cell
       → other ≡ old
   one_start a b la lb old other cell one two = elim (fronts_meet a b chosen la lb) [
-    | inl on ↦ start_same script.servers a b (plain script sound records legal b lb) on cell old other one two
-    | inr back ↦ sym (start_same script.servers b a (plain script sound records legal a la) back cell other old two one)
+    | inl on ↦ start_same script.servers a b (plain it b lb) on cell old other one two
+    | inr back ↦ sym (start_same script.servers b a (plain it a la) back cell other old two one)
   ]
 
   -- by entries by which the new cell is born, the old one is leaving, or has left; and both are of one epoch
@@ -60,15 +45,15 @@ module _ (script : Script) (sound : IsSound script) (records : List Record) (leg
   pub at_coming : (f a : List Command) → IsPrefix f chosen → IsPrefix a chosen → (old cell : Cell) → IsMoved (By f) old cell → stage_at (By a) cell ≡ 1
       → (source (By a) cell ≡ Some old) × HasLeft a old cell
   at_coming f a lf la old cell moved one =
-      let s = (facts script sound records legal a la cell).sources one in
-      let there = log_comes script.servers a (plain script sound records legal a la) s.0 cell s.1 in
+      let s = (facts it a la cell).sources one in
+      let there = log_comes script.servers a (plain it a la) s.0 cell s.1 in
       let same : s.0 ≡ old = one_start f a lf la old s.0 cell moved there in
       let at_old = subst (λ (c : Cell). IsMoved (By a) c cell) same there in
       let three : stage_at (By a) old ≡ 3 = subst (λ (c : Cell). stage_at (By a) c ≡ 3) same s.3.stage_is in (
         s.1 ∙ ap Some same,
         record {
           three = omega arith;
-          epochs = twins_later script.servers a a (plain script sound records legal a la) (front_itself a) old cell at_old;
+          epochs = twins_later script.servers a a (plain it a la) (front_itself a) old cell at_old;
         },
       )
 
@@ -78,11 +63,11 @@ module _ (script : Script) (sound : IsSound script) (records : List Record) (leg
     | inl one ↦ (at_coming f a lf la old cell moved (omega arith)).1
     | inr two ↦ elim (fronts_meet f a chosen lf la) [
       | inl on ↦
-          let plain_a = plain script sound records legal a la in
+          let plain_a = plain it a la in
           let gone = gone_twin script.servers f a plain_a on old cell moved two in
           record { three = (omega arith); epochs = twins_later script.servers f a plain_a on old cell moved }
       | inr back ↦
-          let up = (log_below script.servers a f (plain script sound records legal f lf) back).stages cell in
+          let up = (log_below script.servers a f (plain it f lf) back).stages cell in
           absurd (omega arith)
     ]
   ]
@@ -95,8 +80,8 @@ module _ (script : Script) (sound : IsSound script) (records : List Record) (leg
   frozen_newest rev key bytes f born = record {
     born = born;
     newest = λ a old before later lies comes low frozen lt has.
-        let one = log_comes script.servers a (plain script sound records legal a lies) old (cell_of key) comes in
-        let two = log_comes script.servers f.front (plain script sound records legal f.front f.lies) f.old (cell_of key) f.from in
+        let one = log_comes script.servers a (plain it a lies) old (cell_of key) comes in
+        let two = log_comes script.servers f.front (plain it f.front f.lies) f.old (cell_of key) f.from in
         let same : f.old ≡ old = one_start a f.front lies f.lies old f.old (cell_of key) one two in
         let chain : before ≡ f.before = same_some (sym frozen ∙ ap w.frozen (sym same) ∙ f.frozen) in
         f.newer later lt (subst (λ (c : Chain). Has c later) chain has);

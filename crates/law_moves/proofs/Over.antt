@@ -12,18 +12,12 @@ use Rattle.petal_base.specs.Cells.{key_at}
 use Rattle.petal_base.specs.declared.cell.Cell.{Cell}
 use Rattle.petal_command.specs.declared.command.Command.{Command}
 use Rattle.petal_command.specs.declared.command.Command.TheVariants.{Moved}
-use Rattle.script_lines.specs.declared.script.Script.{Script}
 use Rattle.petal_state.specs.CellState.{cell_link, source}
-use Rattle.petal_state.specs.Command.{state_after}
 use Rattle.petal_state.specs.State.{links_of}
-use Rattle.petal_rules.specs.State.{State}
 use Rattle.petal_rules.specs.Store.{Chain}
-use Rattle.petal_rules.specs.World.{Setting, World, chosen_log, setting_of}
+use Rattle.petal_rules.specs.World.{Setting, World, chosen_log}
 use Rattle.petal_rules.proofs.Tests.{both_true, none_some, same_numbers, some_or_none}
 use Rattle.petal_history.specs.Claims.{IsPrefix}
-use Rattle.petal_history.specs.Legal.{IsLegal}
-use Rattle.petal_history.specs.Sound.{IsSound}
-use Rattle.petal_history.specs.declared.record.Record.{Record}
 use Rattle.law_state.specs.Homes.{HasStage, stage_at}
 use Rattle.law_state.specs.Noted.{HasMovedIn}
 use Rattle.law_state.specs.Plain.{IsPlainLog}
@@ -38,9 +32,9 @@ use Rattle.law_state.proofs.Twins.{IsMoved, goal_same, gone_twin, log_comes, log
 use Rattle.law_log.proofs.Histories.{history_is_firm}
 use Rattle.law_steps.proofs.Coming.{stage_facts}
 use Rattle.law_steps.proofs.Fronts.{front_more, front_on}
-use Rattle.law_stores.proofs.Ways.{At}
 use Rattle.law_copies.proofs.Places.{fronts_meet}
 use Rattle.law_moves.specs.Fills.{AllFilled, AreFilled, Has, HaveComeOver, IsOnWay, WasFilled}
+use Rattle.law_epochs.proofs.Scenes.{History, end_of}
 
 -- at each Moved of a link that is chosen, while a cell of the link was leaving, the new map was told to have each entry of the cell
 abbrev pub AllMoved : Setting → World → Type 0
@@ -48,18 +42,9 @@ AllMoved setting w = (front : List Command) (region : ℕ) (old new : Cell) (row
     → IsPrefix (front ++ Moved old.map region row.link ∷ []) (chosen_log setting w) → IsOnWay setting.servers front old new row
     → region_of old.block ≡ region → AllFilled w old new (λ epoch. Unit {0})
 
-module _ (script : Script) (sound : IsSound script) (records : List Record) (legal : IsLegal script records) where
-  abbrev setting : Setting
-  setting = setting_of script
-
-  abbrev w : World
-  w = At script records
-
-  abbrev chosen : List Command
-  chosen = chosen_log setting w
-
-  abbrev By : List Command → State
-  By log = state_after script.servers log
+module _ (it : History) where
+  open it use {script, sound, records, legal}
+  open end_of it use {setting, w, chosen, By}
 
   pub all_plain : IsPlainLog script.servers chosen
   all_plain = (history_is_firm script records sound legal).plain

@@ -1,6 +1,6 @@
 -- A step keeps what is known of fills that are pending: while one is, its region is on its way, and no letter says that its entry is there; until it is put the
 -- entry is not there, and then it is.
-use Rattle.std.proofs.Common.{◌≡◌, ◌≢◌, ◌≤◌, ◌++◌, ℕ, true, false, List, [], ◌∷◌, Option, Some, None, is_some, sym, ap, ◌∙◌, subst, inl, inr, arith}
+use Rattle.std.proofs.Common.{◌≡◌, ◌≢◌, ◌≤◌, ℕ, true, false, List, Option, Some, None, is_some, sym, ap, ◌∙◌, subst, inl, inr, arith}
 use Rattle.std.specs.Prelude.{option_and_then}
 use Rattle.std.specs.Ordering.{nat_cmp}
 use Rattle.petal_base.specs.Cells.{cell_of}
@@ -12,22 +12,16 @@ use Rattle.petal_table.proofs.Rows.{at-empty}
 use Rattle.petal_msg.specs.declared.body.Body.TheVariants as body
 use Rattle.petal_msg.specs.declared.letter.Letter.{Letter}
 use Rattle.petal_msg.specs.declared.operation.Pending.{Pending}
-use Rattle.script_lines.specs.declared.script.Script.{Script}
 use Rattle.petal_state.specs.CellState.{cell_link, lead, row_lead}
-use Rattle.petal_state.specs.Command.{state_after}
 use Rattle.petal_rules.specs.Crossing.{crossed}
 use Rattle.petal_rules.specs.Progress.{has_proposed}
 use Rattle.petal_rules.specs.Server.{Own, Pairs, Server}
-use Rattle.petal_rules.specs.State.{State, is_in, leads_link}
+use Rattle.petal_rules.specs.State.{is_in, leads_link}
 use Rattle.petal_rules.specs.Store.{Store, cell_cmp, chain_in}
-use Rattle.petal_rules.specs.World.{Setting, World, chosen_log, chosen_state, server_state, setting_of}
+use Rattle.petal_rules.specs.World.{World, chosen_state, server_state}
 use Rattle.petal_rules.specs.Writes.{is_clients}
 use Rattle.petal_rules.proofs.Settled.{settling}
 use Rattle.petal_rules.proofs.Tests.{is_the_one, none_some, same_or_apart, true_false}
-use Rattle.petal_history.specs.Claims.{IsPrefix}
-use Rattle.petal_history.specs.Legal.{IsLegal}
-use Rattle.petal_history.specs.Sound.{IsSound}
-use Rattle.petal_history.specs.declared.record.Record.{Record}
 use Rattle.law_state.specs.Homes.{stage_at}
 use Rattle.law_steps.specs.Happens.{Handled, own_place}
 use Rattle.law_steps.specs.Operations.{IsStaged}
@@ -36,7 +30,6 @@ use Rattle.law_steps.proofs.Fronts.{front_itself}
 use Rattle.law_steps.proofs.Histories.{proposed_pairs}
 use Rattle.law_steps.proofs.Leading.{stage_live}
 use Rattle.law_steps.proofs.Taking.{taking}
-use Rattle.law_stores.proofs.Ways.{At}
 use Rattle.law_copies.proofs.Places.{at_most_or_above}
 use Rattle.law_moves.specs.Fills.{Has, IsFrozen, WasFilled}
 use Rattle.law_moves.proofs.Changes.{never_dead}
@@ -47,69 +40,46 @@ use Rattle.law_moves.proofs.Putting.{Is_new, It_was, did_was}
 use Rattle.law_moves.proofs.Saying.{Asks_copy, Is_done, Is_done_alone, Is_neither, Is_there, Says, did_says, is_filled}
 use Rattle.law_moves.proofs.Serving.{lead_serves, link_lead_serves}
 use Rattle.law_moves.proofs.Steps.{Awakes, Before, Enters, HasGone, IsJob, IsPosted, Is_blanked, Other, Posted, Raises, Rests}
-use Rattle.law_moves.proofs.Steps.{Starts_ballot, Works, chosen_on, gone, knows, part, sent}
+use Rattle.law_moves.proofs.Steps.{Starts_ballot, Works, chosen_on, gone, sent, mine_top}
 use Rattle.law_moves.proofs.EqualCopies.{moved_now}
 use Rattle.law_moves.proofs.There.{filled_key, kept_own, no_other, told_already}
 use Rattle.law_moves.proofs.Worlds.{facts_at, firm, good, own_counts, rests, steady_at, up}
+use Rattle.law_epochs.proofs.Scenes.{OneMore, ends_of}
+use Rattle.law_moves.proofs.Scenes.{TwoLeads}
 
-module _ (script : Script) (sound : IsSound script) (front : List Record) (own : Record) (legal : IsLegal script (front ++ own ∷ []))
-    (all : AllKnown script front) where
-  abbrev setting : Setting
-  setting = setting_of script
-
-  abbrev w : World
-  w = At script front
-
-  abbrev records : List Record
-  records = front ++ own ∷ []
-
-  abbrev v : World
-  v = At script records
-
-  abbrev top : List Command
-  top = chosen_log setting w
-
-  abbrev whole : List Command
-  whole = chosen_log setting v
-
-  abbrev By : List Command → State
-  By log = state_after script.servers log
+module _ (it : OneMore) (all : AllKnown it.prior.script it.prior.records) where
+  open it use {prior, prior.{script, records as front}}
+  open ends_of it use {setting, w, records, v, top, whole, By, present}
 
   known : Known script front
-  known = before script sound front own legal all
-
-  legal_was : IsLegal script front
-  legal_was = part script sound front own legal
+  known = before it all
 
   abbrev mine : ℕ → List Command
   mine m = (w.servers m).log.applied
-
-  mine_top : (m : ℕ) → IsPrefix (mine m) top
-  mine_top m = (knows script sound front own legal).servers m
 
   abbrev pending_at : World → ℕ → Cell → Option Pending
   pending_at u m cell = at cell_cmp (u.servers m).own.pairs.pending cell
 
   staged : (m : ℕ) (cell : Cell) (op : Pending) → pending_at w m cell ≡ Some op
       → IsStaged (server_state setting w m) m (has_proposed (server_state setting w m) (w.servers m).own) cell op
-  staged m cell op is = ((rests script sound front legal_was).pending m).staged cell op is
+  staged m cell op is = ((rests prior).pending m).staged cell op is
 
   pub keyed_was : (m : ℕ) (cell : Cell) (op : Pending) → pending_at w m cell ≡ Some op → cell_of op.key ≡ cell
   keyed_was m cell op is = (staged m cell op is).keyed
 
   pub keyed_now : (m : ℕ) (cell : Cell) (op : Pending) → pending_at v m cell ≡ Some op → cell_of op.key ≡ cell
-  keyed_now m cell op is = (((rests script sound records legal).pending m).staged cell op is).keyed
+  keyed_now m cell op is = (((rests present).pending m).staged cell op is).keyed
 
   mine_up : (m : ℕ) (cell : Cell) → stage_at (server_state setting w m) cell ≤ stage_at (By top) cell
-  mine_up m cell = up script sound front legal_was (mine m) top (mine_top m) (front_itself top) cell
+  mine_up m cell = up prior (mine m) top (mine_top it m) (front_itself top) cell
 
   -- ### What is pending at a server that runs
 
   pub data CameAs (m : ℕ) (to : Server) (cell : Cell) (op : Pending) : Type 0 where
     Same_pairs : (w.servers m).life.running ≡ true → pending_at w m cell ≡ Some op → CameAs m to cell op
-    By_job : (job : IsJob script sound front own legal m to) → at cell_cmp job.done.own.pairs.pending cell ≡ Some op → CameAs m to cell op
+    By_job : (job : IsJob it m to) → at cell_cmp job.done.own.pairs.pending cell ≡ Some op → CameAs m to cell op
 
-  came_by : (m : ℕ) (to : Server) → HasGone script sound front own legal m to → to.life.running ≡ true → (cell : Cell) (op : Pending)
+  came_by : (m : ℕ) (to : Server) → HasGone it m to → to.life.running ≡ true → (cell : Cell) (op : Pending)
       → at cell_cmp to.own.pairs.pending cell ≡ Some op → CameAs m to cell op
   came_by m to (Rests same) runs cell op is =
       Same_pairs (ap (λ (s : Server). s.life.running) (sym same) ∙ runs) (ap (λ (s : Server). at cell_cmp s.own.pairs.pending cell) (sym same) ∙ is)
@@ -128,7 +98,7 @@ module _ (script : Script) (sound : IsSound script) (front : List Record) (own :
   came_by m to (Is_blanked asleep same) runs cell op is = true_false (ap (λ (s : Server). s.life.running) (sym same) ∙ runs) asleep
 
   came : (m : ℕ) → (v.servers m).life.running ≡ true → (cell : Cell) (op : Pending) → pending_at v m cell ≡ Some op → CameAs m (v.servers m) cell op
-  came m runs cell op is = came_by m (v.servers m) (gone script sound front own legal m) runs cell op is
+  came m runs cell op is = came_by m (v.servers m) (gone it m) runs cell op is
 
   -- ### A fill that is opened
 
@@ -136,15 +106,15 @@ module _ (script : Script) (sound : IsSound script) (front : List Record) (own :
       (o : IsOpenedFill (Handled w m) (own_place setting w m) (w.servers m).own cell op) where
     leads_so : (leads_link (server_state setting w m) m (cell_of o.moving.key) ≡ true) × (1 ≤ stage_at (server_state setting w m) (cell_of o.moving.key))
         × (stage_at (server_state setting w m) (cell_of o.moving.key) ≤ 2)
-    leads_so = (facts_at script sound front legal_was (mine m) (mine_top m) (cell_of o.moving.key)).leads m o.new.lead
+    leads_so = (facts_at prior (mine m) (mine_top it m) (cell_of o.moving.key)).leads m o.new.lead
 
     -- it was not told to be there: it would be
     pub new_unsaid : WasFilled w o.moving.key → ⊥
     new_unsaid told =
-        let serving = lead_serves (server_state setting w m) (steady_at script sound front legal_was (mine m) (mine_top m)) (cell_of o.moving.key) m
+        let serving = lead_serves (server_state setting w m) (steady_at prior (mine m) (mine_top it m)) (cell_of o.moving.key) m
         (is_the_one (lead (server_state setting w m) (cell_of o.moving.key)) m o.new.lead) in
         let low = leads_so.2 in
-        true_false ((known.filled.filled o.moving.key told).own m (mine m) runs (front_itself (mine m)) (mine_top m) o.new.seated leads_so.1 (omega arith)
+        true_false ((known.filled.filled o.moving.key told).own m (mine m) runs (front_itself (mine m)) (mine_top it m) o.new.seated leads_so.1 (omega arith)
         serving) (ap is_some o.new.lacks)
 
     new_coming : stage_at (By top) cell ≡ 1
@@ -155,7 +125,7 @@ module _ (script : Script) (sound : IsSound script) (front : List Record) (own :
           omega arith
       | inr two ↦
           let wanted = o.new.wanted in
-          absurd (new_unsaid (told_already script sound front legal_was known.filled.moved wanted.letter.rev o.moving.key o.moving.bytes
+          absurd (new_unsaid (told_already prior known.filled.moved wanted.letter.rev o.moving.key o.moving.bytes
           (known.filled.sent wanted.letter o.moving.key o.moving.bytes wanted.sent wanted.is) two))
     ])
 
@@ -187,14 +157,14 @@ module _ (script : Script) (sound : IsSound script) (front : List Record) (own :
   ]
 
   -- what is said in the step
-  pub posted_says : (letter : Letter) (p : IsPosted script sound front own legal letter)
+  pub posted_says : (letter : Letter) (p : IsPosted it letter)
       → Says (Handled w p.n) (own_place setting w p.n) (w.servers p.n).own p.job.done p.post
   posted_says letter p = did_says (Handled w p.n) (own_place setting w p.n) (w.servers p.n).own
-      (never_dead script sound front legal_was known.filled.opened p.n p.job.runs) p.job.done p.job.did p.post p.there
+      (never_dead prior known.filled.opened p.n p.job.runs) p.job.done p.job.did p.post p.there
 
   -- one of the step's own
   module _ (m : ℕ) (cell : Cell) (op : Pending) (is : pending_at v m cell ≡ Some op) (fills : is_clients op.kind ≡ false)
-      (letter : Letter) (said : letter.body ≡ body.Filled op.key) (p : IsPosted script sound front own legal letter) where
+      (letter : Letter) (said : letter.body ≡ body.Filled op.key) (p : IsPosted it letter) where
     abbrev k : ℕ
     k = p.n
 
@@ -249,7 +219,22 @@ module _ (script : Script) (sound : IsSound script) (front : List Record) (own :
       leads = let le = mine_up m cell in let o = one in (staged m cell op is_was).leads (stage_live (server_state setting w m) cell born (omega arith))
 
       seat : is_in (server_state setting w m) m (w.servers m).life.inc ≡ true
-      seat = (rests script sound front legal_was).seated m cell op runs_was is_was
+      seat = (rests prior).seated m cell op runs_was is_was
+
+      abbrev two_leads : is_in (server_state setting w k) k (w.servers k).life.inc ≡ true → leads_link (server_state setting w k) k cell ≡ true
+          → 1 ≤ stage_at (server_state setting w k) cell → TwoLeads setting w
+      two_leads k_seat k_leads k_born = record {
+        m = m;
+        k = k;
+        apart = apart;
+        cell = cell;
+        one = record { runs = runs_was; seat = seat; low = let at_top = one in omega arith; leads = leads };
+        one_born = born;
+        op = op;
+        is = is_was;
+        other = record { runs = p.job.runs; seat = k_seat; low = let at_top = one in omega arith; leads = k_leads };
+        other_born = k_born;
+      }
 
       -- which has something pending there, too
       pending_too : (o : Pending) (q : Cell) → pending_at w k q ≡ Some o → q ≡ cell → ⊥
@@ -259,8 +244,7 @@ module _ (script : Script) (sound : IsSound script) (front : List Record) (own :
           let le = mine_up k cell in
           let at_top = one in
           let l = (staged k cell o at_cell).leads (stage_live (server_state setting w k) cell b (omega arith)) in
-          other_idle script sound front legal_was m k apart cell (omega arith) runs_was seat leads born op is_was p.job.runs
-          ((rests script sound front legal_was).seated k cell o p.job.runs at_cell) l b o at_cell
+          other_idle prior (two_leads ((rests prior).seated k cell o p.job.runs at_cell) l b) o at_cell
 
       by_other : SaysIt → ⊥
       by_other (Is_neither other) = true_false (ap is_filled text) other.0
@@ -268,11 +252,11 @@ module _ (script : Script) (sound : IsSound script) (front : List Record) (own :
       by_other (Is_there moving filled txt same_own) =
           let key_is = filled_key (sym txt ∙ text) in
           let to = cell_is moving.key key_is in
-          let facts = (facts_at script sound front legal_was (mine k) (mine_top k) (cell_of moving.key)).leads k filled.lead in
+          let facts = (facts_at prior (mine k) (mine_top it k) (cell_of moving.key)).leads k filled.lead in
           let at_top = one in
-          let lacks = other_lacks script sound front legal_was m k apart cell (omega arith) runs_was seat leads born op is_was p.job.runs filled.seated
+          let lacks = other_lacks prior (two_leads filled.seated
           (subst (λ (q : Cell). leads_link (server_state setting w k) k q ≡ true) to facts.0)
-          (subst (λ (q : Cell). 1 ≤ stage_at (server_state setting w k) q) to facts.1) fills in
+          (subst (λ (q : Cell). 1 ≤ stage_at (server_state setting w k) q) to facts.1)) fills in
           let has : Has (chain_in (w.servers k).own.store.chains cell) op.key.epoch =
           subst (λ (q : Cell). Has (chain_in (w.servers k).own.store.chains q) op.key.epoch) to
           (subst (λ e. Has (chain_in (w.servers k).own.store.chains (cell_of moving.key)) e) (ap (λ (x : Key). x.epoch) key_is) filled.has) in
@@ -289,10 +273,10 @@ module _ (script : Script) (sound : IsSound script) (front : List Record) (own :
 
   pub unsaid_next : (m : ℕ) (cell : Cell) (op : Pending) → (v.servers m).life.running ≡ true → pending_at v m cell ≡ Some op → is_clients op.kind ≡ false
       → WasFilled v op.key → ⊥
-  unsaid_next m cell op runs is fills told = elim (sent script sound front own legal told.letter told.sent) [
+  unsaid_next m cell op runs is fills told = elim (sent it told.letter told.sent) [
     | Before i ↦ unsaid_was m cell op runs is fills (record { letter = told.letter; sent = i; is = told.is })
     | Posted p ↦ said_now m cell op is fills told.letter told.is p runs
-    | Other e ↦ no_other script sound front own legal all told.letter op.key told.is e
+    | Other e ↦ no_other it all told.letter op.key told.is e
   ]
 
   -- ### The region is on its way
@@ -303,11 +287,11 @@ module _ (script : Script) (sound : IsSound script) (front : List Record) (own :
       → stage_at (chosen_state setting v) cell ≡ 1
   opened_next asked m cell op runs is fills =
       let one = opened_before m cell op runs is fills in
-      let le = up script sound records legal top whole (chosen_on script sound front own legal) (front_itself whole) cell in
+      let le = up present top whole (chosen_on it) (front_itself whole) cell in
       elim (at_most_or_above (stage_at (By whole) cell) 1) [
         | inl low ↦ omega arith
         | inr two ↦
-            absurd (unsaid_next m cell op runs is fills (told_already script sound records legal (moved_now script sound front own legal all) op.rev op.key
+            absurd (unsaid_next m cell op runs is fills (told_already present (moved_now it all) op.rev op.key
             op.bytes (asked m cell op is fills) (subst (λ (q : Cell). 2 ≤ stage_at (By whole) q) (sym (keyed_now m cell op is)) two)))
       ]
 
@@ -321,16 +305,16 @@ module _ (script : Script) (sound : IsSound script) (front : List Record) (own :
       let one = known.filled.opened m cell op runs_was is fills in
       let le = mine_up m cell in
       let leads = (staged m cell op is).leads (stage_live (server_state setting w m) cell (staged m cell op is).born (omega arith)) in
-      let serving = link_lead_serves (server_state setting w m) (steady_at script sound front legal_was (mine m) (mine_top m)) cell m
+      let serving = link_lead_serves (server_state setting w m) (steady_at prior (mine m) (mine_top it m)) cell m
       (is_the_one (option_and_then (row_lead (server_state setting w m)) (cell_link (server_state setting w m) cell)) m leads) in
-      kept_own script sound front own legal all m runs (mine m) (front_itself (mine m)) (mine_top m) cell (omega arith) serving epoch has
+      kept_own it all m runs (mine m) (front_itself (mine m)) (mine_top it m) cell (omega arith) serving epoch has
 
   pub puts_next : (m : ℕ) (cell : Cell) (op : Pending) → (v.servers m).life.running ≡ true → pending_at v m cell ≡ Some op → is_clients op.kind ≡ false
       → op.stage.put ≡ true → Has (chain_in (v.servers m).own.store.chains cell) op.key.epoch
   puts_next m cell op runs is fills put = elim (came m runs cell op is) [
     | Same_pairs up_was was ↦ still_has m cell op op.key.epoch runs up_was was fills (known.puts m cell op up_was was fills put)
     | By_job job there ↦ elim (did_was (Handled w m) (own_place setting w m) (w.servers m).own
-        (never_dead script sound front legal_was known.filled.opened m job.runs) (keyed_was m) job.done job.did cell op there) [
+        (never_dead prior known.filled.opened m job.runs) (keyed_was m) job.done job.did cell op there) [
           | Is_new next fresh ↦ true_false put fresh
           | It_was o was same how ↦ elim (how put) [
             | inr has ↦ subst (λ (s : Own). Has (chain_in s.store.chains cell) op.key.epoch) (sym job.own_is) has
@@ -349,28 +333,28 @@ module _ (script : Script) (sound : IsSound script) (front : List Record) (own :
       → op.stage.put ≡ false → at nat_cmp (chain_in (v.servers m).own.store.chains cell) op.key.epoch ≡ None
   lacks_next asked m cell op runs is fills fresh =
       let log = (v.servers m).log.applied in
-      let log_whole = (firm script sound records legal).servers m in
-      let s = ((rests script sound records legal).pending m).staged cell op is in
+      let log_whole = (firm present).servers m in
+      let s = ((rests present).pending m).staged cell op is in
       let one = opened_next asked m cell op runs is fills in
-      let le = up script sound records legal log whole log_whole (front_itself whole) cell in
+      let le = up present log whole log_whole (front_itself whole) cell in
       let lives = stage_live (server_state setting v m) cell s.born (omega arith) in
-      let seat = (rests script sound records legal).seated m cell op runs is in
-      ap (λ (x : Store). at nat_cmp (chain_in x.chains cell) op.key.epoch) (sym (own_counts script sound records legal m runs log log_whole seat))
-      ∙ ((good script sound records legal).marks m (inl runs) cell op lives is).lacks fills fresh
+      let seat = (rests present).seated m cell op runs is in
+      ap (λ (x : Store). at nat_cmp (chain_in x.chains cell) op.key.epoch) (sym (own_counts present m runs log log_whole seat))
+      ∙ ((good present).marks m (inl runs) cell op lives is).lacks fills fresh
 
   -- ### Operations are numbered from 1
 
   pub numbered_next : ((m : ℕ) (cell : Cell) (op : Pending) → pending_at w m cell ≡ Some op → 1 ≤ op.op)
       → (m : ℕ) (cell : Cell) (op : Pending) → pending_at v m cell ≡ Some op → 1 ≤ op.op
-  numbered_next old m cell op is = by (v.servers m) (gone script sound front own legal m) is
+  numbered_next old m cell op is = by (v.servers m) (gone it m) is
     where
-      by : (to : Server) → HasGone script sound front own legal m to → at cell_cmp to.own.pairs.pending cell ≡ Some op → 1 ≤ op.op
+      by : (to : Server) → HasGone it m to → at cell_cmp to.own.pairs.pending cell ≡ Some op → 1 ≤ op.op
       by to (Rests same) there = old m cell op (ap (λ (s : Server). at cell_cmp s.own.pairs.pending cell) (sym same) ∙ there)
       by to (Works job) there =
           elim (did_was (Handled w m) (own_place setting w m) (w.servers m).own
-          (never_dead script sound front legal_was known.filled.opened m job.runs) (keyed_was m) job.done job.did cell op
+          (never_dead prior known.filled.opened m job.runs) (keyed_was m) job.done job.did cell op
           (ap (λ (o : Own). at cell_cmp o.pairs.pending cell) (sym job.own_is) ∙ there)) [
-            | Is_new next fresh ↦ (let one = (good script sound front legal_was).counts m in omega arith)
+            | Is_new next fresh ↦ (let one = (good prior).counts m in omega arith)
             | It_was o was same how ↦ (let one = old m cell o was in let e = same.number in omega arith)
           ]
       by to (Starts_ballot ballot) there = old m cell op (ap (λ (p : Pairs). at cell_cmp p.pending cell)

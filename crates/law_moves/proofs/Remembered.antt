@@ -10,30 +10,26 @@ use Rattle.petal_command.specs.declared.command.Command.TheVariants.{Caught}
 use Rattle.petal_msg.specs.declared.copying.LinkId.{LinkId}
 use Rattle.petal_table.specs.Table.{Table, at, put}
 use Rattle.petal_table.proofs.Rows.{at-empty, at-where}
-use Rattle.script_lines.specs.declared.script.Script.{Script}
 use Rattle.petal_state.specs.Command.{after}
 use Rattle.petal_rules.specs.Crossing.{crossed, settled_by}
 use Rattle.petal_rules.specs.Returns.{holds_link, proposed}
 use Rattle.petal_rules.specs.Server.{Own, Server}
 use Rattle.petal_rules.specs.State.{State, id_of, link_cmp, link_named}
-use Rattle.petal_rules.specs.World.{Setting, World, chosen_log, server_state, setting_of}
+use Rattle.petal_rules.specs.World.{chosen_log, server_state}
 use Rattle.petal_rules.proofs.Settled.{by_settled}
 use Rattle.petal_rules.proofs.Tests.{by_bool, none_some, same_some, true_false}
 use Rattle.petal_history.specs.Claims.{IsPrefix}
-use Rattle.petal_history.specs.Legal.{IsLegal}
-use Rattle.petal_history.specs.Sound.{IsSound}
-use Rattle.petal_history.specs.declared.record.Record.{Record}
 use Rattle.law_log.proofs.Filling.{filled_beside, filled_here}
 use Rattle.law_log.proofs.Flags.{same_id}
 use Rattle.law_steps.specs.Happens.{Handled, own_place}
 use Rattle.law_steps.proofs.Fronts.{front_more, front_on}
 use Rattle.law_steps.proofs.Remembering.{As_before, Told_of, did_remember}
-use Rattle.law_stores.proofs.Ways.{At}
 use Rattle.law_moves.specs.Fills.{AllFilled, IsOnWay, IsToldOf}
 use Rattle.law_moves.proofs.Knows.{HasBegun, HaveBegun, Known}
 use Rattle.law_moves.proofs.Steps.{Awakes, Enters, HasGone, IsJob, Is_blanked, Raises, Rests}
 use Rattle.law_moves.proofs.Steps.{Starts_ballot, Works, gone}
 use Rattle.law_moves.proofs.Told.{HasTold, begun_here, told_before, told_now}
+use Rattle.law_epochs.proofs.Scenes.{OneMore, ends_of}
 
 -- ### What is remembered
 
@@ -54,25 +50,12 @@ was_at t test id key is =
     by_bool (test id) (λ on. sym (e ∙ ap (λ b. cond b (at link_cmp t id) None) on) ∙ is)
     (λ off. none_some (e ∙ ap (λ b. cond b (at link_cmp t id) None) off) is)
 
-module _ (script : Script) (sound : IsSound script) (front : List Record) (own_record : Record) (legal : IsLegal script (front ++ own_record ∷ []))
-    (known : Known script front) where
-  abbrev setting : Setting
-  setting = setting_of script
-
-  abbrev w : World
-  w = At script front
-
-  abbrev v : World
-  v = At script (front ++ own_record ∷ [])
+module _ (it : OneMore) (known : Known it.prior.script it.prior.records) where
+  open it use {prior.{script, records as front}}
+  open ends_of it use {setting, w, v}
 
   abbrev Was : ℕ → Server
   Was n = w.servers n
-
-  abbrev Gone : ℕ → Server → Type 0
-  Gone n to = HasGone script sound front own_record legal n to
-
-  abbrev T : ℕ → Table LinkId Key → Type 0
-  T y filled = HasTold script sound front own_record legal known y filled
 
   entered_filled : (n : ℕ) (entry : Command) (own : Own) → own ≡ settled_by (own_place setting w n) entry (crossed (server_state setting w n) entry (Was n).own)
       → own.filled ≡ (crossed (server_state setting w n) entry (Was n).own).filled
@@ -82,33 +65,33 @@ module _ (script : Script) (sound : IsSound script) (front : List Record) (own_r
       (crossed (server_state setting w n) entry (Was n).own) (λ store. refl)
 
   -- after a job
-  pub done_told : (y : ℕ) (to : Server) (job : IsJob script sound front own_record legal y to) → T y job.done.own.filled
+  pub done_told : (y : ℕ) (to : Server) (job : IsJob it y to) → HasTold it known y job.done.own.filled
   done_told y to job = elim (did_remember (Handled w y) (own_place setting w y) (Was y).own job.done job.did) [
-    | As_before same ↦ subst (T y) (sym same) (told_before script sound front own_record legal known y job.runs)
-    | Told_of key row heard next is ↦ subst (T y) (sym is) (told_now script sound front own_record legal known y job.runs key row heard next)
+    | As_before same ↦ subst (HasTold it known y) (sym same) (told_before it known y job.runs)
+    | Told_of key row heard next is ↦ subst (HasTold it known y) (sym is) (told_now it known y job.runs key row heard next)
   ]
 
-  told_by : (y : ℕ) (to : Server) → Gone y to → to.life.running ≡ true → T y to.own.filled
+  told_by : (y : ℕ) (to : Server) → HasGone it y to → to.life.running ≡ true → HasTold it known y to.own.filled
   told_by y to (Rests same) runs =
-      subst (T y) (ap (λ (s : Server). s.own.filled) (sym same))
-      (told_before script sound front own_record legal known y (ap (λ (s : Server). s.life.running) (sym same) ∙ runs))
-  told_by y to (Works job) runs = subst (T y) (ap (λ (o : Own). o.filled) (sym job.own_is)) (done_told y to job)
+      subst (HasTold it known y) (ap (λ (s : Server). s.own.filled) (sym same))
+      (told_before it known y (ap (λ (s : Server). s.life.running) (sym same) ∙ runs))
+  told_by y to (Works job) runs = subst (HasTold it known y) (ap (λ (o : Own). o.filled) (sym job.own_is)) (done_told y to job)
   told_by y to (Starts_ballot b) runs =
-      subst (T y) (sym (ap (λ (o : Own). o.filled) b.own_is ∙ proposed_filled (server_state setting w y) (Was y).own b.started))
-      (told_before script sound front own_record legal known y b.runs)
+      subst (HasTold it known y) (sym (ap (λ (o : Own). o.filled) b.own_is ∙ proposed_filled (server_state setting w y) (Was y).own b.started))
+      (told_before it known y b.runs)
   told_by y to (Enters e) runs =
-      subst (T y) (sym (entered_filled y e.entry to.own e.own_is))
-      (λ f old new row last lies way is. told_before script sound front own_record legal known y e.runs f old new row last lies way
+      subst (HasTold it known y) (sym (entered_filled y e.entry to.own e.own_is))
+      (λ f old new row last lies way is. told_before it known y e.runs f old new row last lies way
       (was_at (Was y).own.filled (λ id. is_some (link_named (after (server_state setting w y) e.entry) id)) (id_of row) last is))
   told_by y to (Awakes asleep same) runs =
-      subst (T y) (ap (λ (s : Server). s.own.filled) (sym same)) (λ f old new row last lies way is. none_some (at-empty link_cmp (id_of row)) is)
+      subst (HasTold it known y) (ap (λ (s : Server). s.own.filled) (sym same)) (λ f old new row last lies way is. none_some (at-empty link_cmp (id_of row)) is)
   told_by y to (Raises asleep same) runs = true_false (ap (λ (s : Server). s.life.running) (sym same) ∙ runs) asleep
   told_by y to (Is_blanked asleep same) runs = true_false (ap (λ (s : Server). s.life.running) (sym same) ∙ runs) asleep
 
   pub told_next : (y : ℕ) (f : List Command) (old new : Cell) (row : LinkRow) (last : Key) → (v.servers y).life.running ≡ true
       → IsPrefix f (chosen_log setting v) → IsOnWay script.servers f old new row → at link_cmp (v.servers y).own.filled (id_of row) ≡ Some last
       → AllFilled v old new (IsToldOf last old)
-  told_next y f old new row last runs = told_by y (v.servers y) (gone script sound front own_record legal y) runs f old new row last
+  told_next y f old new row last runs = told_by y (v.servers y) (gone it y) runs f old new row last
 
   -- ### And since when
 
@@ -119,7 +102,7 @@ module _ (script : Script) (sound : IsSound script) (front : List Record) (own_r
   since_more log more filled on all id last is =
       let b = all id last is in record { map = b.map; front = b.front; lies = front_on b.front log more b.lies on; leaves = b.leaves }
 
-  done_since : (y : ℕ) (to : Server) (job : IsJob script sound front own_record legal y to) → HaveSince (Was y).log.applied job.done.own.filled
+  done_since : (y : ℕ) (to : Server) (job : IsJob it y to) → HaveSince (Was y).log.applied job.done.own.filled
   done_since y to job = elim (did_remember (Handled w y) (own_place setting w y) (Was y).own job.done job.did) [
     | As_before same ↦ subst (HaveSince (Was y).log.applied) (sym same) (known.begun y)
     | Told_of key row heard next is ↦ subst (HaveSince (Was y).log.applied) (sym is) (λ id last there. by_bool (eq_by_cmp link_cmp id (id_of row))
@@ -130,12 +113,12 @@ module _ (script : Script) (sound : IsSound script) (front : List Record) (own_r
         same_some (sym (ap (at link_cmp (put link_cmp (Was y).own.filled (id_of row) told)) one ∙ filled_here (Was y).own row told) ∙ there) in
         subst (HasBegun setting (Was y).log.applied id) same
         (subst (λ (i : LinkId). HasBegun setting (Was y).log.applied i told) (sym one)
-        (begun_here script sound front own_record legal known y job.runs key row heard next)))
+        (begun_here it known y job.runs key row heard next)))
         (λ apart. known.begun y id last
         (sym (filled_beside (Was y).own row (record { map = row.map; block = key.block; epoch = key.epoch }) id apart) ∙ there)))
   ]
 
-  begun_by : (y : ℕ) (to : Server) → Gone y to → HaveSince to.log.applied to.own.filled
+  begun_by : (y : ℕ) (to : Server) → HasGone it y to → HaveSince to.log.applied to.own.filled
   begun_by y to (Rests same) = subst (λ (s : Server). HaveSince s.log.applied s.own.filled) (sym same) (known.begun y)
   begun_by y to (Works job) =
       subst (λ log. HaveSince log to.own.filled) (sym job.log_is)
@@ -155,4 +138,4 @@ module _ (script : Script) (sound : IsSound script) (front : List Record) (own_r
   begun_by y to (Is_blanked asleep same) = subst (λ (s : Server). HaveSince s.log.applied s.own.filled) (sym same) (known.begun y)
 
   pub begun_next : HaveBegun setting v
-  begun_next y = begun_by y (v.servers y) (gone script sound front own_record legal y)
+  begun_next y = begun_by y (v.servers y) (gone it y)

@@ -5,17 +5,12 @@ use Rattle.global_tables.specs.declared.link.LinkRow.{LinkRow}
 use Rattle.petal_base.specs.Cells.{cell_of, key_at}
 use Rattle.petal_base.specs.declared.cell.Cell.{Cell}
 use Rattle.petal_base.specs.declared.cell.Key.{Key}
-use Rattle.petal_command.specs.declared.command.Command.{Command}
-use Rattle.script_lines.specs.declared.script.Script.{Script}
 use Rattle.petal_state.specs.CellState.{cell_link, noted, source}
 use Rattle.petal_rules.specs.State.{State, authority, coming, leaving}
 use Rattle.petal_rules.specs.Store.{Chain, chain_in}
-use Rattle.petal_rules.specs.World.{Setting, World, chosen_log, chosen_state, kept, setting_of}
+use Rattle.petal_rules.specs.World.{chosen_state, kept}
 use Rattle.petal_rules.proofs.Tests.{by_bool, same_some}
 use Rattle.petal_history.specs.Claims.{HasNewer, IsFilledFrom, Matters, Moves}
-use Rattle.petal_history.specs.Legal.{IsLegal}
-use Rattle.petal_history.specs.Sound.{IsSound}
-use Rattle.petal_history.specs.declared.record.Record.{Record}
 use Rattle.law_state.specs.Homes.{HasStage, stage_at}
 use Rattle.law_state.specs.Steady.{IsSteady}
 use Rattle.law_state.proofs.Entries.{log_plain}
@@ -24,33 +19,26 @@ use Rattle.law_state.proofs.Steady.{log_steady}
 use Rattle.law_state.proofs.Touching.{map_of}
 use Rattle.law_state.proofs.Twins.{log_comes, source_same}
 use Rattle.law_steps.proofs.Fronts.{front_itself}
-use Rattle.law_stores.proofs.Ways.{At}
 use Rattle.law_epochs.proofs.Histories.{running_timely}
 use Rattle.law_epochs.proofs.Reports.{resting}
 use Rattle.law_moves.specs.Fills.{AreFilled, Has, IsFrozen, WasFilled}
 use Rattle.law_moves.specs.Still.{AreStill}
 use Rattle.law_moves.proofs.Over.{all_plain, facts, link_slot, moved_filled, on_own_link}
 use Rattle.law_moves.proofs.Serving.{authority_serves, first_serves, matters_serves, second_serves}
+use Rattle.law_epochs.proofs.Scenes.{History, end_of}
 
-module _ (script : Script) (sound : IsSound script) (records : List Record) (legal : IsLegal script records)
-    (still : AreStill (setting_of script) (At script records)) (filled : AreFilled (setting_of script) (At script records)) where
-  abbrev setting : Setting
-  setting = setting_of script
-
-  abbrev w : World
-  w = At script records
-
-  abbrev chosen : List Command
-  chosen = chosen_log setting w
+module _ (it : History) (still : AreStill (end_of it).setting (end_of it).w) (filled : AreFilled (end_of it).setting (end_of it).w) where
+  open it use {script, sound, records, legal}
+  open end_of it use {setting, w, chosen}
 
   abbrev now : State
   now = chosen_state setting w
 
   steady : IsSteady now
-  steady = log_steady script.servers chosen (all_plain script sound records legal)
+  steady = log_steady script.servers chosen (all_plain it)
 
   by_stage : (cell : Cell) → HasStage now cell
-  by_stage cell = facts script sound records legal chosen (front_itself chosen) cell
+  by_stage cell = facts it chosen (front_itself chosen) cell
 
   -- what a letter says to be there is at each server that matters, while the cell is coming
   told_there : (cell : Cell) (n epoch : ℕ) → coming now cell ≡ true → Matters now cell n → WasFilled w (key_at cell epoch)
@@ -65,7 +53,7 @@ module _ (script : Script) (sound : IsSound script) (records : List Record) (leg
       → HasNewer before key.epoch (chain_in (kept setting w n).chains (cell_of key))
   newer_there key bytes rev n before f comes matters from epoch later has =
       let old : from.old ≡ f.old =
-      source_same script.servers f.front chosen (all_plain script sound records legal) f.lies (cell_of key) f.old from.old f.from from.is in
+      source_same script.servers f.front chosen (all_plain it) f.lies (cell_of key) f.old from.old f.from from.is in
       let same : before ≡ f.before = same_some (sym from.frozen ∙ ap w.frozen old ∙ f.frozen) in
       told_there (cell_of key) n epoch comes matters (f.newer epoch later (subst (λ (c : Chain). Has c epoch) same has))
 
@@ -76,7 +64,7 @@ module _ (script : Script) (sound : IsSound script) (records : List Record) (leg
       → w.frozen old ≡ Some before → cell_link now old ≡ Some row → noted now row.map (region_of cell.block) row.link ≡ true
       → authority now cell ≡ Some n → Has before epoch → Has (chain_in (kept setting w n).chains cell) epoch
   noted_there cell old row n epoch before comes from frozen linked is counts has =
-      let plain = all_plain script sound records legal in
+      let plain = all_plain it in
       let m = log_comes script.servers chosen plain old cell from in
       let twin = (by_stage cell).sources ((by_stage cell).comes comes) in
       let same : twin.0 ≡ old = same_some (sym twin.1 ∙ from) in
@@ -85,9 +73,9 @@ module _ (script : Script) (sound : IsSound script) (records : List Record) (leg
       let marked : noted now old.map (region_of old.block) row.link ≡ true =
       (λ i. noted now (sym map_is i) (region_of (sym m.block i)) row.link) ∙ is in
       let moved = log_noted script.servers chosen old row.link plain three marked in
-      let own = on_own_link script sound records legal old row.link moved (link_slot script sound records legal chosen (front_itself chosen) old row linked) in
+      let own = on_own_link it old row.link moved (link_slot it chosen (front_itself chosen) old row linked) in
       told_there cell n epoch comes (inl counts)
-      (moved_filled script sound records legal filled.moved old cell own chosen (front_itself chosen) m before epoch frozen has)
+      (moved_filled it filled.moved old cell own chosen (front_itself chosen) m before epoch frozen has)
 
   pub rule_kept : Moves setting w
   rule_kept = record {

@@ -1,30 +1,23 @@
 -- A second server that runs, by a front by which it is In, at the place that the link has by that front: nobody who serves the cell has been further, and where
 -- the server has been at the place it is there.
-use Rattle.std.proofs.Common.{◌≡◌, ◌≤◌, ◌++◌, ◌==◌, ℕ, true, false, List, [], ◌∷◌, Option, Some}
+use Rattle.std.proofs.Common.{◌≡◌, ◌≤◌, ◌==◌, ℕ, true, false, List, Option, Some}
 use Rattle.std.proofs.Common.{sym, ap, ◌∙◌, subst, inl, inr, arith}
 use Rattle.std.specs.Option.{option_map_or}
 use Rattle.global_tables.specs.Link.{has_server}
 use Rattle.global_tables.specs.declared.link.LinkRow.{LinkRow}
-use Rattle.global_tables.specs.declared.link.LinkState.TheVariants.{Both}
 use Rattle.petal_base.specs.declared.cell.Cell.{Cell}
 use Rattle.petal_command.specs.declared.command.Command.{Command}
 use Rattle.petal_table.specs.Table.{at}
-use Rattle.script_lines.specs.declared.script.Script.{Script}
 use Rattle.petal_state.specs.CellState.{serves}
-use Rattle.petal_state.specs.Command.{state_after}
 use Rattle.petal_state.specs.State.{inc_of}
 use Rattle.petal_rules.specs.Server.{Own}
-use Rattle.petal_rules.specs.State.{State, is_in}
+use Rattle.petal_rules.specs.State.{is_in}
 use Rattle.petal_rules.specs.Store.{cell_cmp}
-use Rattle.petal_rules.specs.World.{Setting, World, chosen_log, counted, server_state, setting_of}
+use Rattle.petal_rules.specs.World.{counted, server_state}
 use Rattle.petal_rules.proofs.Tests.{same_some}
 use Rattle.petal_history.specs.Claims.{IsPrefix}
-use Rattle.petal_history.specs.Legal.{IsLegal}
-use Rattle.petal_history.specs.Sound.{IsSound}
-use Rattle.petal_history.specs.declared.record.Record.{Record}
 use Rattle.law_state.specs.Homes.{stage_at}
 use Rattle.law_state.specs.Places.{StaysSo}
-use Rattle.law_state.specs.Plain.{IsPlainLog}
 use Rattle.law_state.specs.Rows.{ByBoth, ByNone, ByOne}
 use Rattle.law_state.proofs.Again.{log_both_place}
 use Rattle.law_state.proofs.Ages.{up_some}
@@ -35,7 +28,6 @@ use Rattle.law_state.proofs.Steady.{front_plain, log_steady}
 use Rattle.law_steps.specs.Operations.{progress}
 use Rattle.law_steps.proofs.Fronts.{front_on}
 use Rattle.law_steps.proofs.Ties.{running_fronts, stays_both}
-use Rattle.law_stores.proofs.Ways.{At}
 use Rattle.law_copies.specs.Good.{AreTwins, Good, pair_at}
 use Rattle.law_copies.specs.Pair.{far}
 use Rattle.law_copies.specs.Visits.{HasReached, IsLinked, half, place_by, store_by}
@@ -43,37 +35,23 @@ use Rattle.law_copies.proofs.Later.{serves_alone}
 use Rattle.law_copies.proofs.Places.{fronts_meet, linked_between, one_place, one_row, places_up}
 use Rattle.law_moves.proofs.Steps.{knows_now}
 use Rattle.law_moves.proofs.Worlds.{good, up}
+use Rattle.law_epochs.proofs.Scenes.{OneMore, ends_of}
+use Rattle.law_moves.proofs.Scenes.{IsSecondAt}
 
-module _ (script : Script) (sound : IsSound script) (front : List Record) (own : Record) (legal : IsLegal script (front ++ own ∷ [])) where
-  abbrev setting : Setting
-  setting = setting_of script
-
-  abbrev records : List Record
-  records = front ++ own ∷ []
-
-  abbrev v : World
-  v = At script records
-
-  abbrev whole : List Command
-  whole = chosen_log setting v
-
-  abbrev By : List Command → State
-  By log = state_after script.servers log
-
-  plain : IsPlainLog script.servers whole
-  plain = (knows_now script sound front own legal).plain
+module _ (it : OneMore) where
+  open it use {prior.{script}}
+  open ends_of it use {setting, records, v, whole, By, plain, present}
 
   abbrev far_of_last : Own → Cell → ℕ
   far_of_last o q = progress (at cell_cmp o.pairs.last q)
 
   abbrev G : Good setting records whole (counted setting v)
-  G = good script sound records legal
+  G = good present
 
   -- a second server that runs, by a front by which it is In
-  module _ (m : ℕ) (f : List Command) (cell : Cell) (row : LinkRow) (runs : (v.servers m).life.running ≡ true)
-      (on : IsPrefix (v.servers m).log.applied f) (lies : IsPrefix f whole) (seat : is_in (By f) m (v.servers m).life.inc ≡ true)
-      (linked : IsLinked setting f cell row) (both : row.state ≡ Both) (second : row.secondary ≡ m) (low : stage_at (By f) cell ≤ 3)
-      (three : stage_at (By whole) cell ≡ 3) where
+  module _ (s : IsSecondAt setting v) (three : stage_at (By whole) s.cell ≡ 3) where
+    open s use {m, f, cell, row, runs, on, lies, seat, linked, both, second, low}
+
     abbrev mine_now : List Command
     mine_now = (v.servers m).log.applied
 
@@ -83,7 +61,19 @@ module _ (script : Script) (sound : IsSound script) (front : List Record) (own :
     abbrev visit : ℕ → Option Own
     visit n = G.visits n place cell
 
-    one_of : has_server m row ≡ true
+    abbrev far_is : ℕ
+    far_is = far (pair_at (store_by setting G.stores f) G.visits place cell row.primary row.secondary)
+
+    -- the link's place there, who was at it, and how far this server is
+    pub record SecondPlace : Type 0 where
+      pub place : ℕ
+      pub visit : ℕ → Option Own
+      pub far_is : ℕ
+
+    abbrev pub second_place : SecondPlace
+    second_place = record { place = place; visit = visit; far_is = far_is }
+
+    pub one_of : has_server m row ≡ true
     one_of = secondary_is_one row m second
 
     -- nobody who serves the link has been further
@@ -101,7 +91,7 @@ module _ (script : Script) (sound : IsSound script) (front : List Record) (own :
       where
         by_later : (r : HasReached setting whole G.visits cell (G.reached cell)) → IsPrefix f r.front → G.reached cell ≤ place
         by_later r beyond =
-            elim (stays_both (running_fronts (knows_now script sound front own legal) m runs on beyond r.prefix seat) cell row linked one_of
+            elim (stays_both (running_fronts (knows_now it) m runs on beyond r.prefix seat) cell row linked one_of
             (ap (serves m row) both ∙ one_of) r.alive both) [
               | inl stays ↦ (
                   let same : place_by setting r.front r.row ≡ place = place_stays r beyond stays in
@@ -137,9 +127,6 @@ module _ (script : Script) (sound : IsSound script) (front : List Record) (own :
     pub twins : AreTwins (store_by setting G.stores f) G.visits place cell row.primary row.secondary
     twins = (G.both f cell row lies linked both).twins (omega arith) last
 
-    abbrev far_is : ℕ
-    far_is = far (pair_at (store_by setting G.stores f) G.visits place cell row.primary row.secondary)
-
     -- where the server was at the place, it is there
     pub record IsThereNow : Type 0 where
       pub linked_mine : IsLinked setting mine_now cell row
@@ -165,7 +152,7 @@ module _ (script : Script) (sound : IsSound script) (front : List Record) (own :
         subst (λ k. option_map_or (λ present. present == (v.servers m).life.inc) (inc_of (By mine_now) k) false ≡ true) second
         (ap (λ o. option_map_or (λ present. present == (v.servers m).life.inc) o false) (sym stays)
         ∙ subst (λ k. is_in (By f) k (v.servers m).life.inc ≡ true) (sym second) seat) in
-        let le = up script sound records legal mine_now f on lies cell in
+        let le = up present mine_now f on lies cell in
         let here_now = G.here m cell row linked_mine seat_mine (omega arith) in
         let by_is : by ≡ here_now.own = same_some (sym e ∙ sym (ap (λ p. G.visits m p cell) same) ∙ here_now.is) in
         record {

@@ -12,12 +12,11 @@ use Rattle.petal_msg.specs.declared.operation.Pending.{Pending}
 use Rattle.petal_table.specs.Table.{at}
 use Rattle.script_lines.specs.declared.script.Script.{Script}
 use Rattle.petal_state.specs.CellState.{serves}
-use Rattle.petal_state.specs.Command.{state_after}
 use Rattle.petal_rules.specs.Server.{Own, Pairs}
-use Rattle.petal_rules.specs.State.{State, is_in}
+use Rattle.petal_rules.specs.State.{is_in}
 use Rattle.petal_rules.specs.Store.{Store, cell_cmp, chain_in}
 use Rattle.petal_rules.specs.Writes.{is_clients}
-use Rattle.petal_rules.specs.World.{Setting, World, chosen_log, chosen_state, counted, kept, server_state, setting_of}
+use Rattle.petal_rules.specs.World.{Setting, World, chosen_state, counted, kept, server_state, setting_of}
 use Rattle.petal_rules.proofs.Tests.{true_false}
 use Rattle.petal_history.specs.Claims.{IsPrefix}
 use Rattle.petal_history.specs.Legal.{IsLegal}
@@ -40,24 +39,32 @@ use Rattle.law_moves.proofs.Afterwards.{born_after, filling_after, keyed}
 use Rattle.law_moves.proofs.Histories.{known_after}
 use Rattle.law_moves.proofs.There.{told_already}
 use Rattle.law_moves.proofs.Worlds.{firm, good, own_counts, row_serving, serving_on, up, was_seen}
+use Rattle.law_epochs.proofs.Scenes.{History, end_of}
 
-module _ (script : Script) (records : List Record) (sound : IsSound script) (legal : IsLegal script records) (n m : ℕ) (cell : Cell) (pairs : Pairs)
-    (op : Pending) (row : LinkRow) (runs : ((At script records).servers m).life.running ≡ true)
-    (seat : is_in (server_state (setting_of script) (At script records) m) m ((At script records).servers m).life.inc ≡ true)
-    (linked : IsLinked (setting_of script) ((At script records).servers m).log.applied cell row) (both : row.state ≡ Both) (first : row.primary ≡ n)
-    (second : row.secondary ≡ m)
-    (there : WasThere (setting_of script) records n (place_by (setting_of script) ((At script records).servers m).log.applied row) cell pairs)
-    (is : at cell_cmp pairs.pending cell ≡ Some op) (fills : is_clients op.kind ≡ false)
-    (behind : progress (at cell_cmp ((At script records).servers m).own.pairs.last cell) ≤ op.op + op.op)
-    (alive : stage_at (chosen_state (setting_of script) (At script records)) cell ≤ 3) where
-  abbrev setting : Setting
-  setting = setting_of script
+-- a server that runs, and by its own entries is In and the second one of a link in Both, where the first one had a fill pending that it has not followed
+record IsToFill (setting : Setting) (records : List Record) (w : World) : Type 0 where
+  n : ℕ
+  m : ℕ
+  cell : Cell
+  pairs : Pairs
+  op : Pending
+  row : LinkRow
+  runs : (w.servers m).life.running ≡ true
+  seat : is_in (server_state setting w m) m (w.servers m).life.inc ≡ true
+  linked : IsLinked setting (w.servers m).log.applied cell row
+  both : row.state ≡ Both
+  first : row.primary ≡ n
+  second : row.secondary ≡ m
+  there : WasThere setting records n (place_by setting (w.servers m).log.applied row) cell pairs
+  is : at cell_cmp pairs.pending cell ≡ Some op
+  fills : is_clients op.kind ≡ false
+  behind : progress (at cell_cmp (w.servers m).own.pairs.last cell) ≤ op.op + op.op
+  alive : stage_at (chosen_state setting w) cell ≤ 3
 
-  abbrev w : World
-  w = At script records
-
-  abbrev chosen : List Command
-  chosen = chosen_log setting w
+module _ (it : History) (s : IsToFill (end_of it).setting it.records (end_of it).w) where
+  open it use {script, sound, records, legal}
+  open end_of it use {setting, w, chosen, By}
+  open s use {n, m, cell, pairs, op, row, runs, seat, linked, both, first, second, there, is, fills, behind, alive}
 
   abbrev mine : List Command
   mine = (w.servers m).log.applied
@@ -65,14 +72,11 @@ module _ (script : Script) (records : List Record) (sound : IsSound script) (leg
   abbrev place : ℕ
   place = place_by setting mine row
 
-  abbrev By : List Command → State
-  By log = state_after script.servers log
-
   lies : IsPrefix mine chosen
-  lies = (firm script sound records legal).servers m
+  lies = (firm it).servers m
 
   abbrev G : Good setting records chosen (counted setting w)
-  G = good script sound records legal
+  G = good it
 
   has : has_server m row ≡ true
   has = secondary_is_one row m second
@@ -83,10 +87,10 @@ module _ (script : Script) (records : List Record) (sound : IsSound script) (leg
   -- the two copies by the server's own entries
   twins : AreTwins (store_by setting G.stores mine) G.visits place cell row.primary row.secondary
   twins = (G.both mine cell row lies linked both).twins (omega arith)
-      (both_last setting records w (kept setting w) (firm script sound records legal) G m runs seat cell row linked both has)
+      (both_last setting records w (kept setting w) (firm it) G m runs seat cell row linked both has)
 
   here : IsHere setting (counted setting w) G.visits m cell row
-  here = let le = up script sound records legal mine chosen lies (front_itself chosen) cell in G.here m cell row linked seat (omega arith)
+  here = let le = up it mine chosen lies (front_itself chosen) cell in G.here m cell row linked seat (omega arith)
 
   -- how far the server is
   far_is : far (pair_at (store_by setting G.stores mine) G.visits place cell row.primary row.secondary)
@@ -98,35 +102,64 @@ module _ (script : Script) (records : List Record) (sound : IsSound script) (leg
 
   lacks : at nat_cmp (chain_in (w.servers m).own.store.chains cell) op.key.epoch ≡ None
   lacks =
-      let seen = was_seen script sound records legal n place cell pairs there in
+      let seen = was_seen it n place cell pairs there in
       let by = ap (λ k. G.visits k place cell) first ∙ seen.1 in
       let pending = ap (λ (p : Pairs). at cell_cmp p.pending cell) seen.2 ∙ is in
       let far_at = far_is in
       let none = twins.lacks seen.0 op by pending fills (omega arith) in
       let counts : store_by setting G.stores mine row.secondary ≡ (w.servers m).own.store =
       ap (store_by setting G.stores mine) second ∙ ap (G.stores m) (in_counts script records m mine sound legal lies seat) ∙ G.now m
-      ∙ own_counts script sound records legal m runs mine lies seat in
+      ∙ own_counts it m runs mine lies seat in
       ap (λ (s : Store). at nat_cmp (chain_in s.chains cell) op.key.epoch) (sym counts) ∙ none
 
   -- were it told to be there, the server would have it
   not_told : 1 ≤ stage_at (By chosen) cell → WasFilled w op.key → ⊥
   not_told born told =
       let key_cell = keyed script records sound legal n place cell pairs op there is fills in
-      let serves_now = serving_on script sound records legal m runs mine chosen lies (front_itself chosen) seat cell alive serving in
-      let kept_is = own_counts script sound records legal m runs mine lies seat in
+      let serves_now = serving_on it m runs mine chosen lies (front_itself chosen) seat cell alive serving in
+      let kept_is = own_counts it m runs mine lies seat in
       let has_it = subst (λ (q : Cell). 1 ≤ stage_at (By chosen) q → stage_at (By chosen) q ≤ 3 → IsServing (By chosen) m q
       → Has (chain_in (kept setting w m).chains q) op.key.epoch) key_cell (((known_after script sound records legal).filled.filled op.key told).now m)
       born alive serves_now in
       true_false has_it (ap is_some (ap (λ (s : Store). at nat_cmp (chain_in s.chains cell) op.key.epoch) kept_is ∙ lacks))
 
-  pub second_after : stage_at (chosen_state setting w) cell ≡ 1
-  second_after =
+  on_way : stage_at (chosen_state setting w) cell ≡ 1
+  on_way =
       let born = born_after script records sound legal n place cell pairs op there is fills in
       elim (at_most_or_above (stage_at (By chosen) cell) 1) [
         | inl one ↦ (omega arith)
         | inr two ↦
             let key_cell = keyed script records sound legal n place cell pairs op there is fills in
             let frozen = filling_after script records sound legal n place cell pairs op there is fills in
-            absurd (not_told (omega arith) (told_already script sound records legal (known_after script sound records legal).filled.moved op.rev op.key op.bytes
+            absurd (not_told (omega arith) (told_already it (known_after script sound records legal).filled.moved op.rev op.key op.bytes
             frozen (subst (λ (q : Cell). 2 ≤ stage_at (By chosen) q) (sym key_cell) two)))
       ]
+
+pub second_after : (script : Script) (records : List Record) → IsSound script → IsLegal script records → (n m : ℕ) (cell : Cell) (pairs : Pairs)
+    (op : Pending) (row : LinkRow) → ((At script records).servers m).life.running ≡ true
+    → is_in (server_state (setting_of script) (At script records) m) m ((At script records).servers m).life.inc ≡ true
+    → IsLinked (setting_of script) ((At script records).servers m).log.applied cell row → row.state ≡ Both → row.primary ≡ n → row.secondary ≡ m
+    → WasThere (setting_of script) records n (place_by (setting_of script) ((At script records).servers m).log.applied row) cell pairs
+    → at cell_cmp pairs.pending cell ≡ Some op → is_clients op.kind ≡ false
+    → progress (at cell_cmp ((At script records).servers m).own.pairs.last cell) ≤ op.op + op.op
+    → stage_at (chosen_state (setting_of script) (At script records)) cell ≤ 3 → stage_at (chosen_state (setting_of script) (At script records)) cell ≡ 1
+second_after script records sound legal n m cell pairs op row runs seat linked both first second there is fills behind alive =
+    on_way (record { script = script; sound = sound; records = records; legal = legal }) (record {
+      n = n;
+      m = m;
+      cell = cell;
+      pairs = pairs;
+      op = op;
+      row = row;
+      runs = runs;
+      seat = seat;
+      linked = linked;
+      both = both;
+      first = first;
+      second = second;
+      there = there;
+      is = is;
+      fills = fills;
+      behind = behind;
+      alive = alive;
+    })

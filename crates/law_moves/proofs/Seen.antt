@@ -10,7 +10,7 @@ use Rattle.petal_history.specs.Legal.{IsLegal}
 use Rattle.petal_history.specs.Sound.{IsSound}
 use Rattle.petal_history.specs.declared.record.Record.{Record}
 use Rattle.petal_rules.specs.Server.{Own, Pairs}
-use Rattle.petal_rules.specs.World.{Setting, World, chosen_log, counted, setting_of, start}
+use Rattle.petal_rules.specs.World.{chosen_log, counted, setting_of, start}
 use Rattle.petal_rules.proofs.Tests.{by_bool, none_some, some_or_none, true_false}
 use Rattle.law_state.proofs.Entries.{start_plain}
 use Rattle.law_state.proofs.Rows.{past_link}
@@ -20,6 +20,7 @@ use Rattle.law_copies.specs.Good.{Good}
 use Rattle.law_copies.specs.Visits.{WasThere, is_at}
 use Rattle.law_copies.proofs.Histories.{start_good, step_goes}
 use Rattle.law_copies.proofs.Visited.{at_by}
+use Rattle.law_epochs.proofs.Scenes.{OneMore, ends_of, one_more}
 
 abbrev GoodAt : Script → List Record → Type 0
 GoodAt script records =
@@ -43,15 +44,11 @@ start_seen script before later n place cell e on =
 
 -- ### A step
 
-module _ (script : Script) (sound : IsSound script) (front : List Record) (own : Record) (legal : IsLegal script (front ++ own ∷ []))
-    (old : IsSeen script front) where
-  abbrev setting : Setting
-  setting = setting_of script
+module _ (it : OneMore) (old : IsSeen it.prior.script it.prior.records) where
+  open it use {prior.{script, sound, records as front}, own, legal}
+  open ends_of it use {setting, v, records}
 
-  abbrev v : World
-  v = At script (front ++ own ∷ [])
-
-  seen_next : AreSeen script (front ++ own ∷ []) (step_goes script front own sound legal old.good).good
+  seen_next : AreSeen script records (step_goes script front own sound legal old.good).good
   seen_next before later n place cell e on =
       ap is_some ((step_goes script front own sound legal old.good).visits n place cell) ∙ by_bool (is_at setting n ((counted setting v).servers n) place cell)
       (λ now. ap (λ b. is_some (if b then Some ((counted setting v).servers n).own else old.good.visits n place cell)) now)
@@ -61,7 +58,7 @@ module _ (script : Script) (sound : IsSound script) (front : List Record) (own :
         | inr part ↦ old.seen_all before part.0 n place cell part.1 on
       ])
 
-  next : IsSeen script (front ++ own ∷ [])
+  next : IsSeen script records
   next = record { good = (step_goes script front own sound legal old.good).good; seen_all = seen_next }
 
 -- ### Legal histories
@@ -73,7 +70,7 @@ seen_from script sound done (own ∷ later) legal old =
     let e = append_assoc done (own ∷ []) later in
     let whole : IsLegal script ((done ++ own ∷ []) ++ later) = subst (IsLegal script) (sym e) legal in
     subst (IsSeen script) e
-    (seen_from script sound (done ++ own ∷ []) later whole (next script sound done own (before_part script (done ++ own ∷ []) later whole) old))
+    (seen_from script sound (done ++ own ∷ []) later whole (next (one_more script sound done own (before_part script (done ++ own ∷ []) later whole)) old))
 
 pub seen_after : (script : Script) → IsSound script → (records : List Record) → IsLegal script records → IsSeen script records
 seen_after script sound records legal =

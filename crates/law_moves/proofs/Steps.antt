@@ -21,7 +21,7 @@ use Rattle.petal_rules.specs.Log.{Log}
 use Rattle.petal_rules.specs.Returns.{proposed}
 use Rattle.petal_rules.specs.Server.{Done, Post, Sender, Server, letters_of, sender}
 use Rattle.petal_rules.specs.State.{State, is_in}
-use Rattle.petal_rules.specs.World.{Setting, World, blank_joins_in, kept, chosen_log, chosen_state, counted_by, server_state, setting_of, stamped}
+use Rattle.petal_rules.specs.World.{World, blank_joins_in, kept, chosen_log, chosen_state, counted_by, server_state, stamped}
 use Rattle.petal_rules.specs.declared.step.Step.{Step}
 use Rattle.petal_rules.proofs.ListLemmas.{in-append, in_former, in_later, put_apart, put_same}
 use Rattle.petal_rules.proofs.Tests.{all_put, same_or_apart, true_false}
@@ -38,40 +38,38 @@ use Rattle.law_steps.specs.Did.{Did}
 use Rattle.law_steps.specs.Happens.{Handled, Happens, Serves, Blanks, Turns, IsSeated, Starts, Worked, By_job, By_ballot, By_entry, Serving}
 use Rattle.law_steps.specs.Happens.{Goes, Ends, Stays, Wakes, Fails, own_place, without_rev}
 use Rattle.law_steps.proofs.Firms.{always_firm}
-use Rattle.law_steps.proofs.Fronts.{below_itself, front_itself, front_more}
+use Rattle.law_steps.proofs.Fronts.{below_itself, front_itself, front_more, front_on}
 use Rattle.law_steps.proofs.Histories.{last_happens}
 use Rattle.law_steps.proofs.Letters.{said}
 use Rattle.law_steps.proofs.Sending.{turned_asks}
-use Rattle.law_stores.proofs.Ways.{At, along, before_last, before_part}
+use Rattle.law_stores.proofs.Ways.{At, along, before_last}
 use Rattle.law_copies.specs.Good.{Good}
 use Rattle.law_copies.proofs.Histories.{good_after, step_goes}
 use Rattle.law_epochs.proofs.Within.{asked_none, is_of_entries, logged_none}
+use Rattle.law_epochs.proofs.Scenes.{OneMore, ends_of, one_more}
 
-module _ (script : Script) (sound : IsSound script) (front : List Record) (own : Record) (legal : IsLegal script (front ++ own ∷ [])) where
-  abbrev setting : Setting
-  setting = setting_of script
-
-  abbrev w : World
-  w = At script front
-
-  abbrev v : World
-  v = At script (front ++ own ∷ [])
-
-  pub part : IsLegal script front
-  part = before_part script front (own ∷ []) legal
+module _ (it : OneMore) where
+  open it use {prior, prior.{script, sound, records as front}, own, legal}
+  open ends_of it use {setting, w, v, records}
 
   pub knows : Firm setting w
-  knows = history_is_firm script front sound part
+  knows = history_is_firm script front sound prior.legal
 
   pub knows_now : Firm setting v
-  knows_now = history_is_firm script (front ++ own ∷ []) sound legal
+  knows_now = history_is_firm script records sound legal
 
   pub chosen_on : IsPrefix (chosen_log setting w) (chosen_log setting v)
-  chosen_on = history_grows script (front ++ own ∷ []) sound legal front (own ∷ []) refl
+  chosen_on = history_grows script records sound legal front (own ∷ []) refl
+
+  pub mine_top : (n : ℕ) → IsPrefix (w.servers n).log.applied (chosen_log setting w)
+  mine_top n = knows.servers n
+
+  pub mine_whole : (n : ℕ) → IsPrefix (w.servers n).log.applied (chosen_log setting v)
+  mine_whole n = front_on (w.servers n).log.applied (chosen_log setting w) (chosen_log setting v) (mine_top n) chosen_on
 
   -- what is kept of two copies by what was chosen before the step
-  pub middle : Good setting (front ++ own ∷ []) (chosen_log setting w) (counted_by setting (chosen_log setting w) v)
-  middle = (step_goes script front own sound legal (good_after script front sound part)).middle
+  pub middle : Good setting records (chosen_log setting w) (counted_by setting (chosen_log setting w) v)
+  middle = (step_goes script front own sound legal (good_after script front sound prior.legal)).middle
 
   abbrev Was : ℕ → Server
   Was n = w.servers n
@@ -185,7 +183,7 @@ module _ (script : Script) (sound : IsSound script) (front : List Record) (own :
   happened : Happens setting (chosen_state setting v) w v
   happened =
       let state = chosen_state setting v in
-      last_happens script front own (always_firm script (front ++ own ∷ []) sound legal) legal state (below_itself state)
+      last_happens script front own (always_firm script records sound legal) legal state (below_itself state)
 
   pub gone : (n : ℕ) → HasGone n (v.servers n)
   gone = gone_by (chosen_state setting v) v happened
@@ -292,10 +290,10 @@ module _ (script : Script) (sound : IsSound script) (front : List Record) (own :
 incs_up : (script : Script) → IsSound script → (n inc : ℕ) (before later : List Record) → IsLegal script (before ++ later)
     → inc ≤ ((At script before).servers n).life.inc → inc ≤ ((At script (before ++ later)).servers n).life.inc
 incs_up script sound n inc = along script (λ u. inc ≤ (u.servers n).life.inc) (λ front own legal le.
-    by script sound front own legal ((At script (front ++ own ∷ [])).servers n) (gone script sound front own legal n) le)
+    by script sound front own legal ((At script (front ++ own ∷ [])).servers n) (gone (one_more script sound front own legal) n) le)
   where
     by : (script : Script) (sound : IsSound script) (front : List Record) (own : Record) (legal : IsLegal script (front ++ own ∷ [])) (to : Server)
-        → HasGone script sound front own legal n to → inc ≤ ((At script front).servers n).life.inc → inc ≤ to.life.inc
+        → HasGone (one_more script sound front own legal) n to → inc ≤ ((At script front).servers n).life.inc → inc ≤ to.life.inc
     by script sound front own legal to (Rests same) le = subst (λ (s : Server). inc ≤ s.life.inc) (sym same) le
     by script sound front own legal to (Works job) le = let e = job.inc_is in omega arith
     by script sound front own legal to (Starts_ballot ballot) le = let e = ballot.inc_is in omega arith
@@ -304,30 +302,24 @@ incs_up script sound n inc = along script (λ u. inc ≤ (u.servers n).life.inc)
     by script sound front own legal to (Raises asleep same) le = subst (λ (s : Server). inc ≤ s.life.inc) (sym same) (omega arith)
     by script sound front own legal to (Is_blanked asleep same) le = subst (λ (s : Server). inc ≤ s.life.inc) (sym same) le
 
-module _ (script : Script) (sound : IsSound script) (front : List Record) (own : Record) (legal : IsLegal script (front ++ own ∷ [])) where
-  abbrev this : Setting
-  this = setting_of script
-
-  abbrev old : World
-  old = At script front
-
-  abbrev new : World
-  new = At script (front ++ own ∷ [])
+module _ (it : OneMore) where
+  open it use {prior, prior.{script, sound, records as front}, own, legal}
+  open ends_of it use {setting as this, w as old, v as new, records}
 
   -- an incarnation that has joined had begun before the step
   begun_before : (n inc : ℕ) (blank : Bool) → In (Join n inc blank) (chosen_log this new) → inc ≤ (old.servers n).life.inc
   begun_before n inc blank i =
-      let was = join_was_wanted script (front ++ own ∷ []) sound legal n inc blank i in
+      let was = join_was_wanted script records sound legal n inc blank i in
       let rest = before_last front own was.before was.own was.later was.is in
-      let legal_front = part script sound front own legal in
+      let legal_front = prior.legal in
       subst (λ rs. inc ≤ ((At script rs).servers n).life.inc) (sym rest.1)
       (incs_up script sound n inc was.before rest.0 (subst (IsLegal script) rest.1 legal_front) (let e = was.lives in omega arith))
 
   pub not_new : (n : ℕ) (f : List Command) → IsPrefix f (chosen_log this new) → is_in (state_after script.servers f) n ((old.servers n).life.inc + 1) ≡ true → ⊥
   not_new n f lies seat =
-      let plain = front_plain script.servers f (chosen_log this new) (knows_now script sound front own legal).plain lies in
+      let plain = front_plain script.servers f (chosen_log this new) (knows_now it).plain lies in
       elim (who_is_in script.servers f n ((old.servers n).life.inc + 1) plain seat) [
-        | inl one ↦ (let first = first_incs script front sound (part script sound front own legal) n in absurd (omega arith))
+        | inl one ↦ (let first = first_incs script front sound (prior.legal) n in absurd (omega arith))
         | inr joined ↦ (
             let i = subst (In (Join n ((old.servers n).life.inc + 1) joined.0)) (sym lies.is) (in_former _ f lies.later joined.1) in
             let le = begun_before n ((old.servers n).life.inc + 1) joined.0 i in
@@ -341,25 +333,25 @@ module _ (script : Script) (sound : IsSound script) (front : List Record) (own :
     pub onward : IsPrefix (old.servers n).log.applied to.log.applied
     pub within : IsPrefix to.log.applied (chosen_log this old)
 
-  here_by : (n : ℕ) (to : Server) → HasGone script sound front own legal n to → to.life.running ≡ true → (f : List Command)
+  here_by : (n : ℕ) (to : Server) → HasGone it n to → to.life.running ≡ true → (f : List Command)
       → IsPrefix f (chosen_log this new) → is_in (state_after script.servers f) n to.life.inc ≡ true → IsHere n to
   here_by n to (Rests same) runs f lies seat = subst (IsHere n) (sym same) (record {
     runs = ap (λ (s : Server). s.life.running) (sym same) ∙ runs;
     inc_is = refl;
     onward = front_itself _;
-    within = (knows script sound front own legal).servers n;
+    within = (knows it).servers n;
   })
   here_by n to (Works job) runs f lies seat = record {
     runs = job.runs;
     inc_is = job.inc_is;
     onward = subst (IsPrefix (old.servers n).log.applied) (sym job.log_is) (front_itself _);
-    within = subst (λ l. IsPrefix l (chosen_log this old)) (sym job.log_is) ((knows script sound front own legal).servers n);
+    within = subst (λ l. IsPrefix l (chosen_log this old)) (sym job.log_is) ((knows it).servers n);
   }
   here_by n to (Starts_ballot ballot) runs f lies seat = record {
     runs = ballot.runs;
     inc_is = ballot.inc_is;
     onward = subst (IsPrefix (old.servers n).log.applied) (sym ballot.log_is) (front_itself _);
-    within = subst (λ l. IsPrefix l (chosen_log this old)) (sym ballot.log_is) ((knows script sound front own legal).servers n);
+    within = subst (λ l. IsPrefix l (chosen_log this old)) (sym ballot.log_is) ((knows it).servers n);
   }
   here_by n to (Enters entry) runs f lies seat = record {
     runs = entry.runs;
@@ -374,4 +366,4 @@ module _ (script : Script) (sound : IsSound script) (front : List Record) (own :
 
   pub here : (n : ℕ) → (new.servers n).life.running ≡ true → (f : List Command) → IsPrefix f (chosen_log this new)
       → is_in (state_after script.servers f) n (new.servers n).life.inc ≡ true → IsHere n (new.servers n)
-  here n runs f lies seat = here_by n (new.servers n) (gone script sound front own legal n) runs f lies seat
+  here n runs f lies seat = here_by n (new.servers n) (gone it n) runs f lies seat

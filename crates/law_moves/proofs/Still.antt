@@ -1,29 +1,20 @@
 -- A step keeps that the copies of a cell that is leaving are what was frozen; and where it chooses the entry with which the region's fence takes effect, they
 -- are equal then.
-use Rattle.std.proofs.Common.{◌≡◌, ◌≤◌, ◌++◌, ◌==◌, ℕ, true, false, List, [], ◌∷◌, Option, Some}
+use Rattle.std.proofs.Common.{◌≡◌, ◌≤◌, ◌==◌, ℕ, true, List, Option, Some}
 use Rattle.std.proofs.Common.{refl, sym, ap, ◌∙◌, subst, inl, inr, arith}
 use Rattle.std.specs.Prelude.{option_map}
 use Rattle.global_tables.specs.Region.{region_of}
-use Rattle.petal_base.specs.Cells.{cell_of}
 use Rattle.petal_base.specs.declared.cell.Cell.{Cell}
-use Rattle.petal_base.specs.declared.cell.Key.{Key}
 use Rattle.petal_command.specs.declared.command.Command.{Command}
-use Rattle.petal_table.specs.Table.{at}
-use Rattle.petal_msg.specs.declared.operation.Pending.{Pending}
-use Rattle.script_lines.specs.declared.script.Script.{Script}
 use Rattle.petal_state.specs.CellState.{serves}
-use Rattle.petal_state.specs.Command.{state_after}
 use Rattle.petal_rules.specs.Blanked.{BeforeBlank, kept_store}
 use Rattle.petal_rules.specs.Server.{Server}
-use Rattle.petal_rules.specs.State.{State, is_in}
-use Rattle.petal_rules.specs.Store.{Chain, Store, cell_cmp, chain_in}
-use Rattle.petal_rules.specs.World.{Setting, World, chosen_log, kept, kept_by, setting_of}
-use Rattle.petal_rules.specs.Writes.{is_clients}
+use Rattle.petal_rules.specs.State.{is_in}
+use Rattle.petal_rules.specs.Store.{Chain, Store, chain_in}
+use Rattle.petal_rules.specs.World.{chosen_log, kept, kept_by}
 use Rattle.petal_rules.proofs.Tests.{by_bool, same_numbers, true_false}
 use Rattle.petal_history.specs.Claims.{IsPrefix}
 use Rattle.petal_history.specs.Legal.{IsLegal}
-use Rattle.petal_history.specs.Sound.{IsSound}
-use Rattle.petal_history.specs.declared.record.Record.{Record}
 use Rattle.law_log.proofs.Histories.{history_grows, history_is_firm, moved_was_wanted}
 use Rattle.law_state.specs.Below.{IsServing}
 use Rattle.law_state.specs.Homes.{stage_at}
@@ -36,48 +27,24 @@ use Rattle.law_stores.proofs.Histories.{in_counts}
 use Rattle.law_stores.proofs.Ways.{At, before_last, before_part}
 use Rattle.law_copies.proofs.Later.{serves_alone}
 use Rattle.law_copies.proofs.Places.{at_most_or_above, fronts_meet}
-use Rattle.law_moves.specs.Fills.{IsFrozen, IsThere, WasFilled}
 use Rattle.law_moves.specs.Still.{AreStill}
 use Rattle.law_moves.proofs.Frozen.{frozen_at, frozen_same, none_early}
 use Rattle.law_moves.proofs.Grown.{It_came, It_did, same_joins, served_before}
 use Rattle.law_moves.proofs.Kept.{before, kept_same, same_on}
 use Rattle.law_moves.proofs.Knows.{AllKnown, Known}
 use Rattle.law_moves.proofs.Over.{dead_moved}
-use Rattle.law_moves.proofs.Steps.{Goes_on, HasStore, Is_bare, chosen_on, here, part, stored}
+use Rattle.law_moves.proofs.Steps.{Goes_on, HasStore, Is_bare, here, stored}
 use Rattle.law_moves.proofs.Worlds.{facts_at, own_counts, serving_on, steady_at, up}
 use Rattle.law_moves.proofs.EqualCopies.{equal_now}
+use Rattle.law_epochs.proofs.Scenes.{OneMore, ends_of}
+use Rattle.law_moves.proofs.Scenes.{FillsSo}
 
-module _ (script : Script) (sound : IsSound script) (front : List Record) (own : Record) (legal : IsLegal script (front ++ own ∷ []))
-    (all : AllKnown script front) where
-  abbrev setting : Setting
-  setting = setting_of script
-
-  abbrev w : World
-  w = At script front
-
-  abbrev records : List Record
-  records = front ++ own ∷ []
-
-  abbrev v : World
-  v = At script records
-
-  abbrev top : List Command
-  top = chosen_log setting w
-
-  abbrev whole : List Command
-  whole = chosen_log setting v
-
-  abbrev By : List Command → State
-  By log = state_after script.servers log
+module _ (it : OneMore) (all : AllKnown it.prior.script it.prior.records) where
+  open it use {prior, prior.{script, sound, records as front}, own, legal}
+  open ends_of it use {setting, w, records, v, top, whole, By, top_whole, present}
 
   known : Known script front
-  known = before script sound front own legal all
-
-  legal_was : IsLegal script front
-  legal_was = part script sound front own legal
-
-  top_whole : IsPrefix top whole
-  top_whole = chosen_on script sound front own legal
+  known = before it all
 
   -- a region that was not on its way has not left in one step: its Moved was wanted where it was
   pub not_jumped : (cell : Cell) → stage_at (By top) cell ≤ 2 → stage_at (By whole) cell ≤ 3
@@ -85,13 +52,13 @@ module _ (script : Script) (sound : IsSound script) (front : List Record) (own :
     | inl three ↦ three
     | inr more ↦
         let most = stage_most (By whole) cell in
-        let m = dead_moved script sound records legal cell (omega arith) in
+        let m = dead_moved present cell (omega arith) in
         let was = moved_was_wanted script records sound legal m.until cell.map (region_of cell.block) m.row.link m.stands in
         let rest = before_last front own was.before was.own was.later was.is in
-        let legal_there = before_part script was.before rest.0 (subst (IsLegal script) rest.1 legal_was) in
+        let legal_there = before_part script was.before rest.0 (subst (IsLegal script) rest.1 prior.legal) in
         let within = front_on _ (chosen_log setting (At script was.before)) top ((history_is_firm script was.before sound legal_there).servers was.server)
-        (history_grows script front sound legal_was was.before rest.0 rest.1) in
-        let le = up script sound front legal_was m.until top (subst (λ l. IsPrefix l top) was.at within) (front_itself top) cell in
+        (history_grows script front sound prior.legal was.before rest.0 rest.1) in
+        let le = up prior m.until top (subst (λ l. IsPrefix l top) was.at within) (front_itself top) cell in
         let three = m.leaves in
         absurd (omega arith)
   ]
@@ -104,11 +71,11 @@ module _ (script : Script) (sound : IsSound script) (front : List Record) (own :
   still_at : (cell : Cell) → stage_at (By top) cell ≡ 3 → (f : List Command) → IsPrefix top f → IsPrefix f whole → stage_at (By f) cell ≡ 3 → (n : ℕ)
       → IsServing (By f) n cell → w.frozen cell ≡ Some (chain_by f n cell)
   still_at cell three f on lies here_three n serving =
-      let link = (steady_at script sound front legal_was top (front_itself top)).lives cell
-      ((facts_at script sound front legal_was top (front_itself top) cell).alive (omega arith) (omega arith)) in
-      let joins = same_joins script sound front own legal f on lies n cell link.row link.is (omega arith) serving in
+      let link = (steady_at prior top (front_itself top)).lives cell
+      ((facts_at prior top (front_itself top) cell).alive (omega arith) (omega arith)) in
+      let joins = same_joins it f on lies n cell link.row link.is (omega arith) serving in
       subst (λ j. w.frozen cell ≡ Some (chain_in (kept_store j (v.before_blank n) (v.servers n).own.store).chains cell)) (sym joins)
-      (elim (served_before script sound front own legal f on lies n cell link.row link.is (omega arith) serving) [
+      (elim (served_before it f on lies n cell link.row link.is (omega arith) serving) [
         | It_did did ↦ now_of n did
         | It_came h serves same ↦ now_of h serves ∙ ap Some (sym same)
       ])
@@ -116,24 +83,22 @@ module _ (script : Script) (sound : IsSound script) (front : List Record) (own :
       now_of : (k : ℕ) → IsServing (By top) k cell → w.frozen cell ≡ Some (chain_by top k cell)
       now_of k serves =
           known.still.now k cell three serves
-          ∙ ap Some (sym (kept_same script sound front own legal all k cell (omega arith) serves (omega arith) _ refl))
+          ∙ ap Some (sym (kept_same it all k cell (omega arith) serves (omega arith) _ refl))
 
   -- ### Where the region begins to leave
 
-  module _ (there_now : (key : Key) → WasFilled v key → IsThere setting v (cell_of key) key.epoch)
-      (asked_now : (m : ℕ) (cell : Cell) (op : Pending) → at cell_cmp (v.servers m).own.pairs.pending cell ≡ Some op → is_clients op.kind ≡ false
-      → IsFrozen setting v op.rev op.key op.bytes) where
+  module _ (now_so : FillsSo setting v) where
     -- what is frozen is the copy that counts, and so is that of each server that serves the link
     begins : (cell : Cell) → stage_at (By top) cell ≤ 2 → stage_at (By whole) cell ≡ 3 → (n : ℕ) → IsServing (By whole) n cell
         → v.frozen cell ≡ Some (chain_in (kept setting v n).chains cell)
     begins cell low three n serving =
-        let lives = (facts_at script sound records legal whole (front_itself whole) cell).alive (omega arith) (omega arith) in
-        let linked = (steady_at script sound records legal whole (front_itself whole)).linked cell serving.row serving.is in
-        frozen_at script sound front own legal cell low three ∙ elim linked.served [
+        let lives = (facts_at present whole (front_itself whole) cell).alive (omega arith) (omega arith) in
+        let linked = (steady_at present whole (front_itself whole)).linked cell serving.row serving.is in
+        frozen_at it cell low three ∙ elim linked.served [
           | ByBoth so first second ↦
               ap (option_map (λ k. chain_in (kept setting v k).chains cell)) (both_authority (By whole) cell serving.row serving.is lives so)
               ∙ ap Some (by_bool (serving.row.primary == n)
-              (λ t. sym (equal_now script sound front own legal all there_now asked_now cell three serving.row serving.is so)
+              (λ t. sym (equal_now it all now_so cell three serving.row serving.is so)
               ∙ ap (λ k. chain_in (kept setting v k).chains cell) (same_numbers serving.row.primary n t))
               (λ f. ap (λ k. chain_in (kept setting v k).chains cell) (same_numbers serving.row.secondary n
               (either_true (serving.row.primary == n) (serving.row.secondary == n) serving.one_of f))))
@@ -150,8 +115,8 @@ module _ (script : Script) (sound : IsSound script) (front : List Record) (own :
     now_next n cell three serving = elim (at_most_or_above (stage_at (By top) cell) 2) [
       | inl low ↦ begins cell low three n serving
       | inr high ↦
-          let le = up script sound records legal top whole top_whole (front_itself whole) cell in
-          frozen_same script sound front own legal cell (inl high) ∙ still_at cell (omega arith) whole top_whole (front_itself whole) three n serving
+          let le = up present top whole top_whole (front_itself whole) cell in
+          frozen_same it cell (inl high) ∙ still_at cell (omega arith) whole top_whole (front_itself whole) three n serving
     ]
 
     -- a server's own copy, by a front that was chosen before the step
@@ -159,18 +124,18 @@ module _ (script : Script) (sound : IsSound script) (front : List Record) (own :
         → is_in (By f) n (v.servers n).life.inc ≡ true → stage_at (By f) cell ≡ 3 → IsServing (By f) n cell
         → v.frozen cell ≡ Some (chain_in (v.servers n).own.store.chains cell)
     own_within n f cell runs on lies seat three serving =
-        let h = here script sound front own legal n runs f (front_on f top whole lies top_whole) seat in
+        let h = here it n runs f (front_on f top whole lies top_whole) seat in
         let on_was = front_on (w.servers n).log.applied (v.servers n).log.applied f h.onward on in
-        let le = up script sound front legal_was f top lies (front_itself top) cell in
-        frozen_same script sound front own legal cell (inl (omega arith))
+        let le = up prior f top lies (front_itself top) cell in
+        frozen_same it cell (inl (omega arith))
         ∙ known.still.own n f cell h.runs on_was lies (subst (λ i. is_in (By f) n i ≡ true) h.inc_is seat) three serving
-        ∙ ap Some (sym (by (v.servers n) (v.before_blank n) (stored script sound front own legal n) runs on_was))
+        ∙ ap Some (sym (by (v.servers n) (v.before_blank n) (stored it n) runs on_was))
       where
-        by : (to : Server) (b : Option BeforeBlank) → HasStore script sound front own legal n to b → to.life.running ≡ true
+        by : (to : Server) (b : Option BeforeBlank) → HasStore it n to b → to.life.running ≡ true
             → IsPrefix (w.servers n).log.applied f → chain_in to.own.store.chains cell ≡ chain_in (w.servers n).own.store.chains cell
         by to b (Goes_on g live same) up_now on_was =
-            let le = up script sound front legal_was f top lies (front_itself top) cell in
-            same_on script sound front own legal all n f on_was lies cell (omega arith) serving (omega arith) to g live
+            let le = up prior f top lies (front_itself top) cell in
+            same_on it all n f on_was lies cell (omega arith) serving (omega arith) to g live
         by to b (Is_bare asleep bare same) up_now on_was = true_false (ap (λ (s : Server). s.life.running) (sym bare) ∙ up_now) asleep
 
     -- by one that is chosen in it
@@ -178,17 +143,17 @@ module _ (script : Script) (sound : IsSound script) (front : List Record) (own :
         → is_in (By f) n (v.servers n).life.inc ≡ true → stage_at (By f) cell ≡ 3 → IsServing (By f) n cell
         → v.frozen cell ≡ Some (chain_in (v.servers n).own.store.chains cell)
     own_beyond n f cell runs on lies seat three serving =
-        let counts = ap (λ (s : Store). chain_in s.chains cell) (own_counts script sound records legal n runs f lies seat) in
-        let le = up script sound records legal top f on lies cell in
-        let more = up script sound records legal f whole lies (front_itself whole) cell in
+        let counts = ap (λ (s : Store). chain_in s.chains cell) (own_counts present n runs f lies seat) in
+        let le = up present top f on lies cell in
+        let more = up present f whole lies (front_itself whole) cell in
         elim (at_most_or_above (stage_at (By top) cell) 2) [
           | inl low ↦ (
               let jumped = not_jumped cell low in
-              now_next n cell (omega arith) (serving_on script sound records legal n runs f whole lies (front_itself whole) seat cell jumped serving)
+              now_next n cell (omega arith) (serving_on present n runs f whole lies (front_itself whole) seat cell jumped serving)
               ∙ ap Some counts)
           | inr high ↦ (
               let joins = in_counts script records n f sound legal lies seat in
-              frozen_same script sound front own legal cell (inl high) ∙ still_at cell (omega arith) f on lies three n serving
+              frozen_same it cell (inl high) ∙ still_at cell (omega arith) f on lies three n serving
               ∙ ap (λ j. Some (chain_in (kept_store j (v.before_blank n) (v.servers n).own.store).chains cell)) joins ∙ ap Some counts)
         ]
 

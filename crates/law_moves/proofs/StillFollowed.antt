@@ -1,11 +1,10 @@
 -- Where a region was leaving before a step, each letter that asks a second server to put is of an operation that it has followed still: none is sent
 -- from then on.
-use Rattle.std.proofs.Common.{◌≡◌, ◌≤◌, ◌+◌, ◌++◌, ◌||◌, ℕ, true, false, List, [], ◌∷◌, length, Some, None}
+use Rattle.std.proofs.Common.{◌≡◌, ◌≤◌, ◌+◌, ◌++◌, ◌||◌, ℕ, true, false, List, [], ◌∷◌, Some, None}
 use Rattle.std.proofs.Common.{refl, sym, ap, ◌∙◌, subst, inl, inr, arith}
 use Rattle.std.specs.Prelude.{cond, not}
 use Rattle.std.specs.Option.{option_map_or}
 use Rattle.global_tables.specs.declared.link.LinkRow.{LinkRow}
-use Rattle.global_tables.specs.declared.link.LinkState.TheVariants.{Both}
 use Rattle.petal_base.specs.Cells.{cell_of}
 use Rattle.petal_base.specs.declared.cell.Cell.{Cell}
 use Rattle.petal_base.specs.declared.cell.Key.{Key}
@@ -15,10 +14,8 @@ use Rattle.petal_table.proofs.Rows.{at-where}
 use Rattle.petal_msg.specs.Kinds.{subject_of}
 use Rattle.petal_msg.specs.declared.body.Body.{Body}
 use Rattle.petal_msg.specs.declared.body.Body.TheVariants as body
-use Rattle.petal_msg.specs.declared.letter.Letter.{Letter}
-use Rattle.script_lines.specs.declared.script.Script.{Script}
 use Rattle.petal_state.specs.CellState.{cell_link}
-use Rattle.petal_state.specs.Command.{after, state_after}
+use Rattle.petal_state.specs.Command.{after}
 use Rattle.petal_state.specs.Place.{touches}
 use Rattle.petal_rules.specs.Crossing.{crossed, dies, ends_cell, settled_by, touches_cell}
 use Rattle.petal_rules.specs.Returns.{proposed}
@@ -26,24 +23,19 @@ use Rattle.petal_rules.specs.Lists.{In}
 use Rattle.petal_rules.specs.Server.{Own, Pairs, Server}
 use Rattle.petal_rules.specs.State.{State, is_in, live}
 use Rattle.petal_rules.specs.Store.{cell_cmp}
-use Rattle.petal_rules.specs.World.{Setting, World, chosen_log, server_state, setting_of}
+use Rattle.petal_rules.specs.World.{server_state}
 use Rattle.petal_rules.specs.Writes.{is_clients}
 use Rattle.petal_rules.proofs.CellTables.{cell_cmp_same}
 use Rattle.petal_rules.proofs.Settled.{settling}
 use Rattle.petal_rules.proofs.Tests.{both_true, by_bool, some_or_none, true_false}
 use Rattle.petal_history.specs.Claims.{IsPrefix}
-use Rattle.petal_history.specs.Legal.{IsLegal}
-use Rattle.petal_history.specs.Sound.{IsSound}
-use Rattle.petal_history.specs.declared.record.Record.{Record}
 use Rattle.law_state.specs.Homes.{stage_at}
-use Rattle.law_state.specs.Plain.{IsPlainLog}
 use Rattle.law_state.proofs.Touching.{places_grow}
 use Rattle.law_steps.specs.Happens.{Handled, is_between, own_place}
 use Rattle.law_steps.specs.Operations.{progress}
 use Rattle.law_steps.proofs.Fronts.{front_on, front_within}
 use Rattle.law_steps.proofs.Histories.{proposed_pairs}
 use Rattle.law_steps.proofs.Leading.{live_stage, stage_live}
-use Rattle.law_stores.proofs.Ways.{At}
 use Rattle.law_copies.specs.Visits.{IsLinked, place_by}
 use Rattle.law_copies.proofs.Places.{place_of_later, place_touched, state_next}
 use Rattle.law_epochs.proofs.Histories.{running_timely}
@@ -54,46 +46,20 @@ use Rattle.law_moves.proofs.Knows.{AllKnown, Known}
 use Rattle.law_moves.proofs.Putting.{did_follow}
 use Rattle.law_moves.proofs.Saying.{Asks_copy, Is_done, Is_done_alone, Is_neither, Is_there, Says, did_says, is_replicate}
 use Rattle.law_moves.proofs.Steps.{Awakes, Before, Enters, HasGone, IsPosted, Is_blanked, Other, Posted, Raises, Rests, Starts_ballot}
-use Rattle.law_moves.proofs.Steps.{Works, chosen_on, gone, here, knows_now, part, sent}
+use Rattle.law_moves.proofs.Steps.{Works, gone, here, sent}
 use Rattle.law_moves.proofs.Worlds.{good, rests, up}
+use Rattle.law_epochs.proofs.Scenes.{OneMore, ends_of}
+use Rattle.law_moves.proofs.Scenes.{AsksToPut, IsSecondAt}
 
 replicate_key : {number other v1 v2 : ℕ} {key one : Key} {b1 b2 : List ℕ} → body.Replicate number key v1 b1 ≡ body.Replicate other one v2 b2 → key ≡ one
 replicate_key e = cc
 
-module _ (script : Script) (sound : IsSound script) (front : List Record) (own : Record) (legal : IsLegal script (front ++ own ∷ []))
-    (all : AllKnown script front) where
-  abbrev setting : Setting
-  setting = setting_of script
-
-  abbrev w : World
-  w = At script front
-
-  abbrev records : List Record
-  records = front ++ own ∷ []
-
-  abbrev v : World
-  v = At script records
-
-  abbrev top : List Command
-  top = chosen_log setting w
-
-  abbrev whole : List Command
-  whole = chosen_log setting v
-
-  abbrev By : List Command → State
-  By log = state_after script.servers log
+module _ (it : OneMore) (all : AllKnown it.prior.script it.prior.records) where
+  open it use {prior, prior.{script, sound, records as front}}
+  open ends_of it use {setting, w, records, v, top, whole, By, top_whole, plain, present}
 
   known : Known script front
-  known = before script sound front own legal all
-
-  legal_was : IsLegal script front
-  legal_was = part script sound front own legal
-
-  top_whole : IsPrefix top whole
-  top_whole = chosen_on script sound front own legal
-
-  plain : IsPlainLog script.servers whole
-  plain = (knows_now script sound front own legal).plain
+  known = before it all
 
   abbrev far_of_last : Own → Cell → ℕ
   far_of_last o q = progress (at cell_cmp o.pairs.last q)
@@ -133,8 +99,8 @@ module _ (script : Script) (sound : IsSound script) (front : List Record) (own :
           let both = both_true (live here_state cell) (not (live (after here_state entry) cell)) t in
           let born = (live_stage here_state cell both.0).0 in
           let on_whole = front_on (mine ++ entry ∷ []) f whole on lies in
-          let a = up script sound records legal mine (mine ++ entry ∷ []) (record { later = entry ∷ []; is = refl }) on_whole cell in
-          let b = up script sound records legal (mine ++ entry ∷ []) f on lies cell in
+          let a = up present mine (mine ++ entry ∷ []) (record { later = entry ∷ []; is = refl }) on_whole cell in
+          let b = up present (mine ++ entry ∷ []) f on lies cell in
           let lives : live (By (mine ++ entry ∷ [])) cell ≡ true = stage_live (By (mine ++ entry ∷ [])) cell (omega arith) (omega arith) in
           true_false both.1 (ap not (ap (λ s. live s cell) (sym (state_next setting mine entry)) ∙ lives)))
           (λ no. no)
@@ -146,12 +112,12 @@ module _ (script : Script) (sound : IsSound script) (front : List Record) (own :
           (λ k tie. ap (λ q. not (ends_cell here_state entry q)) (sym (cell_cmp_same cell k tie)))
           ∙ ap (λ b. cond (not b) (at cell_cmp (w.servers m).own.pairs.last cell) None) ends
 
-    far_by : (to : Server) → HasGone script sound front own legal m to → (w.servers m).life.running ≡ true → IsPrefix to.log.applied f
+    far_by : (to : Server) → HasGone it m to → (w.servers m).life.running ≡ true → IsPrefix to.log.applied f
         → place_by setting to.log.applied row ≡ place_by setting mine row → far_of_last (w.servers m).own cell ≤ far_of_last to.own cell
     far_by to (Rests same) runs on place = let e = ap (λ (s : Server). far_of_last s.own cell) same in omega arith
     far_by to (Works job) runs on place =
-        let le = did_follow (Handled w m) (own_place setting w m) (w.servers m).own (never_dead script sound front legal_was known.filled.opened m job.runs)
-        (λ q op is. (((rests script sound front legal_was).pending m).staged q op is).keyed) job.done job.did cell in
+        let le = did_follow (Handled w m) (own_place setting w m) (w.servers m).own (never_dead prior known.filled.opened m job.runs)
+        (λ q op is. (((rests prior).pending m).staged q op is).keyed) job.done job.did cell in
         let e = ap (λ (o : Own). far_of_last o cell) job.own_is in
         omega arith
     far_by to (Starts_ballot ballot) runs on place =
@@ -175,11 +141,10 @@ module _ (script : Script) (sound : IsSound script) (front : List Record) (own :
 
   -- ### What was so before the step
 
-  module _ (m : ℕ) (f : List Command) (cell : Cell) (row : LinkRow) (letter : Letter) (number : ℕ) (key : Key) (version : ℕ) (bytes : List ℕ)
-      (runs : (v.servers m).life.running ≡ true) (on : IsPrefix (v.servers m).log.applied f) (lies : IsPrefix f whole)
-      (seat : is_in (By f) m (v.servers m).life.inc ≡ true) (linked : IsLinked setting f cell row) (both : row.state ≡ Both) (second : row.secondary ≡ m)
-      (low : stage_at (By f) cell ≤ 3) (is : letter.body ≡ body.Replicate number key version bytes) (of : cell_of key ≡ cell)
-      (rev : letter.rev ≡ length f) where
+  module _ (s : IsSecondAt setting v) (a : AsksToPut s.f s.cell) where
+    open s use {m, f, cell, row, runs, on, lies, seat, linked, both, second, low}
+    open a use {letter, number, key, version, bytes, is, of, rev}
+
     abbrev IsPast : Type 0
     IsPast = (place_by setting (v.servers m).log.applied row ≡ place_by setting f row)
         × (number + number + 1 ≤ far_of_last (v.servers m).own cell)
@@ -189,24 +154,36 @@ module _ (script : Script) (sound : IsSound script) (front : List Record) (own :
 
     past_before : 3 ≤ stage_at (By top) cell → In letter w.sent → IsPast
     past_before high i =
-        let h = here script sound front own legal m runs f lies seat in
-        let le = (good script sound front legal_was).revs letter i (ap (λ (b : Body). is_between (subject_of b)) is) in
+        let h = here it m runs f lies seat in
+        let le = (good prior).revs letter i (ap (λ (b : Body). is_between (subject_of b)) is) in
         let within = front_within f top whole lies top_whole (omega arith) in
         let on_was = front_on (w.servers m).log.applied (v.servers m).log.applied f h.onward on in
-        let past = known.followed m f cell row letter number key version bytes h.runs on_was within
-        (subst (λ k. is_in (By f) m k ≡ true) h.inc_is seat) linked both second low high i is of rev in
+        let past = known.followed (record {
+          m = m;
+          f = f;
+          cell = cell;
+          row = row;
+          runs = h.runs;
+          on = on_was;
+          lies = within;
+          seat = subst (λ k. is_in (By f) m k ≡ true) h.inc_is seat;
+          linked = linked;
+          both = both;
+          second = second;
+          low = low;
+        }) a high i in
         let a = places_grow script.servers (w.servers m).log.applied (v.servers m).log.applied row h.onward in
         let b = places_grow script.servers (v.servers m).log.applied f row on in
         let at = past.0 in
         let place : place_by setting (v.servers m).log.applied row ≡ place_by setting f row = omega arith in
-        let more = far_by m f lies cell row linked low (v.servers m) (gone script sound front own legal m) h.runs on (omega arith) in
+        let more = far_by m f lies cell row linked low (v.servers m) (gone it m) h.runs on (omega arith) in
         let far = past.1 in
         (place, omega arith)
 
     -- none is sent any more
-    not_sent : 3 ≤ stage_at (By top) cell → IsPosted script sound front own legal letter → ⊥
+    not_sent : 3 ≤ stage_at (By top) cell → IsPosted it letter → ⊥
     not_sent high p = by (did_says (Handled w p.n) (own_place setting w p.n) (w.servers p.n).own
-        (never_dead script sound front legal_was known.filled.opened p.n p.job.runs) p.job.done p.job.did p.post p.there)
+        (never_dead prior known.filled.opened p.n p.job.runs) p.job.done p.job.did p.post p.there)
       where
         text : p.post.body ≡ body.Replicate number key version bytes
         text = sym p.body ∙ is
@@ -217,15 +194,15 @@ module _ (script : Script) (sound : IsSound script) (front : List Record) (own :
         by (Is_done o there on_both stage fill txt none) = let g : false ≡ true = ap is_replicate (sym txt ∙ text) in absurd cc
         by (Is_done_alone now o taken alone put fill txt none) = let g : false ≡ true = ap is_replicate (sym txt ∙ text) in absurd cc
         by (Asks_copy o there stage txt) =
-            let keyed = (((rests script sound front legal_was).pending p.n).staged o.cell o there).keyed in
+            let keyed = (((rests prior).pending p.n).staged o.cell o there).keyed in
             let to : o.cell ≡ cell = sym keyed ∙ ap cell_of (replicate_key (sym txt ∙ text)) ∙ of in
             let at_cell : at cell_cmp (w.servers p.n).own.pairs.pending cell ≡ Some o = ap (at cell_cmp (w.servers p.n).own.pairs.pending) (sym to) ∙ there in
             by_bool (is_clients o.kind)
-            (λ clients. let stays = (running_timely script front sound legal_was p.n cell o p.job.runs at_cell clients).stays in absurd (omega arith))
+            (λ clients. let stays = (running_timely script front sound prior.legal p.n cell o p.job.runs at_cell clients).stays in absurd (omega arith))
             (λ fills. let one = known.filled.opened p.n cell o p.job.runs at_cell fills in absurd (omega arith))
 
     pub past_so : 3 ≤ stage_at (By top) cell → In letter v.sent → IsPast
-    past_so high i = elim (sent script sound front own legal letter i) [
+    past_so high i = elim (sent it letter i) [
       | Before j ↦ past_before high j
       | Posted p ↦ absurd (not_sent high p)
       | Other e ↦ true_false paired e

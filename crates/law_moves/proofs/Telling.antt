@@ -1,5 +1,5 @@
 -- Each step keeps what letters of entries that move say, and what operations for them were opened for.
-use Rattle.std.proofs.Common.{◌≡◌, ◌<◌, ◌++◌, ◌&&◌, ℕ, List, [], ◌∷◌, true, false, length, Some, refl, sym, ap, ◌∙◌, subst, arith}
+use Rattle.std.proofs.Common.{◌≡◌, ◌<◌, ◌&&◌, ℕ, List, [], ◌∷◌, true, false, length, Some, refl, sym, ap, ◌∙◌, subst, arith}
 use Rattle.std.specs.Prelude.{◌||◌, nat_lt}
 use Rattle.std.specs.Ordering.{nat_cmp}
 use Rattle.std.proofs.lemmas.Bool.Decides.{nat_tests}
@@ -10,12 +10,10 @@ use Rattle.petal_command.specs.declared.command.Command.{Command}
 use Rattle.petal_msg.specs.Kinds.{subject_of}
 use Rattle.petal_msg.specs.declared.body.Body.{Body}
 use Rattle.petal_msg.specs.declared.body.Body.TheVariants as body
-use Rattle.petal_msg.specs.declared.copying.LinkId.{LinkId}
 use Rattle.petal_msg.specs.declared.letter.Letter.{Letter}
 use Rattle.petal_msg.specs.declared.operation.Pending.{Pending}
 use Rattle.petal_table.specs.Table.{Table, at}
 use Rattle.petal_table.proofs.Rows.{at-empty}
-use Rattle.script_lines.specs.declared.script.Script.{Script}
 use Rattle.petal_state.specs.CellState.{source}
 use Rattle.petal_rules.specs.Crossing.{crossed}
 use Rattle.petal_rules.specs.Fills.{comes_before}
@@ -24,14 +22,11 @@ use Rattle.petal_rules.specs.Server.{Own, Pairs, Post, Server}
 use Rattle.petal_rules.specs.State.{State, id_of, link_named}
 use Rattle.petal_rules.specs.Store.{Chain, Store, cell_cmp, chain_in}
 use Rattle.petal_rules.specs.Writes.{is_clients}
-use Rattle.petal_rules.specs.World.{Setting, World, chosen_log, server_state, setting_of}
+use Rattle.petal_rules.specs.World.{chosen_log, server_state}
 use Rattle.petal_rules.proofs.Settled.{settling}
 use Rattle.petal_rules.proofs.Tests.{none_some, number_itself, same_some, true_false}
 use Rattle.law_state.proofs.Links.{or_true}
 use Rattle.petal_history.specs.Claims.{IsPrefix}
-use Rattle.petal_history.specs.Legal.{IsLegal}
-use Rattle.petal_history.specs.Sound.{IsSound}
-use Rattle.petal_history.specs.declared.record.Record.{Record}
 use Rattle.law_state.specs.Plain.{IsPlainLog}
 use Rattle.law_state.proofs.Entries.{log_plain}
 use Rattle.law_state.proofs.Steady.{front_plain, log_rev}
@@ -41,7 +36,6 @@ use Rattle.law_steps.proofs.Coming.{next_on, stage_facts}
 use Rattle.law_steps.proofs.Filling.{Fills, Is_next, Is_other, Stood, Writes, did_come, did_fills, is_fill}
 use Rattle.law_steps.proofs.Fronts.{front_on}
 use Rattle.law_steps.proofs.Histories.{proposed_pairs}
-use Rattle.law_stores.proofs.Ways.{At}
 use Rattle.law_epochs.proofs.Within.{is_of_entries}
 use Rattle.law_moves.specs.Fills.{Has, IsFrozen, WasFilled}
 use Rattle.law_moves.specs.Left.{IsKept, IsOurs}
@@ -50,9 +44,11 @@ use Rattle.law_moves.proofs.Knows.{Known}
 use Rattle.law_moves.proofs.Movers.{had, three, way}
 use Rattle.law_moves.proofs.NextFill.{next_is}
 use Rattle.law_moves.proofs.Steps.{Awakes, Before, Enters, HasGone, IsJob, IsPosted, Is_blanked, Other, Posted, Raises, Rests}
-use Rattle.law_moves.proofs.Steps.{Starts_ballot, Works, chosen_on, gone, knows, part, sent}
+use Rattle.law_moves.proofs.Steps.{Starts_ballot, Works, chosen_on, gone, knows, sent}
 use Rattle.law_moves.proofs.Told.{HasTold, lift, same_frozen}
 use Rattle.law_moves.proofs.Remembered.{done_told}
+use Rattle.law_epochs.proofs.Scenes.{OneMore, ends_of}
+use Rattle.law_moves.proofs.Scenes.{IsMover}
 
 is_lower : (a b : ℕ) → a < b → nat_lt a b ≡ true
 is_lower a b lt = grind (arith, nat_tests)
@@ -65,43 +61,30 @@ abbrev bytes_said : List ℕ → Body → List ℕ
 bytes_said other (body.Fill key bytes) = bytes
 bytes_said other _ = other
 
-module _ (script : Script) (sound : IsSound script) (front : List Record) (own_record : Record) (legal : IsLegal script (front ++ own_record ∷ []))
-    (known : Known script front) where
-  abbrev setting : Setting
-  setting = setting_of script
-
-  abbrev w : World
-  w = At script front
-
-  abbrev v : World
-  v = At script (front ++ own_record ∷ [])
+module _ (it : OneMore) (known : Known it.prior.script it.prior.records) where
+  open it use {prior, prior.{script, sound, records as front}, legal}
+  open ends_of it use {setting, w, v}
 
   abbrev Was : ℕ → Server
   Was n = w.servers n
-
-  abbrev Gone : ℕ → Server → Type 0
-  Gone n to = HasGone script sound front own_record legal n to
-
-  abbrev T : ℕ → Table LinkId Key → Type 0
-  T y filled = HasTold script sound front own_record legal known y filled
 
   -- ### Letters
 
   pub frozen_on : (rev : ℕ) (key : Key) (bytes : List ℕ) → IsFrozen setting w rev key bytes → IsFrozen setting v rev key bytes
   frozen_on rev key bytes f = record {
     front = f.front;
-    lies = front_on f.front (chosen_log setting w) (chosen_log setting v) f.lies (chosen_on script sound front own_record legal);
+    lies = front_on f.front (chosen_log setting w) (chosen_log setting v) f.lies (chosen_on it);
     long = f.long;
     old = f.old;
     from = f.from;
     before = f.before;
-    frozen = frozen_stays script front (own_record ∷ []) f.old f.before sound legal f.frozen;
+    frozen = frozen_stays script front (it.own ∷ []) f.old f.before sound legal f.frozen;
     entry = f.entry;
-    newer = λ epoch lt has. lift script sound front own_record legal known 0 (key_at (cell_of key) epoch) (f.newer epoch lt has);
+    newer = λ epoch lt has. lift it known 0 (key_at (cell_of key) epoch) (f.newer epoch lt has);
   }
 
   -- what a server that runs says of the next entry of a link
-  module _ (y : ℕ) (runs : (Was y).life.running ≡ true) (now : Own) (post : Post) (kept : now.store ≡ (Was y).own.store) (told : T y now.filled)
+  module _ (y : ℕ) (runs : (Was y).life.running ≡ true) (now : Own) (post : Post) (kept : now.store ≡ (Was y).own.store) (told : HasTold it known y now.filled)
       (f : IsNextFill (own_place setting w y) now post) where
     abbrev log : List Command
     log = (Was y).log.applied
@@ -113,16 +96,19 @@ module _ (script : Script) (sound : IsSound script) (front : List Record) (own_r
     old = cell_of f.key
 
     lies : IsPrefix log (chosen_log setting w)
-    lies = (knows script sound front own_record legal).servers y
+    lies = (knows it).servers y
 
     lies_v : IsPrefix log (chosen_log setting v)
-    lies_v = front_on log (chosen_log setting w) (chosen_log setting v) lies (chosen_on script sound front own_record legal)
+    lies_v = front_on log (chosen_log setting w) (chosen_log setting v) lies (chosen_on it)
 
     plain : IsPlainLog script.servers log
-    plain = front_plain script.servers log (chosen_log setting w) (knows script sound front own_record legal).plain lies
+    plain = front_plain script.servers log (chosen_log setting w) (knows it).plain lies
 
     named : link_named here (id_of f.row) ≡ Some f.row
     named = (log_plain script.servers log plain).found f.row f.there
+
+    abbrev mover : IsMover setting w y
+    mover = record { runs = runs; seat = f.seated; row = f.row; there = named; region = f.region; moves = f.moves }
 
     on : IsOurs here f.row f.region old
     on = let o = next_on here f.row f.region now f.key f.next in record { on = o.0; of = o.1 }
@@ -132,14 +118,14 @@ module _ (script : Script) (sound : IsSound script) (front : List Record) (own_r
 
     frozen_now : v.frozen old ≡ Some chain
     frozen_now =
-        same_frozen script sound front own_record legal known y log lies old
-        (three script sound front (part script sound front own_record legal) known y runs f.seated f.row named f.region f.moves old on)
-        ∙ had script sound front (part script sound front own_record legal) known y runs f.seated f.row named f.region f.moves old on
+        same_frozen it known y log lies old
+        (three prior known y mover old on)
+        ∙ had prior known y mover old on
 
     from_old : source here f.cell ≡ Some old
     from_old =
         let goes = (stage_facts script.servers log plain old).targets
-        (three script sound front (part script sound front own_record legal) known y runs f.seated f.row named f.region f.moves old on) in
+        (three prior known y mover old on) in
         subst (λ (c : Cell). source here c ≡ Some old) (same_some (sym goes.1 ∙ f.goes_to)) goes.2
 
     newer_told : (epoch : ℕ) → f.key.epoch < epoch → Has chain epoch → WasFilled v (key_at f.cell epoch)
@@ -151,7 +137,7 @@ module _ (script : Script) (sound : IsSound script) (front : List Record) (own_r
         ∙ or_true (nat_lt f.key.block f.key.block) true refl in
         let k = n.before old epoch on held earlier in
         told log old f.cell f.row k.until lies_v
-        (way script sound front (part script sound front own_record legal) known y runs f.seated f.row named f.region f.moves old on f.cell f.goes_to)
+        (way prior known y mover old on f.cell f.goes_to)
         k.is chain epoch frozen_now has (record { region = on.of ∙ sym k.of; so = k.so })
 
     pub next_frozen : IsFrozen setting v (length log) (key_at f.cell f.key.epoch) f.entry.bytes
@@ -169,13 +155,13 @@ module _ (script : Script) (sound : IsSound script) (front : List Record) (own_r
 
   pub sent_next : (letter : Letter) (key : Key) (bytes : List ℕ) → In letter v.sent → letter.body ≡ body.Fill key bytes
       → IsFrozen setting v letter.rev key bytes
-  sent_next letter key bytes i e = elim (sent script sound front own_record legal letter i) [
+  sent_next letter key bytes i e = elim (sent it letter i) [
     | Before was ↦ frozen_on letter.rev key bytes (known.filled.sent letter key bytes was e)
     | Posted p ↦ posted_frozen p
     | Other none ↦ true_false (ap (λ b. is_of_entries (subject_of b)) e) none
   ]
     where
-      posted_frozen : IsPosted script sound front own_record legal letter → IsFrozen setting v letter.rev key bytes
+      posted_frozen : IsPosted it letter → IsFrozen setting v letter.rev key bytes
       posted_frozen p = elim (did_fills (Handled w p.n) (own_place setting w p.n) (Was p.n).own p.job.done p.job.did p.post p.there) [
         | Is_other apart ↦ true_false (ap is_fill (sym p.body ∙ e)) apart
         | Is_next now kept told f ↦
@@ -186,7 +172,7 @@ module _ (script : Script) (sound : IsSound script) (front : List Record) (own_r
             subst (λ r. IsFrozen setting v r key bytes) (sym p.rev)
             (subst (λ (k : Key). IsFrozen setting v (length (Was p.n).log.applied) k bytes) (sym key_is)
             (subst (IsFrozen setting v (length (Was p.n).log.applied) (key_at f.cell f.key.epoch)) (sym bytes_is)
-            (next_frozen p.n p.job.runs now p.post kept (subst (T p.n) (sym told) (done_told script sound front own_record legal known p.n p.to p.job)) f)))
+            (next_frozen p.n p.job.runs now p.post kept (subst (HasTold it known p.n) (sym told) (done_told it known p.n p.to p.job)) f)))
       ]
 
   -- ### Operations
@@ -198,7 +184,7 @@ module _ (script : Script) (sound : IsSound script) (front : List Record) (own_r
   still_asked : (m : ℕ) → AreAsked (Was m).own.pairs.pending
   still_asked m cell op is fills = frozen_on op.rev op.key op.bytes (known.filled.asked m cell op is fills)
 
-  job_asked : (m : ℕ) (to : Server) (job : IsJob script sound front own_record legal m to) → AreAsked job.done.own.pairs.pending
+  job_asked : (m : ℕ) (to : Server) (job : IsJob it m to) → AreAsked job.done.own.pairs.pending
   job_asked m to job cell op is fills = elim (did_come (Handled w m) (own_place setting w m) (Was m).own job.done job.did cell op is) [
     | Stood was ↦
         let f = still_asked m cell was.was was.is (ap is_clients was.same.kind ∙ fills) in
@@ -216,7 +202,7 @@ module _ (script : Script) (sound : IsSound script) (front : List Record) (own_r
         (subst (IsFrozen setting v h.letter.rev opened.moving.key) (sym opened.bytes) f))
   ]
 
-  asked_by : (m : ℕ) (to : Server) → Gone m to → AreAsked to.own.pairs.pending
+  asked_by : (m : ℕ) (to : Server) → HasGone it m to → AreAsked to.own.pairs.pending
   asked_by m to (Rests same) = subst (λ (s : Server). AreAsked s.own.pairs.pending) (sym same) (still_asked m)
   asked_by m to (Works job) = subst (λ (o : Own). AreAsked o.pairs.pending) (sym job.own_is) (job_asked m to job)
   asked_by m to (Starts_ballot b) =
@@ -233,4 +219,4 @@ module _ (script : Script) (sound : IsSound script) (front : List Record) (own_r
 
   pub asked_next : (m : ℕ) (cell : Cell) (op : Pending) → at cell_cmp (v.servers m).own.pairs.pending cell ≡ Some op → is_clients op.kind ≡ false
       → IsFrozen setting v op.rev op.key op.bytes
-  asked_next m = asked_by m (v.servers m) (gone script sound front own_record legal m)
+  asked_next m = asked_by m (v.servers m) (gone it m)

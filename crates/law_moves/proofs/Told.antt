@@ -15,19 +15,14 @@ use Rattle.petal_command.specs.declared.command.Command.{Command}
 use Rattle.petal_msg.specs.declared.body.Body.TheVariants as body
 use Rattle.petal_msg.specs.declared.copying.LinkId.{LinkId}
 use Rattle.petal_table.specs.Table.{Table, at, put}
-use Rattle.script_lines.specs.declared.script.Script.{Script}
 use Rattle.petal_state.specs.CellState.{cell_link, move_region, owner, source, target}
-use Rattle.petal_state.specs.Command.{state_after}
 use Rattle.petal_rules.specs.Fills.{comes_before}
 use Rattle.petal_rules.specs.Server.{Own}
 use Rattle.petal_rules.specs.State.{State, id_of, link_cmp, link_named}
 use Rattle.petal_rules.specs.Store.{Chain, chain_in}
-use Rattle.petal_rules.specs.World.{Setting, World, chosen_log, server_state, setting_of}
+use Rattle.petal_rules.specs.World.{chosen_log, server_state}
 use Rattle.petal_rules.proofs.Tests.{by_bool, none_some, number_itself, same_some, some_or_none}
 use Rattle.petal_history.specs.Claims.{IsPrefix}
-use Rattle.petal_history.specs.Legal.{IsLegal}
-use Rattle.petal_history.specs.Sound.{IsSound}
-use Rattle.petal_history.specs.declared.record.Record.{Record}
 use Rattle.law_state.specs.Firm.{Firm}
 use Rattle.law_state.specs.Homes.{new_stage, old_stage, stage_at, stage_by}
 use Rattle.law_state.specs.Plain.{IsPlainLog}
@@ -43,7 +38,6 @@ use Rattle.law_steps.specs.Happens.{Handled, own_place}
 use Rattle.law_steps.proofs.Coming.{leaves_with, next_on, region_left, stage_facts}
 use Rattle.law_steps.proofs.Fronts.{front_itself, front_on}
 use Rattle.law_steps.proofs.Resting.{row_named}
-use Rattle.law_stores.proofs.Ways.{At, before_part}
 use Rattle.law_moves.specs.Fills.{AllFilled, Has, IsOnWay, IsToldOf, WasFilled}
 use Rattle.law_moves.specs.Left.{IsKept, IsOurs}
 use Rattle.law_moves.proofs.Frozen.{frozen_same}
@@ -52,6 +46,8 @@ use Rattle.law_moves.proofs.Moved.{filled_stays}
 use Rattle.law_moves.proofs.Movers.{had, known_told, three}
 use Rattle.law_moves.proofs.NextFill.{here_or_before, next_is}
 use Rattle.law_moves.proofs.Over.{link_slot, one_goal, plain}
+use Rattle.law_epochs.proofs.Scenes.{OneMore, ends_of}
+use Rattle.law_moves.proofs.Scenes.{IsMover}
 
 -- a cell is as far as another one of its map and region
 stage_region : (s : State) (one other : Cell) → one.map ≡ other.map → region_of one.block ≡ region_of other.block → stage_at s one ≡ stage_at s other
@@ -67,19 +63,9 @@ ids_same one other a b = λ i. record { map = a i; link = b i }
 keys_same : (one other : Key) → one.map ≡ other.map → one.block ≡ other.block → one.epoch ≡ other.epoch → one ≡ other
 keys_same one other a b c = λ i. record { map = a i; block = b i; epoch = c i }
 
-module _ (script : Script) (sound : IsSound script) (front : List Record) (own_record : Record) (legal : IsLegal script (front ++ own_record ∷ []))
-    (known : Known script front) (y : ℕ) where
-  abbrev setting : Setting
-  setting = setting_of script
-
-  abbrev w : World
-  w = At script front
-
-  abbrev v : World
-  v = At script (front ++ own_record ∷ [])
-
-  abbrev By : List Command → State
-  By log = state_after script.servers log
+module _ (it : OneMore) (known : Known it.prior.script it.prior.records) (y : ℕ) where
+  open it use {prior, prior.{script, sound, records as front}, legal}
+  open ends_of it use {setting, w, v, By, records, present}
 
   abbrev log : List Command
   log = (w.servers y).log.applied
@@ -87,44 +73,41 @@ module _ (script : Script) (sound : IsSound script) (front : List Record) (own_r
   abbrev own : Own
   own = (w.servers y).own
 
-  part : IsLegal script front
-  part = before_part script front (own_record ∷ []) legal
-
   was : Firm setting w
-  was = history_is_firm script front sound part
+  was = history_is_firm script front sound prior.legal
 
   on : IsPrefix (chosen_log setting w) (chosen_log setting v)
-  on = history_grows script (front ++ own_record ∷ []) sound legal front (own_record ∷ []) refl
+  on = history_grows script records sound legal front (it.own ∷ []) refl
 
   plain_was : (f : List Command) → IsPrefix f (chosen_log setting w) → IsPlainLog script.servers f
   plain_was f lies = front_plain script.servers f (chosen_log setting w) was.plain lies
 
   pub lift : (key : Key) → WasFilled w key → WasFilled v key
-  lift key told = filled_stays script front (own_record ∷ []) sound legal key told
+  lift key told = filled_stays script front (it.own ∷ []) sound legal key told
 
   -- what was frozen is so still, once a cell leaves
   pub same_frozen : (f : List Command) → IsPrefix f (chosen_log setting w) → (old : Cell) → stage_at (By f) old ≡ 3 → v.frozen old ≡ w.frozen old
   same_frozen f lies old three =
       let up = (log_below script.servers f (chosen_log setting w) was.plain lies).stages old in
-      frozen_same script sound front own_record legal old (inl (omega arith))
+      frozen_same it old (inl (omega arith))
 
   -- at each front at which a cell is leaving, its link has one name
   one_link : (a b : List Command) → IsPrefix a (chosen_log setting v) → IsPrefix b (chosen_log setting v) → (old : Cell) (one other : LinkRow)
       → cell_link (By a) old ≡ Some one → cell_link (By b) old ≡ Some other → id_of one ≡ id_of other
   one_link a b la lb old one other is two =
-      let all = front ++ own_record ∷ [] in
-      let map_of_a = map_of script.servers (By a) (log_plain script.servers a (plain script sound all legal a la)) old one is in
-      let map_of_b = map_of script.servers (By b) (log_plain script.servers b (plain script sound all legal b lb)) old other two in
+      let all = front ++ it.own ∷ [] in
+      let map_of_a = map_of script.servers (By a) (log_plain script.servers a (plain present a la)) old one is in
+      let map_of_b = map_of script.servers (By b) (log_plain script.servers b (plain present b lb)) old other two in
       ids_same (id_of one) (id_of other) (map_of_a ∙ sym map_of_b)
-      (link_slot script sound all legal a la old one is ∙ sym (link_slot script sound all legal b lb old other two))
+      (link_slot present a la old one is ∙ sym (link_slot present b lb old other two))
 
   -- and where it goes is one cell
   same_goal : (a b : List Command) → IsPrefix a (chosen_log setting v) → IsPrefix b (chosen_log setting v) → (old one other : Cell)
       → target (By a) old ≡ Some one → target (By b) old ≡ Some other → other ≡ one
   same_goal a b la lb old one other is two =
-      let all = front ++ own_record ∷ [] in
-      one_goal script sound all legal a b la lb old one other (log_goes script.servers a (plain script sound all legal a la) old one is)
-      (log_goes script.servers b (plain script sound all legal b lb) old other two)
+      let all = front ++ it.own ∷ [] in
+      one_goal present a b la lb old one other (log_goes script.servers a (plain present a la) old one is)
+      (log_goes script.servers b (plain present b lb) old other two)
 
   -- what a table of keys tells, of each cell that leaves by some of what is chosen
   abbrev pub HasTold : Table LinkId Key → Type 0
@@ -137,9 +120,9 @@ module _ (script : Script) (sound : IsSound script) (front : List Record) (own_r
         let b = known.begun y (id_of row) last is in
         let lies_then = front_on b.front log (chosen_log setting w) b.lies (was.servers y) in
         let lies_now = front_on b.front (chosen_log setting w) (chosen_log setting v) lies_then on in
-        let all = front ++ own_record ∷ [] in
+        let all = front ++ it.own ∷ [] in
         let map_is : old.map ≡ last.map =
-        sym (map_of script.servers (By f) (log_plain script.servers f (plain script sound all legal f lies)) old row way.linked) ∙ sym b.map in
+        sym (map_of script.servers (By f) (log_plain script.servers f (plain present f lies)) old row way.linked) ∙ sym b.map in
         let three : stage_at (By b.front) old ≡ 3 = stage_region (By b.front) old (cell_of last) map_is told.region ∙ b.leaves in
         let facts = stage_facts script.servers b.front (plain_was b.front lies_then) old in
         let h = (log_steady script.servers b.front (plain_was b.front lies_then)).lives old (facts.alive (omega arith) (omega arith)) in
@@ -195,8 +178,8 @@ module _ (script : Script) (sound : IsSound script) (front : List Record) (own_r
           (id : id_of at_row ≡ id_of row) (region : region_of old.block ≡ region_of key.block) where
         map_is : old.map ≡ row.map
         map_is =
-            let all = front ++ own_record ∷ [] in
-            sym (map_of script.servers (By f) (log_plain script.servers f (plain script sound all legal f lies_f)) old at_row way.linked)
+            let all = front ++ it.own ∷ [] in
+            sym (map_of script.servers (By f) (log_plain script.servers f (plain present f lies_f)) old at_row way.linked)
             ∙ ap (λ (i : LinkId). i.map) id
 
         leaves_old : stage_at here old ≡ 3
@@ -232,24 +215,27 @@ module _ (script : Script) (sound : IsSound script) (front : List Record) (own_r
             cells_same old_of.old old
             (sym (map_of script.servers here (log_plain script.servers log (plain_was log lies)) old_of.old row old_of.linked) ∙ sym map_is)
             (sym comes.block ∙ sym block) in
-            let goal = one_goal script sound (front ++ own_record ∷ []) legal log log lies_v lies_v old new (cell_of key)
+            let goal = one_goal present log log lies_v lies_v old new (cell_of key)
             (log_goes script.servers log (plain_was log lies) old new goes_here) (subst (λ (c : Cell). IsMoved here c (cell_of key)) one comes) in
             let key_is : key ≡ key_at new epoch =
             keys_same key (key_at new epoch) (ap (λ (c : Cell). c.map) goal) (ap (λ (c : Cell). c.block) goal) (sym is) in
             lift (key_at new epoch) (record { letter = heard.letter; sent = heard.sent; is = heard.is ∙ ap body.Filled key_is })
+
+        abbrev mover : IsMover setting w y
+        mover = record { runs = runs; seat = next.seated; row = row; there = named; region = next.region; moves = next.moves }
 
         told_here : AllFilled v old new (IsToldOf told_key old)
         told_here before epoch frozen has told = elim (here_or_before (key_at old epoch) told_key map_is told.so) [
           | inl same ↦ same_key (ap (λ (k : Key). k.block) same) epoch (ap (λ (k : Key). k.epoch) same)
           | inr first ↦ (
               let n = next_is here row next.region own next.next next.next_is in
-              let chain = had script sound front part known y runs next.seated row named next.region next.moves old ours in
+              let chain = had prior known y mover old ours in
               let same : chain_in own.store.chains old ≡ before = same_some (sym (same_frozen log lies old leaves_old ∙ chain) ∙ frozen) in
               let kept : IsKept own old epoch = subst (λ (c : Chain). Has c epoch) (sym same) has in
               let earlier : comes_before (key_at old epoch) next.next ≡ true =
               (λ i. nat_lt old.block (next.block i) || (old.block == next.block i && nat_lt (next.epoch i) epoch)) ∙ first in
               lift (key_at new epoch)
-              (known_told script sound front part known y runs next.seated row named next.region next.moves old ours new goes_here epoch
+              (known_told prior known y mover old ours new goes_here epoch
               (n.before old epoch ours kept earlier) kept))
         ]
 

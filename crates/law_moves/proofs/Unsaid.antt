@@ -1,6 +1,6 @@
 -- A fill that a server had pending when it was at the place that the cell's link has by what is chosen, before a step: no letter of the step says that its
 -- entry is there.
-use Rattle.std.proofs.Common.{◌≡◌, ◌≢◌, ◌≤◌, ◌++◌, ◌==◌, ◌⊎◌, ℕ, Bool, true, false, List, [], ◌∷◌, Option, Some, None, is_some}
+use Rattle.std.proofs.Common.{◌≡◌, ◌≢◌, ◌≤◌, ◌==◌, ◌⊎◌, ℕ, Bool, true, false, List, Option, Some, None, is_some}
 use Rattle.std.proofs.Common.{sym, ap, ◌∙◌, subst, inl, inr, arith}
 use Rattle.std.specs.Prelude.{option_and_then}
 use Rattle.std.specs.Ordering.{nat_cmp}
@@ -15,22 +15,16 @@ use Rattle.petal_table.proofs.Rows.{at-empty}
 use Rattle.petal_msg.specs.declared.body.Body.TheVariants as body
 use Rattle.petal_msg.specs.declared.letter.Letter.{Letter}
 use Rattle.petal_msg.specs.declared.operation.Pending.{Pending}
-use Rattle.script_lines.specs.declared.script.Script.{Script}
 use Rattle.petal_state.specs.CellState.{cell_link, row_lead}
-use Rattle.petal_state.specs.Command.{state_after}
 use Rattle.petal_rules.specs.Progress.{has_proposed}
 use Rattle.petal_rules.specs.Server.{Own, Pairs, Server}
-use Rattle.petal_rules.specs.State.{State, is_in, leads_link}
+use Rattle.petal_rules.specs.State.{is_in, leads_link}
 use Rattle.petal_rules.specs.Store.{Store, cell_cmp, chain_in}
-use Rattle.petal_rules.specs.World.{Setting, World, blank_joins_in, chosen_log, server_state, setting_of}
-use Rattle.petal_rules.specs.Writes.{is_clients}
+use Rattle.petal_rules.specs.World.{World, blank_joins_in, chosen_log, server_state}
 use Rattle.petal_rules.proofs.Tests.{by_bool, is_the_one, same_numbers, same_or_apart, same_some, true_false}
 use Rattle.petal_history.specs.Claims.{IsPrefix}
 use Rattle.petal_history.specs.Legal.{IsLegal}
-use Rattle.petal_history.specs.Sound.{IsSound}
-use Rattle.petal_history.specs.declared.record.Record.{Record}
 use Rattle.law_state.specs.Homes.{stage_at}
-use Rattle.law_state.specs.Plain.{IsPlainLog}
 use Rattle.law_state.proofs.Cells.{IsHeldBy, IsInBoth, link_led_by}
 use Rattle.law_state.proofs.Leaves.{either_true}
 use Rattle.law_log.proofs.Histories.{history_grows, history_is_firm}
@@ -39,7 +33,7 @@ use Rattle.law_steps.specs.Operations.{IsStaged, progress}
 use Rattle.law_steps.proofs.Fronts.{front_itself, front_on}
 use Rattle.law_steps.proofs.Leading.{stage_live}
 use Rattle.law_steps.proofs.Taking.{taking}
-use Rattle.law_stores.proofs.Ways.{At, before_part}
+use Rattle.law_stores.proofs.Ways.{At}
 use Rattle.law_copies.specs.Good.{pair_at}
 use Rattle.law_copies.specs.Pair.{far}
 use Rattle.law_copies.specs.Visits.{IsLinked, WasThere, half, is_at, place_by}
@@ -53,72 +47,41 @@ use Rattle.law_moves.proofs.Leads.{Alone, As_first, Behind, IsBehind, led_as}
 use Rattle.law_moves.proofs.Pending.{by_itself, posted_says}
 use Rattle.law_moves.proofs.Saying.{Asks_copy, Is_done, Is_done_alone, Is_neither, Is_there, Says, is_filled}
 use Rattle.law_moves.proofs.Steps.{IsPosted}
-use Rattle.law_moves.proofs.Steps.{chosen_on, knows, knows_now, part}
+use Rattle.law_moves.proofs.Steps.{mine_top, mine_whole}
 use Rattle.law_moves.proofs.EqualCopies.{frozen_on}
 use Rattle.law_moves.proofs.There.{filled_key, told_already}
 use Rattle.law_moves.proofs.Worlds.{chosen_twins, facts_at, good, own_counts, rests, steady_at, up, was_seen}
+use Rattle.law_epochs.proofs.Scenes.{History, OneMore, cut, ends_of}
+use Rattle.law_moves.proofs.Scenes.{FillAtPlace, LeadsAt}
 
-module _ (script : Script) (sound : IsSound script) (front : List Record) (own : Record) (legal : IsLegal script (front ++ own ∷ []))
-    (all : AllKnown script front) where
-  abbrev setting : Setting
-  setting = setting_of script
-
-  abbrev w : World
-  w = At script front
-
-  abbrev records : List Record
-  records = front ++ own ∷ []
-
-  abbrev v : World
-  v = At script records
-
-  abbrev top : List Command
-  top = chosen_log setting w
-
-  abbrev whole : List Command
-  whole = chosen_log setting v
-
-  abbrev By : List Command → State
-  By log = state_after script.servers log
+module _ (it : OneMore) (all : AllKnown it.prior.script it.prior.records) where
+  open it use {prior, prior.{script, sound, records as front}}
+  open ends_of it use {setting, w, records, v, top, whole, By, top_whole, plain}
 
   known : Known script front
-  known = before script sound front own legal all
-
-  legal_was : IsLegal script front
-  legal_was = part script sound front own legal
-
-  top_whole : IsPrefix top whole
-  top_whole = chosen_on script sound front own legal
-
-  plain : IsPlainLog script.servers whole
-  plain = (knows_now script sound front own legal).plain
+  known = before it all
 
   abbrev mine : ℕ → List Command
   mine n = (w.servers n).log.applied
 
-  mine_top : (n : ℕ) → IsPrefix (mine n) top
-  mine_top n = (knows script sound front own legal).servers n
-
-  mine_whole : (n : ℕ) → IsPrefix (mine n) whole
-  mine_whole n = front_on (mine n) top whole (mine_top n) top_whole
-
   -- ### A server that was at the link's place, with a fill pending
 
-  module _ (n place : ℕ) (cell : Cell) (pairs : Pairs) (op : Pending) (row : LinkRow) (is : at cell_cmp pairs.pending cell ≡ Some op)
-      (fills : is_clients op.kind ≡ false) (linked : IsLinked setting whole cell row) (spot : place_by setting whole row ≡ place) where
+  module _ (a : FillAtPlace setting whole) where
+    open a use {n, place, cell, pairs, op, row, is, fills, linked, spot}
+
     module _ (was : WasThere setting front n place cell pairs) where
       abbrev past : World
       past = At script was.before
 
-      legal_then : IsLegal script was.before
-      legal_then = before_part script was.before was.later (subst (IsLegal script) was.is legal_was)
+      abbrev then : History
+      then = cut prior was.before was.later was.is
 
       abbrev log : List Command
       log = (past.servers n).log.applied
 
       log_top : IsPrefix log top
-      log_top = front_on log (chosen_log setting past) top ((history_is_firm script was.before sound legal_then).servers n)
-          (history_grows script front sound legal_was was.before was.later was.is)
+      log_top = front_on log (chosen_log setting past) top ((history_is_firm script was.before sound then.legal).servers n)
+          (history_grows script front sound prior.legal was.before was.later was.is)
 
       here : IsAt setting n (past.servers n) place cell
       here = at_by setting n (past.servers n) place cell was.there
@@ -127,7 +90,7 @@ module _ (script : Script) (sound : IsSound script) (front : List Record) (own :
       pending_then = ap (λ (p : Pairs). at cell_cmp p.pending cell) was.had ∙ is
 
       staged : IsStaged (server_state setting past n) n (has_proposed (server_state setting past n) (past.servers n).own) cell op
-      staged = ((rests script sound was.before legal_then).pending n).staged cell op pending_then
+      staged = ((rests then).pending n).staged cell op pending_then
 
       linked_top : (now : LinkRow) × IsLinked setting top cell now
       linked_top = linked_between setting whole plain log top whole cell here.row row log_top top_whole (front_itself whole) here.linked linked
@@ -140,19 +103,31 @@ module _ (script : Script) (sound : IsSound script) (front : List Record) (own :
           let a = places_up setting whole plain log top cell here.row now log_top top_whole here.linked linked_top.1 in
           let b = places_up setting whole plain top whole cell now row top_whole (front_itself whole) linked_top.1 linked in
           let at = here.at in
+          let spot_is = spot in
           omega arith
 
       -- no letter of before the step says so
       pub unsaid_there : WasFilled w op.key → ⊥
-      unsaid_there told = known.visits n place cell pairs op now was is fills linked_top.1 spot_top told
+      unsaid_there told = known.visits (record {
+        n = n;
+        place = place;
+        cell = cell;
+        pairs = pairs;
+        op = op;
+        row = now;
+        is = is;
+        fills = fills;
+        linked = linked_top.1;
+        spot = spot_top;
+      }) was told
 
       frozen_was : IsFrozen setting w op.rev op.key op.bytes
       frozen_was = subst (λ rs. IsFrozen setting (At script rs) op.rev op.key op.bytes) (sym was.is)
-          (frozen_on script sound was.before was.later (subst (IsLegal script) was.is legal_was) op.rev op.key op.bytes
+          (frozen_on script sound was.before was.later (subst (IsLegal script) was.is prior.legal) op.rev op.key op.bytes
           ((all was.before was.later was.is).filled.asked n cell op pending_then fills))
 
       -- nor one of the step
-      module _ (letter : Letter) (said : letter.body ≡ body.Filled op.key) (p : IsPosted script sound front own legal letter)
+      module _ (letter : Letter) (said : letter.body ≡ body.Filled op.key) (p : IsPosted it letter)
           (low : stage_at (By top) cell ≤ 1) where
         abbrev k : ℕ
         k = p.n
@@ -168,10 +143,10 @@ module _ (script : Script) (sound : IsSound script) (front : List Record) (own :
 
         staged_now : (o : Pending) (q : Cell) → at cell_cmp (w.servers k).own.pairs.pending q ≡ Some o
             → IsStaged (server_state setting w k) k (has_proposed (server_state setting w k) (w.servers k).own) q o
-        staged_now o q there = ((rests script sound front legal_was).pending k).staged q o there
+        staged_now o q there = ((rests prior).pending k).staged q o there
 
         mine_low : stage_at (server_state setting w k) cell ≤ 1
-        mine_low = let le = up script sound front legal_was (mine k) top (mine_top k) (front_itself top) cell in omega arith
+        mine_low = let le = up prior (mine k) top (mine_top it k) (front_itself top) cell in omega arith
 
         -- who says so leads the cell: with nothing pending, and with the entry, or it had the fill pending
         pub data LeadsIt : Type 0 where
@@ -191,7 +166,7 @@ module _ (script : Script) (sound : IsSound script) (front : List Record) (own :
             let least = s.born in
             let most = mine_low in
             record {
-              seat = (rests script sound front legal_was).seated k cell o p.job.runs at_cell;
+              seat = (rests prior).seated k cell o p.job.runs at_cell;
               leads = s.leads (stage_live (server_state setting w k) cell s.born (omega arith));
               born = s.born;
               so = Had_it o at_cell;
@@ -203,7 +178,7 @@ module _ (script : Script) (sound : IsSound script) (front : List Record) (own :
         leading_by (Is_there moving filled txt same) =
             let key_is = filled_key (sym txt ∙ text) in
             let to = cell_is moving.key key_is in
-            let facts = (facts_at script sound front legal_was (mine k) (mine_top k) (cell_of moving.key)).leads k filled.lead in
+            let facts = (facts_at prior (mine k) (mine_top it k) (cell_of moving.key)).leads k filled.lead in
             record {
               seat = filled.seated;
               leads = subst (λ (q : Cell). leads_link (server_state setting w k) k q ≡ true) to facts.0;
@@ -219,23 +194,24 @@ module _ (script : Script) (sound : IsSound script) (front : List Record) (own :
             (sym (ap (λ (x : Pending). cell_of x.key) old.is ∙ (staged_now old.old o.cell old.was).keyed) ∙ cell_is o.key (filled_key (sym txt ∙ text)))
 
         leading : IsLeading
-        leading = leading_by (posted_says script sound front own legal all letter p)
+        leading = leading_by (posted_says it all letter p)
 
-        visit : (o : Own) × ((good script sound front legal_was).visits n place cell ≡ Some o) × (o.pairs ≡ pairs)
-        visit = was_seen script sound front legal_was n place cell pairs was
+        visit : (o : Own) × ((good prior).visits n place cell ≡ Some o) × (o.pairs ≡ pairs)
+        visit = was_seen prior n place cell pairs was
 
         -- by the server itself
         pub not_itself : n ≡ k
             → (now_pending : is_at setting n (v.servers n) place cell ≡ true → at cell_cmp (v.servers n).own.pairs.pending cell ≡ Some op) → ⊥
         not_itself e had =
-            let been = (good script sound front legal_was).been n place cell visit.0 visit.1 in
-            let mid = linked_between setting whole plain been.front (mine n) whole cell been.row row been.within (mine_whole n)
+            let been = (good prior).been n place cell visit.0 visit.1 in
+            let mid = linked_between setting whole plain been.front (mine n) whole cell been.row row been.within (mine_whole it n)
             (front_itself whole) been.linked linked in
-            let a = places_up setting whole plain been.front (mine n) cell been.row mid.0 been.within (mine_whole n) been.linked mid.1 in
-            let b = places_up setting whole plain (mine n) whole cell mid.0 row (mine_whole n) (front_itself whole) mid.1 linked in
+            let a = places_up setting whole plain been.front (mine n) cell been.row mid.0 been.within (mine_whole it n) been.linked mid.1 in
+            let b = places_up setting whole plain (mine n) whole cell mid.0 row (mine_whole it n) (front_itself whole) mid.1 linked in
             let at = been.at in
+            let spot_is = spot in
             let place_is : place_by setting (mine n) mid.0 ≡ place = omega arith in
-            let le = up script sound front legal_was (mine n) top (mine_top n) (front_itself top) cell in
+            let le = up prior (mine n) top (mine_top it n) (front_itself top) cell in
             let seat : is_in (server_state setting w n) n (w.servers n).life.inc ≡ true =
             subst (λ i. is_in (server_state setting w i) i (w.servers i).life.inc ≡ true) (sym e) leading.seat in
             let at_was : is_at setting n (w.servers n) place cell ≡ true =
@@ -245,8 +221,8 @@ module _ (script : Script) (sound : IsSound script) (front : List Record) (own :
             let inc_is : (v.servers n).life.inc ≡ (w.servers n).life.inc =
             ap (λ i. (v.servers i).life.inc) e ∙ ap (λ (s : Server). s.life.inc) p.is ∙ p.job.inc_is ∙ ap (λ i. (w.servers i).life.inc) (sym e) in
             let at_now : is_at setting n (v.servers n) place cell ≡ true = same_at n (v.servers n) (w.servers n) log_is inc_is ∙ at_was in
-            by_itself script sound front own legal all n cell op (had at_now) fills letter said p e
-            (posted_says script sound front own legal all letter p)
+            by_itself it all n cell op (had at_now) fills letter said p e
+            (posted_says it all letter p)
           where
             same_at : (i : ℕ) (s t : Server) → s.log.applied ≡ t.log.applied → s.life.inc ≡ t.life.inc
                 → is_at setting i s place cell ≡ is_at setting i t place cell
@@ -255,14 +231,17 @@ module _ (script : Script) (sound : IsSound script) (front : List Record) (own :
 
         -- by another one: it comes behind the server, as the second one of the link, and has nothing of the fill's epoch
         module _ (apart : n ≢ k) where
+          leads_now : LeadsAt setting w cell k
+          leads_now = record { runs = p.job.runs; seat = leading.seat; low = omega arith; leads = leading.leads }
+
           same_row : now ≡ here.row
           same_row = one_row setting whole plain log top cell here.row now (front_on log top whole log_top top_whole) top_whole here.linked linked_top.1
               (sym here.at ∙ sym spot_top)
 
           leads_then : ((b : IsInBoth (By log) cell) × (b.row.primary ≡ n)) ⊎ IsHeldBy (By log) cell n
           leads_then =
-              let le = up script sound front legal_was log top log_top (front_itself top) cell in
-              link_led_by (By log) (steady_at script sound front legal_was log log_top) cell n
+              let le = up prior log top log_top (front_itself top) cell in
+              link_led_by (By log) (steady_at prior log log_top) cell n
               (is_the_one (option_and_then (row_lead (By log)) (cell_link (By log) cell)) n (staged.leads (stage_live (By log) cell staged.born (omega arith))))
 
           in_row : (r : LinkRow) → IsLinked setting log cell r → now ≡ r
@@ -280,10 +259,10 @@ module _ (script : Script) (sound : IsSound script) (front : List Record) (own :
             | inr h ↦ apart (same_only (sym h.so ∙ ap (λ (r : LinkRow). r.state) (sym (in_row h.row h.is)) ∙ so))
           ]
 
-          lacks : IsBehind script sound front legal_was k p.job.runs leading.seat cell (omega arith) leading.leads now
+          lacks : IsBehind prior cell k leads_now now
               → at nat_cmp (chain_in (w.servers k).own.store.chains cell) op.key.epoch ≡ None
           lacks b =
-              let good_now = good script sound front legal_was in
+              let good_now = good prior in
               let at_place : ℕ → Option Own = λ i. good_now.visits i (place_by setting top now) cell in
               let first_is = first_of b.both in
               let there : at_place now.primary ≡ Some visit.0 =
@@ -294,15 +273,15 @@ module _ (script : Script) (sound : IsSound script) (front : List Record) (own :
               (place_by setting top now) cell now.primary now.secondary) ≡ 0 =
               ap (λ o. progress (at cell_cmp (half o (good_now.stores now.secondary (blank_joins_in setting top now.secondary))).pairs.last cell))
               (ap at_place second_is ∙ b.unseen) ∙ ap progress (at-empty cell_cmp cell) in
-              let none = (chosen_twins script sound front legal_was cell now linked_top.1 b.both (omega arith)).lacks visit.0 op there
+              let none = (chosen_twins prior cell now linked_top.1 b.both (omega arith)).lacks visit.0 op there
               (ap (λ (q : Pairs). at cell_cmp q.pending cell) visit.2 ∙ is) fills (omega arith) in
               ap (λ (s : Store). at nat_cmp (chain_in s.chains cell) op.key.epoch)
-              (sym (own_counts script sound front legal_was k p.job.runs (mine k) (mine_top k) leading.seat) ∙ sym (good_now.now k)
+              (sym (own_counts prior k p.job.runs (mine k) (mine_top it k) leading.seat) ∙ sym (good_now.now k)
               ∙ ap (λ i. good_now.stores i (blank_joins_in setting top i)) (sym second_is))
               ∙ none
 
           pub not_other : ⊥
-          not_other = elim (led_as script sound front legal_was k p.job.runs leading.seat cell (omega arith) leading.leads now linked_top.1) [
+          not_other = elim (led_as prior cell k leads_now now linked_top.1) [
             | As_first g ↦ apart (sym (first_of g.both) ∙ g.first)
             | Alone is_whole so ↦ not_alone is_whole so
             | Behind b ↦ elim leading.so [
@@ -314,10 +293,10 @@ module _ (script : Script) (sound : IsSound script) (front : List Record) (own :
           ]
 
       -- none of the step says so
-      pub unsaid_new : (letter : Letter) → letter.body ≡ body.Filled op.key → IsPosted script sound front own legal letter
+      pub unsaid_new : (letter : Letter) → letter.body ≡ body.Filled op.key → IsPosted it letter
           → (is_at setting n (v.servers n) place cell ≡ true → at cell_cmp (v.servers n).own.pairs.pending cell ≡ Some op) → ⊥
       unsaid_new letter said p had = elim (at_most_or_above (stage_at (By top) cell) 1) [
-        | inr two ↦ unsaid_there (told_already script sound front legal_was known.filled.moved op.rev op.key op.bytes frozen_was
+        | inr two ↦ unsaid_there (told_already prior known.filled.moved op.rev op.key op.bytes frozen_was
             (subst (λ (q : Cell). 2 ≤ stage_at (By top) q) (sym staged.keyed) (omega arith)))
         | inl low ↦ elim (same_or_apart n p.n) [
           | inl e ↦ not_itself letter said p low e had

@@ -1,35 +1,28 @@
 -- A fill that a server had pending when it was last at the place that the cell's link has by what is chosen: no letter says that its entry is there.
-use Rattle.std.proofs.Common.{◌≡◌, ◌++◌, ℕ, true, false, List, [], ◌∷◌, Some}
+use Rattle.std.proofs.Common.{◌≡◌, ◌++◌, ℕ, true, List, [], ◌∷◌, Some}
 use Rattle.std.proofs.Common.{refl, sym, ap, ◌∙◌, subst, inl, inr, append_assoc}
 use Rattle.std.proofs.lemmas.List.{append-nil}
-use Rattle.global_tables.specs.declared.link.LinkRow.{LinkRow}
 use Rattle.petal_base.specs.declared.cell.Cell.{Cell}
 use Rattle.petal_command.specs.declared.command.Command.{Command}
 use Rattle.petal_table.specs.Table.{at}
 use Rattle.petal_table.proofs.Rows.{at-empty}
 use Rattle.petal_msg.specs.declared.body.Body.TheVariants as body
 use Rattle.petal_msg.specs.declared.letter.Letter.{Letter}
-use Rattle.petal_msg.specs.declared.operation.Pending.{Pending}
-use Rattle.script_lines.specs.declared.script.Script.{Script}
 use Rattle.petal_rules.specs.Boots.{raised}
 use Rattle.petal_rules.specs.Crossing.{crossed}
 use Rattle.petal_rules.specs.Server.{Own, Pairs, Server}
 use Rattle.petal_rules.specs.Store.{cell_cmp}
-use Rattle.petal_rules.specs.World.{Setting, World, chosen_log, server_state, setting_of}
+use Rattle.petal_rules.specs.World.{server_state}
 use Rattle.petal_rules.specs.Writes.{is_clients}
 use Rattle.petal_rules.proofs.Settled.{settling}
 use Rattle.petal_rules.proofs.Tests.{none_some, same_or_apart, true_false}
-use Rattle.petal_history.specs.Claims.{IsPrefix}
-use Rattle.petal_history.specs.Legal.{IsLegal}
-use Rattle.petal_history.specs.Sound.{IsSound}
 use Rattle.petal_history.specs.declared.record.Record.{Record}
 use Rattle.law_steps.specs.Happens.{Handled, own_place}
 use Rattle.law_steps.proofs.Filling.{Fills, Stood, Writes, did_come}
-use Rattle.law_steps.proofs.Fronts.{front_on}
 use Rattle.law_steps.proofs.Histories.{proposed_pairs}
 use Rattle.law_steps.proofs.Records.{split_last}
 use Rattle.law_stores.proofs.Ways.{At}
-use Rattle.law_copies.specs.Visits.{IsLinked, WasThere, is_at, place_by}
+use Rattle.law_copies.specs.Visits.{WasThere, is_at}
 use Rattle.law_copies.proofs.Visited.{at_by}
 use Rattle.law_moves.specs.Fills.{WasFilled}
 use Rattle.law_moves.proofs.Kept.{before}
@@ -37,44 +30,21 @@ use Rattle.law_moves.proofs.Knows.{AllKnown, AreUnsaid, Known}
 use Rattle.law_moves.proofs.Pending.{by_itself, new_unsaid, posted_says}
 use Rattle.law_moves.proofs.Seen.{same_rest}
 use Rattle.law_moves.proofs.Steps.{Awakes, Before, Enters, HasGone, IsPosted, Is_blanked, Other, Posted, Raises, Rests, Starts_ballot, Works}
-use Rattle.law_moves.proofs.Steps.{chosen_on, gone, knows, not_new, sent}
+use Rattle.law_moves.proofs.Steps.{gone, not_new, sent, mine_whole}
 use Rattle.law_moves.proofs.There.{no_other}
 use Rattle.law_moves.proofs.Unsaid.{unsaid_new, unsaid_there}
+use Rattle.law_epochs.proofs.Scenes.{OneMore, ends_of}
+use Rattle.law_moves.proofs.Scenes.{FillAtPlace}
 
-module _ (script : Script) (sound : IsSound script) (front : List Record) (own : Record) (legal : IsLegal script (front ++ own ∷ []))
-    (all : AllKnown script front) where
-  abbrev setting : Setting
-  setting = setting_of script
-
-  abbrev w : World
-  w = At script front
-
-  abbrev records : List Record
-  records = front ++ own ∷ []
-
-  abbrev v : World
-  v = At script records
-
-  abbrev top : List Command
-  top = chosen_log setting w
-
-  abbrev whole : List Command
-  whole = chosen_log setting v
+module _ (it : OneMore) (all : AllKnown it.prior.script it.prior.records) where
+  open it use {prior.{script, records as front}, own}
+  open ends_of it use {setting, w, records, v, top, whole, top_whole}
 
   known : Known script front
-  known = before script sound front own legal all
-
-  top_whole : IsPrefix top whole
-  top_whole = chosen_on script sound front own legal
+  known = before it all
 
   abbrev mine : ℕ → List Command
   mine n = (w.servers n).log.applied
-
-  mine_top : (n : ℕ) → IsPrefix (mine n) top
-  mine_top n = (knows script sound front own legal).servers n
-
-  mine_whole : (n : ℕ) → IsPrefix (mine n) whole
-  mine_whole n = front_on (mine n) top whole (mine_top n) top_whole
 
   -- ### Where the server was before the step
 
@@ -110,14 +80,15 @@ module _ (script : Script) (sound : IsSound script) (front : List Record) (own :
 
   -- ### A server that was at the link's place, with a fill pending
 
-  module _ (n place : ℕ) (cell : Cell) (pairs : Pairs) (op : Pending) (row : LinkRow) (is : at cell_cmp pairs.pending cell ≡ Some op)
-      (fills : is_clients op.kind ≡ false) (linked : IsLinked setting whole cell row) (spot : place_by setting whole row ≡ place) where
+  module _ (a : FillAtPlace setting whole) where
+    open a use {n, place, cell, pairs, op, row, is, fills, linked, spot}
+
     unsaid_was : WasThere setting front n place cell pairs → WasFilled w op.key → ⊥
-    unsaid_was = unsaid_there script sound front own legal all n place cell pairs op row is fills linked spot
+    unsaid_was = unsaid_there it all a
 
     module _ (was : WasThere setting records n place cell pairs) where
       -- it is so now
-      end_by : (to : Server) → HasGone script sound front own legal n to → is_at setting n to place cell ≡ true → to.own.pairs ≡ pairs → WasFilled w op.key → ⊥
+      end_by : (to : Server) → HasGone it n to → is_at setting n to place cell ≡ true → to.own.pairs ≡ pairs → WasFilled w op.key → ⊥
       end_by to (Rests same) there had told =
           unsaid_was (as_now n place cell pairs (ap (λ (s : Server). is_at setting n s place cell) (sym same) ∙ there)
           (ap (λ (s : Server). s.own.pairs) (sym same) ∙ had)) told
@@ -126,7 +97,7 @@ module _ (script : Script) (sound : IsSound script) (front : List Record) (own :
             | Stood stood ↦ known.filled.unsaid n cell stood.was job.runs stood.is (ap is_clients stood.same.kind ∙ fills)
                 (subst (WasFilled w) (sym stood.same.key) told)
             | Writes write ↦ true_false (ap is_clients write) fills
-            | Fills o ↦ new_unsaid script sound front own legal all n cell op job.runs o (subst (WasFilled w) o.key told)
+            | Fills o ↦ new_unsaid it all n cell op job.runs o (subst (WasFilled w) o.key told)
           ]
       end_by to (Starts_ballot ballot) there had told =
           known.filled.unsaid n cell op ballot.runs (ap (λ (q : Pairs). at cell_cmp q.pending cell)
@@ -140,7 +111,7 @@ module _ (script : Script) (sound : IsSound script) (front : List Record) (own :
           none_some (at-empty cell_cmp cell) (ap (λ (s : Server). at cell_cmp s.own.pairs.pending cell) (sym same)
           ∙ ap (λ (q : Pairs). at cell_cmp q.pending cell) had ∙ is)
       end_by to (Raises asleep same) there had told =
-          not_new script sound front own legal n (mine n) (mine_whole n)
+          not_new it n (mine n) (mine_whole it n)
           (at_by setting n (raised (w.servers n)) place cell (ap (λ (s : Server). is_at setting n s place cell) (sym same) ∙ there)).seat
       end_by to (Is_blanked asleep same) there had told =
           unsaid_was (as_now n place cell pairs (ap (λ (s : Server). is_at setting n s place cell) (sym same) ∙ there)
@@ -148,13 +119,13 @@ module _ (script : Script) (sound : IsSound script) (front : List Record) (own :
 
       pub unsaid_old : WasFilled w op.key → ⊥
       unsaid_old told = elim (split_last front own was.before was.later was.is) [
-        | inl e ↦ end_by (v.servers n) (gone script sound front own legal n)
+        | inl e ↦ end_by (v.servers n) (gone it n)
             (subst (λ rs. is_at setting n ((At script rs).servers n) place cell ≡ true) e was.there)
             (ap (λ rs. ((At script rs).servers n).own.pairs) (sym e) ∙ was.had) told
         | inr more ↦ unsaid_was (earlier n place cell pairs was more.0 more.1) told
       ]
 
-      pub unsaid_posted : (letter : Letter) → letter.body ≡ body.Filled op.key → IsPosted script sound front own legal letter → ⊥
+      pub unsaid_posted : (letter : Letter) → letter.body ≡ body.Filled op.key → IsPosted it letter → ⊥
       unsaid_posted letter said p = elim (split_last front own was.before was.later was.is) [
         | inl e ↦
             let there : is_at setting n (v.servers n) place cell ≡ true =
@@ -162,13 +133,13 @@ module _ (script : Script) (sound : IsSound script) (front : List Record) (own :
             let had : (v.servers n).own.pairs ≡ pairs = ap (λ rs. ((At script rs).servers n).own.pairs) (sym e) ∙ was.had in
             let pending : at cell_cmp (v.servers n).own.pairs.pending cell ≡ Some op = ap (λ (q : Pairs). at cell_cmp q.pending cell) had ∙ is in
             elim (same_or_apart n p.n) [
-              | inl itself ↦ by_itself script sound front own legal all n cell op pending fills letter said p itself
-                  (posted_says script sound front own legal all letter p)
-              | inr apart ↦ unsaid_new script sound front own legal all n place cell pairs op row is fills linked spot
+              | inl itself ↦ by_itself it all n cell op pending fills letter said p itself
+                  (posted_says it all letter p)
+              | inr apart ↦ unsaid_new it all a
                   (as_now n place cell pairs (ap (λ (s : Server). is_at setting n s place cell) (sym (p.others n apart)) ∙ there)
                   (ap (λ (s : Server). s.own.pairs) (sym (p.others n apart)) ∙ had)) letter said p (λ so. pending)
             ]
-        | inr more ↦ unsaid_new script sound front own legal all n place cell pairs op row is fills linked spot
+        | inr more ↦ unsaid_new it all a
             (earlier n place cell pairs was more.0 more.1) letter said p (λ there.
             ap (λ (q : Pairs). at cell_cmp q.pending cell) (ap (λ rs. ((At script rs).servers n).own.pairs) was.is
             ∙ was.since was.later [] (sym (append-nil was.later)) (subst (λ rs. is_at setting n ((At script rs).servers n) place cell ≡ true) was.is there))
@@ -176,8 +147,8 @@ module _ (script : Script) (sound : IsSound script) (front : List Record) (own :
       ]
 
   pub unsaid_at : AreUnsaid setting records v
-  unsaid_at n place cell pairs op row was is fills linked spot told = elim (sent script sound front own legal told.letter told.sent) [
-    | Before i ↦ unsaid_old n place cell pairs op row is fills linked spot was (record { letter = told.letter; sent = i; is = told.is })
-    | Posted p ↦ unsaid_posted n place cell pairs op row is fills linked spot was told.letter told.is p
-    | Other e ↦ no_other script sound front own legal all told.letter op.key told.is e
+  unsaid_at a was told = elim (sent it told.letter told.sent) [
+    | Before i ↦ unsaid_old a was (record { letter = told.letter; sent = i; is = told.is })
+    | Posted p ↦ unsaid_posted a was told.letter told.is p
+    | Other e ↦ no_other it all told.letter a.op.key told.is e
   ]

@@ -7,19 +7,14 @@ use Rattle.global_tables.specs.declared.link.LinkState.TheVariants.{Both}
 use Rattle.petal_base.specs.declared.cell.Cell.{Cell}
 use Rattle.petal_command.specs.declared.command.Command.{Command}
 use Rattle.petal_command.specs.declared.command.Command.TheVariants.{Join}
-use Rattle.script_lines.specs.declared.script.Script.{Script}
 use Rattle.petal_state.specs.CellState.{cell_link, serves}
-use Rattle.petal_state.specs.Command.{state_after}
 use Rattle.petal_rules.specs.Blanked.{BeforeBlank, kept_store}
 use Rattle.petal_rules.specs.Server.{Own, Pairs}
 use Rattle.petal_rules.specs.State.{State, is_in}
 use Rattle.petal_rules.specs.Store.{Store}
-use Rattle.petal_rules.specs.World.{Setting, World, blank_joins_in, chosen_log, chosen_state, counted, kept, setting_of, start}
+use Rattle.petal_rules.specs.World.{blank_joins_in, chosen_state, counted, kept, start}
 use Rattle.petal_rules.proofs.Tests.{by_test, same_numbers, same_some, true_false}
 use Rattle.petal_history.specs.Claims.{IsPrefix}
-use Rattle.petal_history.specs.Legal.{IsLegal}
-use Rattle.petal_history.specs.Sound.{IsSound}
-use Rattle.petal_history.specs.declared.record.Record.{Record}
 use Rattle.law_state.specs.Below.{IsBelow, IsServing, KeepsRoles}
 use Rattle.law_state.specs.Firm.{Firm}
 use Rattle.law_state.specs.Homes.{HasStage, stage_at}
@@ -39,11 +34,12 @@ use Rattle.law_steps.proofs.Histories.{rests_after, runs_at, start_rests}
 use Rattle.law_stores.specs.Waiting.{IsOwn}
 use Rattle.law_stores.proofs.Counts.{behind_front, stands_in}
 use Rattle.law_stores.proofs.Histories.{in_own, kept_after}
-use Rattle.law_stores.proofs.Ways.{At, stays_filled}
+use Rattle.law_stores.proofs.Ways.{stays_filled}
 use Rattle.law_copies.specs.Good.{AreTwins, Good}
 use Rattle.law_copies.specs.Visits.{AliveIn, IsLast, IsLinked, WasThere, place_by}
 use Rattle.law_copies.proofs.Places.{places_up}
 use Rattle.law_moves.proofs.Seen.{seen_after, were}
+use Rattle.law_epochs.proofs.Scenes.{History, end_of}
 
 -- who serves a link is told by its row
 pub serving_row : (state : State) (n : ℕ) (cell : Cell) (row : LinkRow) → cell_link state cell ≡ Some row → IsServing state n cell
@@ -61,24 +57,15 @@ own_by joins None apart store = refl
 own_by joins (Some b) apart store = by_test (λ s. s ≡ store) (b.joins == joins) b.store store
     (λ same. absurd (apart b refl (same_numbers b.joins joins same))) (λ other. refl)
 
-module _ (script : Script) (sound : IsSound script) (records : List Record) (legal : IsLegal script records) where
-  abbrev setting : Setting
-  setting = setting_of script
-
-  abbrev w : World
-  w = At script records
-
-  abbrev chosen : List Command
-  chosen = chosen_log setting w
+module _ (it : History) where
+  open it use {script, sound, records, legal}
+  open end_of it use {setting, w, chosen, By}
 
   abbrev own_front : ℕ → List Command
   own_front n = (w.servers n).log.applied
 
   abbrev inc_of : ℕ → ℕ
   inc_of n = (w.servers n).life.inc
-
-  abbrev By : List Command → State
-  By log = state_after script.servers log
 
   pub firm : Firm setting w
   firm = history_is_firm script records sound legal

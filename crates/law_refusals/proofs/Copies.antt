@@ -50,7 +50,7 @@ use Rattle.law_steps.proofs.Histories.{own_steady, rests_next, start_rests, worl
 use Rattle.law_steps.proofs.Letters.{one_post, posted}
 use Rattle.law_steps.proofs.Serving.{server_serves}
 use Rattle.law_steps.proofs.Subjects.{of_filler, of_lead, of_read, of_second, of_sweep}
-use Rattle.law_refusals.specs.Full.{HasEndedFull, HasFilledFull, HasFoundNone, By_copy, By_fill, WasDeclined, WasTold}
+use Rattle.law_refusals.specs.Full.{By_copy, By_fill, HasEndedFull, HasFilledFull, HasFoundNone, HasJob, WasDeclined, WasTold}
 use Rattle.law_refusals.proofs.Along.{IsNext, along}
 use Rattle.law_refusals.proofs.Leads.{asks_quiet, is_no_leads, lead_quiet}
 use Rattle.law_refusals.proofs.Refused.{fill_now}
@@ -336,8 +336,8 @@ module _ (setting : Setting) where
       → records ++ next ∷ [] ≡ front ++ own ∷ (behind ++ next ∷ [])
   behind_more records front behind own next lies = ap (λ xs. xs ++ next ∷ []) lies ∙ append_assoc front (own ∷ behind) (next ∷ [])
 
-  ended_more : (records : List Record) (next : Record) (n inc : ℕ) → HasEndedFull setting records n inc → HasEndedFull setting (records ++ next ∷ []) n inc
-  ended_more records next n inc h = record {
+  abbrev job_more : (records : List Record) (next : Record) (n inc : ℕ) → HasJob setting records n inc → HasJob setting (records ++ next ∷ []) n inc
+  job_more records next n inc h = record {
     front = h.front;
     own = h.own;
     behind = h.behind ++ next ∷ [];
@@ -346,6 +346,11 @@ module _ (setting : Setting) where
     works = h.works;
     runs = h.runs;
     lives = h.lives;
+  }
+
+  ended_more : (records : List Record) (next : Record) (n inc : ℕ) → HasEndedFull setting records n inc → HasEndedFull setting (records ++ next ∷ []) n inc
+  ended_more records next n inc h = record {
+    job = job_more records next n inc h.job;
     cell = h.cell;
     copy = h.copy;
     copying = h.copying;
@@ -358,14 +363,7 @@ module _ (setting : Setting) where
   filled_more : (records : List Record) (next : Record) (n inc : ℕ) → HasFilledFull setting records n inc
       → HasFilledFull setting (records ++ next ∷ []) n inc
   filled_more records next n inc h = record {
-    front = h.front;
-    own = h.own;
-    behind = h.behind ++ next ∷ [];
-    lies = behind_more records h.front h.behind h.own next h.lies;
-    who = h.who;
-    works = h.works;
-    runs = h.runs;
-    lives = h.lives;
+    job = job_more records next n inc h.job;
     key = h.key;
     row = h.row;
     next = h.next;
@@ -410,19 +408,16 @@ module _ (setting : Setting) where
     abbrev follows : Follows setting w own
     follows = on.follows
 
+    abbrev job_now : (n inc : ℕ) → IsTold setting w own.actor own.step n inc → HasJob setting (done ++ own ∷ []) n inc
+    job_now n inc t =
+        record { front = done; own = own; behind = []; lies = refl; who = t.is; works = t.works; runs = t.runs; lives = t.lives }
+
     copy_now : (n inc : ℕ) → IsTold setting w own.actor own.step n inc → HearsFull (Handled w n) (w.servers n).own
         → HasEndedFull setting (done ++ own ∷ []) n inc
     copy_now n inc t h =
         let tells = kept.letters h.said.letter h.copy.op h.cell h.said.sent h.said.is in
         record {
-          front = done;
-          own = own;
-          behind = [];
-          lies = refl;
-          who = t.is;
-          works = t.works;
-          runs = t.runs;
-          lives = t.lives;
+          job = job_now n inc t;
           cell = h.cell;
           copy = h.copy;
           copying = h.copying;
@@ -435,14 +430,7 @@ module _ (setting : Setting) where
     fill_heard : (n inc : ℕ) → IsTold setting w own.actor own.step n inc → HearsFillFull (Handled w n) (own_place setting w n) (w.servers n).own
         → HasFilledFull setting (done ++ own ∷ []) n inc
     fill_heard n inc t h = record {
-      front = done;
-      own = own;
-      behind = [];
-      lies = refl;
-      who = t.is;
-      works = t.works;
-      runs = t.runs;
-      lives = t.lives;
+      job = job_now n inc t;
       key = h.key;
       row = h.row;
       next = h.next;

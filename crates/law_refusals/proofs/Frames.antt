@@ -23,6 +23,7 @@ use Rattle.petal_history.specs.Claims.{IsPrefix}
 use Rattle.law_steps.proofs.Fronts.{front_on}
 use Rattle.law_steps.proofs.Restages.{Was, was_same}
 use Rattle.law_refusals.specs.Reasons.{IsDeclined, IsNumbered, Refusals}
+use Rattle.law_refusals.proofs.Slots.{WereRefused}
 
 -- an operation was pending on the cell, in whatever stage, or has a number that was not given out before
 abbrev pub IsOldOrNew : Server → Cell → Pending → Type 0
@@ -112,10 +113,10 @@ still_declined R S setting w v more grows on letter number cell d =
       ];
     }
 
-module _ (R S : ℕ → ℕ → Type 0) (setting : Setting) (w : World) (more : (c seq : ℕ) → R c seq → S c seq) (refusals : Refusals R setting w) (n stamp : ℕ)
-    (what : Step) (acted : Acted) (step : StepRefuses S setting w n stamp acted)
-    (chosen : IsPrefix (w.servers n).log.applied (chosen_log setting w))
-    (grows : IsPrefix (chosen_log setting w) (chosen_log setting (acts setting w n what stamp acted).world)) where
+module _ (R S : ℕ → ℕ → Type 0) (it : WereRefused R S) (n stamp : ℕ) (what : Step) (acted : Acted) (step : StepRefuses S it.setting it.w n stamp acted)
+    (grows : IsPrefix (chosen_log it.setting it.w) (chosen_log it.setting (acts it.setting it.w n what stamp acted).world)) where
+  open it use {setting, w, firm, more, refusals}
+
   abbrev later : World
   later = (acts setting w n what stamp acted).world
 
@@ -133,7 +134,7 @@ module _ (R S : ℕ → ℕ → Type 0) (setting : Setting) (w : World) (more : 
         server = n;
         inc = (w.servers n).life.inc;
         front = (w.servers n).log.applied;
-        stands = front_on (w.servers n).log.applied _ _ chosen grows;
+        stands = front_on (w.servers n).log.applied _ _ (firm.servers n) grows;
         long = a.long;
         seated = a.seated;
         leads = a.leads;

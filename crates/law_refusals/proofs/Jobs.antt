@@ -6,7 +6,7 @@ use Rattle.petal_base.specs.declared.cell.Cell.{Cell}
 use Rattle.petal_base.specs.Cells.{cell_of}
 use Rattle.petal_table.specs.Table.{Table, at, put}
 use Rattle.petal_table.proofs.Rows.{at_same, at_apart}
-use Rattle.petal_msg.specs.Kinds.{is_logged, subject_of}
+use Rattle.petal_msg.specs.Kinds.{Copied, Filling, Refused, is_logged, subject_of}
 use Rattle.petal_msg.specs.declared.body.Body.{Body}
 use Rattle.petal_msg.specs.declared.body.Body.TheVariants as body
 use Rattle.petal_msg.specs.declared.letter.Actor.TheVariants as actor
@@ -53,7 +53,7 @@ use Rattle.law_steps.proofs.Subjects.{of_filler, of_read, of_second, of_sweep, t
 use Rattle.law_steps.proofs.Taking.{IsTaken, taking}
 use Rattle.law_refusals.specs.Reasons.{HadNoSlot, At_the_lead, At_the_second, Refusals}
 use Rattle.law_steps.proofs.Fronts.{one_front}
-use Rattle.law_refusals.proofs.Slots.{nobody, is_slot, is_of_slots, refusal_not_full, filling_not_full, logged_not_full, copied_not_full, tells_not_full}
+use Rattle.law_refusals.proofs.Slots.{nobody, is_slot, is_of_slots, not_full, logged_not_full, tells_not_full}
 use Rattle.law_refusals.proofs.Slots.{one_client, full_seq, AsksFor, TellsNone, JobRefuses, Scene, quiet, still}
 
 module _ (R S : ℕ → ℕ → Type 0) (scene : Scene R S) where
@@ -222,7 +222,7 @@ module _ (R S : ℕ → ℕ → Type 0) (scene : Scene R S) where
   -- copies leave what is pending and finished, and tell of no slots
   copied_refuses : (done : Done) → CopyFrame own done → J done.own done.posts
   copied_refuses done frame = still S scene.setting w n done.posts done.own frame.finished frame.next frame.pending
-      (λ post i. copied_not_full post.body (frame.says post i))
+      (λ post i. not_full post.body Copied (frame.says post i) refl)
 
   -- a pending operation goes on to its next stage
   restages_refuses : (done : Done) → Restages own done → J done.own done.posts
@@ -494,13 +494,13 @@ module _ (R S : ℕ → ℕ → Type 0) (scene : Scene R S) where
     pub job_refuses : (done : Done) → Did hears here own done → IsSeated here own done → J done.own done.posts
     unfolding In
     job_refuses _ Ignores seat = speaks _ (λ post i. absurd i)
-    job_refuses _ (Refuses to what is busy held) seat = speaks _ (λ post i. ap is_of_slots (one_post to what post i).1 ∙ refusal_not_full what is.refused)
+    job_refuses _ (Refuses to what is busy held) seat = speaks _ (λ post i. ap is_of_slots (one_post to what post i).1 ∙ not_full what Refused is.refused refl)
     job_refuses _ (By_read done d) seat = read_refuses done d
     job_refuses _ (By_lead done d) seat = lead_refuses done d seat
     job_refuses _ (By_second done d) seat = second_refuses done d
     job_refuses _ (By_holder done d) seat = copied_refuses done (of_holder hears here own done d)
     job_refuses _ (By_other done d) seat = copied_refuses done (of_other hears here own done d)
     job_refuses _ (By_filler done d) seat =
-        let frame = of_filler hears here own done d in kept_pairs done frame.pairs (λ post i. filling_not_full post.body (frame.says post i))
+        let frame = of_filler hears here own done d in kept_pairs done frame.pairs (λ post i. not_full post.body Filling (frame.says post i) refl)
     job_refuses _ (By_sweep done d) seat =
         let frame = of_sweep hears here own done d in kept_pairs done frame.pairs (λ post i. absurd (frame.silent post i))

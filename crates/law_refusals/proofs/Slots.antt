@@ -4,7 +4,7 @@ use Rattle.std.specs.Ordering.{nat_cmp}
 use Rattle.petal_base.specs.declared.cell.Cell.{Cell}
 use Rattle.petal_base.specs.declared.cell.Key.{Key}
 use Rattle.petal_table.specs.Table.{at}
-use Rattle.petal_msg.specs.Kinds.{Answered, Copied, Filling, Paired, Refused, is_logged, subject_of}
+use Rattle.petal_msg.specs.Kinds.{Answered, Paired, Subject, is_logged, subject_of}
 use Rattle.petal_msg.specs.declared.body.Body.{Body}
 use Rattle.petal_msg.specs.declared.body.Body.TheVariants as body
 use Rattle.petal_msg.specs.declared.letter.Actor.TheVariants as actor
@@ -44,17 +44,20 @@ is_of_slots (body.PairFull number cell) = true
 is_of_slots (body.Reserve number cell) = true
 is_of_slots _ = false
 
-pub refusal_not_full : (said : Body) → subject_of said ≡ Refused → is_of_slots said ≡ false
-refusal_not_full (body.Full seq) h = let f : Answered ≡ Refused = h in absurd cc
-refusal_not_full (body.PairFull number cell) h = let f : Paired ≡ Refused = h in absurd cc
-refusal_not_full (body.Reserve number cell) h = let f : Paired ≡ Refused = h in absurd cc
-refusal_not_full _ h = refl
+-- the subjects of which these are
+abbrev pub is_slot_subject : Subject → Bool
+is_slot_subject Answered = true
+is_slot_subject Paired = true
+is_slot_subject _ = false
 
-pub filling_not_full : (said : Body) → subject_of said ≡ Filling → is_of_slots said ≡ false
-filling_not_full (body.Full seq) h = let f : Answered ≡ Filling = h in absurd cc
-filling_not_full (body.PairFull number cell) h = let f : Paired ≡ Filling = h in absurd cc
-filling_not_full (body.Reserve number cell) h = let f : Paired ≡ Filling = h in absurd cc
-filling_not_full _ h = refl
+pub not_full : (said : Body) (subject : Subject) → subject_of said ≡ subject → is_slot_subject subject ≡ false → is_of_slots said ≡ false
+not_full said subject is other = by said (ap is_slot_subject is ∙ other)
+  where
+    by : (said : Body) → is_slot_subject (subject_of said) ≡ false → is_of_slots said ≡ false
+    by (body.Full seq) e = true_false refl e
+    by (body.PairFull number cell) e = true_false refl e
+    by (body.Reserve number cell) e = true_false refl e
+    by _ e = refl
 
 moved_not_full : (key : Key) (how : Ending) → is_of_slots (moved_as key how) ≡ false
 moved_not_full key ending.Written = refl
@@ -65,12 +68,6 @@ logged_not_full (body.Full seq) e = true_false e refl
 logged_not_full (body.PairFull number cell) e = true_false e refl
 logged_not_full (body.Reserve number cell) e = true_false e refl
 logged_not_full _ e = refl
-
-pub copied_not_full : (said : Body) → subject_of said ≡ Copied → is_of_slots said ≡ false
-copied_not_full (body.Full seq) e = let f : Answered ≡ Copied = e in absurd cc
-copied_not_full (body.PairFull number cell) e = let f : Paired ≡ Copied = e in absurd cc
-copied_not_full (body.Reserve number cell) e = let f : Paired ≡ Copied = e in absurd cc
-copied_not_full _ e = refl
 
 pub tells_not_full : (here : Here) (new : Own) (cell : Cell) (number : ℕ) (how : Far) (post : Post) → In post (tells here new cell number how).posts
     → is_of_slots post.body ≡ false
@@ -111,17 +108,21 @@ pub record JobRefuses (S : ℕ → ℕ → Type 0) (setting : Setting) (w : Worl
   pub declined : (post : Post) (number : ℕ) (cell : Cell) → In post posts → post.body ≡ body.PairFull number cell
       → TellsNone S setting w n post number cell
 
--- a job of a running server in a world where R holds of each request that was refused so far, which implies what is to hold after
--- the job
-pub record Scene (R S : ℕ → ℕ → Type 0) : Type 0 where
+-- a world where R holds of each request that was refused so far, which implies what is to hold after the next step
+pub record WereRefused (R S : ℕ → ℕ → Type 0) : Type 0 where
   pub setting : Setting
   pub w : World
   pub firm : Firm setting w
   pub rests : Rests setting w
-  pub n : ℕ
-  pub runs : (w.servers n).life.running ≡ true
   pub more : (c seq : ℕ) → R c seq → S c seq
   pub refusals : Refusals R setting w
+
+-- a job of a running server in it
+pub record Scene (R S : ℕ → ℕ → Type 0) : Type 0 where
+  pub were : WereRefused R S
+  pub open were use *
+  pub n : ℕ
+  pub runs : (w.servers n).life.running ≡ true
 
 -- a job that refuses nothing
 module _ (S : ℕ → ℕ → Type 0) (setting : Setting) (w : World) (n : ℕ) where

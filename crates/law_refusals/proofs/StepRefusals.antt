@@ -49,7 +49,7 @@ use Rattle.law_steps.proofs.Serving.{server_serves}
 use Rattle.law_steps.proofs.Turning.{client_turns, is_call}
 use Rattle.law_refusals.specs.Reasons.{HadNoSlot, Refusals}
 use Rattle.law_refusals.proofs.Frames.{GoesOn, StepRefuses, still_declined, still_numbered, still_on, step_refusals}
-use Rattle.law_refusals.proofs.Slots.{JobRefuses, Scene, is_of_slots}
+use Rattle.law_refusals.proofs.Slots.{JobRefuses, Scene, WereRefused, is_of_slots}
 use Rattle.law_refusals.proofs.Jobs.{asks_refuses, job_refuses, kept_refuses}
 
 -- ### Steps
@@ -94,10 +94,11 @@ glanced_not_full (body.PairFull number cell) e = absurd (let f : Paired ≡ Glan
 glanced_not_full (body.Reserve number cell) e = absurd (let f : Paired ≡ Glanced = e in cc)
 glanced_not_full _ e = refl
 
-module _ (R S : ℕ → ℕ → Type 0) (setting : Setting) (w : World) (firm : Firm setting w) (rests : Rests setting w)
-    (more : (c seq : ℕ) → R c seq → S c seq) (refusals : Refusals R setting w) (n stamp : ℕ) where
+module _ (R S : ℕ → ℕ → Type 0) (it : WereRefused R S) (n stamp : ℕ) where
+  open it use {setting, w, firm, rests, more, refusals}
+
   abbrev scene : (w.servers n).life.running ≡ true → Scene R S
-  scene runs = record { setting = setting; w = w; firm = firm; rests = rests; n = n; runs = runs; more = more; refusals = refusals }
+  scene runs = record { were = it; n = n; runs = runs }
 
   abbrev here : Server
   here = w.servers n
@@ -260,15 +261,9 @@ module _ (R S : ℕ → ℕ → Type 0) (setting : Setting) (w : World) (firm : 
       job_on either done.own done.posts
       (job_refuses R either
       (record {
-        setting = setting;
-        w = w;
-        firm = firm;
-        rests = rests;
+        were = record { setting = setting; w = w; firm = firm; rests = rests; more = λ c seq r. inl (more c seq r); refusals = refusals };
         n = n;
         runs = runs;
-        more = λ c seq r. inl (more c seq r);
-        refusals =
-            refusals;
       })
       (λ c seq h. inr h) done did seat) _ refl refl
   worked_on runs _ _ (By_ballot log started posts same starts says) =
@@ -313,12 +308,12 @@ module _ (setting : Setting) where
       → Refusals R setting w → Refusals S setting (step who what setting w stamp).world
   unfolding step
   step_kept R S w firm rests (actor.Server n) Blank stamp may later grows more now refusals =
-      step_refusals R S setting w more refusals n stamp Blank _ (blanked_refuses R S setting w firm rests more refusals n stamp may.1.rests)
-      (firm.servers n) grows
+      let it : WereRefused R S = record { setting = setting; w = w; firm = firm; rests = rests; more = more; refusals = refusals } in
+      step_refusals R S it n stamp Blank _ (blanked_refuses R S it n stamp may.1.rests) grows
   step_kept R S w firm rests (actor.Server n) what stamp may later grows more now refusals =
-      step_refusals R S setting w more refusals n stamp what _
-      (serves_refuse R S setting w firm rests more refusals n stamp what now _
-      (server_serves setting w rests firm n (own_steady setting w firm n) stamp what refl may.1 later)) (firm.servers n) grows
+      let it : WereRefused R S = record { setting = setting; w = w; firm = firm; rests = rests; more = more; refusals = refusals } in
+      step_refusals R S it n stamp what _ (serves_refuse R S it n stamp what now _
+      (server_serves setting w rests firm n (own_steady setting w firm n) stamp what refl may.1 later)) grows
   step_kept R S w firm rests (actor.Client c) what stamp may later grows more now refusals =
       turn_refusals R S setting w c stamp (is_call what)
       (client_step what (client_state setting w c) c (w.clients c) (next_line setting.lines c (w.clients c))) more refusals

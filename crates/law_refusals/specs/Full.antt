@@ -54,9 +54,8 @@ pub record WasTold (setting : Setting) (records : List Record) (letter : Letter)
   pub sent : In letter own.sent
   pub reason : HadNoRoom setting (world_after setting (start setting) front) own.actor own.step holder number cell
 
--- one of these records tells of a job of the server, as this incarnation, in which it heard that the copy which was under way on a cell
--- found no slot for its next entry; and of the earlier step that sent the letter
-pub record HasEndedFull (setting : Setting) (records : List Record) (server inc : ℕ) : Type 0 where
+-- one of these records tells of a job of the server, as this incarnation
+pub record HasJob (setting : Setting) (records : List Record) (server inc : ℕ) : Type 0 where
   pub front : List Record
   pub own : Record
   pub behind : List Record
@@ -65,6 +64,12 @@ pub record HasEndedFull (setting : Setting) (records : List Record) (server inc 
   pub works : own.step ≡ Work work_end.Done
   pub runs : ((world_after setting (start setting) front).servers server).life.running ≡ true
   pub lives : ((world_after setting (start setting) front).servers server).life.inc ≡ inc
+
+-- such a job, in which the server heard that the copy which was under way on a cell
+-- found no slot for its next entry; and of the earlier step that sent the letter
+pub record HasEndedFull (setting : Setting) (records : List Record) (server inc : ℕ) : Type 0 where
+  pub job : HasJob setting records server inc
+  pub open job use *
   pub cell : Cell
   pub copy : Copying
   pub copying : copying_on ((world_after setting (start setting) front).servers server).own cell ≡ Some copy
@@ -95,17 +100,11 @@ pub record WasDeclined (setting : Setting) (records : List Record) (letter : Let
   pub sent : In letter own.sent
   pub reason : HadNoFill setting (world_after setting (start setting) front) own.actor own.step key
 
--- one of these records tells of a job of the server, as this incarnation, in which it heard that there is no slot for the next entry of a link
+-- such a job, in which the server heard that there is no slot for the next entry of a link
 -- that it is to move; and of the earlier step that sent the letter
 pub record HasFilledFull (setting : Setting) (records : List Record) (server inc : ℕ) : Type 0 where
-  pub front : List Record
-  pub own : Record
-  pub behind : List Record
-  pub lies : records ≡ front ++ own ∷ behind
-  pub who : own.actor ≡ actor.Server server
-  pub works : own.step ≡ Work work_end.Done
-  pub runs : ((world_after setting (start setting) front).servers server).life.running ≡ true
-  pub lives : ((world_after setting (start setting) front).servers server).life.inc ≡ inc
+  pub job : HasJob setting records server inc
+  pub open job use *
   pub key : Key
   pub row : LinkRow
   pub next : IsNextKey (own_place setting (world_after setting (start setting) front) server)

@@ -32,13 +32,27 @@ use Rattle.law_requests.proofs.Later.{either_front, one_log}
 use Rattle.law_requests.proofs.Leads.{Takes, alone_leads, leader_alone, led_at_place, led_while, one_lead, takes_later}
 use Rattle.law_requests.proofs.Running.{open_or, upto_chosen}
 
-module _ (setting : Setting) (w : World) (firm : Firm setting w) (lives : Lives) (n inc : ℕ) (want : Wanted) (rev : ℕ)
-    (p : PendingFor setting (seen lives w) n inc want rev) (m : ℕ) (runs : (w.servers m).life.running ≡ true)
-    (seat : is_in (server_state setting w m) m (w.servers m).life.inc ≡ true) (row : LinkRow)
-    (there : cell_link (server_state setting w m) want.cell ≡ Some row)
-    (has : has_server m row ≡ true) (both : row.state ≡ Both) (known : cell_link (state_after setting.servers p.upto) want.cell ≡ Some row)
-    (place : places_from (start setting.servers) (w.servers m).log.applied row ≡ places_from (start setting.servers) p.upto row)
-    (most : stage_at (chosen_state setting w) want.cell ≤ 2) where
+-- the request, and the server beside it
+pub record IsBeside (setting : Setting) (w : World) (lives : Lives) : Type 0 where
+  pub n : ℕ
+  pub inc : ℕ
+  pub want : Wanted
+  pub rev : ℕ
+  pub p : PendingFor setting (seen lives w) n inc want rev
+  pub m : ℕ
+  pub runs : (w.servers m).life.running ≡ true
+  pub seat : is_in (server_state setting w m) m (w.servers m).life.inc ≡ true
+  pub row : LinkRow
+  pub there : cell_link (server_state setting w m) want.cell ≡ Some row
+  pub has : has_server m row ≡ true
+  pub both : row.state ≡ Both
+  pub known : cell_link (state_after setting.servers p.upto) want.cell ≡ Some row
+  pub place : places_from (start setting.servers) (w.servers m).log.applied row ≡ places_from (start setting.servers) p.upto row
+  pub most : stage_at (chosen_state setting w) want.cell ≤ 2
+
+module _ (setting : Setting) (w : World) (firm : Firm setting w) (lives : Lives) (it : IsBeside setting w lives) where
+  open it use {n, inc, want, rev, p, m, runs, seat, row, there, has, both, known, place, most}
+
   abbrev own : List Command
   own = (w.servers m).log.applied
 

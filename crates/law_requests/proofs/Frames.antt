@@ -120,17 +120,7 @@ pub record IsStepped (scene : Scene) (n : ℕ) (new : Server) : Type 0 where
 -- ### The world after a server's step
 
 module _ (scene : Scene) (n stamp : ℕ) (what : Step) (acted : Acted) (step : IsStepped scene n acted.server) where
-  abbrev setting : Setting
-  setting = scene.setting
-
-  abbrev w : World
-  w = scene.w
-
-  abbrev lives : Lives
-  lives = scene.lives
-
-  abbrev asking : AskingBy setting w lives
-  asking = scene.asking
+  open scene use {setting, w, lives, asking}
 
   abbrev later : World
   later = (acts setting w n what stamp acted).world

@@ -51,7 +51,7 @@ use Rattle.law_requests.proofs.Later.{one_log}
 use Rattle.law_requests.proofs.Lives.{IsSince, no_earlier, ran_now, since_on}
 use Rattle.law_requests.proofs.Running.{IsUnleft, PendingHere, RemembersCaughts, chosen_front, late_where, own_front, open_running, pending_here, unleft_now}
 use Rattle.law_requests.proofs.Stepping.{GoesOn, happens_asking, happens_later}
-use Rattle.law_requests.proofs.Stopped.{HaveRun, open_in_both, open_led, open_secondary}
+use Rattle.law_requests.proofs.Stopped.{HadPending, HaveRun, open_in_both, open_led, open_secondary}
 
 -- ### The start
 
@@ -392,12 +392,17 @@ module _ (setting : Setting) (w : World) (firm : Firm setting w) (rests : Rests 
   are_open run remembers = record {
     running = running_open;
     led = λ n leader cell op is clients led still no_other.
-        open_led setting w firm lives run n (asked_for cell op) op.rev (here n cell op is clients) (remembers n) leader led still no_other;
+        open_led setting w firm lives run n (had n cell op is clients) leader led still no_other;
     in_both = λ n cell op is clients both.
-        open_in_both setting w firm lives run n (asked_for cell op) op.rev (here n cell op is clients) (remembers n) both;
+        open_in_both setting w firm lives run n (had n cell op is clients) both;
     beside = λ n m leader cell op is clients one two led still apart.
-        open_secondary setting w firm lives run n (asked_for cell op) op.rev (here n cell op is clients) (remembers n) m leader one two led still apart;
+        open_secondary setting w firm lives run n (had n cell op is clients) m leader one two led still apart;
   }
+    where
+      had : (n : ℕ) (cell : Cell) (op : Pending) → at cell_cmp (w.servers n).own.pairs.pending cell ≡ Some op → is_clients op.kind ≡ true
+          → HadPending setting w lives n
+      had n cell op is clients =
+          record { want = asked_for cell op; rev = op.rev; p = here n cell op is clients; remembers = remembers n }
 
 pub requests_after : (script : Script) (records : List Record) → IsSound script → AreFirm (setting_of script) (start (setting_of script)) records
     → IsLegal script records

@@ -5,61 +5,33 @@ use Rattle.petal_base.specs.declared.cell.Cell.{Cell}
 use Rattle.petal_table.specs.Table.{at}
 use Rattle.petal_command.specs.declared.command.Command.{Command}
 use Rattle.petal_msg.specs.Kinds.{is_logged, subject_of}
-use Rattle.petal_msg.specs.declared.body.Body.{Body}
-use Rattle.petal_msg.specs.declared.letter.Actor.{Actor}
 use Rattle.petal_state.specs.Command.{state_after}
 use Rattle.petal_rules.specs.Lists.{In}
 use Rattle.petal_rules.specs.State.{coming}
 use Rattle.petal_rules.specs.Store.{cell_cmp}
-use Rattle.petal_rules.specs.Server.{Own, Here, Pairs, Post, Done}
-use Rattle.petal_rules.specs.World.{Setting, World}
+use Rattle.petal_rules.specs.Server.{Own, Pairs, Post, Done}
 use Rattle.law_state.specs.Plain.{IsPlainLog}
 use Rattle.law_steps.specs.Operations.{done_to}
 use Rattle.law_steps.specs.DidRead.{DidRead, Not_here, Shows as Shows_data}
 use Rattle.law_steps.specs.DidSecond.{DidSecond}
 use Rattle.law_steps.specs.Did.{Did, Ignores, Refuses, By_read, By_lead, By_second, By_holder, By_other, By_filler, By_sweep}
-use Rattle.law_steps.specs.Happens.{Handled, IsSeated, own_place}
+use Rattle.law_steps.specs.Happens.{IsSeated}
 use Rattle.law_steps.proofs.Letters.{one_post}
 use Rattle.law_steps.proofs.Restages.{was_same}
 use Rattle.law_steps.proofs.CopyFrames.{CopyFrame, of_holder, of_other}
 use Rattle.law_steps.proofs.Subjects.{of_filler, of_second, of_sweep}
 use Rattle.law_requests.specs.Asked.{IsRead}
-use Rattle.law_requests.specs.Known.{Lives, seen, NothingKnown, ReadKnown}
-use Rattle.law_requests.specs.Known.{AskingBy}
+use Rattle.law_requests.specs.Known.{seen, NothingKnown, ReadKnown}
 use Rattle.law_requests.proofs.Cells.{coming_untold}
-use Rattle.law_requests.proofs.Frames.{SaysOk, Scene}
+use Rattle.law_requests.proofs.Frames.{Scene}
 use Rattle.law_requests.proofs.Later.{tells_request, logged_untold}
 use Rattle.law_requests.proofs.Running.{own_front}
-use Rattle.law_requests.proofs.LeadJobs.{Shows, calm, known_of, lead_tells, nothing_said, refusal_said, says_any, says_as, speaks}
+use Rattle.law_requests.proofs.LeadJobs.{at_work, calm, known_of, lead_tells, nothing_said, refusal_said, says_any, says_as, speaks}
 use Rattle.law_steps.proofs.Histories.{own_plain}
 
 module _ (scene : Scene) (n : ℕ) (runs : (scene.w.servers n).life.running ≡ true) where
-  abbrev setting : Setting
-  setting = scene.setting
-
-  abbrev w : World
-  w = scene.w
-
-  abbrev lives : Lives
-  lives = scene.lives
-
-  abbrev asking : AskingBy setting w lives
-  asking = scene.asking
-
-  abbrev here : Here
-  here = own_place setting w n
-
-  abbrev own : Own
-  own = (w.servers n).own
-
-  abbrev J : Own → List Post → Type 0
-  J new posts = Shows setting w lives n new posts
-
-  abbrev S : Own → Actor → Body → Type 0
-  S new to said = SaysOk setting w lives n new to said
-
-  abbrev hears : Body → Type 0
-  hears = Handled w n
+  open scene use {setting, w, lives, asking}
+  open at_work scene n use {here, own, J, S, hears}
 
   abbrev own_log : List Command
   own_log = (w.servers n).log.applied

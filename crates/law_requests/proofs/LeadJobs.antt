@@ -72,33 +72,26 @@ known_of setting w lives asking n said h =
     (subst (λ (r : ℕ). Known setting (seen lives w) h.letter.from (actor.Server n) r h.letter.body) h.at
     (subst (λ (a : Actor). Known setting (seen lives w) h.letter.from a h.letter.rev h.letter.body) h.own (asking.letters h.letter h.sent)))
 
+-- a server at its work, and what a job has to show of what it leaves and says
+pub record AtWork : Type 1 where
+  pub here : Here
+  pub own : Own
+  pub hears : Body → Type 0
+  pub J : Own → List Post → Type 0
+  pub S : Own → Actor → Body → Type 0
+
+abbrev pub at_work : Scene → ℕ → AtWork
+at_work scene n = record {
+  here = own_place scene.setting scene.w n;
+  own = (scene.w.servers n).own;
+  hears = Handled scene.w n;
+  J = λ new posts. Shows scene.setting scene.w scene.lives n new posts;
+  S = λ new to said. SaysOk scene.setting scene.w scene.lives n new to said;
+}
+
 module _ (scene : Scene) (n : ℕ) (runs : (scene.w.servers n).life.running ≡ true) where
-  abbrev setting : Setting
-  setting = scene.setting
-
-  abbrev w : World
-  w = scene.w
-
-  abbrev lives : Lives
-  lives = scene.lives
-
-  abbrev asking : AskingBy setting w lives
-  asking = scene.asking
-
-  abbrev here : Here
-  here = own_place setting w n
-
-  abbrev own : Own
-  own = (w.servers n).own
-
-  abbrev J : Own → List Post → Type 0
-  J new posts = Shows setting w lives n new posts
-
-  abbrev S : Own → Actor → Body → Type 0
-  S new to said = SaysOk setting w lives n new to said
-
-  abbrev hears : Body → Type 0
-  hears = Handled w n
+  open scene use {setting, w, lives, asking}
+  open at_work scene n use {here, own, J, S, hears}
 
   -- the server is In as itself
   abbrev IsSeat : Type 0

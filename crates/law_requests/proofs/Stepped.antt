@@ -19,7 +19,7 @@ use Rattle.petal_rules.specs.Server.{Own, Copies, Pairs, Server, Done, no_pairs}
 use Rattle.petal_rules.specs.State.{id_of, is_in, link_cmp}
 use Rattle.petal_rules.specs.Store.{cell_cmp}
 use Rattle.petal_rules.specs.Writes.{Wanted}
-use Rattle.petal_rules.specs.World.{Setting, World, chosen_log, server_state}
+use Rattle.petal_rules.specs.World.{chosen_log, server_state}
 use Rattle.petal_rules.specs.declared.step.Step.{Step}
 use Rattle.petal_rules.proofs.Settled.{settling}
 use Rattle.petal_rules.proofs.Tests.{none_some, true_false}
@@ -35,8 +35,8 @@ use Rattle.law_steps.proofs.Fronts.{front_itself, front_on, front_same}
 use Rattle.law_steps.proofs.Histories.{own_plain, runs_at}
 use Rattle.law_steps.proofs.Histories.{proposed_pairs}
 use Rattle.law_steps.proofs.Restages.{was_same}
-use Rattle.law_requests.specs.Known.{Lives, LedBy, done_by, IsLedAlong}
-use Rattle.law_requests.specs.Known.{asked_for, IsUsed, Has_pending, Has_finished, AskingBy}
+use Rattle.law_requests.specs.Known.{LedBy, done_by, IsLedAlong}
+use Rattle.law_requests.specs.Known.{asked_for, IsUsed, Has_pending, Has_finished}
 use Rattle.law_requests.proofs.Ended.{bound_now, pending_new, rises}
 use Rattle.law_requests.proofs.Frames.{Scene, IsSettled, IsStepped}
 use Rattle.law_requests.proofs.Jobs.{job_tells, kept_tells}
@@ -47,17 +47,7 @@ use Rattle.law_requests.proofs.Minds.{worked_flags}
 use Rattle.law_requests.proofs.Running.{PendingHere, here_along, here_led, pending_here, remembers_running}
 
 module _ (scene : Scene) (ready : Ready scene.setting scene.state scene.w) (n stamp : ℕ) (what : Step) where
-  abbrev setting : Setting
-  setting = scene.setting
-
-  abbrev w : World
-  w = scene.w
-
-  abbrev lives : Lives
-  lives = scene.lives
-
-  abbrev asking : AskingBy setting w lives
-  asking = scene.asking
+  open scene use {setting, w, lives, asking}
 
   -- what an entry leaves of the server's own part
   abbrev entered : Command → Own

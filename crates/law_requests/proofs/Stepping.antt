@@ -77,17 +77,7 @@ downs_untold n inc servers post i = ap (λ (b : Body). tells_request (subject_of
     (said_to_all (body.Down n inc) (filter (λ k. not (k == n)) (range_with_len 0 servers)) post i)
 
 module _ (scene : Scene) (ready : Ready scene.setting scene.state scene.w) (n stamp : ℕ) (what : Step) where
-  abbrev setting : Setting
-  setting = scene.setting
-
-  abbrev w : World
-  w = scene.w
-
-  abbrev lives : Lives
-  lives = scene.lives
-
-  abbrev asking : AskingBy setting w lives
-  asking = scene.asking
+  open scene use {setting, w, lives, asking}
 
   abbrev after : Acted → World
   after acted = (acts setting w n what stamp acted).world

@@ -69,9 +69,17 @@ no_other_holds setting w firm n m cell one two apart other ne = by_bool (is_alon
     ])
     (λ no. no)
 
+-- a request that a server had pending, which remembers the ballots for Caught of the incarnation that ran last
+pub record HadPending (setting : Setting) (w : World) (lives : Lives) (n : ℕ) : Type 0 where
+  pub want : Wanted
+  pub rev : ℕ
+  pub p : PendingHere setting w lives n want rev
+  pub remembers : RemembersCaughts setting w n (lives.ran n)
+
 module _ (setting : Setting) (w : World) (firm : Firm setting w) (lives : Lives) (run : HaveRun setting w lives) (n : ℕ)
-    (want : Wanted)
-    (rev : ℕ) (p : PendingHere setting w lives n want rev) (remembers : RemembersCaughts setting w n (lives.ran n)) where
+    (had : HadPending setting w lives n) where
+  open had use {want, rev, p, remembers}
+
   abbrev inc : ℕ
   inc = lives.ran n
 

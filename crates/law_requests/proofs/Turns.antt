@@ -49,17 +49,7 @@ module _ (scene : Scene) (c stamp : ℕ) (reacted : Reaction)
     (turn : TurnOk scene.setting scene.w scene.lives (seen_with scene.lives scene.w (reacts scene.w c stamp reacted).world.sent c reacted.client)
     c reacted.client reacted.posts)
     (onward : IsOnward scene.setting.servers scene.state (scene.w.clients c).applied reacted.client.applied) where
-  abbrev setting : Setting
-  setting = scene.setting
-
-  abbrev w : World
-  w = scene.w
-
-  abbrev lives : Lives
-  lives = scene.lives
-
-  abbrev asking : AskingBy setting w lives
-  asking = scene.asking
+  open scene use {setting, w, lives, asking}
 
   abbrev later : World
   later = (reacts w c stamp reacted).world

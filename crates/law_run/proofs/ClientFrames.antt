@@ -19,7 +19,6 @@ use Rattle.petal_msg.specs.declared.operation.Finished.{Finished}
 use Rattle.petal_msg.specs.declared.operation.Pending.{Pending}
 use Rattle.script_lines.specs.declared.request.Line.{Line}
 use Rattle.petal_rules.specs.Lists.{In}
-use Rattle.petal_rules.specs.State.{State}
 use Rattle.petal_rules.specs.Store.{Chain, cell_cmp, chain_in}
 use Rattle.petal_rules.specs.Server.{Post, letters_of}
 use Rattle.petal_rules.specs.Clients.{Client, Reaction, client_sender}
@@ -38,13 +37,14 @@ use Rattle.law_copies.specs.Pair.{owns_of}
 use Rattle.law_requests.specs.Asked.{IsOpen}
 use Rattle.law_requests.specs.Known.{Known, EndKnownAt, seen}
 use Rattle.law_run.specs.Onward.{IsMindful, held_in, is_held, Seat}
-use Rattle.law_run.specs.Follow.{Ground, HasCounted, Is_told, Is_followed, Is_counted, Follow}
-use Rattle.law_run.proofs.Along.{Along, rows_in, disks_now}
+use Rattle.law_run.specs.Follow.{HasCounted, Is_told, Is_followed, Is_counted, Follow}
+use Rattle.law_run.proofs.Along.{rows_in, disks_now}
 use Rattle.law_run.proofs.Freezes.{no_freezes}
 use Rattle.law_run.proofs.Looks.{is_looked, no_look}
 use Rattle.law_run.proofs.Makes.{drop_all}
 use Rattle.law_run.proofs.Members.{all_empty}
 use Rattle.law_run.proofs.Takes.{no_takes}
+use Rattle.law_run.proofs.Scenes.{Followed}
 
 -- ### What clients send has no data
 
@@ -68,13 +68,8 @@ pub record TurnFollow (w : World) (m k : Plain) (c : ℕ) (client : Client) : Ty
 
 -- a client's step, at a state from what is chosen on: the world and the machine before it, and the records after it
 pub record ClientStep : Type 0 where
-  pub setting : Setting
-  pub state : State
-  pub w : World
-  pub m : Plain
-  pub along : Along setting state w
-  pub ground : Ground setting state w
-  pub follow : Follow setting (rows_in setting w) w m
+  pub told : Followed
+  pub open told use *
   pub c : ℕ
   pub stamp : ℕ
   pub later : List Record

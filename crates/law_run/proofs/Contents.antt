@@ -7,7 +7,7 @@ use Rattle.petal_machine.specs.declared.event.Write.{Write}
 use Rattle.petal_machine.specs.Machine.{Plain, content, disk_of, open_of}
 use Rattle.petal_machine.specs.Run.{IsOpen as IsUnderWay, Obeys, replay}
 use Rattle.petal_rules.specs.Lists.{In}
-use Rattle.petal_rules.specs.World.{World, chosen_state, counted}
+use Rattle.petal_rules.specs.World.{chosen_state, counted}
 use Rattle.petal_rules.proofs.Tests.{none_some, same_some}
 use Rattle.petal_history.specs.Contents.{content_at, content_where, has_content_at, has_content_where}
 use Rattle.petal_history.specs.Events.{Change, change_by, before_step, blocks_in, had_content, open_write, takes}
@@ -17,12 +17,11 @@ use Rattle.law_run.proofs.Along.{rows_in, disks_now}
 use Rattle.law_run.proofs.Frames.{OwnFollow, SaysOk, CountsOk, own_follow}
 use Rattle.law_run.proofs.Machine.{IsTake, Nearly, AllTaken, all_taken, seat_onward, stands_held}
 use Rattle.law_run.proofs.Snapshots.{snapshots_on}
-use Rattle.law_run.proofs.Steps.{ServerStep, TakesTold, new, later_world}
+use Rattle.law_run.proofs.Steps.{ServerStep, TakesTold, ends_of, new}
 use Rattle.law_run.proofs.Takes.{Gives, IsAsBefore, AreTold, takes_told}
 
 module _ (this : ServerStep) where
-  abbrev v : World
-  v = later_world this
+  open ends_of this use {v}
 
   abbrev rows : List DiskRow
   rows = rows_in this.setting this.w

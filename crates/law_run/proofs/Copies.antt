@@ -16,9 +16,8 @@ use Rattle.petal_rules.specs.Copies.{epochs_beyond}
 use Rattle.petal_rules.specs.Server.{Own}
 use Rattle.petal_rules.specs.State.{State, authority, id_of, live}
 use Rattle.petal_rules.specs.Store.{Chain}
-use Rattle.petal_rules.specs.World.{Setting, World, chosen_log, chosen_state, kept, server_state}
+use Rattle.petal_rules.specs.World.{chosen_log, chosen_state, kept, server_state}
 use Rattle.petal_rules.proofs.Tests.{by_bool, none_some, same_numbers, same_some}
-use Rattle.law_state.specs.Firm.{Firm}
 use Rattle.law_state.specs.Rows.{IsLater}
 use Rattle.law_state.specs.Started.{is_flagged}
 use Rattle.law_state.proofs.Caughts.{alone_by}
@@ -34,9 +33,9 @@ use Rattle.law_copies.proofs.Lasts.{of_last, past_last, past_of}
 use Rattle.law_copies.proofs.Later.{alone_or_flagged, been_below, holder_is_one, other_than, unseen_beyond}
 use Rattle.law_copies.proofs.Others.{IsOther, held_by, other_apart}
 use Rattle.law_copies.proofs.Places.{fronts_meet, one_row, places_up, rows_later, alive_on, linked_alive}
-use Rattle.law_run.specs.Follow.{Ground}
 use Rattle.law_moves.proofs.Chains.{CopiesSo, Is_put, Is_dropped, Is_dropped_first, PutsCopy}
 use Rattle.law_run.proofs.Seats.{IsSharing, visit_here, alive_here}
+use Rattle.law_run.proofs.Scenes.{Grounded}
 
 -- ### The block is left to copy at the holder
 
@@ -82,9 +81,10 @@ nothing_left own caught (inr whole) = caught.copied whole.0 whole.1
 pub counted_lives : (state : State) (cell : Cell) (n : ℕ) → authority state cell ≡ Some n → live state cell ≡ true
 counted_lives state cell n counts = by_bool (live state cell) (λ t. t) (λ f. none_some (dead_authority state cell f) counts)
 
-module _ (setting : Setting) (state : State) (w : World) (firm : Firm setting w) (ground : Ground setting state w) (n : ℕ)
-    (runs : (w.servers n).life.running ≡ true) (new : Own)
-    (puts : PutsCopy (Handled w n) (own_place setting w n) (owns_of w n) new) (alive : AliveIn (chosen_state setting w) puts.cell) where
+module _ (g : Grounded) (n : ℕ) (runs : (g.w.servers n).life.running ≡ true) (new : Own)
+    (puts : PutsCopy (Handled g.w n) (own_place g.setting g.w n) (owns_of g.w n) new) (alive : AliveIn (chosen_state g.setting g.w) puts.cell) where
+  open g use {setting, w, firm, ground}
+
   abbrev chosen : List Command
   chosen = chosen_log setting w
 
@@ -122,7 +122,7 @@ module _ (setting : Setting) (state : State) (w : World) (firm : Firm setting w)
   place = place_by setting (own_front n) link
 
   own_alive : AliveIn (server_state setting w n) cell
-  own_alive = alive_here setting state w firm ground n cell alive
+  own_alive = alive_here g n cell alive
 
   -- what the holder was at the place
   abbrev visit : Option Own
@@ -141,7 +141,7 @@ module _ (setting : Setting) (state : State) (w : World) (firm : Firm setting w)
   other = other_than h n link holds there.1.one_of (by_bool (h == n) (λ t. absurd (apart (same_numbers h n t))) (λ f. f))
 
   own_visit : ground.good.visits (other_of h link) place cell ≡ Some (owns_of w n)
-  own_visit = ap (λ k. ground.good.visits k place cell) other ∙ visit_here setting state w firm ground n cell link runs puts.seat there.1.is own_alive
+  own_visit = ap (λ k. ground.good.visits k place cell) other ∙ visit_here g n cell link runs puts.seat there.1.is own_alive
 
   abbrev links : ℕ
   links = links_of (server_state setting w n) cell.map
@@ -211,7 +211,7 @@ module _ (setting : Setting) (state : State) (w : World) (firm : Firm setting w)
       ]
 
   -- and it is not the second one of a server that has the link in Both by its own state
-  pub copied_unfollowed : (p : ℕ) (row : LinkRow) → IsSharing setting state w firm ground p cell row → p ≢ n → ⊥
+  pub copied_unfollowed : (p : ℕ) (row : LinkRow) → IsSharing g p cell row → p ≢ n → ⊥
   copied_unfollowed p row s apart =
       let c = copied_to in
       elim (fronts_meet (own_front n) (own_front p) chosen (firm.servers n) (firm.servers p)) [

@@ -11,7 +11,7 @@ use Rattle.petal_state.specs.CellState.{serves}
 use Rattle.petal_history.specs.Claims.{IsPrefix}
 use Rattle.petal_rules.specs.Server.{Own}
 use Rattle.petal_rules.specs.State.{id_of}
-use Rattle.petal_rules.specs.World.{World, chosen_log, chosen_state}
+use Rattle.petal_rules.specs.World.{chosen_state}
 use Rattle.petal_rules.proofs.Tests.{true_false}
 use Rattle.law_state.specs.Joins.{HasJoinedSince}
 use Rattle.law_state.specs.Places.{IsCaughtStill}
@@ -21,17 +21,10 @@ use Rattle.law_steps.proofs.Fronts.{front_itself, front_more, front_on}
 use Rattle.law_copies.specs.Visits.{IsLinked, Visits, place_by, AliveIn}
 use Rattle.law_copies.proofs.Places.{place_of_later, place_touched, places_up, alive_on}
 use Rattle.law_run.proofs.Joined.{IsUncaught, more_joins, serves_none}
-use Rattle.law_run.proofs.Steps.{ServerStep, joined_now, joined_then, later_world, logs_within}
+use Rattle.law_run.proofs.Steps.{ServerStep, ends_of, joined_now, joined_then, logs_within}
 
 module _ (this : ServerStep) where
-  abbrev v : World
-  v = later_world this
-
-  abbrev top : List Command
-  top = chosen_log this.setting this.w
-
-  abbrev end : List Command
-  end = chosen_log this.setting v
+  open ends_of this use {v, top, end}
 
   plain_end : IsPlainLog this.setting.servers end
   plain_end = this.next.firm.plain

@@ -12,19 +12,20 @@ use Rattle.petal_state.specs.CellState.{has_map, source}
 use Rattle.petal_rules.specs.Lists.{In}
 use Rattle.petal_rules.specs.State.{State, authority}
 use Rattle.petal_rules.specs.Store.{Chain, chain_in}
-use Rattle.petal_rules.specs.World.{Setting, World, chosen_log, chosen_state, kept}
+use Rattle.petal_rules.specs.World.{chosen_log, chosen_state, kept}
 use Rattle.law_state.specs.Below.{IsServing}
-use Rattle.law_state.specs.Firm.{Firm}
 use Rattle.law_state.specs.Homes.{stage_at}
 use Rattle.law_steps.specs.Ready.{IsRising}
 use Rattle.law_moves.specs.Fills.{Has, IsFrozen}
-use Rattle.law_run.specs.Follow.{Ground}
 use Rattle.law_run.proofs.Along.{disks_now, plain_now, rows_in}
 use Rattle.law_run.proofs.Counting.{counts_serves}
 use Rattle.law_run.proofs.Overlay.{IsFill}
 use Rattle.law_run.proofs.Sources.{source_here, source_stays}
+use Rattle.law_run.proofs.Scenes.{Grounded}
 
-module _ (setting : Setting) (state : State) (w : World) (firm : Firm setting w) (ground : Ground setting state w) where
+module _ (g : Grounded) where
+  open g use {setting, w, firm, ground}
+
   abbrev chosen : State
   chosen = chosen_state setting w
 
@@ -34,9 +35,22 @@ module _ (setting : Setting) (state : State) (w : World) (firm : Firm setting w)
   old_source cell one row there has =
       source_here setting.servers chosen (plain_now setting w firm) (disks_now setting w firm) cell row there has one
 
-  module _ (key : Key) (bytes : List ℕ) (one : stage_at chosen (cell_of key) ≡ 1) (rev : ℕ) (frozen : IsFrozen setting w rev key bytes)
-      (row : DiskRow) (there : In row (rows_in setting w)) (has : has_map (cell_of key).map row ≡ true) (n : ℕ)
-      (counts : authority chosen (cell_of key) ≡ Some n) where
+  -- a frozen entry of a cell that is coming, the cell's disk, and the server whose copy of the cell counts
+  pub record ComesTo : Type 0 where
+    pub key : Key
+    pub bytes : List ℕ
+    pub one : stage_at chosen (cell_of key) ≡ 1
+    pub rev : ℕ
+    pub frozen : IsFrozen setting w rev key bytes
+    pub row : DiskRow
+    pub there : In row (rows_in setting w)
+    pub has : has_map (cell_of key).map row ≡ true
+    pub n : ℕ
+    pub counts : authority chosen (cell_of key) ≡ Some n
+
+  module _ (to : ComesTo) where
+    open to use {key, bytes, one, rev, frozen, row, there, has, n, counts}
+
     abbrev cell : Cell
     cell = cell_of key
 

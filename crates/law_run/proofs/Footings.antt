@@ -174,8 +174,17 @@ module _ (script : Script) (sound : IsSound script) (whole : List Command) (all 
             lives = lives_after ground.lives v;
             asking = asking;
             reports = reports_next;
-            recalled = remembered_next setting state w along.firm ground v next.firm grows records goes_from.good from_there on rests asking
-                (happens_leaves setting state w v h);
+            recalled = remembered_next (record { setting = setting; state = state; w = w; firm = along.firm; ground = ground }) (record {
+              v = v;
+              then = next.firm;
+              grows = grows;
+              more = records;
+              next = goes_from.good;
+              from = from_there;
+              on = on;
+              rests = rests;
+              asking = asking;
+            }) (happens_leaves setting state w v h);
             named = happens_named setting state w ground.named v h;
             epochs = subst (λ u. KnowEpochs setting records u) then_is (epochs_after script records sound legal);
             moves = subst (λ u. KnowMoves setting records u) then_is (moves_known script records sound legal);

@@ -20,7 +20,7 @@ use Rattle.petal_rules.specs.State.{authority, in_both}
 use Rattle.petal_rules.specs.Store.{Chain, Store, cell_cmp, chain_in}
 use Rattle.petal_rules.specs.Server.{Own, Pairs, Server, no_pairs}
 use Rattle.petal_rules.specs.Writes.{is_clients}
-use Rattle.petal_rules.specs.World.{World, chosen_log, chosen_state, kept, server_state}
+use Rattle.petal_rules.specs.World.{chosen_log, chosen_state, kept, server_state}
 use Rattle.petal_rules.proofs.ListLemmas.{in-append, put_same, put_apart}
 use Rattle.petal_rules.proofs.Tests.{none_some, same_or_apart, same_some}
 use Rattle.petal_history.specs.Claims.{IsPrefix}
@@ -41,7 +41,7 @@ use Rattle.law_run.proofs.Seats.{IsSharing, op_seat, op_shared, shared_before, o
 use Rattle.law_run.proofs.Filled.{serving_same}
 use Rattle.law_run.proofs.Along.{rows_in}
 use Rattle.law_run.proofs.Machine.{seat_onward, held_onward}
-use Rattle.law_run.proofs.Steps.{ServerStep, new, later_world, letters, joined_now, joined_then, kept_here, kept_other}
+use Rattle.law_run.proofs.Steps.{ServerStep, ends_of, grounded, grounded_after, joined_now, joined_then, kept_here, kept_other, letters, new}
 use Rattle.law_run.proofs.Steps.{logs_grow, logs_within, own_now, own_other}
 
 -- the server runs after the step
@@ -55,11 +55,7 @@ pub data AreKept (this : ServerStep) : Type 0 where
   Anew : (new this).pairs ≡ no_pairs → AreKept this
 
 module _ (this : ServerStep) (k : Plain) where
-  abbrev v : World
-  v = later_world this
-
-  abbrev own : Own
-  own = owns_of this.w this.n
+  open ends_of this use {v, own}
 
   -- what a server's own part shows after the step, where the machine goes on to k
   pub record OwnFollow (after : Own) : Type 0 where
@@ -70,7 +66,7 @@ module _ (this : ServerStep) (k : Plain) where
         → IsOpen (this.w.clients op.client) op.seq
         → is_held k op.client ≡ true
     pub as_second : joined_now this this.n ≡ joined_then this this.n → (cell : Cell) (p : ℕ) (op : Pending) (row : LinkRow)
-        → IsSharing this.setting this.state this.w this.along.firm this.ground p cell row
+        → IsSharing (grounded this) p cell row
         → row.primary ≡ p → row.secondary ≡ this.n → at cell_cmp (owns_of this.w p).pairs.pending cell ≡ Some op
         → is_clients op.kind ≡ true → op.stage.put ≡ true
         → IsOpen (this.w.clients op.client) op.seq
@@ -136,7 +132,7 @@ module _ (this : ServerStep) (k : Plain) where
         subst (λ (x : Server). IsPrefix (this.w.servers this.n).log.applied x.log.applied) server_now (logs_grow this this.n) in
         let within : IsPrefix this.acted.server.log.applied (chosen_log this.setting this.w) =
         subst (λ (x : Server). IsPrefix x.log.applied (chosen_log this.setting this.w)) server_now (logs_within this this.n) in
-        let s = shared_before this.setting this.state this.w firm this.ground this.n cell op runs
+        let s = shared_before (grounded this) this.n cell op runs
         (ap (λ t. at cell_cmp t cell) (sym pending) ∙ is)
         this.acted.server.log.applied row grows within linked both in
         let old = s.first in
@@ -165,12 +161,12 @@ module _ (this : ServerStep) (k : Plain) where
     counts_now : (i : ℕ) (cell : Cell) (op : Pending) → (v.servers i).life.running ≡ true → at cell_cmp (owns_of v i).pairs.pending cell ≡ Some op
         → IsOwn this.setting v i
     counts_now i cell op on is =
-        this.onward.own i on (op_seat this.setting this.state v this.next.firm this.onward i cell op on is)
+        this.onward.own i on (op_seat (grounded_after this) i cell op on is)
 
     counts_then : (i : ℕ) (cell : Cell) (op : Pending) → (this.w.servers i).life.running ≡ true
         → at cell_cmp (owns_of this.w i).pairs.pending cell ≡ Some op → IsOwn this.setting this.w i
     counts_then i cell op runs is =
-        this.ground.own i runs (op_seat this.setting this.state this.w this.along.firm this.ground i cell op runs is)
+        this.ground.own i runs (op_seat (grounded this) i cell op runs is)
 
     new_chain : (cell : Cell) (op : Pending) → (v.servers this.n).life.running ≡ true → at cell_cmp (owns_of v this.n).pairs.pending cell ≡ Some op
         → chain_now this.n cell ≡ chain_in (new this).store.chains cell
@@ -189,7 +185,7 @@ module _ (this : ServerStep) (k : Plain) where
         let firm = this.next.firm in
         let b = both_row (chosen_state this.setting v) cell shared in
         let applied = (v.servers i).log.applied in
-        let s = shared_before this.setting this.state v firm this.onward i cell op on is end b.row (firm.servers i) (front_itself end) b.is b.both in
+        let s = shared_before (grounded_after this) i cell op on is end b.row (firm.servers i) (front_itself end) b.is b.both in
         let mid = linked_between this.setting end firm.plain applied top end cell s.first.row b.row (logs_within this i) this.grows (front_itself end)
         s.first.shares.linked b.is in
         let one = places_up this.setting end firm.plain applied top cell s.first.row mid.0 (logs_within this i) this.grows
@@ -222,7 +218,7 @@ module _ (this : ServerStep) (k : Plain) where
     not_second cell op on there row linked both mine =
         let state_now = server_state this.setting v this.n in
         let steady = own_steady this.setting v this.next.firm this.n in
-        let f = op_shared this.setting this.state v this.next.firm this.onward this.n cell op on there
+        let f = op_shared (grounded_after this) this.n cell op on there
         (so_both state_now cell row linked both) in
         let one : f.row ≡ row = same_some (sym f.shares.linked ∙ linked) in
         absurd ((steady.linked cell row linked).apart (ap (λ (r : LinkRow). r.primary) (sym one) ∙ f.first ∙ sym mine))
@@ -252,7 +248,7 @@ module _ (this : ServerStep) (k : Plain) where
         by (Is_followed row linked both shared put same) =
             let was = was_shared cell op row leaves is (to_here row linked) both in
             let as_before = second_same this.n cell row linked shared
-            (op_alive this.setting this.state v this.next.firm this.onward this.n cell op on there) in
+            (op_alive (grounded_after this) this.n cell op on there) in
             elim (same_or_apart row.secondary this.n) [
               | inl mine ↦ not_second cell op on there row linked both mine
               | inr ne ↦ job.as_lead cell op runs is clients (Is_followed was.old was.linked was.both
@@ -300,11 +296,11 @@ module _ (this : ServerStep) (k : Plain) where
             subst (λ (x : Server). IsLinked this.setting x.log.applied cell row) same_server linked in
             let shared_was = shared_then i cell op row on there_now linked both shared in
             let as_before = second_same i cell row linked shared
-            (op_alive this.setting this.state v this.next.firm this.onward i cell op on there_now) in
+            (op_alive (grounded_after this) i cell op on there_now) in
             elim (same_or_apart row.secondary this.n) [
               | inl e ↦
                   let own_state = server_state this.setting this.w i in
-                  let f = op_shared this.setting this.state this.w this.along.firm this.ground i cell op runs is
+                  let f = op_shared (grounded this) i cell op runs is
                   (so_both own_state cell row there both) in
                   let one : f.row ≡ row = same_some (sym f.shares.linked ∙ there) in
                   let same' : chain_then i cell ≡ chain_now this.n cell =
@@ -350,7 +346,7 @@ module _ (this : ServerStep) (k : Plain) where
   pub own_counted : (this.w.servers this.n).life.running ≡ true → (cell : Cell) (op : Pending) → at cell_cmp own.pairs.pending cell ≡ Some op
       → chain_in (kept this.setting this.w this.n).chains cell ≡ chain_in own.store.chains cell
   own_counted runs cell op is =
-      let seat = op_seat this.setting this.state this.w this.along.firm this.ground this.n cell op runs is in
+      let seat = op_seat (grounded this) this.n cell op runs is in
       ap (λ (s : Store). chain_in s.chains cell) (this.ground.own this.n runs seat own.store)
 
   module _ (onward : Onward this.m k) where

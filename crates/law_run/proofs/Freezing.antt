@@ -17,7 +17,7 @@ use Rattle.petal_machine.specs.Run.{Obeys, replay}
 use Rattle.petal_rules.specs.Lists.{In}
 use Rattle.petal_rules.specs.State.{State, authority}
 use Rattle.petal_rules.specs.Store.{Chain, Stored, bytes_of, chain_in, entry_at}
-use Rattle.petal_rules.specs.World.{World, chosen_state, counted, kept}
+use Rattle.petal_rules.specs.World.{chosen_state, counted, kept}
 use Rattle.petal_rules.proofs.ListLemmas.{in-append, in_former, in_later}
 use Rattle.petal_rules.proofs.Tests.{by_bool, nat_lists_same, same_numbers, some_or_none, same_some}
 use Rattle.petal_history.specs.Claims.{AreSnapshots, Holds}
@@ -38,21 +38,17 @@ use Rattle.law_run.proofs.Makes.{Made, fresh_made, made_all, made_same, new_row,
 use Rattle.law_run.proofs.Members.{into_map, of_map}
 use Rattle.law_run.proofs.Onwards.{follow_onward}
 use Rattle.law_run.proofs.Snapshots.{as_of}
-use Rattle.law_run.proofs.Steps.{ServerStep, ServerTold, TakesTold, LooksTold, frozen_early, frozen_empty, later_world, looks_here, unput, unput_above}
+use Rattle.law_run.proofs.Steps.{LooksTold, ServerStep, ServerTold, TakesTold, ends_of, frozen_early, frozen_empty, looks_here, unput, unput_above}
 
 no_member : {A : Type 0} (x : A) → In x [] → ⊥
 unfolding In
 no_member x h = h
 
 module _ (this : ServerStep) where
-  abbrev v : World
-  v = later_world this
+  open ends_of this use {v, after}
 
   abbrev before : State
   before = chosen_state this.setting this.w
-
-  abbrev after : State
-  after = chosen_state this.setting v
 
   abbrev old_rows : List DiskRow
   old_rows = rows_in this.setting this.w

@@ -26,7 +26,6 @@ use Rattle.petal_rules.specs.Writes.{is_clients}
 use Rattle.petal_rules.specs.declared.step.Step.TheVariants.{Blank}
 use Rattle.petal_rules.proofs.Tests.{all_put, none_some, same_some, true_false}
 use Rattle.law_state.specs.Homes.{epoch_at, stage_at}
-use Rattle.law_state.specs.Firm.{Firm}
 use Rattle.law_state.specs.Steady.{IsSteady}
 use Rattle.law_steps.specs.Happens.{Handled, own_place}
 use Rattle.law_steps.specs.Operations.{progress}
@@ -49,6 +48,7 @@ use Rattle.law_moves.proofs.Chains.{Drops, NeverDead, PutsAsked}
 use Rattle.law_run.proofs.Counted.{of_kept}
 use Rattle.law_run.proofs.Entries.{AreUpTo}
 use Rattle.law_run.proofs.Seats.{IsSharing, alive_here, heard_shared, op_lives, op_seat, second_shares, sharing_last, store_there, visit_here, own_there}
+use Rattle.law_run.proofs.Scenes.{Grounded}
 
 link_store : (mine : Own) (o : Option LinkRow) → (holds_link mine o).store ≡ mine.store
 link_store mine None = refl
@@ -105,8 +105,9 @@ module _ (setting : Setting) (state : State) (w : World) (ground : Ground settin
 
 -- ### Operations at a server
 
-module _ (setting : Setting) (state : State) (steady : IsSteady state) (w : World) (firm : Firm setting w)
-    (ground : Ground setting state w) (n : ℕ) where
+module _ (g : Grounded) (steady : IsSteady g.state) (n : ℕ) where
+  open g use {setting, w, firm, ground}
+
   abbrev here : Here
   here = own_place setting w n
 
@@ -147,7 +148,7 @@ module _ (setting : Setting) (state : State) (steady : IsSteady state) (w : Worl
       let k = ground.asking.pending p cell op is clients in
       let opened = k.known.sent.at in
       let ran = ground.asking.lived.ran p runs in
-      let seat = runs_now setting w firm p runs (op_seat setting state w firm ground p cell op runs is) in
+      let seat = runs_now setting w firm p runs (op_seat g p cell op runs is) in
       ground.epochs.pending p (ground.lives.ran p) cell op opened.front (chosen_log setting w) is clients
       (front_on opened.front k.upto (chosen_log setting w) k.opened (front_on k.upto _ (chosen_log setting w) k.applied (firm.servers p)))
       (front_itself (chosen_log setting w)) opened.long (k.along opened.front (front_itself opened.front) k.opened).seated
@@ -183,7 +184,7 @@ module _ (setting : Setting) (state : State) (steady : IsSteady state) (w : Worl
   never_dead runs now op taken off =
       let t = taking own now op taken in
       let there : at cell_cmp own.pairs.pending op.cell ≡ Some t.old = t.was in
-      true_false (op_lives setting state w firm ground n op.cell t.old runs there) off
+      true_false (op_lives g n op.cell t.old runs there) off
 
   -- what is dropped of a cell that is not dead by what is chosen is nothing: the server does not know yet that it is live
   pub dropped_same : (new : Own) → Drops here own new → (q : Cell) → AliveIn (chosen_state setting w) q
@@ -208,7 +209,7 @@ module _ (setting : Setting) (state : State) (steady : IsSteady state) (w : Worl
   -- it was asked to by an operation that the first one had pending at the place
   pub record Followed (number : ℕ) (key : Key) (bytes : List ℕ) : Type 0 where
     pub row : LinkRow
-    pub shares : IsSharing setting state w firm ground n (cell_of key) row
+    pub shares : IsSharing g n (cell_of key) row
     pub second : row.secondary ≡ n
     pub own : Own
     pub visited : ground.good.visits row.primary (place_by setting (w.servers n).log.applied row) (cell_of key) ≡ Some own
@@ -226,17 +227,17 @@ module _ (setting : Setting) (state : State) (steady : IsSteady state) (w : Worl
       → Followed a.number a.key a.bytes
   followed runs new a alive =
       let cell = cell_of a.key in
-      let s = second_shares setting state w firm ground n cell runs a.seat a.seconds alive in
+      let s = second_shares g n cell runs a.seat a.seconds alive in
       let place = place_by setting (w.servers n).log.applied s.row in
       let last : at cell_cmp (half (ground.good.visits s.row.secondary place cell)
-      (store_there setting state w firm ground n s.row.secondary)).pairs.last cell
+      (store_there g n s.row.secondary)).pairs.last cell
       ≡ Some (record { op = a.number; far = far.Reserved }) =
-      ap (λ k. at cell_cmp (half (ground.good.visits k place cell) (store_there setting state w firm ground n k)).pairs.last cell) s.second
-      ∙ ap (λ o. at cell_cmp (half o (store_there setting state w firm ground n n)).pairs.last cell)
-      (visit_here setting state w firm ground n cell s.row runs a.seat s.shares.linked (alive_here setting state w firm ground n cell alive)) ∙ a.last in
-      let there = putting_there (ground.good.visits s.row.primary place cell) (store_there setting state w firm ground n s.row.primary) cell
+      ap (λ k. at cell_cmp (half (ground.good.visits k place cell) (store_there g n k)).pairs.last cell) s.second
+      ∙ ap (λ o. at cell_cmp (half o (store_there g n n)).pairs.last cell)
+      (visit_here g n cell s.row runs a.seat s.shares.linked (alive_here g n cell alive)) ∙ a.last in
+      let there = putting_there (ground.good.visits s.row.primary place cell) (store_there g n s.row.primary) cell
       a.number a.key a.bytes
-      (elim (heard_shared setting state w firm ground n cell s.row s.shares
+      (elim (heard_shared g n cell s.row s.shares
       (body.Replicate a.number a.key a.version a.bytes) a.asked refl) [
         | inl putting ↦ putting
         | inr past ↦ (let at : progress _ ≡ a.number + a.number = ap progress last in absurd (omega arith))
@@ -249,7 +250,7 @@ module _ (setting : Setting) (state : State) (steady : IsSteady state) (w : Worl
     followed_recalled =
         ground.recalled (w.servers n).log.applied (cell_of key) f.row f.row.primary f.own f.putting.op
         (firm.servers n) f.shares.linked f.shares.both
-        (sharing_last setting state w firm ground n (cell_of key) f.row f.shares) f.visited f.putting.is clients
+        (sharing_last g n (cell_of key) f.row f.shares) f.visited f.putting.is clients
 
     -- and it is in time
     pub followed_timely : IsTimely setting.servers (chosen_log setting w) (cell_of key) f.putting.op
@@ -291,17 +292,17 @@ module _ (setting : Setting) (state : State) (steady : IsSteady state) (w : Worl
         let cell = cell_of key in
         let q = f.row.secondary in
         let twins = (ground.good.both (w.servers n).log.applied cell f.row (firm.servers n) f.shares.linked f.shares.both).twins f.shares.alive
-        (sharing_last setting state w firm ground n cell f.row f.shares) in
-        let there = store_there setting state w firm ground n in
+        (sharing_last g n cell f.row f.shares) in
+        let there = store_there g n in
         let last : at cell_cmp (half (ground.good.visits q spot cell) (there q)).pairs.last cell ≡ Some (record { op = number; far = far.Reserved }) =
         ap (λ k. at cell_cmp (half (ground.good.visits k spot cell) (there k)).pairs.last cell) f.second
         ∙ ap (λ o. at cell_cmp (half o (there n)).pairs.last cell)
-        (visit_here setting state w firm ground n cell f.row f.shares.runs f.shares.seat f.shares.linked
-        (alive_here setting state w firm ground n cell f.shares.alive)) ∙ f.last in
+        (visit_here g n cell f.row f.shares.runs f.shares.seat f.shares.linked
+        (alive_here g n cell f.shares.alive)) ∙ f.last in
         let low = ap progress last in
         let number_is = f.putting.number_is in
         ap (λ (s : Store). at nat_cmp (chain_in s.chains cell) key.epoch)
-        (sym (ap there f.second ∙ own_there setting state w firm ground n f.shares.runs f.shares.seat))
+        (sym (ap there f.second ∙ own_there g n f.shares.runs f.shares.seat))
         ∙ ap (λ (k : Key). at nat_cmp (chain_in (there q).chains cell) k.epoch) (sym f.putting.key_is)
         ∙ twins.lacks f.own f.putting.op f.visited f.putting.is fill (omega arith)
 

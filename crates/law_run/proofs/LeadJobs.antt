@@ -13,7 +13,6 @@ use Rattle.petal_base.specs.Cells.{cell_of}
 use Rattle.petal_table.specs.Table.{Table, at, put}
 use Rattle.petal_table.proofs.Rows.{at_same, at_apart}
 use Rattle.petal_machine.specs.Machine.{Plain}
-use Rattle.petal_msg.specs.declared.body.Body.{Body}
 use Rattle.petal_msg.specs.declared.body.Body.TheVariants as body
 use Rattle.petal_msg.specs.declared.operation.Ending.{Ending}
 use Rattle.petal_msg.specs.declared.operation.Ending.TheVariants as ending
@@ -22,7 +21,7 @@ use Rattle.petal_msg.specs.declared.operation.Pending.{Pending}
 use Rattle.petal_msg.specs.declared.operation.Stage.{Stage}
 use Rattle.petal_rules.specs.State.{authority, in_both, is_alone_on}
 use Rattle.petal_rules.specs.Store.{Chain, Store, Stored, cell_cmp, chain_in, chains_with, version_of}
-use Rattle.petal_rules.specs.Server.{Own, Here, Done}
+use Rattle.petal_rules.specs.Server.{Own, Done}
 use Rattle.petal_rules.specs.Writes.{operation, puts, with_reserved, with_paired, with_mark_at, is_clients, gives_back, ends, without_pending}
 use Rattle.petal_rules.specs.World.{chosen_state, kept}
 use Rattle.petal_rules.proofs.CellTables.{cell_same, cell_apart}
@@ -32,12 +31,11 @@ use Rattle.law_state.proofs.Roles.{secondary_is_one}
 use Rattle.law_steps.specs.Operations.{answering, putting}
 use Rattle.law_steps.specs.DidLead.{DidLead, Taken, Asks_for, Repeats, Is_full, Gives_up, Opens, Marks, Puts, Unmarks, Closes, Opens_alone, Marks_alone}
 use Rattle.law_steps.specs.DidLead.{Puts_alone, Unmarks_alone, Closes_alone, Opens_fill, Opens_fill_alone, Has_fill, Has_no_room, Goes_on_dead}
-use Rattle.law_steps.specs.Happens.{Handled, own_place}
 use Rattle.law_steps.proofs.Restages.{stood}
 use Rattle.law_steps.proofs.Staged.{same_cell_or_apart}
 use Rattle.law_steps.proofs.Subjects.{of_ending}
 use Rattle.law_steps.proofs.Taking.{taking}
-use Rattle.law_copies.specs.Pair.{AreCopies, PairOk, Working, far, owns_of, pair_of}
+use Rattle.law_copies.specs.Pair.{AreCopies, PairOk, Working, far, pair_of}
 use Rattle.law_copies.specs.Visits.{IsLinked, half}
 use Rattle.law_copies.proofs.Chains.{chain_apart, chain_put}
 use Rattle.law_requests.specs.Asked.{IsOpen}
@@ -51,17 +49,10 @@ use Rattle.law_run.proofs.Grounds.{Followed}
 use Rattle.law_run.proofs.Machine.{held_onward}
 use Rattle.law_run.proofs.Seats.{IsSharing, first_ok, heard_shared, op_alone, op_shared, peer, place_of}
 use Rattle.law_run.proofs.Seats.{shared_or_alone, shared_store, store_there}
-use Rattle.law_run.proofs.Steps.{ServerStep}
+use Rattle.law_run.proofs.Steps.{ServerStep, ends_of, grounded}
 
 module _ (this : ServerStep) (k : Plain) where
-  abbrev here : Here
-  here = own_place this.setting this.w this.n
-
-  abbrev own : Own
-  own = owns_of this.w this.n
-
-  abbrev hears : Body → Type 0
-  hears = Handled this.w this.n
+  open ends_of this use {own, here, hears}
 
   abbrev pub Held : Pending → Type 0
   Held op = is_clients op.kind ≡ true → IsOpen (this.w.clients op.client) op.seq → is_held k op.client ≡ true
@@ -77,7 +68,7 @@ module _ (this : ServerStep) (k : Plain) where
   PutHeld (Nothing_new same) = Unit {0}
   PutHeld (An_own p) = is_clients p.op.kind ≡ true → authority (chosen_state this.setting this.w) p.op.cell ≡ Some this.n → is_held k p.op.client ≡ true
   PutHeld (An_asked a) =
-      (f : Followed this.setting this.state this.along.steady this.w this.along.firm this.ground this.n a.number a.key a.bytes)
+      (f : Followed (grounded this) this.along.steady this.n a.number a.key a.bytes)
       → is_clients f.putting.op.kind ≡ true → is_held k f.putting.op.client ≡ true
   PutHeld (A_copy c) = Unit {0}
   PutHeld (Of_the_dead d) = Unit {0}
@@ -116,31 +107,31 @@ module _ (this : ServerStep) (k : Plain) where
     -- ### In Both
 
     abbrev IsFirst : Pending → Type 0
-    IsFirst op = (f : LinkRow) × IsSharing this.setting this.state this.w this.along.firm this.ground this.n op.cell f
+    IsFirst op = (f : LinkRow) × IsSharing (grounded this) this.n op.cell f
         × (f.primary ≡ this.n)
 
     first_of : (op : Pending) → at cell_cmp own.pairs.pending op.cell ≡ Some op → in_both here.state op.cell ≡ true → IsFirst op
     first_of op is both =
-        let f = op_shared this.setting this.state this.w this.along.firm this.ground this.n op.cell op runs is both in
+        let f = op_shared (grounded this) this.n op.cell op runs is both in
         (f.row, f.shares, f.first)
 
     -- what the second server has in memory of the place
     abbrev second_of : (op : Pending) → IsFirst op → Own
-    second_of op f = peer this.setting this.state this.w this.along.firm this.ground this.n f.0.secondary op.cell f.0
+    second_of op f = peer (grounded this) this.n f.0.secondary op.cell f.0
 
     -- the second server's store, by the entries at the place
     abbrev two : (op : Pending) → IsFirst op → Chain
-    two op f = chain_in (store_there this.setting this.state this.w this.along.firm this.ground this.n f.0.secondary).chains op.cell
+    two op f = chain_in (store_there (grounded this) this.n f.0.secondary).chains op.cell
 
     copies_at : (op : Pending) → at cell_cmp own.pairs.pending op.cell ≡ Some op → (f : IsFirst op) → (put : Bool) → op.stage.put ≡ put
         → Working (mine op.cell) (two op f) (far (pair_of own (second_of op f) op.cell)) op put
     copies_at op is f put e =
-        let ok = first_ok this.setting this.state this.w this.along.firm this.ground this.n op.cell f.0 f.1 f.2 in
-        of_half (this.ground.good.visits f.0.secondary (place_of this.setting this.state this.w this.along.firm this.ground this.n
+        let ok = first_ok (grounded this) this.n op.cell f.0 f.1 f.2 in
+        of_half (this.ground.good.visits f.0.secondary (place_of (grounded this) this.n
         f.0) op.cell) ok put e
       where
         store : Store
-        store = store_there this.setting this.state this.w this.along.firm this.ground this.n f.0.secondary
+        store = store_there (grounded this) this.n f.0.secondary
 
         of_half : (visit : Option Own) → PairOk (pair_of own (half visit store) op.cell) → (put : Bool)
             → op.stage.put ≡ put
@@ -157,21 +148,21 @@ module _ (this : ServerStep) (k : Plain) where
         → two op f ≡ chain_in (kept this.setting this.w f.0.secondary).chains op.cell
     two_counts op f shared =
         ap (λ (s : Store). chain_in s.chains op.cell)
-        (shared_store this.setting this.state this.w this.along.firm this.ground this.n op.cell f.0 f.1 shared f.0.secondary
+        (shared_store (grounded this) this.n op.cell f.0 f.1 shared f.0.secondary
         (secondary_is_one f.0 f.0.secondary refl))
 
     -- how far the second server is, by a letter of its own
     past_at : (op : Pending) → hears (body.Replicated op.op op.cell) → (f : IsFirst op)
         → op.op + op.op + 1 ≤ far (pair_of own (second_of op f) op.cell)
     past_at op h f =
-        heard_shared this.setting this.state this.w this.along.firm this.ground this.n op.cell f.0 f.1
+        heard_shared (grounded this) this.n op.cell f.0 f.1
         (body.Replicated op.op op.cell) h refl
 
     paired_held : (op : Pending) → hears (body.Replicated op.op op.cell) → at cell_cmp own.pairs.pending op.cell ≡ Some op
         → in_both here.state op.cell ≡ true → op.stage.put ≡ true → Held op
     paired_held op h is both put =
         let f = first_of op is both in
-        elim (shared_or_alone this.setting this.state this.w this.along.firm this.ground this.n op.cell f.0 f.1) [
+        elim (shared_or_alone (grounded this) this.n op.cell f.0 f.1) [
           | inr counts ↦ was_held op.cell op is (Is_counted put counts)
           | inl shared ↦
               let ahead = copies_at op is f true put in
@@ -387,7 +378,7 @@ module _ (this : ServerStep) (k : Plain) where
     closed_alone now op taken alone put =
         let t = taking own now op taken in
         taken_held now op op taken alone refl refl refl (λ e. e) (mine op.cell)
-        (Is_counted put (op_alone this.setting this.state this.w this.along.firm this.ground this.n op.cell t.old runs t.was alone))
+        (Is_counted put (op_alone (grounded this) this.n op.cell t.old runs t.was alone))
 
     pub lead_finished : (done : Done) → DidLead hears here own done → (c : ℕ) (last : Finished) → at nat_cmp done.own.pairs.finished c ≡ Some last
         → last.ending ≡ ending.Written → IsOpen (this.w.clients c) last.seq → is_held k c ≡ true

@@ -10,6 +10,7 @@ pub mod Entries
 pub mod Overlay
 pub mod Named
 pub mod Leaving
+pub mod Scenes
 pub mod Seats
 pub mod Copies
 pub mod Counting

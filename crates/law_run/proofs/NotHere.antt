@@ -10,7 +10,6 @@ use Rattle.std.proofs.Common.{ap, ◌∙◌, subst, inl, inr, arith, option_and_
 use Rattle.std.specs.List.{flat_map}
 use Rattle.std.proofs.lemmas.Bool.{cases_lt}
 use Rattle.petal_base.specs.declared.cell.Cell.{Cell}
-use Rattle.petal_command.specs.declared.command.Command.{Command}
 use Rattle.petal_msg.specs.declared.body.Body.{Body}
 use Rattle.petal_msg.specs.declared.body.Body.TheVariants as body
 use Rattle.petal_msg.specs.declared.letter.Actor.TheVariants as actor
@@ -22,7 +21,6 @@ use Rattle.script_lines.specs.declared.request.Line.{Line}
 use Rattle.script_lines.specs.declared.request.Request.TheVariants as request
 use Rattle.petal_rules.specs.Clients.{epoch_for}
 use Rattle.petal_rules.specs.Lists.{In}
-use Rattle.petal_rules.specs.Server.{Own}
 use Rattle.petal_rules.specs.State.{State, coming, is_lead, leaving, find}
 use Rattle.petal_rules.specs.Store.{Chain, Store, Stored, bytes_of, cell_cmp, chain_in, entry_at}
 use Rattle.petal_rules.specs.World.{chosen_log, chosen_state, counted, kept, server_state, World}
@@ -52,7 +50,7 @@ use Rattle.law_run.proofs.Reading.{IsAskedAt, IsKnownRead, IsOfDisk, known_read}
 use Rattle.law_run.proofs.Readers.{IsReading, entry_is, now_high, now_low, serving_now, shown_none, some_is}
 use Rattle.law_run.proofs.Shows.{AreCalm, all_looked, look_may, nothing_looked, of, row_has, same_above, same_chain}
 use Rattle.law_run.proofs.Sources.{source_here, source_stays}
-use Rattle.law_run.proofs.Steps.{LooksTold, ServerStep, frozen_same, later_world, letters, look_here}
+use Rattle.law_run.proofs.Steps.{LooksTold, ServerStep, ends_of, frozen_same, grounded, later_world, letters, look_here}
 
 -- two reads of one request by the same state differ in whether the client was told to ask the old map
 record IsTwin (state : State) {lines : List Line} {client seq : ℕ} {told told_old : Bool} {cell old : Cell} {epoch epoch_old : ℕ}
@@ -76,23 +74,28 @@ twins state lines client seq told told_old cell old epoch epoch_old one other =
     }
 
 module _ (this : ServerStep) where
-  abbrev own_state : State
-  own_state = server_state this.setting this.w this.n
+  open ends_of this use {chosen, own, own_state, front}
 
-  abbrev chosen : State
-  chosen = chosen_state this.setting this.w
+  -- a read of a cell that is coming, of which the server has nothing, and the data that another server then finds for it
+  pub record IsFoundElsewhere : Type 0 where
+    pub client : ℕ
+    pub seq : ℕ
+    pub cell : Cell
+    pub epoch : ℕ
+    pub r : IsReading this cell
+    pub k : IsKnownRead this.setting this.w this.n client seq cell epoch
+    pub comes : coming own_state cell ≡ true
+    pub none : entry_at (chain_in own.store.chains cell) epoch ≡ None
+    pub same : chosen_log this.setting (later_world this) ≡ chosen_log this.setting this.w
+    pub letter : Letter
+    pub to : letter.to ≡ actor.Client client
+    pub rev : letter.rev ≡ own_state.rev
+    pub given : ℕ × List ℕ
+    pub f : IsFoundAt this.setting this.state this.along.steady (later_world this) (record { letter = letter; seq = seq }) given
 
-  abbrev own : Own
-  own = owns_of this.w this.n
+  module _ (it : IsFoundElsewhere) where
+    open it use {client, seq, cell, epoch, r, k, comes, none, same, letter, to, rev, given, f}
 
-  abbrev front : List Command
-  front = (this.w.servers this.n).log.applied
-
-  module _ (client seq : ℕ) (cell : Cell) (epoch : ℕ) (r : IsReading this cell) (k : IsKnownRead this.setting this.w this.n client seq cell epoch)
-      (comes : coming own_state cell ≡ true) (none : entry_at (chain_in own.store.chains cell) epoch ≡ None)
-      (same : chosen_log this.setting (later_world this) ≡ chosen_log this.setting this.w)
-      (letter : Letter) (to : letter.to ≡ actor.Client client) (rev : letter.rev ≡ own_state.rev) (given : ℕ × List ℕ)
-      (f : IsFoundAt this.setting this.state this.along.steady (later_world this) (record { letter = letter; seq = seq }) given) where
     abbrev o : IsOfDisk this.setting this.w this.along.firm front (this.along.firm.servers this.n) this.setting.lines client seq k.told cell epoch k.read
     o = of this cell r client seq epoch k
 
@@ -267,11 +270,26 @@ module _ (this : ServerStep) where
           by_bool (leaving own_state cell) (λ t. let three = facts.leaves t in absurd (omega arith)) (λ x. x) in
           let r : IsReading this cell =
           record { runs = runs; seat = readable.seated; may = readable.readable; unheld = readable.unheld; idle = idle; stays = stays } in
-          let known = known_read this.setting this.state this.w this.along.firm this.ground this.n client seq cell epoch readable.asked in
+          let known = known_read (grounded this) this.n client seq cell epoch readable.asked in
           let o = of this cell r client seq epoch known in
           let f = found this.setting this.state this.along.steady v told given v this.later false grounds legal (front_itself _) (λ c left. refl) e in
           let may = look_may this same calm m following o.row o.there epoch known.read.block given.1 known.read.snap o.asks
-          (old_content client seq cell epoch r known comes none same letter to rev given f) in
+          (old_content (record {
+            client = client;
+            seq = seq;
+            cell = cell;
+            epoch = epoch;
+            r = r;
+            k = known;
+            comes = comes;
+            none = none;
+            same = same;
+            letter = letter;
+            to = to;
+            rev = rev;
+            given = given;
+            f = f;
+          })) in
           all_looked m o.row.name known.read.snap known.read.block given.1 may following.stores.mindful (look_for this.setting.lines (Some given.0) given.1)
           (letter_looks this.setting.lines numbered letter seq client o.row.name known.read.snap known.read.block given.1 known.read.line to known.read.is
           (known.read.asks ∙ λ i. request.Read (sym o.name_is i) known.read.snap known.read.block) (Some given.0)

@@ -48,6 +48,7 @@ use Rattle.law_run.proofs.Looks.{Accepts, AreGrounded, ground_now, is_looked, wh
 use Rattle.law_run.proofs.Names.{one_actor}
 use Rattle.law_run.proofs.Reading.{known_read, own_up_to, reader_serves, reads_old_is}
 use Rattle.law_run.proofs.Says.{IsUnended, downs_unended, glances_unended, logged_unended, quiet_data, unended_no_data}
+use Rattle.law_run.proofs.Scenes.{Grounded}
 
 -- ### What a step sends with data
 
@@ -68,8 +69,9 @@ same_seq e = cc
 same_data : {a b : ℕ} {xs ys : List ℕ} → body.Data a xs ≡ body.Data b ys → xs ≡ ys
 same_data e = cc
 
-module _ (setting : Setting) (state : State) (steady : IsSteady state) (u : World) (firm : Firm setting u) (ground : Ground setting state u)
-    (y stamp : ℕ) (letter : Letter) (seq : ℕ) (bytes : List ℕ) (says : letter.body ≡ body.Data seq bytes) where
+module _ (g : Grounded) (steady : IsSteady g.state) (y stamp : ℕ) (letter : Letter) (seq : ℕ) (bytes : List ℕ) (says : letter.body ≡ body.Data seq bytes) where
+  open g use {setting, state, w as u, firm, ground}
+
   abbrev S : Type 0
   S = IsShown setting u y letter seq bytes
 
@@ -101,7 +103,7 @@ module _ (setting : Setting) (state : State) (steady : IsSteady state) (u : Worl
       absurd cc
   job_shows done d runs h =
       let s = said (sender (own_place setting u y)) stamp 0 done.posts letter h in
-      let never : NeverDead (own_place setting u y) (owns_of u y) = never_dead setting state steady u firm ground y runs in
+      let never : NeverDead (own_place setting u y) (owns_of u y) = never_dead g steady y runs in
       true_false (ap is_looked (sym s.body ∙ says)) (quiet_data (Handled u y) (own_place setting u y) (owns_of u y) never done d tt s.post s.there)
 
   no_posts : (post : Post) → In post [] → IsUnended post
@@ -137,24 +139,23 @@ pub record IsOld (setting : Setting) (u : World) (client seq rev : ℕ) (bytes :
   pub early : AreUpTo (chain_in (owns_of u y).store.chains cell) (epoch_at (server_state setting u y) cell)
   pub is : bytes ≡ bytes_of (entry_at (chain_in (owns_of u y).store.chains cell) epoch)
 
-pub shown_old : (setting : Setting) (state : State) (u : World) (firm : Firm setting u) (ground : Ground setting state u) (y : ℕ)
-    (letter : Letter) (seq : ℕ) (bytes : List ℕ) (s : IsShown setting u y letter seq bytes) → reads_old setting u (actor.Server y) ≡ true
-    → IsOld setting u s.client seq letter.rev bytes
-shown_old setting state u firm ground y letter seq bytes s old =
-    let leaving_so = sym (reads_old_is setting state u firm ground y s.client seq s.cell s.epoch s.readable.asked) ∙ old in
-    let three = (stage_facts setting.servers (u.servers y).log.applied (own_plain setting u firm y) s.cell).leaves leaving_so in
-    let known = known_read setting state u firm ground y s.client seq s.cell s.epoch s.readable.asked in
+pub shown_old : (g : Grounded) (y : ℕ) (letter : Letter) (seq : ℕ) (bytes : List ℕ) (s : IsShown g.setting g.w y letter seq bytes)
+    → reads_old g.setting g.w (actor.Server y) ≡ true → IsOld g.setting g.w s.client seq letter.rev bytes
+shown_old g y letter seq bytes s old =
+    let leaving_so = sym (reads_old_is g y s.client seq s.cell s.epoch s.readable.asked) ∙ old in
+    let three = (stage_facts g.setting.servers (g.w.servers y).log.applied (own_plain g.setting g.w g.firm y) s.cell).leaves leaving_so in
+    let known = known_read g y s.client seq s.cell s.epoch s.readable.asked in
     record {
       y = y;
-      at = sym (log_rev setting.servers (u.servers y).log.applied) ∙ sym s.rev;
+      at = sym (log_rev g.setting.servers (g.w.servers y).log.applied) ∙ sym s.rev;
       told = known.told;
       cell = s.cell;
       epoch = s.epoch;
       read = known.read;
       leaves = three;
-      frozen = ground.moves.still.own y (u.servers y).log.applied s.cell s.runs (front_itself _) (firm.servers y) s.readable.seated three
-          (reader_serves setting state u firm ground y s.cell s.readable.readable);
-      early = own_up_to setting state u firm ground y s.cell s.runs s.readable.seated;
+      frozen = g.ground.moves.still.own y (g.w.servers y).log.applied s.cell s.runs (front_itself _) (g.firm.servers y) s.readable.seated three
+          (reader_serves g y s.cell s.readable.readable);
+      early = own_up_to g y s.cell s.runs s.readable.seated;
       is = s.is;
     }
 
@@ -284,8 +285,9 @@ module _ (setting : Setting) (state : State) (steady : IsSteady state) where
         let firm = ground.ready.firm in
         let serving = server_serves setting u ground.ready.rests firm y (own_steady setting u firm y) stamp what refl may.1
         (ground_now setting state next later grounded).ready.firm in
-        let s = shows setting state steady u firm ground y stamp a.letter a.seq a.bytes a.says what acted serving a.there in
-        let o = shown_old setting state u firm ground y a.letter a.seq a.bytes s old in
+        let g : Grounded = record { setting = setting; state = state; w = u; firm = firm; ground = ground } in
+        let s = shows g steady y stamp a.letter a.seq a.bytes a.says what acted serving a.there in
+        let o = shown_old g y a.letter a.seq a.bytes s old in
         let ok = who_accepts setting state next later grounded legal a.letter a.seq a.bytes given.0
         (in_former a.letter (stamped stamp acted.letters) u.sent a.there) a.says a.accepts in
         record {

@@ -1,5 +1,5 @@
 -- A pending operation whose request is open is its client's write of a block of a disk that is chosen.
-use Rattle.std.proofs.Common.{◌≡◌, ◌<◌, ℕ, false, Some, refl, sym, ap, ◌∙◌}
+use Rattle.std.proofs.Common.{Some, ap, false, refl, subst, sym, ℕ, ◌<◌, ◌∙◌, ◌≡◌}
 use Rattle.petal_base.specs.declared.cell.Cell.{Cell}
 use Rattle.global_tables.specs.declared.disk.DiskRow.{DiskRow}
 use Rattle.petal_state.specs.CellState.{cell_asked, named_cell}
@@ -9,14 +9,15 @@ use Rattle.script_lines.specs.Pattern.{pattern_block}
 use Rattle.script_lines.specs.declared.request.Line.{Line}
 use Rattle.script_lines.specs.declared.request.Request.TheVariants as request
 use Rattle.petal_rules.specs.Lists.{In}
-use Rattle.petal_rules.specs.World.{chosen_state}
-use Rattle.petal_history.specs.Events.{open_write, write_asked, write_by}
+use Rattle.petal_rules.specs.World.{chosen_state, counted}
+use Rattle.petal_history.specs.Events.{blocks_in, open_write, write_asked, write_by}
 use Rattle.law_steps.specs.Turned.{line_by}
 use Rattle.petal_rules.proofs.Tests.{same_some}
 use Rattle.law_requests.specs.Asked.{IsOpen, IsWrite}
 use Rattle.law_run.proofs.Along.{rows_in, disks_now, found_row, plain_now}
 use Rattle.law_run.proofs.Named.{asked_named}
-use Rattle.law_run.proofs.Steps.{ServerStep}
+use Rattle.law_run.proofs.Steps.{ServerStep, later_world}
+use Rattle.law_run.proofs.Contents.{IsGiven, StaysAt, now_kept}
 
 module _ (this : ServerStep) where
   -- the operation's write is its client's open one, of this block
@@ -55,3 +56,18 @@ module _ (this : ServerStep) where
         block_is = refl;
         bytes_is = sym wr.bytes_is;
       }
+
+  -- where the block has the write's bytes after the step, and its contents at epochs below stay, the write has given them
+  pub placed_given : (op : Pending) (cell : Cell) (p : Placed op cell) → now_kept this p.row p.row.epoch p.block ≡ op.bytes
+      → ((epoch : ℕ) → epoch < p.row.epoch → StaysAt this p.row epoch p.block) → In p.block (blocks_in this.setting (counted this.setting (later_world this)))
+      → IsGiven this p.row p.block
+  placed_given op cell p bytes below looked = record {
+    write = p.write;
+    within = subst (λ c. c < 9) (sym p.own) p.within;
+    under_way = ap (open_write this.w) p.own ∙ p.under_way;
+    disk_is = p.disk_is;
+    block_is = p.block_is;
+    bytes_is = p.bytes_is ∙ sym bytes;
+    below = below;
+    looked = looked;
+  }

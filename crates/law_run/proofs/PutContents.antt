@@ -21,21 +21,17 @@ use Rattle.petal_table.specs.Table.{at, put}
 use Rattle.global_tables.specs.declared.disk.DiskRow.{DiskRow}
 use Rattle.petal_machine.specs.Machine.{Plain}
 use Rattle.petal_machine.specs.Run.{replay}
-use Rattle.petal_msg.specs.declared.body.Body.{Body}
 use Rattle.petal_msg.specs.declared.operation.Pending.{Pending}
 use Rattle.petal_state.specs.CellState.{named_cell}
 use Rattle.petal_state.specs.Command.{state_after}
 use Rattle.petal_rules.specs.State.{State, authority}
 use Rattle.petal_rules.specs.Store.{Chain, Store, Stored, cell_cmp, chain_in, chains_with, entry_at, bytes_of}
-use Rattle.petal_rules.specs.Server.{Own, Here}
-use Rattle.petal_rules.specs.World.{World, blank_joins_in, chosen_log, chosen_state, counted, kept}
+use Rattle.petal_rules.specs.World.{blank_joins_in, chosen_log, chosen_state, counted, kept}
 use Rattle.petal_rules.proofs.CellTables.{cell_same}
 use Rattle.petal_history.specs.Contents.{entry_before, entry_by, entry_of, first_entry, old_cell}
-use Rattle.petal_history.specs.Events.{change_by, open_write}
-use Rattle.law_steps.specs.Happens.{Handled, own_place}
+use Rattle.petal_history.specs.Events.{change_by}
 use Rattle.law_steps.specs.Ready.{IsRising}
 use Rattle.law_stores.specs.Waiting.{IsOwn}
-use Rattle.law_copies.specs.Pair.{owns_of}
 use Rattle.law_copies.specs.Visits.{AliveIn}
 use Rattle.law_copies.proofs.Chains.{chain_apart, chain_put}
 use Rattle.law_run.specs.Onward.{is_held, Onward}
@@ -44,25 +40,13 @@ use Rattle.law_run.proofs.Along.{named_high, named_map_is, one_row_of, plain_now
 use Rattle.law_run.proofs.Contents.{IsGiven, AreGiven, Taken, all_given, given_held, takes_of, was_kept, now_has, now_kept, StaysAt, was_has}
 use Rattle.law_run.proofs.Entries.{entry_below, entry_put}
 use Rattle.law_run.proofs.Frames.{OwnFollow, SaysOk, CountsOk}
-use Rattle.law_run.proofs.Placed.{Placed}
-use Rattle.law_run.proofs.Steps.{ServerStep, TakesTold, new, later_world, joined_now, joined_then, kept_here, own_after, frozen_same, same_entry}
+use Rattle.law_run.proofs.Placed.{Placed, placed_given}
+use Rattle.law_run.proofs.Steps.{ServerStep, TakesTold, ends_of, frozen_same, grounded, joined_now, joined_then, kept_here, later_world, new}
+use Rattle.law_run.proofs.Steps.{own_after, same_entry}
 use Rattle.law_run.proofs.Takes.{block_there}
 
 module _ (this : ServerStep) (same : chosen_log this.setting (later_world this) ≡ chosen_log this.setting this.w) where
-  abbrev v : World
-  v = later_world this
-
-  abbrev own : Own
-  own = owns_of this.w this.n
-
-  abbrev here : Here
-  here = own_place this.setting this.w this.n
-
-  abbrev hears : Body → Type 0
-  hears = Handled this.w this.n
-
-  abbrev chosen : State
-  chosen = chosen_state this.setting this.w
+  open ends_of this use {v, chosen, own, here, hears}
 
   chosen_is : chosen_state this.setting v ≡ chosen
   chosen_is = ap (state_after this.setting.servers) same
@@ -173,10 +157,18 @@ module _ (this : ServerStep) (same : chosen_log this.setting (later_world this) 
 
   -- ### A put of the copy that counts
 
-  module _ (key : Key) (entry : Stored) (epoch : epoch_at chosen (cell_of key) ≡ key.epoch)
-      (chains : (new this).store.chains ≡ chains_with own.store.chains key entry)
-      (own_counts : IsOwn this.setting this.w this.n) (mine : authority chosen (cell_of key) ≡ Some this.n) (op : Pending)
-      (bytes : entry.bytes ≡ op.bytes) (place : Placed this op (cell_of key)) where
+  -- an entry that the step puts into the copy that counts
+  pub record PutsHere : Type 0 where
+    pub key : Key
+    pub entry : Stored
+    pub chains : (new this).store.chains ≡ chains_with own.store.chains key entry
+    pub own_counts : IsOwn this.setting this.w this.n
+    pub mine : authority chosen (cell_of key) ≡ Some this.n
+
+  module _ (p : PutsHere) (epoch : epoch_at chosen (cell_of p.key) ≡ p.key.epoch) (op : Pending) (bytes : p.entry.bytes ≡ op.bytes)
+      (place : Placed this op (cell_of p.key)) where
+    open p use {key, entry, chains, own_counts, mine}
+
     abbrev chain : Chain
     chain = put nat_cmp (chain_in own.store.chains (cell_of key)) key.epoch entry
 
@@ -242,16 +234,8 @@ module _ (this : ServerStep) (same : chosen_log this.setting (later_world this) 
         ap (λ (s : Store). at cell_cmp s.chains (named_cell place.row place.block)) (own_after this own_counts (joined_same this.n))
         ∙ ap (λ c. at cell_cmp c (named_cell place.row place.block)) chains
         ∙ ap (at cell_cmp (chains_with own.store.chains key entry)) (sym place.at_block) ∙ cell_same own.store.chains (cell_of key) chain in
-        record {
-          write = place.write;
-          within = subst (λ c. c < 9) (sym place.own) place.within;
-          under_way = ap (open_write this.w) place.own ∙ place.under_way;
-          disk_is = place.disk_is;
-          block_is = place.block_is;
-          bytes_is = place.bytes_is ∙ sym put_here;
-          below = put_below;
-          looked = block_there (change_by this.setting this.w v) this.n (named_cell place.row place.block).map place.block chain this.within stored;
-        }
+        placed_given this op (cell_of key) place put_here put_below
+        (block_there (change_by this.setting this.w v) this.n (named_cell place.row place.block).map place.block chain this.within stored)
 
     pub given_put : AreGiven this
     given_put row h b = elim (same_cell_or_apart (named_cell row b) (cell_of key)) [
@@ -302,11 +286,11 @@ module _ (this : ServerStep) (same : chosen_log this.setting (later_world this) 
       absurd (omega arith)
 
   -- a fill of the copy that counts changes no content
-  module _ (key : Key) (entry : Stored) (filled : List ℕ) (bytes : entry.bytes ≡ filled)
-      (chains : (new this).store.chains ≡ chains_with own.store.chains key entry)
-      (own_counts : IsOwn this.setting this.w this.n) (mine : authority chosen (cell_of key) ≡ Some this.n)
-      (one : stage_at chosen (cell_of key) ≡ 1) (rev : ℕ) (frozen : IsFrozen this.setting this.w rev key filled)
-      (lacks : at nat_cmp (chain_in own.store.chains (cell_of key)) key.epoch ≡ None) where
+  module _ (p : PutsHere) (filled : List ℕ) (bytes : p.entry.bytes ≡ filled) (one : stage_at chosen (cell_of p.key) ≡ 1) (rev : ℕ)
+      (frozen : IsFrozen this.setting this.w rev p.key filled)
+      (lacks : at nat_cmp (chain_in own.store.chains (cell_of p.key)) p.key.epoch ≡ None) where
+    open p use {key, entry, chains, own_counts, mine}
+
     abbrev cell : Cell
     cell = cell_of key
 
@@ -337,7 +321,18 @@ module _ (this : ServerStep) (same : chosen_log this.setting (later_world this) 
     frozen_here = ap this.w.frozen (sym old_is) ∙ frozen.frozen
 
     is_fill : IsFill was_chain frozen.before key.epoch filled
-    is_fill = fill_there this.setting this.state this.w this.along.firm this.ground key filled one rev frozen disk.row disk.there disk.has this.n mine
+    is_fill = fill_there (grounded this) (record {
+      key = key;
+      bytes = filled;
+      one = one;
+      rev = rev;
+      frozen = frozen;
+      row = disk.row;
+      there = disk.there;
+      has = disk.has;
+      n = this.n;
+      counts = mine;
+    })
         was_chain (ap (λ (s : Store). chain_in s.chains cell) (own_counts own.store)) lacks
 
     now_fill : (e : ℕ) → entry_of (chosen_state this.setting v) (counted this.setting v) cell e ≡ entry_at (put nat_cmp was_chain key.epoch entry) e

@@ -10,22 +10,18 @@ use Rattle.petal_base.specs.Cells.{cell_of}
 use Rattle.petal_table.specs.Table.{at}
 use Rattle.petal_machine.specs.Machine.{Plain}
 use Rattle.petal_machine.specs.Run.{replay}
-use Rattle.petal_msg.specs.declared.body.Body.{Body}
 use Rattle.petal_msg.specs.declared.operation.Pending.{Pending}
 use Rattle.petal_state.specs.CellState.{named_cell}
-use Rattle.petal_rules.specs.State.{State, authority}
+use Rattle.petal_rules.specs.State.{authority}
 use Rattle.petal_rules.specs.Store.{Stored, cell_cmp, chain_in, chains_with}
-use Rattle.petal_rules.specs.Server.{Own, Here}
-use Rattle.petal_rules.specs.World.{chosen_log, chosen_state, counted}
+use Rattle.petal_rules.specs.World.{chosen_log, counted}
 use Rattle.petal_rules.proofs.Tests.{same_or_apart, same_some, some_or_none, none_some, by_bool, true_false}
 use Rattle.law_state.specs.Below.{IsSecondary}
 use Rattle.law_state.proofs.Cells.{both_authority, alone_authority}
 use Rattle.law_state.proofs.Roles.{log_roles}
-use Rattle.law_steps.specs.Happens.{Handled, own_place}
 use Rattle.law_steps.proofs.Fronts.{front_on}
 use Rattle.law_steps.proofs.Histories.{runs_now}
 use Rattle.law_stores.specs.Waiting.{IsOwn}
-use Rattle.law_copies.specs.Pair.{owns_of}
 use Rattle.law_copies.specs.Visits.{IsLinked, place_by, AliveIn}
 use Rattle.law_copies.proofs.Chains.{chain_apart}
 use Rattle.law_copies.proofs.Places.{one_row, dead_not}
@@ -43,21 +39,11 @@ use Rattle.law_run.proofs.Grounds.{followed_frozen, followed_lacks, followed_tim
 use Rattle.law_run.proofs.Placed.{Placed, placed}
 use Rattle.law_run.proofs.LeadJobs.{PutHeld}
 use Rattle.law_run.proofs.Seats.{op_seat, lives_now, second_shares}
-use Rattle.law_run.proofs.Steps.{ServerStep, TakesTold, new, later_world}
-use Rattle.law_run.proofs.PutContents.{own_unchanged, counts, calm_given, calm_told, given_put, put_held, named_alive, dead_apart, fill_given}
+use Rattle.law_run.proofs.Steps.{ServerStep, TakesTold, ends_of, grounded, later_world, new}
+use Rattle.law_run.proofs.PutContents.{PutsHere, calm_given, calm_told, counts, dead_apart, fill_given, given_put, named_alive, own_unchanged, put_held}
 
 module _ (this : ServerStep) (same : chosen_log this.setting (later_world this) ≡ chosen_log this.setting this.w) where
-  abbrev own : Own
-  own = owns_of this.w this.n
-
-  abbrev here : Here
-  here = own_place this.setting this.w this.n
-
-  abbrev hears : Body → Type 0
-  hears = Handled this.w this.n
-
-  abbrev chosen : State
-  chosen = chosen_state this.setting this.w
+  open ends_of this use {chosen, own, here, hears}
 
   -- ### The second server that runs
 
@@ -68,8 +54,8 @@ module _ (this : ServerStep) (same : chosen_log this.setting (later_world this) 
       let firm = this.along.firm in
       let cell = cell_of a.key in
       let roles = log_roles this.setting.servers (this.w.servers this.n).log.applied (chosen_log this.setting this.w) firm.plain (firm.servers this.n) in
-      let s = second_shares this.setting this.state this.w firm this.ground this.n cell runs a.seat a.seconds alive in
-      let lives = lives_now this.setting this.state this.w firm this.ground this.n cell s.shares.low alive in
+      let s = second_shares (grounded this) this.n cell runs a.seat a.seconds alive in
+      let lives = lives_now (grounded this) this.n cell s.shares.low alive in
       let second : IsSecondary here.state this.n cell = record { row = s.row; is = s.shares.linked; both = s.shares.both; second = s.second } in
       elim (roles.seconds this.n (this.w.servers this.n).life.inc cell a.seat (runs_now this.setting this.w firm this.n runs a.seat) second) [
         | inl still ↦ both_authority chosen cell still.row still.is lives still.both ∙ ap Some still.second
@@ -78,7 +64,7 @@ module _ (this : ServerStep) (same : chosen_log this.setting (later_world this) 
       ]
 
   abbrev FollowedHere : PutsAsked hears here own (new this) → Type 0
-  FollowedHere a = Followed this.setting this.state this.along.steady this.w this.along.firm this.ground this.n a.number a.key a.bytes
+  FollowedHere a = Followed (grounded this) this.along.steady this.n a.number a.key a.bytes
 
   -- the place at which it was asked
   abbrev spot : (a : PutsAsked hears here own (new this)) → FollowedHere a → ℕ
@@ -90,17 +76,29 @@ module _ (this : ServerStep) (same : chosen_log this.setting (later_world this) 
       let cell = cell_of a.key in
       let firm = this.along.firm in
       let known = remembered this.setting this.w this.ground.lives this.ground.asking f.row.primary (spot a f) cell f.putting.op clients
-      (followed_recalled this.setting this.state this.along.steady this.w firm this.ground this.n a.number a.key a.bytes f clients) in
-      let timely = followed_timely this.setting this.state this.along.steady this.w firm this.ground this.n a.number a.key a.bytes f clients in
+      (followed_recalled (grounded this) this.along.steady this.n a.number a.key a.bytes f clients) in
+      let timely = followed_timely (grounded this) this.along.steady this.n a.number a.key a.bytes f clients in
       let upto = front_on known.known.upto _ _ known.known.applied (firm.servers f.row.primary) in
       let one : known.row ≡ f.row = one_row this.setting (chosen_log this.setting this.w) firm.plain
       (this.w.servers this.n).log.applied known.known.upto cell
       f.row known.row (firm.servers this.n) upto f.shares.linked known.linked (sym known.at) in
-      open_beside this.setting this.w firm this.ground.lives f.row.primary known.inc
-      (asked_for cell f.putting.op) f.putting.op.rev known.known
-      this.n runs a.seat f.row f.shares.linked f.shares.has f.shares.both
-      (subst (λ r. IsLinked this.setting known.known.upto cell r) one known.linked)
-      (sym known.at ∙ ap (place_by this.setting known.known.upto) one) timely.stays
+      open_beside this.setting this.w firm this.ground.lives (record {
+        n = f.row.primary;
+        inc = known.inc;
+        want = asked_for cell f.putting.op;
+        rev = f.putting.op.rev;
+        p = known.known;
+        m = this.n;
+        runs = runs;
+        seat = a.seat;
+        row = f.row;
+        there = f.shares.linked;
+        has = f.shares.has;
+        both = f.shares.both;
+        known = subst (λ r. IsLinked this.setting known.known.upto cell r) one known.linked;
+        place = sym known.at ∙ ap (place_by this.setting known.known.upto) one;
+        most = timely.stays;
+      })
 
   -- ### What is told
 
@@ -129,7 +127,7 @@ module _ (this : ServerStep) (same : chosen_log this.setting (later_world this) 
         keyed = ((this.ground.ready.rests.pending this.n).staged op.cell op is).keyed
 
         own_counts : IsOwn this.setting this.w this.n
-        own_counts = this.ground.own this.n runs (op_seat this.setting this.state this.w this.along.firm this.ground this.n op.cell op runs is)
+        own_counts = this.ground.own this.n runs (op_seat (grounded this) this.n op.cell op runs is)
 
         other : ((authority chosen op.cell ≡ Some this.n) → ⊥) → TakesTold this
         other never =
@@ -144,18 +142,19 @@ module _ (this : ServerStep) (same : chosen_log this.setting (later_world this) 
         mine clients counted =
             let lives = this.ground.lives in
             let firm = this.along.firm in
-            let timely = pending_timely this.setting this.state this.along.steady this.w firm this.ground this.n this.n op.cell op runs is clients in
+            let timely = pending_timely (grounded this) this.along.steady this.n this.n op.cell op runs is clients in
             let epoch : epoch_at chosen (cell_of op.key) ≡ op.key.epoch = ap (epoch_at chosen) keyed ∙ timely.epoch in
             let still = open_running this.setting this.w firm lives this.n (asked_for op.cell op) op.rev
             (pending_here this.setting this.w firm lives this.ground.ready.rests this.ground.asking this.ground.reports this.n op.cell op is clients)
             (this.ground.asking.lived.ran this.n runs) runs in
             let place : Placed this op (cell_of op.key) =
             subst (Placed this op) (sym keyed) (placed this op.cell op
-            (pending_write this.setting this.state this.along.steady this.w firm this.ground this.n this.n op.cell op runs is clients) still) in
+            (pending_write (grounded this) this.along.steady this.n this.n op.cell op runs is clients) still) in
             let here_mine : authority chosen (cell_of op.key) ≡ Some this.n = ap (authority chosen) keyed ∙ counted in
-            let taken = all_given this (given_put this same op.key entry epoch chains own_counts here_mine op bytes place) in
+            let put : PutsHere this same = record { key = op.key; entry = entry; chains = chains; own_counts = own_counts; mine = here_mine } in
+            let taken = all_given this (given_put this same put epoch op bytes place) in
             told_of taken (An_own (record { op = op; is = is; fresh = unput; entry = entry; bytes = bytes; chains = chains })) job
-            (λ clients e. put_held this same op.key entry epoch chains own_counts here_mine op bytes place taken)
+            (λ clients e. put_held this same put epoch op bytes place taken)
 
         -- a fill
         fills : is_clients op.kind ≡ false → authority chosen op.cell ≡ Some this.n → TakesTold this
@@ -165,7 +164,8 @@ module _ (this : ServerStep) (same : chosen_log this.setting (later_world this) 
             let lacks : at nat_cmp (chain_in own.store.chains (cell_of op.key)) op.key.epoch ≡ None =
             ap (λ (c : Cell). at nat_cmp (chain_in own.store.chains c) op.key.epoch) keyed
             ∙ this.ground.moves.fills.lacks this.n op.cell op runs is fill unput in
-            let taken = all_given this (fill_given this same op.key entry op.bytes bytes chains own_counts here_mine one op.rev
+            let put : PutsHere this same = record { key = op.key; entry = entry; chains = chains; own_counts = own_counts; mine = here_mine } in
+            let taken = all_given this (fill_given this same put op.bytes bytes one op.rev
             (this.ground.moves.fills.asked this.n op.cell op is fill) lacks) in
             told_of taken (An_own (record { op = op; is = is; fresh = unput; entry = entry; bytes = bytes; chains = chains })) job
             (λ clients e. true_false clients fill)
@@ -175,7 +175,7 @@ module _ (this : ServerStep) (same : chosen_log this.setting (later_world this) 
         (stage_facts this.setting.servers (chosen_log this.setting this.w) this.along.firm.plain (cell_of a.key)).most) [
           | inr dead ↦ dead_told a job dead
           | inl alive ↦
-              let f = followed this.setting this.state this.along.steady this.w this.along.firm this.ground this.n runs (new this) a alive in
+              let f = followed (grounded this) this.along.steady this.n runs (new this) a alive in
               by_bool (is_clients f.putting.op.kind) (λ clients. write_told a alive f clients job) (λ fill. fill_told a alive f fill job)
         ]
       where
@@ -199,31 +199,34 @@ module _ (this : ServerStep) (same : chosen_log this.setting (later_world this) 
             → is_clients f.putting.op.kind ≡ true → Jobs (An_asked a) → TakesTold this
         write_told a alive f clients job =
             let firm = this.along.firm in
-            let timely = followed_timely this.setting this.state this.along.steady this.w firm this.ground this.n a.number a.key a.bytes f clients in
-            let recalled = followed_recalled this.setting this.state this.along.steady this.w firm this.ground this.n a.number a.key
+            let timely = followed_timely (grounded this) this.along.steady this.n a.number a.key a.bytes f clients in
+            let recalled = followed_recalled (grounded this) this.along.steady this.n a.number a.key
             a.bytes f clients in
-            let epoch = followed_epoch this.setting this.state this.along.steady this.w firm this.ground this.n a.number a.key a.bytes f clients in
+            let epoch = followed_epoch (grounded this) this.along.steady this.n a.number a.key a.bytes f clients in
             let counts_here = after_second runs a alive in
             let bytes : a.entry.bytes ≡ f.putting.op.bytes = a.put ∙ sym f.putting.bytes_is in
             let still = asked_open runs a f clients in
             let place = placed this (cell_of a.key) f.putting.op
-            (write_of this.setting this.state this.along.steady this.w firm this.ground this.n f.row.primary (spot a f)
+            (write_of (grounded this) this.along.steady this.n f.row.primary (spot a f)
             (cell_of a.key) f.putting.op clients recalled timely) still in
             let own_counts = this.ground.own this.n runs a.seat in
-            let taken = all_given this (given_put this same a.key a.entry epoch a.chains own_counts counts_here f.putting.op bytes place) in
+            let put : PutsHere this same = record { key = a.key; entry = a.entry; chains = a.chains; own_counts = own_counts; mine = counts_here } in
+            let taken = all_given this (given_put this same put epoch f.putting.op bytes place) in
             told_of taken (An_asked a) job (λ g clients.
             ap (λ (o : Pending). is_held (replay this.m taken.es) o.client) (sym (same_op a f g))
-            ∙ put_held this same a.key a.entry epoch a.chains own_counts counts_here f.putting.op bytes place taken)
+            ∙ put_held this same put epoch f.putting.op bytes place taken)
 
         fill_told : (a : PutsAsked hears here own (new this)) → AliveIn chosen (cell_of a.key) → (f : FollowedHere a)
             → is_clients f.putting.op.kind ≡ false → Jobs (An_asked a) → TakesTold this
         fill_told a alive f fill job =
             let own_counts = this.ground.own this.n runs a.seat in
             let firm = this.along.firm in
-            let one = followed_comes this.setting this.state this.along.steady this.w firm this.ground this.n a.number a.key a.bytes f fill in
-            let frozen = followed_frozen this.setting this.state this.along.steady this.w firm this.ground this.n a.number a.key a.bytes f fill in
-            let lacks = followed_lacks this.setting this.state this.along.steady this.w firm this.ground this.n a.number a.key a.bytes f fill in
-            let taken = all_given this (fill_given this same a.key a.entry a.bytes a.put a.chains own_counts (after_second runs a alive) one f.putting.op.rev
+            let one = followed_comes (grounded this) this.along.steady this.n a.number a.key a.bytes f fill in
+            let frozen = followed_frozen (grounded this) this.along.steady this.n a.number a.key a.bytes f fill in
+            let lacks = followed_lacks (grounded this) this.along.steady this.n a.number a.key a.bytes f fill in
+            let put : PutsHere this same =
+            record { key = a.key; entry = a.entry; chains = a.chains; own_counts = own_counts; mine = after_second runs a alive } in
+            let taken = all_given this (fill_given this same put a.bytes a.put one f.putting.op.rev
             frozen lacks) in
             told_of taken (An_asked a) job (λ g clients. true_false (ap (λ (o : Pending). is_clients o.kind) (same_op a f g) ∙ clients) fill)
 
@@ -232,7 +235,7 @@ module _ (this : ServerStep) (same : chosen_log this.setting (later_world this) 
     copy_told c job =
         let taken = all_given this (calm_given this same (λ row there b. own_unchanged this same (this.ground.own this.n runs c.seat) row there b
         (λ mine. copied_apart hears own c.cell (new this).store.chains c.how (named_cell row b)
-        (λ e. copied_uncounted this.setting this.state this.w this.along.firm this.ground this.n runs (new this) c
+        (λ e. copied_uncounted (grounded this) this.n runs (new this) c
         (subst (AliveIn chosen) e (named_alive this same row there b))
         (ap (authority chosen) (sym e) ∙ mine))))) in
         told_of taken (A_copy c) job tt
@@ -241,7 +244,7 @@ module _ (this : ServerStep) (same : chosen_log this.setting (later_world this) 
     dead_drops : (d : Drops here own (new this)) → Jobs (Of_the_dead d) → TakesTold this
     dead_drops d job =
         let taken = all_given this (calm_given this same (λ row there b. own_unchanged this same (this.ground.own this.n runs d.seat) row there b
-        (λ mine. dropped_same this.setting this.state this.along.steady this.w this.along.firm this.ground this.n (new this) d (named_cell row b)
+        (λ mine. dropped_same (grounded this) this.along.steady this.n (new this) d (named_cell row b)
         (named_alive this same row there b)))) in
         told_of taken (Of_the_dead d) job tt
 

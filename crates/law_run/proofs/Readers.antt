@@ -14,16 +14,15 @@ use Rattle.law_steps.proofs.Coming.{stage_facts}
 use Rattle.law_run.proofs.Named.{entry_over, has_over, is_between}
 use Rattle.law_run.proofs.Reading.{reader_serves}
 use Rattle.petal_base.specs.declared.cell.Cell.{Cell}
-use Rattle.petal_command.specs.declared.command.Command.{Command}
 use Rattle.petal_table.specs.Table.{at}
 use Rattle.global_tables.specs.declared.disk.DiskRow.{DiskRow}
 use Rattle.global_tables.specs.declared.link.LinkRow.{LinkRow}
 use Rattle.script_lines.specs.declared.request.Line.{Line}
 use Rattle.petal_rules.specs.Lists.{In}
-use Rattle.petal_rules.specs.State.{State, authority, is_in, is_lead, readable, coming, held, leads_link, leaving, live}
+use Rattle.petal_rules.specs.State.{authority, is_in, is_lead, readable, coming, held, leads_link, leaving, live}
 use Rattle.petal_rules.specs.Store.{Store, cell_cmp, chain_in, entry_at, bytes_of, Stored}
 use Rattle.petal_rules.specs.Server.{Own}
-use Rattle.petal_rules.specs.World.{chosen_state, chosen_log, counted, server_state}
+use Rattle.petal_rules.specs.World.{counted}
 use Rattle.petal_rules.proofs.Tests.{by_bool, is_the_so, same_numbers, same_some, true_false}
 use Rattle.petal_history.specs.Contents.{entry_before, entry_by, entry_of, old_cell}
 use Rattle.law_state.specs.Below.{IsServing}
@@ -32,23 +31,16 @@ use Rattle.law_state.proofs.Leaves.{either_true}
 use Rattle.law_state.proofs.Roles.{log_roles}
 use Rattle.law_steps.proofs.Fronts.{front_itself}
 use Rattle.law_steps.proofs.Histories.{chosen_steady, own_below, runs_now, own_plain}
-use Rattle.law_copies.specs.Pair.{PairOk, owns_of, pair_of}
+use Rattle.law_copies.specs.Pair.{PairOk, pair_of}
 use Rattle.law_copies.specs.Visits.{half, place_by, AliveIn, IsLinked}
 use Rattle.law_copies.proofs.Places.{one_row, places_up, dead_not, linked_between}
 use Rattle.law_run.proofs.Seats.{chosen_store, chosen_twins, equal_pair, visit_here, alive_here}
 use Rattle.law_run.proofs.Along.{cell_named, content_is, disks_now, has_content_is, named_comes, plain_now, rows_in}
 use Rattle.law_run.proofs.Contents.{was_kept, was_has}
-use Rattle.law_run.proofs.Steps.{ServerStep}
+use Rattle.law_run.proofs.Steps.{ServerStep, ends_of, grounded}
 
 module _ (this : ServerStep) where
-  abbrev own_state : State
-  own_state = server_state this.setting this.w this.n
-
-  abbrev chosen : State
-  chosen = chosen_state this.setting this.w
-
-  abbrev own : Own
-  own = owns_of this.w this.n
+  open ends_of this use {top, chosen, own, own_state}
 
   abbrev lines : List Line
   lines = this.setting.lines
@@ -56,9 +48,6 @@ module _ (this : ServerStep) where
   -- the bytes of the server's entry
   abbrev pub data_of : Cell → ℕ → List ℕ
   data_of cell epoch = bytes_of (entry_at (chain_in own.store.chains cell) epoch)
-
-  abbrev top : List Command
-  top = chosen_log this.setting this.w
 
   -- ### A server that may read a cell which is not leaving
 
@@ -104,7 +93,7 @@ module _ (this : ServerStep) where
     now_lives = let high = now_high in (stage_facts this.setting.servers top firm.plain cell).alive now_low (omega arith)
 
     serving : IsServing own_state this.n cell
-    serving = reader_serves this.setting this.state this.w firm this.ground this.n cell r.may
+    serving = reader_serves (grounded this) this.n cell r.may
 
     pub serving_now : IsServing chosen this.n cell
     serving_now =
@@ -134,8 +123,8 @@ module _ (this : ServerStep) where
         is_the_so _ this.n (both_leads own_state cell mid.0 mid.1 (ap (λ (x : LinkRow). x.state) (sym row_is) ∙ both)
         ∙ ap Some (ap (λ (x : LinkRow). x.primary) (sym row_is) ∙ mine)) in
         let lead = own_facts.led this.n link own_low own_high in
-        let here = visit_here this.setting this.state this.w firm this.ground this.n cell mid.0 r.runs r.seat mid.1
-        (alive_here this.setting this.state this.w firm this.ground this.n cell alive) in
+        let here = visit_here (grounded this) this.n cell mid.0 r.runs r.seat mid.1
+        (alive_here (grounded this) this.n cell alive) in
         let own_is : visit ≡ own = same_some (sym is ∙ ap (λ p. this.ground.good.visits this.n p cell) (sym same) ∙ here) in
         ap (λ (o : Own). at cell_cmp o.pairs.pending cell) own_is ∙ r.idle lead
 
@@ -149,8 +138,8 @@ module _ (this : ServerStep) where
         let q = b.secondary in
         let place = place_by this.setting top b in
         let visits = this.ground.good.visits in
-        let stores = chosen_store this.setting this.state this.w firm this.ground in
-        let twins = chosen_twins this.setting this.state this.w firm this.ground cell b b_is both alive in
+        let stores = chosen_store (grounded this) in
+        let twins = chosen_twins (grounded this) cell b b_is both alive in
         let pair : PairOk (pair_of (half (visits this.n place cell) (stores this.n)) (half (visits q place cell) (stores q)) cell) =
         subst (λ k. PairOk (pair_of (half (visits k place cell) (stores k)) (half (visits q place cell) (stores q)) cell)) mine twins.pair in
         let equal = equal_pair (visits this.n place cell) (visits q place cell) (stores this.n) (stores q) cell pair

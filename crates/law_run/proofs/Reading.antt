@@ -16,7 +16,6 @@ use Rattle.law_steps.proofs.Histories.{own_steady}
 use Rattle.law_copies.specs.Pair.{owns_of}
 use Rattle.law_copies.proofs.Later.{holder_is_one}
 use Rattle.law_requests.specs.Known.{Known, ReadKnown, seen}
-use Rattle.law_run.specs.Follow.{Ground}
 use Rattle.law_run.proofs.Entries.{AreUpTo}
 use Rattle.law_run.proofs.Grounds.{kept_up_to}
 use Rattle.std.proofs.Common.{◌≡◌, ◌≤◌, ℕ, Bool, List, true, false, Option, Some, None, refl, sym, ap, ◌∙◌, subst, ◌⊎◌, inl, inr, arith}
@@ -48,6 +47,7 @@ use Rattle.law_requests.specs.Asked.{IsRead}
 use Rattle.law_run.proofs.Along.{HasDisk, IsFound, disks_now, epoch_here, found_row, left_apart, named_map_is, plain_now, rows_in}
 use Rattle.law_run.proofs.Named.{asked_named, asked_read, read_has}
 use Rattle.law_run.proofs.Snapshots.{snapshot_found}
+use Rattle.law_run.proofs.Scenes.{Grounded}
 
 -- the content of the disk, at no epoch above its own, or that of a snapshot
 pub data AsksFor (row : DiskRow) (epoch : ℕ) : Option (List ℕ) → Type 0 where
@@ -195,7 +195,9 @@ pub record IsKnownRead (setting : Setting) (w : World) (n client seq : ℕ) (cel
   pub told : Bool
   pub read : IsRead (server_state setting w n) setting.lines client seq told cell epoch
 
-module _ (setting : Setting) (state : State) (w : World) (firm : Firm setting w) (ground : Ground setting state w) (n : ℕ) where
+module _ (g : Grounded) (n : ℕ) where
+  open g use {setting, state, w, firm, ground}
+
   abbrev own_state : State
   own_state = server_state setting w n
 

@@ -35,7 +35,8 @@ use Rattle.law_requests.proofs.Later.{pending_further}
 use Rattle.law_requests.proofs.Lives.{no_earlier, ran_now}
 use Rattle.law_requests.proofs.Stepping.{GoesOn, ended_later}
 use Rattle.law_run.proofs.Leaving.{Leaves, As_it_was, In_place, Goes_further, Boots}
-use Rattle.law_run.specs.Follow.{AreRemembered, IsRemembered, Is_pending, Was_pending, Ground}
+use Rattle.law_run.specs.Follow.{AreRemembered, IsRemembered, Is_pending, Was_pending}
+use Rattle.law_run.proofs.Scenes.{Grounded}
 
 -- the visit of a step's server is what it is now at its own place
 pub record IsVisit (setting : Setting) (v : World) (n place : ℕ) (cell : Cell) (own : Own) : Type 0 where
@@ -62,12 +63,22 @@ lead_serves state steady n cell leads row is = elim (led_by state steady cell n 
       (ap (serves n held.row) held.so ∙ number_itself n)
 ]
 
-module _ (setting : Setting) (state : State) (w : World) (firm : Firm setting w) (ground : Ground setting state w) (v : World)
-    (then : Firm setting v)
-    (grows : IsPrefix (chosen_log setting w) (chosen_log setting v)) (more : List Record)
-    (next : Good setting more (chosen_log setting v) (counted setting v))
-    (from : GoesOnFrom setting ground.records more w v ground.good next) (on : GoesOn setting w v ground.lives)
-    (rests : Rests setting v) (asking : AskingBy setting v (lives_after ground.lives v)) where
+-- a later world, after more records, and what is known of it
+pub record GoesTo (g : Grounded) : Type 0 where
+  pub v : World
+  pub then : Firm g.setting v
+  pub grows : IsPrefix (chosen_log g.setting g.w) (chosen_log g.setting v)
+  pub more : List Record
+  pub next : Good g.setting more (chosen_log g.setting v) (counted g.setting v)
+  pub from : GoesOnFrom g.setting g.ground.records more g.w v g.ground.good next
+  pub on : GoesOn g.setting g.w v g.ground.lives
+  pub rests : Rests g.setting v
+  pub asking : AskingBy g.setting v (lives_after g.ground.lives v)
+
+module _ (g : Grounded) (to : GoesTo g) where
+  open g use {setting, state, w, firm, ground}
+  open to use {v, then, grows, more, next, from, on, rests, asking}
+
   logs : (n : ℕ) → IsPrefix (w.servers n).log.applied (v.servers n).log.applied
   logs = on.later.logs
 

@@ -1,18 +1,17 @@
 -- What is chosen grows: by which cells a block's content is told after a step, and before it. A region that begins its way has what counted at the
 -- old map, and one that has come has at the new one all that was frozen.
-use Rattle.std.proofs.Common.{◌≡◌, ◌≤◌, ◌&&◌, ◌||◌, not, ℕ, Bool, List, true, false, Option, Some, None, is_some}
+use Rattle.std.proofs.Common.{◌≡◌, ◌≤◌, ◌&&◌, ◌||◌, not, ℕ, Bool, true, false, Option, Some, None, is_some}
 use Rattle.std.proofs.Common.{refl, sym, ap, ◌∙◌, ◌⊎◌, inl, inr, arith}
 use Rattle.std.proofs.lemmas.Bool.{cases_lt}
 use Rattle.std.specs.Prelude.{if◌then◌else◌, option_and_then, option_map}
 use Rattle.petal_base.specs.declared.cell.Cell.{Cell}
-use Rattle.petal_command.specs.declared.command.Command.{Command}
 use Rattle.global_tables.specs.Disk.{disk_at}
 use Rattle.global_tables.specs.declared.disk.DiskRow.{DiskRow}
 use Rattle.petal_state.specs.CellState.{has_map, named_cell}
 use Rattle.petal_rules.specs.Lists.{In}
-use Rattle.petal_rules.specs.State.{State, authority, leaving}
+use Rattle.petal_rules.specs.State.{authority, leaving}
 use Rattle.petal_rules.specs.Store.{Chain, Stored, bytes_of, chain_in, entry_at}
-use Rattle.petal_rules.specs.World.{World, begins_to_leave, chain_that_counts, chosen_log, chosen_state, counted, kept}
+use Rattle.petal_rules.specs.World.{begins_to_leave, chain_that_counts, counted, kept}
 use Rattle.petal_rules.proofs.Tests.{by_bool, none_some, same_some, true_false}
 use Rattle.petal_history.specs.Contents.{content_at, entry_before, entry_by, entry_of, first_entry, has_content_at, old_cell}
 use Rattle.law_state.specs.Disks.{AreDisks}
@@ -31,23 +30,10 @@ use Rattle.law_run.proofs.Counting.{counts_serves}
 use Rattle.law_run.proofs.Fills.{old_source}
 use Rattle.law_run.proofs.Named.{entry_over, has_over, is_between}
 use Rattle.law_run.proofs.Sources.{source_stays}
-use Rattle.law_run.proofs.Steps.{ServerStep, later_world, unput}
+use Rattle.law_run.proofs.Steps.{ServerStep, ends_of, grounded, unput}
 
 module _ (this : ServerStep) where
-  abbrev v : World
-  v = later_world this
-
-  abbrev top : List Command
-  top = chosen_log this.setting this.w
-
-  abbrev end : List Command
-  end = chosen_log this.setting v
-
-  abbrev chosen : State
-  chosen = chosen_state this.setting this.w
-
-  abbrev after : State
-  after = chosen_state this.setting v
+  open ends_of this use {v, top, end, chosen, after}
 
   plain_then : IsPlainState this.setting.servers chosen
   plain_then = plain_now this.setting this.w this.along.firm
@@ -191,7 +177,7 @@ module _ (this : ServerStep) where
         same_old : old ≡ old_cell later.now b
         same_old =
             source_stays this.setting.servers top end this.next.firm.plain this.grows named old
-            (old_source this.setting this.state this.w this.along.firm this.ground named
+            (old_source (grounded this) named
             (named_comes this.setting.servers chosen plain_then disks_then row h b between_then) row h named_has)
             later.now later.there later_has comes
 
@@ -317,7 +303,7 @@ module _ (this : ServerStep) where
     has_all : is_between row b ≡ true → 2 ≤ stage_at after named → HasAll
     has_all between come =
         let one = named_comes this.setting.servers chosen plain_then disks_then row h b between in
-        let from = old_source this.setting this.state this.w this.along.firm this.ground named one row h named_has in
+        let from = old_source (grounded this) named one row h named_has in
         let dead : stage_at after old ≡ 4 = log_twins this.setting.servers top end named old this.next.firm.plain this.grows from one come in
         let died = this.onward.moves.died old dead in
         let same = frozen_kept old (inl ((facts_then old).left (old_leaves this.setting.servers chosen plain_then disks_then row h b between))) in

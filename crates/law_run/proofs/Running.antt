@@ -49,11 +49,12 @@ use Rattle.law_run.proofs.ClientSteps.{begins_by, turn_told}
 use Rattle.law_run.proofs.LogSteps.{step_kind}
 use Rattle.law_run.proofs.Looks.{AreGrounded}
 use Rattle.law_run.proofs.Machine.{Obeys-append, replay-append}
-use Rattle.law_run.proofs.ServerSteps.{ServesAt, step_told}
+use Rattle.law_run.proofs.ServerSteps.{step_told}
 use Rattle.law_run.proofs.Blanks.{blank_follow, blank_told}
-use Rattle.law_run.proofs.Steps.{IsMiddle}
+use Rattle.law_run.proofs.Steps.{IsMiddle, ServesAt}
 use Rattle.law_run.proofs.Still.{contents_still}
 use Rattle.law_run.proofs.Footings.{along_at, grown_at, Footing, next_ground, none_chosen, FirstGround, first_ground}
+use Rattle.law_run.proofs.Scenes.{Followed}
 
 -- ### Steps, where the chosen logs are fronts of one
 
@@ -132,6 +133,9 @@ module _ (script : Script) (sound : IsSound script) (whole : List Command) (all 
       grounds : AreGrounded setting state v later
       legal : IsLegalFrom setting v later
 
+    abbrev so_far : Followed
+    so_far = record { setting = setting; state = state; w = w; m = m; along = along; ground = ground; follow = follow }
+
     -- what is told of a letter that was sent
     abbrev look_told : Actor → World → Letter → List Event
     look_told who v letter = look_of setting w v who later letter letter.body
@@ -155,13 +159,7 @@ module _ (script : Script) (sound : IsSound script) (whole : List Command) (all 
         let v = (acts setting w n what stamp acted).world in
         let at : ServesAt =
         record {
-          setting = setting;
-          state = state;
-          w = w;
-          m = m;
-          along = along;
-          ground = ground;
-          follow = follow;
+          told = so_far;
           n = n;
           within = may.0;
           stamp = stamp;
@@ -190,8 +188,7 @@ module _ (script : Script) (sound : IsSound script) (whole : List Command) (all 
         }
     step_tells (actor.Client c) what may next =
         let reacted = client_step what (client_state setting w c) c (w.clients c) (next_line setting.lines c (w.clients c)) in
-        let this : ClientStep =
-        record { setting = setting; state = state; w = w; m = m; along = along; ground = ground; follow = follow; c = c; stamp = stamp; later = later } in
+        let this : ClientStep = record { told = so_far; c = c; stamp = stamp; later = later } in
         let t = turn_told this (is_call what) reacted (client_turns setting w c what may.1).turned in
         record {
           es = t.es;
@@ -373,9 +370,18 @@ still_after script front back sound legal =
     let log = whole script records sound legal in
     let way = on_the_way script sound log last.plain begun blank front back (firm script records sound legal) (wakes script records sound legal)
     (front_itself log) (footing script records sound legal) (begun_legal script records sound legal) (start_follow script) legal in
-    contents_still setting middle (world_after setting begun records)
-    (history_is_firm script front sound (front_legal setting begun front back legal).0) last
-    (history_grows script records sound legal front back refl) way.m way.es way.then.stores way.now.stores
+    contents_still (record {
+      setting = setting;
+      w = middle;
+      v = world_after setting begun records;
+      one = (history_is_firm script front sound (front_legal setting begun front back legal).0);
+      two = last;
+      grows = (history_grows script records sound legal front back refl);
+      m = way.m;
+      es = way.es;
+      was = way.then.stores;
+      now = way.now.stores;
+    })
 
 snapshots_after : (script : Script) (records : List Record) → IsSound script → IsLegal script records → SnapshotsStay script records
 snapshots_after script records sound legal front back e =

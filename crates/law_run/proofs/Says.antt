@@ -31,7 +31,7 @@ use Rattle.law_steps.specs.DidLead.{Opens_fill, Opens_fill_alone, Has_fill, Has_
 use Rattle.law_steps.specs.DidSecond.{DidSecond}
 use Rattle.law_steps.specs.Did.{Did, IsRefusal, Ignores, Refuses, By_read, By_lead, By_second, By_holder, By_other, By_filler, By_sweep}
 use Rattle.law_steps.proofs.CopyFrames.{of_holder, of_other}
-use Rattle.law_steps.specs.Happens.{Handled, own_place}
+use Rattle.law_steps.specs.Happens.{own_place}
 use Rattle.law_steps.proofs.Letters.{said, one_post, posted}
 use Rattle.law_steps.proofs.Subjects.{of_filler, of_read, of_second, of_sweep}
 use Rattle.law_copies.specs.Pair.{owns_of}
@@ -41,7 +41,7 @@ use Rattle.law_moves.proofs.Chains.{NeverDead}
 use Rattle.law_run.proofs.Looks.{is_looked}
 use Rattle.law_run.proofs.Machine.{held_onward}
 use Rattle.law_run.proofs.LeadJobs.{closed_held, closed_alone}
-use Rattle.law_run.proofs.Steps.{ServerStep}
+use Rattle.law_run.proofs.Steps.{ServerStep, ends_of}
 
 -- a letter ends a write as written
 abbrev pub is_written : Body → Bool
@@ -182,14 +182,7 @@ ended_seq seq ending.Full other e = true_false {b = is_written (body.Written oth
 
 module _ (this : ServerStep) (k : Plain) (runs : (this.w.servers this.n).life.running ≡ true) (onward : Onward this.m k)
     (never : NeverDead (own_place this.setting this.w this.n) (owns_of this.w this.n)) where
-  abbrev here : Here
-  here = own_place this.setting this.w this.n
-
-  abbrev own : Own
-  own = owns_of this.w this.n
-
-  abbrev hears : Body → Type 0
-  hears = Handled this.w this.n
+  open ends_of this use {own, here, hears}
 
   abbrev PostsOk : List Post → Type 0
   PostsOk posts = (post : Post) → In post posts → (c seq : ℕ) → post.to ≡ actor.Client c → post.body ≡ body.Written seq → IsOpen (this.w.clients c) seq

@@ -15,13 +15,12 @@ use Rattle.petal_msg.specs.declared.operation.Pending.{Pending}
 use Rattle.petal_state.specs.CellState.{lead, serves}
 use Rattle.petal_history.specs.Claims.{IsPrefix}
 use Rattle.petal_rules.specs.Server.{Own}
-use Rattle.petal_rules.specs.State.{State, authority, in_both, is_alone_on, is_in, is_lead, is_second, live, second}
+use Rattle.petal_rules.specs.State.{authority, in_both, is_alone_on, is_in, is_lead, is_second, live, second}
 use Rattle.petal_rules.specs.Progress.{has_proposed}
 use Rattle.petal_rules.specs.Store.{Store, cell_cmp, chain_in}
-use Rattle.petal_rules.specs.World.{Setting, World, blank_joins_in, chosen_log, chosen_state, kept, server_state}
+use Rattle.petal_rules.specs.World.{Setting, blank_joins_in, chosen_log, chosen_state, kept, server_state}
 use Rattle.petal_rules.specs.Writes.{is_clients}
 use Rattle.petal_rules.proofs.Tests.{by_bool, is_the_one, none_some, true_false}
-use Rattle.law_state.specs.Firm.{Firm}
 use Rattle.law_state.specs.Homes.{HasStage, stage_at}
 use Rattle.law_state.specs.Plain.{IsPlainLog}
 use Rattle.law_state.proofs.Alone.{alone_not_both, both_row, so_alone, so_both}
@@ -40,8 +39,8 @@ use Rattle.law_copies.specs.Pair.{AreCopies, Known, Pair, PairOk, far, owns_of, 
 use Rattle.law_copies.specs.Visits.{AliveIn, IsLast, IsLinked, half, place_by}
 use Rattle.law_copies.proofs.Later.{both_last, both_since, holds_since, reached_here}
 use Rattle.law_copies.proofs.Places.{alive_on, linked_alive, linked_between, one_row, place_of_later, place_touched, places_up, rows_later}
-use Rattle.law_run.specs.Follow.{Ground}
 use Rattle.law_run.proofs.Joined.{more_joins}
+use Rattle.law_run.proofs.Scenes.{Grounded}
 
 -- ### What is remembered of a place
 
@@ -94,7 +93,9 @@ place_joins setting whole all front cell row now prefix is end same n has = elim
       absurd (omega arith)
 ]
 
-module _ (setting : Setting) (state : State) (w : World) (firm : Firm setting w) (ground : Ground setting state w) where
+module _ (g : Grounded) where
+  open g use {setting, w, firm, ground}
+
   abbrev chosen : List Command
   chosen = chosen_log setting w
 

@@ -9,13 +9,12 @@ use Rattle.petal_base.specs.declared.cell.Cell.{Cell}
 use Rattle.petal_base.specs.Cells.{cell_of}
 use Rattle.petal_table.specs.Table.{at}
 use Rattle.petal_machine.specs.Machine.{Plain}
-use Rattle.petal_msg.specs.declared.body.Body.{Body}
 use Rattle.petal_msg.specs.declared.operation.Ending.TheVariants as ending
 use Rattle.petal_msg.specs.declared.operation.Finished.{Finished}
 use Rattle.petal_msg.specs.declared.operation.Pending.{Pending}
 use Rattle.petal_rules.specs.State.{is_lead, is_second, live}
 use Rattle.petal_rules.specs.Store.{Chain, Store, cell_cmp, chain_in}
-use Rattle.petal_rules.specs.Server.{Own, Here, Done, Pairs}
+use Rattle.petal_rules.specs.Server.{Own, Done, Pairs}
 use Rattle.petal_rules.specs.Writes.{is_clients}
 use Rattle.petal_rules.specs.World.{chosen_state, kept}
 use Rattle.petal_rules.proofs.Tests.{is_the_one, same_some, true_false}
@@ -24,7 +23,7 @@ use Rattle.law_state.proofs.Cells.{led_by, second_by}
 use Rattle.law_steps.specs.DidSecond.{DidSecond, Sets_apart, Promises, Declines, Follows}
 use Rattle.law_steps.specs.DidOther.{DidOther}
 use Rattle.law_steps.specs.Did.{Did, Ignores, Refuses, By_read, By_lead, By_second, By_holder, By_other, By_filler, By_sweep}
-use Rattle.law_steps.specs.Happens.{Handled, IsSeated, own_place}
+use Rattle.law_steps.specs.Happens.{IsSeated}
 use Rattle.law_steps.proofs.CopyFrames.{of_holder, of_other}
 use Rattle.law_steps.proofs.Histories.{own_steady}
 use Rattle.law_steps.proofs.Staged.{same_cell_or_apart}
@@ -44,18 +43,11 @@ use Rattle.law_run.proofs.Frames.{OwnFollow, kept_finished}
 use Rattle.law_run.proofs.Grounds.{dropped_same, followed}
 use Rattle.law_run.proofs.Seats.{IsSharing, one_place_of, op_lead, op_leads, op_seat, place_of}
 use Rattle.law_run.proofs.Seats.{visit_here, alive_here}
-use Rattle.law_run.proofs.Steps.{ServerStep, joined_now, joined_then, kept_here, later_world, new as own_left, own_after}
+use Rattle.law_run.proofs.Steps.{ServerStep, ends_of, grounded, joined_now, joined_then, kept_here, later_world, new as own_left, own_after}
 use Rattle.law_run.proofs.LeadJobs.{Held, Counted, PutHeld, was_held, lead_pending, old_finished, lead_finished}
 
 module _ (this : ServerStep) (k : Plain) where
-  abbrev here : Here
-  here = own_place this.setting this.w this.n
-
-  abbrev own : Own
-  own = owns_of this.w this.n
-
-  abbrev hears : Body → Type 0
-  hears = Handled this.w this.n
+  open ends_of this use {own, here, hears}
 
   abbrev mine : Cell → Chain
   mine cell = chain_in own.store.chains cell
@@ -107,12 +99,12 @@ module _ (this : ServerStep) (k : Plain) where
         → at cell_cmp new.pairs.pending cell ≡ Some o → Counted this k cell o (chain_in new.store.chains cell) → Held this k o
     stays_pending new s none kept cell o is counted =
         let was : at cell_cmp own.pairs.pending cell ≡ Some o = sym (ap (λ t. at cell_cmp t cell) kept) ∙ is in
-        let lead = op_lead this.setting this.state this.w this.along.firm this.ground this.n cell o runs was in
+        let lead = op_lead (grounded this) this.n cell o runs was in
         was_held this k runs onward never cell o was (subst (Counted this k cell o) (led_chain new s none cell lead) counted)
 
     -- another server, which has put, and has the link in Both with this one
     module _ (cell : Cell) (p : ℕ) (op : Pending) (row : LinkRow)
-        (shares : IsSharing this.setting this.state this.w this.along.firm this.ground p cell row)
+        (shares : IsSharing (grounded this) p cell row)
         (first : row.primary ≡ p) (second : row.secondary ≡ this.n) (is : at cell_cmp (owns_of this.w p).pairs.pending cell ≡ Some op)
         (clients : is_clients op.kind ≡ true) where
       not_itself : p ≢ this.n
@@ -132,25 +124,25 @@ module _ (this : ServerStep) (k : Plain) where
           (λ e.
           let there : at cell_cmp own.pairs.pending cell ≡ Some o.op = ap (at cell_cmp own.pairs.pending) (e ∙ s.keyed) ∙ o.is in
           not_itself (one_lead (chosen_state this.setting this.w) p this.n cell
-          (op_leads this.setting this.state this.w this.along.firm this.ground p cell op shares.runs is)
-          (op_leads this.setting this.state this.w this.along.firm this.ground this.n cell o.op runs there))))
+          (op_leads (grounded this) p cell op shares.runs is)
+          (op_leads (grounded this) this.n cell o.op runs there))))
 
       asked_second : (new : Own) (a : PutsAsked hears here own new) → PutHeld this k {new = new} (An_asked a) → Followed_or_held new
       asked_second new a held same = elim (same_cell_or_apart cell (cell_of a.key)) [
         | inr ne ↦ inl (same ∙ ap (λ c. chain_in c cell) a.chains ∙ chain_apart own.store.chains (cell_of a.key) _ cell ne)
         | inl e ↦
-            let f = followed this.setting this.state this.along.steady this.w this.along.firm this.ground this.n runs new a
+            let f = followed (grounded this) this.along.steady this.n runs new a
             (subst (AliveIn (chosen_state this.setting this.w)) e shares.alive) in
-            let shares' : IsSharing this.setting this.state this.w this.along.firm this.ground p (cell_of a.key) row =
-            subst (λ (c : Cell). IsSharing this.setting this.state this.w this.along.firm this.ground p c row) e shares in
-            let at_one = one_place_of this.setting this.state this.w this.along.firm this.ground this.n p
+            let shares' : IsSharing (grounded this) p (cell_of a.key) row =
+            subst (λ (c : Cell). IsSharing (grounded this) p c row) e shares in
+            let at_one = one_place_of (grounded this) this.n p
             (cell_of a.key) f.row row f.shares shares' in
             let who : f.row.primary ≡ p = ap (λ (r : LinkRow). r.primary) (sym at_one.1) ∙ first in
-            let visit : this.ground.good.visits p (place_of this.setting this.state this.w this.along.firm this.ground p row)
+            let visit : this.ground.good.visits p (place_of (grounded this) p row)
             (cell_of a.key)
-            ≡ Some (owns_of this.w p) = visit_here this.setting this.state this.w this.along.firm this.ground p
+            ≡ Some (owns_of this.w p) = visit_here (grounded this) p
             (cell_of a.key) row shares'.runs shares'.seat shares'.linked
-            (alive_here this.setting this.state this.w this.along.firm this.ground p (cell_of a.key) shares'.alive) in
+            (alive_here (grounded this) p (cell_of a.key) shares'.alive) in
             let own_is : f.own ≡ owns_of this.w p =
             same_some (sym f.visited ∙ (λ i. this.ground.good.visits (who i) (at_one.0 i) (cell_of a.key)) ∙ visit) in
             let op_is : op ≡ f.putting.op =
@@ -160,12 +152,12 @@ module _ (this : ServerStep) (k : Plain) where
 
       copy_second : (new : Own) (c : PutsCopy hears here own new) → Followed_or_held new
       copy_second new c same = inl (same ∙ copied_apart hears own c.cell new.store.chains c.how cell
-          (λ e. copied_unfollowed this.setting this.state this.w this.along.firm this.ground this.n runs new c
+          (λ e. copied_unfollowed (grounded this) this.n runs new c
           (subst (AliveIn (chosen_state this.setting this.w)) e shares.alive) p row
-          (subst (λ (q : Cell). IsSharing this.setting this.state this.w this.along.firm this.ground p q row) e shares) not_itself))
+          (subst (λ (q : Cell). IsSharing (grounded this) p q row) e shares) not_itself))
 
       dead_second : (new : Own) → Drops here own new → Followed_or_held new
-      dead_second new d same = inl (same ∙ dropped_same this.setting this.state this.along.steady this.w this.along.firm this.ground this.n new d cell
+      dead_second new d same = inl (same ∙ dropped_same (grounded this) this.along.steady this.n new d cell
           shares.alive)
 
       -- by the stores that count
@@ -188,7 +180,7 @@ module _ (this : ServerStep) (k : Plain) where
           inl (same ∙ ap (λ c. chain_in c cell) (kept_here this (ap (λ (o : Own). o.store.chains) is_new ∙ stays) as_before))
       did_second new_own is_new as_before (An_own o) held same =
           by_own new_own is_new as_before
-          (this.ground.own this.n runs (op_seat this.setting this.state this.w this.along.firm this.ground this.n o.op.cell o.op runs o.is))
+          (this.ground.own this.n runs (op_seat (grounded this) this.n o.op.cell o.op runs o.is))
           (own_second new_own o) same
       did_second new_own is_new as_before (An_asked a) held same =
           by_own new_own is_new as_before (this.ground.own this.n runs a.seat) (asked_second new_own a held) same

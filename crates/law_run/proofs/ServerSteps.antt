@@ -3,10 +3,10 @@ use Rattle.law_run.proofs.Grounds.{never_dead, proposed_store}
 use Rattle.law_run.proofs.NotHere.{not_here_told}
 use Rattle.law_steps.specs.DidRead.{Not_here, Shows}
 use Rattle.law_run.proofs.Shows.{AreCalm, data_of, show_told}
-use Rattle.law_run.proofs.Steps.{later_world, new, IsMiddle, ServerStep, ServerTold, LooksTold, letters, kept_here, quiet_looks}
+use Rattle.law_run.proofs.Steps.{IsMiddle, LooksTold, ServerStep, ServerTold, ServesAt, kept_here, later_world, letters, new, quiet_looks}
 use Rattle.petal_history.specs.Legal.{IsLegalFrom}
 use Rattle.petal_state.specs.CellState.{named_cell}
-use Rattle.std.proofs.Common.{◌≡◌, ◌<◌, ◌+◌, ℕ, List, [], true, Some, refl, sym, ap, ◌∙◌, subst, inl, ◌||◌, false, Option, None}
+use Rattle.std.proofs.Common.{◌≡◌, ◌+◌, ℕ, List, [], true, Some, refl, sym, ap, ◌∙◌, subst, inl, ◌||◌, false, Option, None}
 use Rattle.std.specs.Prelude.{is_some}
 use Rattle.petal_base.specs.declared.cell.Cell.{Cell}
 use Rattle.petal_table.specs.Table.{at}
@@ -24,17 +24,15 @@ use Rattle.petal_rules.specs.Jobs.{Acted, down_posts}
 use Rattle.petal_rules.specs.Lists.{In}
 use Rattle.petal_rules.specs.Log.{Log, rev_of}
 use Rattle.petal_rules.specs.Server.{Own, Pairs, Here, Post, Sender, Done, sender, letters_of}
-use Rattle.petal_rules.specs.State.{State, servers_of}
+use Rattle.petal_rules.specs.State.{servers_of}
 use Rattle.petal_rules.specs.Progress.{copying_on}
 use Rattle.petal_rules.specs.Store.{Store, cell_cmp, chain_in}
 use Rattle.petal_rules.specs.Writes.{is_under_way}
-use Rattle.petal_rules.specs.World.{Setting, World, acts, before_blanks, stamped, chosen_log, chosen_state, server_state}
+use Rattle.petal_rules.specs.World.{World, acts, stamped, chosen_log, chosen_state, server_state}
 use Rattle.petal_rules.specs.declared.job.Job.{Job}
-use Rattle.petal_rules.specs.declared.step.Step.{Step}
 use Rattle.petal_rules.proofs.Settled.{IsSettling, settling}
 use Rattle.petal_rules.proofs.Tests.{true_false}
 use Rattle.petal_history.specs.Claims.{IsPrefix}
-use Rattle.petal_history.specs.declared.record.Record.{Record}
 use Rattle.law_state.specs.Tables.{IsGrown}
 use Rattle.law_steps.specs.Did.{Did, By_read}
 use Rattle.law_steps.specs.Happens.{Handled, Worked, By_job, By_ballot, By_entry, IsSeated, Serving, Goes, Ends, Stays, Wakes, Fails}
@@ -42,9 +40,9 @@ use Rattle.law_steps.specs.Happens.{own_place, without_rev, served_so, stopped_s
 use Rattle.law_steps.proofs.Letters.{said}
 use Rattle.law_steps.proofs.Serving.{chosen_same}
 use Rattle.law_copies.specs.Pair.{owns_of}
-use Rattle.law_run.specs.Follow.{Ground, Follow}
+use Rattle.law_run.specs.Follow.{Ground}
 use Rattle.law_run.specs.Onward.{Onward}
-use Rattle.law_run.proofs.Along.{Along, rows_in}
+use Rattle.law_run.proofs.Along.{Along}
 use Rattle.law_moves.proofs.Chains.{did_stores, NeverDead}
 use Rattle.law_run.proofs.Frames.{AreKept, As_before, Anew, OwnFollow, Runs, SaysOk, kept_own}
 use Rattle.law_run.proofs.LogSteps.{IsOfKind, Of_the_log, Of_a_boot, Of_the_rest}
@@ -76,22 +74,6 @@ none_pending own cell free = by (at cell_cmp own.pairs.pending cell) free
     by None e = refl
     by (Some op) e = true_false refl e
 
--- a server of this world
-pub record ServesAt : Type 0 where
-  pub setting : Setting
-  pub state : State
-  pub w : World
-  pub m : Plain
-  pub along : Along setting state w
-  pub ground : Ground setting state w
-  pub follow : Follow setting (rows_in setting w) w m
-  pub n : ℕ
-  pub within : n < setting.servers
-  pub stamp : ℕ
-  pub what : Step
-  pub unblanked : before_blanks what setting w n ≡ w.before_blank
-  pub later : List Record
-
 module _ (at : ServesAt) where
   abbrev pub after_step : Acted → World
   after_step acted = (acts at.setting at.w at.n at.what at.stamp acted).world
@@ -106,26 +88,14 @@ module _ (at : ServesAt) where
 
   abbrev pub step_of : (acted : Acted) → Serving at.setting at.w at.n at.what acted → Next acted → ServerStep
   step_of acted serving next = record {
-    setting = at.setting;
-    state = at.state;
-    w = at.w;
-    m = at.m;
-    along = at.along;
-    ground = at.ground;
-    follow = at.follow;
-    n = at.n;
-    within = at.within;
-    stamp = at.stamp;
-    what = at.what;
+    at = at;
     acted = acted;
-    unblanked = at.unblanked;
     serving = serving;
     next = next.along;
     onward = next.onward;
     grows = next.grows;
     grown = next.grown;
     middle = next.middle;
-    later = at.later;
   }
 
   abbrev here : Here
@@ -150,7 +120,8 @@ module _ (at : ServesAt) where
       pub legal : IsLegalFrom at.setting v at.later
 
     never : (at.w.servers at.n).life.running ≡ true → NeverDead here own
-    never = never_dead at.setting at.state at.along.steady at.w at.along.firm at.ground at.n
+    never =
+        never_dead (record { setting = at.setting; state = at.state; w = at.w; firm = at.along.firm; ground = at.ground }) at.along.steady at.n
 
     abbrev IsSame : Acted → Type 0
     IsSame acted = chosen_log at.setting (after_step acted) ≡ chosen_log at.setting at.w
@@ -164,6 +135,18 @@ module _ (at : ServesAt) where
         (λ mine. ap (λ c. chain_in c (named_cell row b)) (kept_here this chains (joined_same this same this.n))) epoch in
         (is.has, is.bytes)
 
+    -- the one letter of a job that answers a client
+    abbrev letter_to : ℕ → Body → Letter
+    letter_to client said = record {
+      from = actor.Server at.n;
+      inc = (at.w.servers at.n).life.inc;
+      to = actor.Client client;
+      rev = (server_state at.setting at.w at.n).rev;
+      stamp = at.stamp;
+      nth = 0;
+      body = said;
+    }
+
     module _ (log : Log) (runs : (at.w.servers at.n).life.running ≡ true) where
       job_looks : (done : Done) (did : Did hears here own done) (queue : List Job)
           (serving : Serving at.setting at.w at.n at.what (served_so at.setting at.w at.n log done queue))
@@ -173,31 +156,13 @@ module _ (at : ServesAt) where
       unfolding In
       job_looks _ (By_read _ (Shows client seq cell epoch readable there)) queue serving next same later =
           let this = step_of _ serving next in
-          let letter : Letter =
-          record {
-            from = actor.Server at.n;
-            inc = (at.w.servers at.n).life.inc;
-            to = actor.Client client;
-            rev = (server_state at.setting at.w at.n).rev;
-            stamp = at.stamp;
-            nth = 0;
-            body = body.Data seq (data_of this cell epoch);
-          } in
+          let letter = letter_to client (body.Data seq (data_of this cell epoch)) in
           show_told this numbered runs client seq cell epoch readable there
           (λ lead. none_pending own cell (readable.idle lead)) letter refl refl refl same (calm this same refl)
           (λ number e. who_accepts at.setting at.state (later_world this) at.later later.grounds later.legal letter seq _ number (inl refl) refl e)
       job_looks _ (By_read _ (Not_here client seq cell epoch readable comes none)) queue serving next same later =
           let this = step_of _ serving next in
-          let letter : Letter =
-          record {
-            from = actor.Server at.n;
-            inc = (at.w.servers at.n).life.inc;
-            to = actor.Client client;
-            rev = (server_state at.setting at.w at.n).rev;
-            stamp = at.stamp;
-            nth = 0;
-            body = body.NotHere seq;
-          } in
+          let letter = letter_to client (body.NotHere seq) in
           not_here_told this numbered runs client seq cell epoch readable comes none
           (λ lead. none_pending own cell (readable.idle lead)) letter refl refl refl refl same (calm this same refl) later.grounds later.legal
       job_looks done d queue serving next same later =

@@ -26,20 +26,18 @@ use Rattle.petal_state.specs.Command.{state_after}
 use Rattle.script_lines.specs.declared.request.Line.{Line}
 use Rattle.script_lines.specs.declared.request.Request.TheVariants as request
 use Rattle.petal_rules.specs.Lists.{In}
-use Rattle.petal_rules.specs.State.{State, is_lead, readable, coming, leaving}
+use Rattle.petal_rules.specs.State.{is_lead, readable, coming, leaving}
 use Rattle.petal_rules.specs.Store.{cell_cmp, Chain, chain_in, entry_at, bytes_of}
-use Rattle.petal_rules.specs.Server.{Own}
-use Rattle.petal_rules.specs.World.{chosen_state, chosen_log, server_state}
+use Rattle.petal_rules.specs.World.{chosen_log}
 use Rattle.petal_rules.proofs.ListLemmas.{in-append}
 use Rattle.petal_rules.proofs.Tests.{by_bool}
 use Rattle.petal_history.specs.Events.{look_for, look_of, accepted}
 use Rattle.law_steps.specs.Happens.{Handled, own_place}
-use Rattle.law_copies.specs.Pair.{owns_of}
 use Rattle.law_run.proofs.Along.{HasDisk, disk_here, disks_now, plain_now, rows_in}
 use Rattle.law_run.proofs.Looks.{AllLooks, Looked, looked, Accepts, letter_looks}
 use Rattle.law_run.proofs.Contents.{was_kept, now_has, now_kept, was_has}
 use Rattle.law_run.proofs.Entries.{AreUpTo, entry_later}
-use Rattle.law_run.proofs.Steps.{ServerStep, LooksTold, letters, later_world, look_here}
+use Rattle.law_run.proofs.Steps.{LooksTold, ServerStep, ends_of, grounded, later_world, letters, look_here}
 use Rattle.law_run.proofs.Readers.{IsReading, now_high, now_low, shown}
 pub use Rattle.law_run.proofs.Readers.{data_of}
 
@@ -55,14 +53,7 @@ pub nothing_looked : (this : ServerStep) (k : Plain) → Follow this.setting (ro
 nothing_looked this k following = record { may = tt; disks = refl; mindful = following.stores.mindful; onward = onward_itself k }
 
 module _ (this : ServerStep) where
-  abbrev own_state : State
-  own_state = server_state this.setting this.w this.n
-
-  abbrev chosen : State
-  chosen = chosen_state this.setting this.w
-
-  abbrev own : Own
-  own = owns_of this.w this.n
+  open ends_of this use {chosen, own, own_state}
 
   abbrev lines : List Line
   lines = this.setting.lines
@@ -99,7 +90,7 @@ module _ (this : ServerStep) where
 
     pub same_above : (e : ℕ) → IsAskedAt epoch k.read.snap e → entry_at (chain_in own.store.chains cell) e ≡ entry_at (chain_in own.store.chains cell) epoch
     same_above = same_chain cell of.has (chain_in own.store.chains cell)
-        (own_up_to this.setting this.state this.w this.along.firm this.ground this.n cell r.runs r.seat)
+        (own_up_to (grounded this) this.n cell r.runs r.seat)
 
     pub read_content : (there : entry_at (chain_in own.store.chains cell) epoch ≡ None → coming own_state cell ≡ false) → (e : ℕ)
         → IsAskedAt epoch k.read.snap e
@@ -142,7 +133,7 @@ module _ (this : ServerStep) where
   show_told numbered runs client seq cell epoch readable there none letter all to says same calm accepts k following =
       let bytes = data_of this cell epoch in
       let v = later_world this in
-      let old_is = reads_old_is this.setting this.state this.w this.along.firm this.ground this.n client seq cell epoch readable.asked in
+      let old_is = reads_old_is (grounded this) this.n client seq cell epoch readable.asked in
       let looks_for = look_for lines (accepted this.later letter) bytes in
       subst (λ ls. Looked k (flat_map (look_here this) ls)) (sym all)
       (subst (λ (b : Body). Looked k (look_of this.setting this.w v (actor.Server this.n) this.later letter b ++ [])) (sym says)
@@ -151,7 +142,7 @@ module _ (this : ServerStep) where
       (nothing_looked this k following))
       (λ f.
       let r : IsReading this cell = record { runs = runs; seat = readable.seated; may = readable.readable; unheld = readable.unheld; idle = none; stays = f } in
-      let known = known_read this.setting this.state this.w this.along.firm this.ground this.n client seq cell epoch readable.asked in
+      let known = known_read (grounded this) this.n client seq cell epoch readable.asked in
       let o = of cell r client seq epoch known in
       let may = look_may same calm k following o.row o.there epoch known.read.block bytes known.read.snap o.asks
       (read_content cell r client seq epoch known there) in

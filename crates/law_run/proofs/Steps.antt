@@ -18,9 +18,9 @@ use Rattle.petal_rules.specs.Lists.{In}
 use Rattle.petal_rules.specs.Log.{Log}
 use Rattle.petal_rules.specs.State.{State, authority}
 use Rattle.petal_rules.specs.Store.{Chain, Store, chain_in, entry_at}
-use Rattle.petal_rules.specs.Server.{Server, Own, Done}
+use Rattle.petal_rules.specs.Server.{Done, Here, Own, Server}
 use Rattle.petal_rules.specs.Jobs.{Acted}
-use Rattle.petal_rules.specs.World.{Setting, World, acts, before_blanks, begins_to_leave, blank_joins_in, chain_that_counts, counted, counted_by}
+use Rattle.petal_rules.specs.World.{Setting, World, acts, before_blanks, begins_to_leave, blank_joins_in, chain_that_counts, counted, counted_by, server_state}
 use Rattle.petal_rules.specs.World.{kept, kept_by, stamped, chosen_log, chosen_state}
 use Rattle.petal_rules.specs.declared.step.Step.{Step}
 use Rattle.petal_rules.proofs.ListLemmas.{put_same, put_apart}
@@ -34,7 +34,7 @@ use Rattle.law_state.specs.Firm.{Firm}
 use Rattle.law_state.specs.Homes.{epoch_at, stage_at}
 use Rattle.law_state.specs.Tables.{IsGrown}
 use Rattle.law_state.proofs.Steady.{log_below}
-use Rattle.law_steps.specs.Happens.{Worked, By_job, By_ballot, By_entry, Serving, Goes, Ends, Stays, Wakes, Fails}
+use Rattle.law_steps.specs.Happens.{By_ballot, By_entry, By_job, Ends, Fails, Goes, Handled, Serving, Stays, Wakes, Worked, own_place}
 use Rattle.law_steps.proofs.Fronts.{front_itself, front_same}
 use Rattle.law_steps.proofs.Tables.{at_row}
 use Rattle.law_steps.specs.Waking.{AllMayWake}
@@ -50,35 +50,48 @@ use Rattle.law_run.proofs.Entries.{AreUpTo}
 use Rattle.law_run.proofs.Looks.{Looked, is_looked, no_look}
 use Rattle.law_run.proofs.Machine.{onward_itself}
 use Rattle.law_run.proofs.Members.{all_empty}
+use Rattle.law_run.proofs.Scenes.{Followed, Grounded}
+use Rattle.petal_msg.specs.declared.body.Body.{Body}
 
 -- two copies after a step, by what was chosen before it: at the places of then, servers have been where they have been after it
 pub record IsMiddle (setting : Setting) (w v : World) (records : List Record) (visits : Visits) : Type 0 where
   pub good : Good setting records (chosen_log setting w) (counted_by setting (chosen_log setting w) v)
   pub visits_are : (n place : ℕ) (cell : Cell) → good.visits n place cell ≡ visits n place cell
 
--- a server's step, at a state from what is chosen on: the world and the machine before it, what is chosen after it, and the
--- records that follow
-pub record ServerStep : Type 0 where
-  pub setting : Setting
-  pub state : State
-  pub w : World
-  pub m : Plain
-  pub along : Along setting state w
-  pub ground : Ground setting state w
-  pub follow : Follow setting (rows_in setting w) w m
+-- a server, at a state from what is chosen on: the world and the machine before its step, and the records that follow
+pub record ServesAt : Type 0 where
+  pub told : Followed
+  pub open told use *
   pub n : ℕ
   pub within : n < setting.servers
   pub stamp : ℕ
   pub what : Step
-  pub acted : Acted
   pub unblanked : before_blanks what setting w n ≡ w.before_blank
+  pub later : List Record
+
+-- its step, and what is chosen after it
+pub record ServerStep : Type 0 where
+  pub at : ServesAt
+  pub open at use *
+  pub acted : Acted
   pub serving : Serving setting w n what acted
   pub next : Along setting state (acts setting w n what stamp acted).world
   pub onward : Ground setting state (acts setting w n what stamp acted).world
   pub grows : IsPrefix (chosen_log setting w) (chosen_log setting (acts setting w n what stamp acted).world)
   pub grown : IsGrown (chosen_state setting w) (chosen_state setting (acts setting w n what stamp acted).world)
   pub middle : IsMiddle setting w (acts setting w n what stamp acted).world onward.records onward.good.visits
-  pub later : List Record
+
+abbrev pub grounded : ServerStep → Grounded
+grounded this = record { setting = this.setting; state = this.state; w = this.w; firm = this.along.firm; ground = this.ground }
+
+abbrev pub grounded_after : ServerStep → Grounded
+grounded_after this = record {
+  setting = this.setting;
+  state = this.state;
+  w = (acts this.setting this.w this.n this.what this.stamp this.acted).world;
+  firm = this.next.firm;
+  ground = this.onward;
+}
 
 -- a server's own state is below what is chosen, where its entries are
 pub below_at : (setting : Setting) (w : World) → Firm setting w → (front : List Command) → IsPrefix front (chosen_log setting w)
@@ -116,6 +129,19 @@ serves_within setting w wake firm n what _ (Stays who posts from shown) = firm.s
 serves_within setting w wake firm n what _ (Wakes booted asleep) = (wake n).chosen
 serves_within setting w wake firm n what _ (Fails booted asleep) = firm.servers n
 
+-- where a step begins and ends, and the server that takes it
+pub record StepEnds : Type 1 where
+  pub v : World
+  pub top : List Command
+  pub end : List Command
+  pub chosen : State
+  pub after : State
+  pub own : Own
+  pub here : Here
+  pub hears : Body → Type 0
+  pub own_state : State
+  pub front : List Command
+
 module _ (this : ServerStep) where
   abbrev setting : Setting
   setting = this.setting
@@ -138,6 +164,20 @@ module _ (this : ServerStep) where
 
   abbrev pub letters : List Letter
   letters = stamped this.stamp this.acted.letters
+
+  abbrev pub ends_of : StepEnds
+  ends_of = record {
+    v = v;
+    top = chosen_log this.setting this.w;
+    end = chosen_log this.setting v;
+    chosen = chosen_state this.setting this.w;
+    after = chosen_state this.setting v;
+    own = own;
+    here = own_place this.setting this.w this.n;
+    hears = Handled this.w this.n;
+    own_state = server_state this.setting this.w this.n;
+    front = (this.w.servers this.n).log.applied;
+  }
 
   -- ### Servers
 

@@ -23,9 +23,22 @@ use Rattle.law_run.proofs.Along.{later_row, plain_now, rows_in}
 use Rattle.law_run.proofs.Freezes.{HasMore, snaps_stay}
 use Rattle.law_run.proofs.Snapshots.{IsTaken, snapshot_at}
 
-module _ (setting : Setting) (w v : World) (one : Firm setting w) (two : Firm setting v) (grows : IsPrefix (chosen_log setting w) (chosen_log setting v))
-    (m : Plain) (es : List Event) (was : Stores setting (rows_in setting w) w m)
-    (now : Stores setting (rows_in setting v) v (replay m es)) where
+-- two worlds of one history, and the machine at the first and, by events more, at the second
+pub record Replayed : Type 0 where
+  pub setting : Setting
+  pub w : World
+  pub v : World
+  pub one : Firm setting w
+  pub two : Firm setting v
+  pub grows : IsPrefix (chosen_log setting w) (chosen_log setting v)
+  pub m : Plain
+  pub es : List Event
+  pub was : Stores setting (rows_in setting w) w m
+  pub now : Stores setting (rows_in setting v) v (replay m es)
+
+module _ (it : Replayed) where
+  open it use {setting, w, v, one, two, grows, m, es, was, now}
+
   module _ (row : DiskRow) (h : In row (rows_in setting w)) (epoch : ℕ) (lt : epoch < row.epoch) where
     abbrev later : HasRowLater (rows_in setting v) row
     later = later_row setting w v one two (log_grown setting.servers _ _ two.plain grows) row h

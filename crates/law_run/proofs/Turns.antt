@@ -1,7 +1,7 @@
 -- What is chosen grows: whose copy of a cell counts after the step, and what becomes of its entries. Where the cell's second server leaves, and
 -- the first one is one put ahead, the first one's write is taken; and where a link is in Both again, or held by the other server, the copies are equal.
 use Rattle.std.proofs.Common.{◌≡◌, ◌<◌, ◌+◌, ◌==◌, ◌++◌, ℕ, Bool, [], ◌∷◌, true, false, Some, None, is_some, refl, sym, ap, ◌∙◌, subst, ◌⊎◌}
-use Rattle.std.proofs.Common.{inl, inr, arith, ◌≢◌, List, ◌≤◌, length}
+use Rattle.std.proofs.Common.{inl, inr, arith, ◌≢◌, ◌≤◌, length}
 use Rattle.std.specs.Ordering.{nat_cmp}
 use Rattle.law_steps.proofs.Coming.{stage_facts}
 use Rattle.petal_rules.specs.Writes.{is_clients}
@@ -11,16 +11,15 @@ use Rattle.law_state.specs.Homes.{stage_at, epoch_at}
 use Rattle.std.specs.Prelude.{unwrap_or}
 use Rattle.global_tables.specs.Link.{has_server, other_of}
 use Rattle.petal_base.specs.declared.cell.Cell.{Cell}
-use Rattle.petal_command.specs.declared.command.Command.{Command}
 use Rattle.petal_table.specs.Table.{at, put}
 use Rattle.global_tables.specs.declared.link.LinkRow.{LinkRow}
 use Rattle.global_tables.specs.declared.link.LinkState.TheVariants.{Both, Lost, Only}
 use Rattle.petal_msg.specs.declared.operation.Pending.{Pending}
 use Rattle.petal_state.specs.CellState.{serves}
-use Rattle.petal_rules.specs.State.{State, authority, is_alone_on, live}
+use Rattle.petal_rules.specs.State.{authority, is_alone_on, live}
 use Rattle.petal_rules.specs.Store.{Chain, Store, Stored, cell_cmp, chain_in, entry_at, version_of}
 use Rattle.petal_rules.specs.Server.{Own}
-use Rattle.petal_rules.specs.World.{World, chosen_log, chosen_state, counted, counted_by, kept}
+use Rattle.petal_rules.specs.World.{counted, counted_by, kept}
 use Rattle.petal_rules.proofs.Tests.{by_bool, none_some, number_itself, same_numbers, same_or_apart, some_or_none}
 use Rattle.petal_history.specs.Claims.{one_put_ahead}
 use Rattle.petal_history.specs.Contents.{entry_by, entry_of}
@@ -50,25 +49,12 @@ use Rattle.law_run.proofs.Entries.{entry_below, entry_put}
 use Rattle.law_run.proofs.Filled.{been_within, caught_visit, serving_same, visits}
 use Rattle.law_run.proofs.Grounds.{remembered, write_of, recalled_timely}
 use Rattle.law_run.proofs.Placed.{Placed, placed}
-use Rattle.law_run.proofs.Steps.{ServerStep, new, later_world, joined_now, joined_then, kept_chain, kept_middle}
+use Rattle.law_run.proofs.Steps.{ServerStep, ends_of, grounded, joined_now, joined_then, kept_chain, kept_middle, new}
 use Rattle.law_run.proofs.Seats.{chosen_last, chosen_store, chosen_twins, half_store, op_there}
 use Rattle.law_run.proofs.Aheads.{copied_low}
 
 module _ (this : ServerStep) (same_store : (new this).store.chains ≡ (owns_of this.w this.n).store.chains) where
-  abbrev v : World
-  v = later_world this
-
-  abbrev top : List Command
-  top = chosen_log this.setting this.w
-
-  abbrev end : List Command
-  end = chosen_log this.setting v
-
-  abbrev chosen : State
-  chosen = chosen_state this.setting this.w
-
-  abbrev after : State
-  after = chosen_state this.setting v
+  open ends_of this use {v, top, end, chosen, after}
 
   abbrev plain_end : IsPlainLog this.setting.servers end
   plain_end = this.next.firm.plain
@@ -342,10 +328,10 @@ module _ (this : ServerStep) (same_store : (new this).store.chains ≡ (owns_of 
         -- it is open
         first_recalled : IsRemembered this.setting this.w this.ground.lives p spot cell op
         first_recalled = this.ground.recalled top cell left.link p own op (front_itself top) left.linked left.both
-            (chosen_last this.setting this.state this.w this.along.firm this.ground cell left.link left.linked) visit is clients
+            (chosen_last (grounded this) cell left.link left.linked) visit is clients
 
         timely : IsTimely this.setting.servers top cell op
-        timely = recalled_timely this.setting this.state this.along.steady this.w this.along.firm this.ground p p cell left.link left.linked own visit op is
+        timely = recalled_timely (grounded this) this.along.steady p p cell left.link left.linked own visit op is
             clients first_recalled
 
         first_open : IsOpen (this.w.clients op.client) op.seq
@@ -362,7 +348,7 @@ module _ (this : ServerStep) (same_store : (new this).store.chains ≡ (owns_of 
 
         pub place : Placed this op cell
         place = placed this cell op
-            (write_of this.setting this.state this.along.steady this.w this.along.firm this.ground p p spot cell op clients first_recalled timely)
+            (write_of (grounded this) this.along.steady p p spot cell op clients first_recalled timely)
             first_open
 
         at_epoch : place.row.epoch ≡ op.key.epoch
@@ -405,18 +391,18 @@ module _ (this : ServerStep) (same_store : (new this).store.chains ≡ (owns_of 
       pub op : Pending
       pub is : at cell_cmp own.pairs.pending cell ≡ Some op
       pub ahead : chain_in (kept this.setting this.w p).chains cell ≡ one_put_ahead (chain_in (kept this.setting this.w q).chains cell) op
-      pub low : far (pair_at (chosen_store this.setting this.state this.w this.along.firm this.ground) this.ground.good.visits spot cell p q) ≤ op.op + op.op
+      pub low : far (pair_at (chosen_store (grounded this)) this.ground.good.visits spot cell p q) ≤ op.op + op.op
 
-    alive_now : AliveIn chosen cell → AreTwins (chosen_store this.setting this.state this.w this.along.firm this.ground) this.ground.good.visits spot cell p q
-    alive_now alive = chosen_twins this.setting this.state this.w this.along.firm this.ground cell left.link left.linked left.both alive
+    alive_now : AliveIn chosen cell → AreTwins (chosen_store (grounded this)) this.ground.good.visits spot cell p q
+    alive_now alive = chosen_twins (grounded this) cell left.link left.linked left.both alive
 
     two_copies : AliveIn chosen cell → (chain_in (kept this.setting this.w p).chains cell ≡ chain_in (kept this.setting this.w q).chains cell) ⊎ IsPutAhead
     two_copies alive =
         let twins = alive_now alive in
         let one = this.ground.good.visits p spot cell in
         let other = this.ground.good.visits q spot cell in
-        let a = chosen_store this.setting this.state this.w this.along.firm this.ground p in
-        let b = chosen_store this.setting this.state this.w this.along.firm this.ground q in
+        let a = chosen_store (grounded this) p in
+        let b = chosen_store (grounded this) q in
         let first : chain_in (half one a).store.chains cell ≡ chain_in (kept this.setting this.w p).chains cell =
         ap (λ (s : Store). chain_in s.chains cell) (half_store one a ∙ this.ground.good.now p) in
         let second : chain_in (half other b).store.chains cell ≡ chain_in (kept this.setting this.w q).chains cell =

@@ -1,7 +1,7 @@
 -- What is chosen grows: where a cell's second server leaves, and the first one is one put ahead, the machine takes the first one's write; all
 -- else that is told of a block is as before. Of a link that is Lost nothing is told.
-use Rattle.std.proofs.Common.{◌≡◌, ◌<◌, ◌+◌, ℕ, Bool, true, false, Some, None, is_some, refl, sym, ap, ◌∙◌, subst, ◌⊎◌}
-use Rattle.std.proofs.Common.{inl, inr, arith, List, ◌≤◌, ◌&&◌, ◌||◌, Option}
+use Rattle.std.proofs.Common.{◌≡◌, ◌+◌, ℕ, Bool, true, false, Some, None, is_some, refl, sym, ap, ◌∙◌, subst, ◌⊎◌}
+use Rattle.std.proofs.Common.{inl, inr, arith, ◌≤◌, ◌&&◌, ◌||◌, Option}
 use Rattle.std.specs.Ordering.{nat_cmp}
 use Rattle.petal_base.specs.Cells.{cell_of}
 use Rattle.petal_rules.specs.Writes.{is_clients}
@@ -9,13 +9,12 @@ use Rattle.law_state.specs.Homes.{stage_at}
 use Rattle.law_state.specs.Tables.{IsPlainState}
 use Rattle.law_state.specs.Disks.{AreDisks}
 use Rattle.law_run.proofs.Regions.{IsNow, By_both, By_entry, HasAll, high_after, is_now}
-use Rattle.law_run.proofs.Fills.{fill_there, frozen_old}
+use Rattle.law_run.proofs.Fills.{ComesTo, fill_there, frozen_old}
 use Rattle.law_run.proofs.Overlay.{come_over, fill_same}
 use Rattle.law_run.proofs.Named.{entry_over, has_over, is_between}
 use Rattle.std.proofs.lemmas.Bool.{cases_lt}
 use Rattle.std.specs.Prelude.{option_and_then}
 use Rattle.petal_base.specs.declared.cell.Cell.{Cell}
-use Rattle.petal_command.specs.declared.command.Command.{Command}
 use Rattle.petal_table.specs.Table.{at, put}
 use Rattle.global_tables.specs.declared.disk.DiskRow.{DiskRow}
 use Rattle.petal_machine.specs.Run.{replay}
@@ -24,14 +23,14 @@ use Rattle.petal_msg.specs.declared.letter.Letter.{Letter}
 use Rattle.petal_msg.specs.declared.operation.Pending.{Pending}
 use Rattle.petal_state.specs.CellState.{has_map, named_cell}
 use Rattle.petal_rules.specs.Lists.{In}
-use Rattle.petal_rules.specs.State.{State, authority}
+use Rattle.petal_rules.specs.State.{authority}
 use Rattle.petal_rules.specs.Store.{Store, Stored, cell_cmp, chain_in, entry_at, bytes_of}
 use Rattle.petal_rules.specs.Server.{Server}
-use Rattle.petal_rules.specs.World.{World, chosen_log, chosen_state, counted, kept}
+use Rattle.petal_rules.specs.World.{counted, kept}
 use Rattle.petal_rules.proofs.Tests.{all_put_apart, by_bool, none_some, same_some, true_false}
 use Rattle.petal_history.specs.Claims.{one_put_ahead}
 use Rattle.petal_history.specs.Contents.{entry_before, entry_by, entry_of, first_entry, old_cell}
-use Rattle.petal_history.specs.Events.{change_by, open_write}
+use Rattle.petal_history.specs.Events.{change_by}
 use Rattle.law_state.proofs.Alone.{so_both}
 use Rattle.law_steps.proofs.Fronts.{front_itself}
 use Rattle.law_steps.proofs.Histories.{own_below}
@@ -48,9 +47,9 @@ use Rattle.law_run.proofs.Contents.{IsGiven, AreGiven, Taken, all_given, given_h
 use Rattle.law_run.proofs.Frames.{AreKept, Runs, CountsOk, kept_before, kept_own}
 use Rattle.law_run.proofs.Freezing.{assembled}
 use Rattle.law_run.proofs.Machine.{held_onward}
-use Rattle.law_run.proofs.Placed.{Placed}
+use Rattle.law_run.proofs.Placed.{Placed, placed_given}
 use Rattle.law_run.proofs.Says.{is_written, unended_data, unended_written, is_reply}
-use Rattle.law_run.proofs.Steps.{ServerStep, ServerTold, new, later_world, letters, quiet_looks}
+use Rattle.law_run.proofs.Steps.{ServerStep, ServerTold, ends_of, grounded, grounded_after, letters, new, quiet_looks}
 use Rattle.law_run.proofs.Seats.{chosen_store, chosen_twins, half_store, op_leads, shared_before, visit_here, alive_here, op_high}
 use Rattle.law_run.proofs.Aheads.{put_ahead}
 use Rattle.law_run.proofs.Takes.{block_there}
@@ -59,17 +58,7 @@ use Rattle.law_run.proofs.Turns.{now_entry, below_entry, was_there, fill_frozen,
 use Rattle.law_run.proofs.Turns.{turns, spot, there}
 
 module _ (this : ServerStep) (same_store : (new this).store.chains ≡ (owns_of this.w this.n).store.chains) where
-  abbrev v : World
-  v = later_world this
-
-  abbrev top : List Command
-  top = chosen_log this.setting this.w
-
-  abbrev chosen : State
-  chosen = chosen_state this.setting this.w
-
-  abbrev after : State
-  after = chosen_state this.setting v
+  open ends_of this use {v, top, chosen, after}
 
   -- ### What is told of a block
 
@@ -187,16 +176,24 @@ module _ (this : ServerStep) (same_store : (new this).store.chains ≡ (owns_of 
         (disks_now this.setting this.w this.along.firm) row h b in
         let one = fill_comes this same_store cell left a.own a.visit a.op a.is a.ahead fill (omega arith) in
         let frozen = fill_frozen this same_store cell left a.own a.visit a.op a.is a.ahead fill in
-        let there = fill_there this.setting this.state this.w this.along.firm this.ground a.op.key a.op.bytes
-        (ap (stage_at chosen) keyed ∙ one) a.op.rev frozen row h
-        (ap (λ (c : Cell). has_map c.map row) keyed ∙ named_map_is this.setting.servers chosen (plain_now this.setting this.w this.along.firm)
-        (disks_now this.setting this.w this.along.firm) row h b) q (ap (authority chosen) keyed ∙ left.was)
+        let to : ComesTo (grounded this) = record {
+          key = a.op.key;
+          bytes = a.op.bytes;
+          one = ap (stage_at chosen) keyed ∙ one;
+          rev = a.op.rev;
+          frozen = frozen;
+          row = row;
+          there = h;
+          has = (ap (λ (c : Cell). has_map c.map row) keyed ∙ named_map_is this.setting.servers chosen (plain_now this.setting this.w this.along.firm)
+              (disks_now this.setting this.w this.along.firm) row h b);
+          n = q;
+          counts = (ap (authority chosen) keyed ∙ left.was);
+        } in
+        let there = fill_there (grounded this) to
         (chain_in (kept this.setting this.w q).chains cell) (ap (chain_in (kept this.setting this.w q).chains) keyed) lacks in
         let frozen_here : this.w.frozen old ≡ Some frozen.before =
         ap (λ (c : Cell). this.w.frozen (old_cell row c.block)) (sym keyed)
-        ∙ frozen_old this.setting this.state this.w this.along.firm this.ground a.op.key a.op.bytes (ap (stage_at chosen) keyed ∙ one) a.op.rev frozen row h
-        (ap (λ (c : Cell). has_map c.map row) keyed ∙ named_map_is this.setting.servers chosen (plain_now this.setting this.w this.along.firm)
-        (disks_now this.setting this.w this.along.firm) row h b) q (ap (authority chosen) keyed ∙ left.was) in
+        ∙ frozen_old (grounded this) to in
         let before : entry_before this.w old e ≡ entry_at frozen.before e = ap (option_and_then (λ c. entry_at c e)) frozen_here in
         let same : SameOver e =
         (λ i. bytes_of (first_entry (was_second this same_store cell left a.own a.visit a.op a.is a.ahead e i) (before i)))
@@ -230,23 +227,15 @@ module _ (this : ServerStep) (same_store : (new this).store.chains ≡ (owns_of 
             bytes put_at.row.epoch ∙ ap (λ o. bytes_of (first_entry o (entry_before this.w (old_cell put_at.row put_at.block) put_at.row.epoch))) there_now
 
     written_given : IsGiven this put_at.row put_at.block
-    written_given = record {
-      write = put_at.write;
-      within = subst (λ c. c < 9) (sym put_at.own) put_at.within;
-      under_way = ap (open_write this.w) put_at.own ∙ put_at.under_way;
-      disk_is = put_at.disk_is;
-      block_is = put_at.block_is;
-      bytes_is = put_at.bytes_is ∙ sym written_bytes;
-      below = λ e lt. same_stays put_at.row put_at.there put_at.block
-          (ap (λ (c : Cell). is_some (authority chosen c)) (sym put_at.at_block) ∙ ap is_some left.was) e
-          (ap (λ (c : Cell). entry_of chosen (counted this.setting this.w) c e) (sym put_at.at_block)
-          ∙ below_entry this same_store cell left a.own a.visit a.op a.is a.ahead clients e lt
-          ∙ ap (λ (c : Cell). entry_of after (counted this.setting v) c e) put_at.at_block);
-      looked =
-          (let stored = there this same_store cell left a.own a.visit a.op a.is a.ahead in
-          block_there (change_by this.setting this.w v) left.link.primary (named_cell put_at.row put_at.block).map put_at.block stored.0 left.within
-          (ap (at cell_cmp (kept this.setting v left.link.primary).chains) (sym put_at.at_block) ∙ stored.1));
-    }
+    written_given = placed_given this a.op cell put_at written_bytes
+        (λ e lt. same_stays put_at.row put_at.there put_at.block
+        (ap (λ (c : Cell). is_some (authority chosen c)) (sym put_at.at_block) ∙ ap is_some left.was) e
+        (ap (λ (c : Cell). entry_of chosen (counted this.setting this.w) c e) (sym put_at.at_block)
+        ∙ below_entry this same_store cell left a.own a.visit a.op a.is a.ahead clients e lt
+        ∙ ap (λ (c : Cell). entry_of after (counted this.setting v) c e) put_at.at_block))
+        (let stored = there this same_store cell left a.own a.visit a.op a.is a.ahead in
+        block_there (change_by this.setting this.w v) left.link.primary (named_cell put_at.row put_at.block).map put_at.block stored.0 left.within
+        (ap (at cell_cmp (kept this.setting v left.link.primary).chains) (sym put_at.at_block) ∙ stored.1))
 
     -- and it has had them, where the cell takes writes still
     written_held : stage_at after cell ≤ 2 → (taken : Taken this) → is_held (replay this.m taken.es) a.op.client ≡ true
@@ -302,19 +291,19 @@ module _ (this : ServerStep) (same_store : (new this).store.chains ≡ (owns_of 
       let p = left.link.primary in
       let q = left.link.secondary in
       let firm = this.along.firm in
-      let s = shared_before this.setting this.state this.w firm this.ground p cell op runs is top left.link (firm.servers p)
+      let s = shared_before (grounded this) p cell op runs is top left.link (firm.servers p)
       (front_itself top) left.linked left.both in
       let f = s.first in
       let row : f.row ≡ left.link = sym (one_row this.setting top firm.plain (this.w.servers p).log.applied top cell f.row left.link
       (firm.servers p) (front_itself top)
       f.shares.linked left.linked (sym s.at)) in
       let visit : this.ground.good.visits p (place_by this.setting top left.link) cell ≡ Some (owns_of this.w p) =
-      ap (λ k. this.ground.good.visits p k cell) s.at ∙ visit_here this.setting this.state this.w firm this.ground p cell f.row
-      runs f.shares.seat f.shares.linked (alive_here this.setting this.state this.w firm this.ground p cell f.shares.alive) in
+      ap (λ k. this.ground.good.visits p k cell) s.at ∙ visit_here (grounded this) p cell f.row
+      runs f.shares.seat f.shares.linked (alive_here (grounded this) p cell f.shares.alive) in
       let second = this.ground.good.visits q (place_by this.setting top left.link) cell in
-      let twins = chosen_twins this.setting this.state this.w firm this.ground cell left.link left.linked left.both f.shares.alive in
-      let a_store = chosen_store this.setting this.state this.w firm this.ground p in
-      let b_store = chosen_store this.setting this.state this.w firm this.ground q in
+      let twins = chosen_twins (grounded this) cell left.link left.linked left.both f.shares.alive in
+      let a_store = chosen_store (grounded this) p in
+      let b_store = chosen_store (grounded this) q in
       let pair = pair_of (half (Some (owns_of this.w p)) a_store) (half second b_store) cell in
       let ok : PairOk pair = subst (λ o. PairOk (pair_of (half o a_store) (half second b_store) cell)) visit twins.pair in
       let a = put_ahead pair op ok is put in
@@ -356,7 +345,7 @@ module _ (this : ServerStep) (same_store : (new this).store.chains ≡ (owns_of 
         let was = was_pending i cell op on is in
         let low = ((this.ground.ready.rests.pending i).staged cell op was.1).born in
         let up = (own_below this.setting this.w this.along.firm i).stages cell in
-        let high = op_high this.setting this.state v this.next.firm this.onward i cell op on is in
+        let high = op_high (grounded_after this) i cell op on is in
         by_move high (moves this same_store cell (omega arith) (omega arith)) was.0 was.1
       where
         by_move : stage_at after cell ≤ 2 → Moves this same_store cell → (this.w.servers i).life.running ≡ true
@@ -369,7 +358,7 @@ module _ (this : ServerStep) (same_store : (new this).store.chains ≡ (owns_of 
             inr (first_counts taken cell left op (subst (λ j. (this.w.servers j).life.running ≡ true) e runs)
             (subst (λ j. at cell_cmp (owns_of this.w j).pairs.pending cell ≡ Some op) e pends) clients put still most)
         by_move most (Is_handed_on h) runs pends =
-            let leads = op_leads this.setting this.state this.w this.along.firm this.ground i cell op runs pends in
+            let leads = op_leads (grounded this) i cell op runs pends in
             let e : i ≡ h.one = leader_alone chosen (steady this same_store) i h.one cell leads h.alone in
             inl (h.was ∙ ap Some (sym e))
 
