@@ -9,6 +9,7 @@ mod answers;
 mod chance;
 mod count;
 mod cuts;
+mod held;
 mod player;
 mod rounds;
 mod run;
@@ -19,6 +20,7 @@ mod struck;
 
 pub use chance::Chance;
 pub use count::Count;
+pub use held::Cast;
 pub use run::Run;
 pub use schedule::{Row, play_row};
 pub use scripts::{

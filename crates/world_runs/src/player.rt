@@ -1,6 +1,7 @@
 //! A run that a row steps.
 
 use crate::answers::is_so;
+use crate::held::{Cast, is_held};
 use crate::rounds::play;
 use crate::run::Run;
 use petal_base::{NoMemory, ServerId, SharedBlock};
@@ -322,7 +323,12 @@ impl<H: Host> Player<H> {
     }
 
     /// Takes a step, or looks whether what is expected is so. Gives whether it was taken, or is so.
-    pub fn take(&mut self, alloc: Global, act: &Act) -> Result<bool, NoMemory> {
+    pub fn take<C: Cast<H>>(
+        &mut self,
+        alloc: Global,
+        cast: &C,
+        act: &Act,
+    ) -> Result<bool, NoMemory> {
         match act {
             Act::Call(client, line) => self.run.call_line(alloc, *client, *line),
             Act::Work(server) => self.run.work(alloc, *server),
@@ -350,6 +356,7 @@ impl<H: Host> Player<H> {
             Act::Sent(count, mail) => Ok(self.count(mail) >= *count as usize),
             Act::Owners(count, mail) => Ok(self.owners(mail) >= *count as usize),
             Act::Told(words) => self.tells(alloc, words),
+            Act::Holds(server, held) => is_held(alloc, cast, &self.run, *server, held),
         }
     }
 
