@@ -2,7 +2,7 @@
 
 use crate::copy::Copy;
 use crate::log::{LATER, Serving};
-use petal_base::{Block, BlockNo, Cell, Epoch, MapId, NoMemory, Seq, ServerId, SharedBlock};
+use petal_base::{Block, BlockNo, Cell, Epoch, MapId, NoMemory, Seq, SharedBlock};
 use petal_msg::{Actor, Body};
 use petal_world::Host;
 use std::alloc::Global;
@@ -61,17 +61,16 @@ fn block_in(said: &[Body]) -> Option<BlockNo> {
 }
 
 impl<H: Host> Copy<H> {
-    // Its least marked block above this one, of the link that it shares with the other server.
+    // Its least marked block of the link above this one. Whoever asks, the link's holder is told.
     fn page(
         &mut self,
         alloc: Global,
         map: MapId,
         link: u8,
-        other: ServerId,
         after: Option<BlockNo>,
     ) -> Result<Option<BlockNo>, NoMemory> {
-        let ask = Body::HelloAsk { map, link, after };
-        let said = self.hear(alloc, Actor::Server(other), LATER, ask)?;
+        let asker = Actor::Server(self.other());
+        let said = self.hear(alloc, asker, LATER, Body::HelloAsk { map, link, after })?;
         Ok(block_in(&said))
     }
 
@@ -81,12 +80,11 @@ impl<H: Host> Copy<H> {
         alloc: Global,
         map: MapId,
         link: u8,
-        other: ServerId,
         marked: &mut Vec<BlockNo>,
     ) -> Result<(), NoMemory> {
         let mut after = None;
         for _ in 0..MOST_BLOCKS {
-            after = self.page(alloc, map, link, other, after)?;
+            after = self.page(alloc, map, link, after)?;
             match after {
                 Some(block) => marked.push(block)?,
                 None => return Ok(()),
@@ -97,12 +95,8 @@ impl<H: Host> Copy<H> {
 
     fn all_pages(&mut self, alloc: Global, map: MapId) -> Result<Vec<BlockNo>, NoMemory> {
         let mut marked = Vec::new(alloc);
-        for other in 0..self.servers {
-            if other != self.me {
-                for link in 0..LINKS {
-                    self.pages(alloc, map, link, other, &mut marked)?;
-                }
-            }
+        for link in 0..LINKS {
+            self.pages(alloc, map, link, &mut marked)?;
         }
         Ok(marked)
     }
