@@ -11,9 +11,10 @@ use memory_server::{MemServer, members};
 use petal_base::{NoMemory, Sequence, ServerId};
 use petal_script::{Script, read_script};
 use petal_world::{World, are_in_order};
+use row_runs::{Cast, Row, play_row};
 use std::alloc::Global;
 use std::test::Fail;
-use world_runs::{Cast, Row, Run, play_row};
+use world_runs::Run;
 
 /// Servers with disks in memory.
 struct Memory;

@@ -1,9 +1,9 @@
 //! A device fails in a sync only after it has synced: where that was the last sync of a commit, the commit is made.
 
 use memory_runs::play;
+use row_runs::Row;
 use std::alloc::Global;
 use std::test::Fail;
-use world_runs::Row;
 
 // Of three servers, server 0 leads block 0, and server 1 is second.
 const SCRIPT: &str =

@@ -2,8 +2,8 @@
 //! is left out would be seen in what is answered.
 
 use memory_runs::play;
+use row_runs::Row;
 use std::test::Fail;
-use world_runs::Row;
 
 // Of three servers, servers 0 and 1 have block 0, and server 0 leads it.
 const PRIMARY_RETURNS: &str =

@@ -1,8 +1,8 @@
 //! The operator waits until servers are settled.
 
 use memory_runs::play;
+use row_runs::Row;
 use std::test::Fail;
-use world_runs::Row;
 
 // Line 11 is the settle. Server 1 alone has the second write until then.
 const CAUGHT_UP: &str =

@@ -1,8 +1,8 @@
 //! A server of a pair stops in the middle of a write, and the other one goes on.
 
 use memory_runs::play;
+use row_runs::Row;
 use std::test::Fail;
-use world_runs::Row;
 
 // Of three servers, server 0 leads block 0, and server 1 is second.
 const SECONDARY_STOPS: &str =

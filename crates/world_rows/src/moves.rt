@@ -4,8 +4,8 @@
 //! hold.
 
 use memory_runs::play;
+use row_runs::Row;
 use std::test::Fail;
-use world_runs::Row;
 
 // Servers 3 and 2 have block 0 under the old map, servers 0 and 1 under the new one. The read of block 1 waits until the region is on
 // its way.

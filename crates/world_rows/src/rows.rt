@@ -1,9 +1,9 @@
 //! Rows: runs in orders that the plain schedule never takes.
 
 use memory_runs::play;
+use row_runs::Row;
 use row_words::act_of;
 use std::test::Fail;
-use world_runs::Row;
 
 // Of two servers, block 5 lies on link 1: server 1 leads it, and server 0 is second.
 const ONE_WRITE: &str =

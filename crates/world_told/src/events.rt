@@ -257,13 +257,13 @@ impl<'a> Telling<'a> {
         }
     }
 
-    // The client's write is one that the job has put where it counts, or no letter tells that it has not.
+    // Whether the server's job may have put the write where its copy counts.
     fn is_late(&self, here: &Here, server: ServerId, write: &Write) -> bool {
         self.disks.counts(server, &write.disk, write.block)
             && is_asked(since_boot(here.before, server), server, write)
     }
 
-    // Each write that the job may have put so, which had made its commit and tells nobody.
+    // Each open write that the job may have put so, where it had made its commit and tells nobody.
     fn notes_late(&mut self, here: &Here) -> Result<(), NoMemory> {
         let Some(server) = committed_by(here.own) else {
             return Ok(());
@@ -278,7 +278,7 @@ impl<'a> Telling<'a> {
         Ok(())
     }
 
-    // Each write that the link's primary may have put before it told its second server, and that counts from now on.
+    // Each open write that the link's primary may have put without telling its second server: its copy counts from now on.
     fn notes_passed(&mut self, here: &Here, link: &Link) -> Result<(), NoMemory> {
         for client in 0..OPERATOR {
             if let Some(write) = self.writers.of(client) {

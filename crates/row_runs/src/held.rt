@@ -1,12 +1,12 @@
 //! What a server has, as a copy of it tells.
 
-use crate::run::Run;
 use petal_base::{BlockNo, NoMemory, ServerId};
 use petal_world::Host;
 use row_words::Held;
 use script_lines::Script;
 use server_copy::{Copy, holds, is_marked_so, stores};
 use std::alloc::Global;
+use world_runs::Run;
 
 /// Servers that begin.
 pub trait Cast<H: Host> {

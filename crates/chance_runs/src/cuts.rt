@@ -4,12 +4,12 @@
 //! commit; one whose last sync fails late has, as a plan can say. Here no device is struck: the job is done, the server stops at once,
 //! and the letters that it would have sent are taken back.
 
-use crate::run::{Order, Run};
 use petal_base::{NoMemory, OPERATOR, ServerId};
 use petal_command::Pax;
 use petal_msg::{Body, SharedLetter};
 use petal_world::Host;
 use std::alloc::Global;
+use world_runs::{Order, Run};
 
 /// So many jobs are done at most until one has made a commit that its letters tell of.
 const MOST_JOBS: u32 = 12;

@@ -56,12 +56,12 @@
 
 use crate::held::Cast;
 use crate::player::Player;
-use crate::run::Run;
 use petal_base::NoMemory;
 use petal_world::Host;
 use row_words::{Act, act_of};
 use std::alloc::Global;
 use std::test::Fail;
+use world_runs::Run;
 
 /// What a run shows, its script, and its steps, in the form of this module.
 #[derive(Clone, Copy)]

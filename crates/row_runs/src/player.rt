@@ -1,14 +1,13 @@
 //! A run that a row steps.
 
-use crate::answers::is_so;
 use crate::held::{Cast, is_held};
-use crate::rounds::play;
-use crate::run::Run;
+use crate::wants::is_so;
 use petal_base::{NoMemory, ServerId, SharedBlock};
 use petal_msg::{Actor, Body, SharedLetter};
 use petal_world::Host;
 use row_words::{Act, Mail};
 use std::alloc::Global;
+use world_runs::{Run, play};
 use world_told::{made, tells};
 
 /// A run, and for each letter that was sent whether it is gone: handed over or lost.
