@@ -8,12 +8,27 @@ ghost use Rattle.memory_server.specs.Server.{site_of};
 ghost use Rattle.petal_world.specs.Desks.{first_sites};
 
 use memory_server::{MemServer, members};
-use petal_base::Sequence;
+use petal_base::{NoMemory, Sequence, ServerId};
 use petal_script::{Script, read_script};
 use petal_world::{World, are_in_order};
+use row_runs::{Cast, Row, play_row};
 use std::alloc::Global;
 use std::test::Fail;
-use world_runs::{Row, Run, play_row};
+use world_runs::Run;
+
+/// Servers with disks in memory.
+struct Memory;
+
+impl Cast<MemServer> for Memory {
+    fn first(
+        &self,
+        alloc: Global,
+        script: &Script,
+        server: ServerId,
+    ) -> Result<MemServer, NoMemory> {
+        MemServer::start(alloc, server, script.servers, script.slots)
+    }
+}
 
 /// The world of these servers that begins.
 fn world_of(
@@ -38,5 +53,5 @@ pub fn start(alloc: Global, text: &str) -> Result<Run<MemServer>, Fail> {
 
 /// Plays a row.
 pub fn play(alloc: Global, row: &Row) -> Result<(), Fail> {
-    play_row(alloc, row, start(alloc, row.script)?)
+    play_row(alloc, &Memory, row, start(alloc, row.script)?)
 }

@@ -1,7 +1,7 @@
 //! One step of a row: what its words ask for.
 
-use crate::words::{Mail, actor, byte, calls, client, device, mail_of, number, server};
-use petal_base::{ClientId, ServerId};
+use crate::words::{Mail, actor, byte, calls, cell, client, device, mail_of, number, server};
+use petal_base::{Cell, ClientId, MapId, ServerId};
 use petal_disk::{Plan, Which};
 use petal_msg::Actor;
 
@@ -25,6 +25,17 @@ pub enum Want {
     Either(u8, u8),
     /// The same block as that of another line.
     As(u32),
+}
+
+/// What a server is to have.
+#[derive(Clone, Copy)]
+pub enum Held<'a> {
+    /// As the latest content of this cell a block of this byte.
+    Fill(Cell, u8),
+    /// Marks on these blocks of this map and on no other, each a number.
+    Marks(MapId, &'a [&'a str]),
+    /// So many entries in all.
+    Entries(u32),
 }
 
 /// A step of the run, or what is expected of it so far.
@@ -59,6 +70,8 @@ pub enum Act<'a> {
     Sent(u32, Mail<'a>),
     Owners(u32, Mail<'a>),
     Told(&'a [&'a str]),
+    /// The server has what is said.
+    Holds(ServerId, Held<'a>),
     /// So many disks were made.
     Made(u32),
     /// So many jobs and boots ended since a device failed.
@@ -170,9 +183,30 @@ fn armed<'a>(who: &str, which: &str, kind: &str, at: &str, how: &[&str]) -> Resu
     Ok(Act::Arm(server(who, 1)?, device(which, 3)?, Some(plan)))
 }
 
-// A step of one actor: what follows its name.
-fn step_of<'a>(who: &str, words: &[&str]) -> Result<Act<'a>, usize> {
+// Marks on the blocks of a map, or `none`.
+fn marks<'a>(who: &str, map: &str, blocks: &'a [&'a str]) -> Result<Act<'a>, usize> {
+    let blocks = match *blocks {
+        ["none"] => &blocks[1..],
+        _ => blocks,
+    };
+    for (at, block) in blocks.iter().enumerate() {
+        number(block, at.saturating_add(4))?;
+    }
+    Ok(Act::Holds(server(who, 1)?, Held::Marks(number(map, 3)?, blocks)))
+}
+
+// A step of one actor, or what a server has: what follows its name.
+fn step_of<'a>(who: &str, words: &'a [&'a str]) -> Result<Act<'a>, usize> {
     match *words {
+        ["has", word, "fill", fill] => {
+            let held = Held::Fill(cell(word, 3)?, byte(fill, 5)?);
+            Ok(Act::Holds(server(who, 1)?, held))
+        }
+        ["has", entries, "entries"] => Ok(Act::Holds(
+            server(who, 1)?,
+            Held::Entries(number(entries, 3)?),
+        )),
+        ["marks", map, ..] => marks(who, map, &words[2..]),
         ["calls", line] => Ok(Act::Call(client(who, 1)?, number(line, 3)?)),
         ["works"] => Ok(Act::Work(server(who, 1)?)),
         ["works", "off"] => Ok(Act::WorkOff(server(who, 1)?)),

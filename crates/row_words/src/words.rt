@@ -1,95 +1,73 @@
 //! What the words of a row stand for.
 
-use petal_base::{ClientId, OPERATOR, ServerId};
+use petal_base::{Cell, ClientId, OPERATOR, ServerId};
 use petal_command::Pax;
 use petal_disk::{CallKind, Which};
 use petal_msg::{Actor, Body, Letter};
 
-/// The kinds of letters, in the order of the format.
-const KINDS: [&str; 35] = [
-    "down",
-    "seen",
-    "propose",
-    "prepare",
-    "promise",
-    "accept",
-    "accepted",
-    "refuse",
-    "chosen",
-    "ask",
-    "news",
-    "read",
-    "write",
-    "data",
-    "nothere",
-    "busy",
-    "held",
-    "wrongrev",
-    "written",
-    "full",
-    "reserve",
-    "reserved",
-    "pairfull",
-    "replicate",
-    "replicated",
-    "helloask",
-    "hello",
-    "trim",
-    "trimmed",
-    "sync",
-    "synced",
-    "syncfull",
-    "fill",
-    "filled",
-    "fillfull",
-];
+/// Does something with the list of all kinds of letters, in the order of the format: each with the word of it. A kind is added here.
+macro_rules! with_kinds {
+    ($does:ident $given:expr) => {
+        $does! {
+            $given;
+            Body::Down { .. } => "down",
+            Body::Seen { .. } => "seen",
+            Body::Propose { .. } => "propose",
+            Body::Pax(Pax::Prepare { .. }) => "prepare",
+            Body::Pax(Pax::Promise { .. }) => "promise",
+            Body::Pax(Pax::Accept { .. }) => "accept",
+            Body::Pax(Pax::Accepted { .. }) => "accepted",
+            Body::Pax(Pax::Refuse { .. }) => "refuse",
+            Body::Pax(Pax::Chosen { .. }) => "chosen",
+            Body::Ask { .. } => "ask",
+            Body::News { .. } => "news",
+            Body::Read { .. } => "read",
+            Body::Write { .. } => "write",
+            Body::Data { .. } => "data",
+            Body::NotHere { .. } => "nothere",
+            Body::BlockBusy { .. } => "busy",
+            Body::Held { .. } => "held",
+            Body::WrongRev { .. } => "wrongrev",
+            Body::Written { .. } => "written",
+            Body::Full { .. } => "full",
+            Body::Reserve { .. } => "reserve",
+            Body::Reserved { .. } => "reserved",
+            Body::PairFull { .. } => "pairfull",
+            Body::Replicate { .. } => "replicate",
+            Body::Replicated { .. } => "replicated",
+            Body::HelloAsk { .. } => "helloask",
+            Body::Hello { .. } => "hello",
+            Body::Trim { .. } => "trim",
+            Body::Trimmed { .. } => "trimmed",
+            Body::Sync { .. } => "sync",
+            Body::Synced { .. } => "synced",
+            Body::SyncFull { .. } => "syncfull",
+            Body::Fill { .. } => "fill",
+            Body::Filled { .. } => "filled",
+            Body::FillFull { .. } => "fillfull",
+        }
+    };
+}
 
-/// The word of what servers say of a ballot.
-fn ballot_kind(said: &Pax) -> &'static str {
-    match said {
-        Pax::Prepare { .. } => "prepare",
-        Pax::Promise { .. } => "promise",
-        Pax::Accept { .. } => "accept",
-        Pax::Accepted { .. } => "accepted",
-        Pax::Refuse { .. } => "refuse",
-        Pax::Chosen { .. } => "chosen",
-    }
+/// The word of a letter's kind: the list has each kind.
+macro_rules! word_of {
+    ($body:expr; $($kind:pat => $word:literal,)*) => {
+        match $body {
+            $($kind => $word,)*
+        }
+    };
+}
+
+/// Whether the list has the word.
+macro_rules! is_word {
+    ($said:expr; $($kind:pat => $word:literal,)*) => {
+        [$($word,)*].iter().any(|word| *word == $said)
+    };
 }
 
 /// The word of a letter's kind.
 fn kind_of(body: &Body) -> &'static str {
-    match body {
-        Body::Down { .. } => "down",
-        Body::Seen { .. } => "seen",
-        Body::Propose { .. } => "propose",
-        Body::Pax(said) => ballot_kind(said),
-        Body::Ask { .. } => "ask",
-        Body::News { .. } => "news",
-        Body::Read { .. } => "read",
-        Body::Write { .. } => "write",
-        Body::Data { .. } => "data",
-        Body::NotHere { .. } => "nothere",
-        Body::BlockBusy { .. } => "busy",
-        Body::Held { .. } => "held",
-        Body::WrongRev { .. } => "wrongrev",
-        Body::Written { .. } => "written",
-        Body::Full { .. } => "full",
-        Body::Reserve { .. } => "reserve",
-        Body::Reserved { .. } => "reserved",
-        Body::PairFull { .. } => "pairfull",
-        Body::Replicate { .. } => "replicate",
-        Body::Replicated { .. } => "replicated",
-        Body::HelloAsk { .. } => "helloask",
-        Body::Hello { .. } => "hello",
-        Body::Trim { .. } => "trim",
-        Body::Trimmed { .. } => "trimmed",
-        Body::Sync { .. } => "sync",
-        Body::Synced { .. } => "synced",
-        Body::SyncFull { .. } => "syncfull",
-        Body::Fill { .. } => "fill",
-        Body::Filled { .. } => "filled",
-        Body::FillFull { .. } => "fillfull",
-    }
+    with_kinds!(word_of body)
 }
 
 /// Letters of one kind from one actor to another.
@@ -108,7 +86,7 @@ impl Mail<'_> {
 }
 
 fn is_kind(word: &str) -> bool {
-    KINDS.iter().any(|kind| *kind == word)
+    with_kinds!(is_word word)
 }
 
 fn actor_by(byte: u8) -> Option<Actor> {
@@ -155,6 +133,17 @@ pub fn byte(word: &str, place: usize) -> Result<u8, usize> {
     match word.parse::<u8>() {
         Ok(byte) => Ok(byte),
         Err(_) => Err(place),
+    }
+}
+
+/// A block under a map, as `0/5`.
+pub fn cell(word: &str, place: usize) -> Result<Cell, usize> {
+    match word.split_once('/') {
+        Some((map, block)) => Ok(Cell {
+            map: number(map, place)?,
+            block: u64::from(number(block, place)?),
+        }),
+        None => Err(place),
     }
 }
 

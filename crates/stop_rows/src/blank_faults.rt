@@ -1,9 +1,9 @@
 //! A device of a server fails, or stops it, that comes back with nothing.
 
 use memory_runs::play;
+use row_runs::Row;
 use std::alloc::Global;
 use std::test::Fail;
-use world_runs::Row;
 
 /// A device fails in the boot of server 1 behind its blank, which has raised the incarnation or not. It does so no less where the plan
 /// stops the server.

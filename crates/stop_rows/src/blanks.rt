@@ -1,8 +1,8 @@
 //! The operator replaces the data devices of servers by blank ones.
 
 use memory_runs::play;
+use row_runs::Row;
 use std::test::Fail;
-use world_runs::Row;
 
 // Of five servers, servers 1 and 2 have block 1, and servers 2 and 3 block 2. Line 7 is the blank.
 const FILLED: &str =

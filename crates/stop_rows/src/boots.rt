@@ -1,9 +1,9 @@
 //! A stopped server boots, and is In again.
 
 use memory_runs::play;
+use row_runs::Row;
 use std::alloc::Global;
 use std::test::Fail;
-use world_runs::Row;
 
 const ONE_STARTS: &str =
     "servers 3 slots 4\na disk vol on 0 1 2\nwait\na write vol 0 fill 7\nwait\nop stop 0\nwait\nop start 0\nwait\n\

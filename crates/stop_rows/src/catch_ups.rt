@@ -1,9 +1,9 @@
 //! A server of a link stops at each step of a catch-up in turn.
 
 use memory_runs::play;
+use row_runs::Row;
 use std::alloc::Global;
 use std::test::Fail;
-use world_runs::Row;
 
 // Servers 0 and 1 have the blocks 0 and 3, of which server 0 alone has the later contents when server 1 starts again.
 const BEFORE: &str =

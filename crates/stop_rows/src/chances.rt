@@ -1,15 +1,15 @@
 //! Worlds stepped by chance, in which servers stop: two of five by the operator's lines, which may start again, also with blank
 //! data devices, or one since a device fails or stops it.
 
+use chance_runs::{
+    Chance, Count, Habit, script_by, script_with_blanks, script_with_cuts,
+    script_with_moves_and_starts, script_with_starts, script_with_stops, simulate,
+};
 use memory_runs::start;
 use petal_base::ServerId;
 use petal_disk::{CallKind, Plan, Which};
 use std::alloc::Global;
 use std::test::Fail;
-use world_runs::{
-    Chance, Count, Habit, script_by, script_with_blanks, script_with_cuts,
-    script_with_moves_and_starts, script_with_starts, script_with_stops, simulate,
-};
 
 fn simulate_seed(alloc: Global, seed: u32) -> Result<Count, Fail> {
     let mut chance = Chance::new(seed);

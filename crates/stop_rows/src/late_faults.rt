@@ -1,9 +1,9 @@
 //! A device fails in a sync only after it has synced: where that was the last sync of a commit, the commit is made.
 
 use memory_runs::play;
+use row_runs::Row;
 use std::alloc::Global;
 use std::test::Fail;
-use world_runs::Row;
 
 // Of three servers, server 0 leads block 0, and server 1 is second.
 const SCRIPT: &str =
@@ -104,6 +104,58 @@ fn stopped_after_a_put(rt: HostRuntime) -> Result<(), Fail> {
         },
     ];
     for row in rows {
+        play(rt.alloc(), &row)?;
+    }
+    Ok(())
+}
+
+// Server 0 leads block 0, and is alone with it once the Leave of server 1 is chosen. Line 9 starts it again.
+const ALONE: &str =
+    "servers 3 slots 4\na disk vol on 0 1 2\nwait\nop stop 1\nwait\na disk more on 0 2\nwait\na write vol 0 fill 7\nop start 0\nb read vol 0\n";
+
+#[test]
+fn failed_after_a_put_alone(rt: HostRuntime) -> Result<(), Fail> {
+    let row = Row {
+        shows: "the lead is alone, and fails right after its put, of which nobody is told: a read shows it before its client sends it again",
+        script: ALONE,
+        steps: "a calls 2; agree; wait; op calls 4; 1 stops; 1 shows 4; seen 1>op; agree without 1; wait; a calls 6; agree without 1; wait;
+            0 arms data sync 5 late; a calls 8; write a>0; 0 works off; failed 1; committed 1; told begin; op calls 9; 0 boots; 0 shows 9; seen 0>op;
+            line 9 ok; not agree without a; b calls 10; not agree without a; line 10 fill 7; line 8 open; told begin take look;
+            agree without 1; line 8 ok; told begin take look end",
+    };
+    play(rt.alloc(), &row)
+}
+
+// Of five servers, server 0 leads block 0, and server 1 is second. Line 5 stops server 0, and line 6 starts server 1.
+const SECOND: &str =
+    "servers 5 slots 4\na disk vol on 0 1 2 3 4\nwait\na write vol 0 fill 7\nop stop 0\nop start 1\nb read vol 0\n";
+
+// The second server is stopped late in its put, and the Leave of the lead is chosen before its own.
+const LEAD_LEAVES: &str =
+    "a calls 2; agree; wait; 1 arms data sync 3 late stop; a calls 4; write a>0; 0 works; reserve 0>1; 1 works; reserved 1>0; 0 works off;
+    replicate 0>1; 1 works; stopped 1; committed 1; not sent 1 replicated 1>0; drop down 1>2; drop down 1>3; drop down 1>4;
+    op calls 5; 0 stops; 0 shows 5; seen 0>op; line 5 ok; not agree without 1; told begin;
+    op calls 6; 1 boots; 1 shows 6; seen 1>op; line 6 ok";
+
+#[test]
+fn stopped_after_the_copy_before_the_lead(rt: HostRuntime) -> Result<(), Fail> {
+    for (shows, read) in [
+        (
+            "the second server's copy counts that nobody was told of: a read shows it before its client sends it again",
+            "not agree without a; b calls 7; not agree without a; line 7 fill 7; line 4 open; told begin take look; agree; line 4 ok;
+            told begin take look end",
+        ),
+        (
+            "a read shows it after its client was told that the block is unavailable",
+            "agree without 1; line 4 unavailable; told begin end; go on 200; b calls 7; agree; line 7 fill 7; told begin take end look",
+        ),
+    ] {
+        let steps = format!(in rt.alloc(); "{LEAD_LEAVES}; {read}")?;
+        let row = Row {
+            shows,
+            script: SECOND,
+            steps: steps.as_str(),
+        };
         play(rt.alloc(), &row)?;
     }
     Ok(())

@@ -1,9 +1,9 @@
 //! Servers of a disk that moves stop.
 
 use memory_runs::play;
+use row_runs::Row;
 use std::alloc::Global;
 use std::test::Fail;
-use world_runs::Row;
 
 // Line 15 is the second move. Server 1 holds the old links alone when it stops, too.
 const WITHOUT_A_LEAD: &str =

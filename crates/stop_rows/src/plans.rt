@@ -1,8 +1,8 @@
 //! Plans that come and go.
 
 use memory_runs::play;
+use row_runs::Row;
 use std::test::Fail;
-use world_runs::Row;
 
 // Of three servers, server 0 leads block 0, and server 1 is second. Line 6 starts server 0.
 const SCRIPT: &str =

@@ -2,8 +2,8 @@
 //! is left out would be seen in what is answered.
 
 use memory_runs::play;
+use row_runs::Row;
 use std::test::Fail;
-use world_runs::Row;
 
 // Of three servers, servers 0 and 1 have block 0, and server 0 leads it.
 const PRIMARY_RETURNS: &str =
@@ -12,7 +12,7 @@ const PRIMARY_RETURNS: &str =
 // Server 0 leads block 0, and stops when it has marked the block and put, before it sends its copy to server 1.
 const PUT: &str =
     "a calls 2; agree; wait; a calls 4; write a>0; 0 works; reserve 0>1; 1 works; reserved 1>0; 0 works; 0 works; not sent 1 replicate 0>1; told begin;
-    op calls 5; 0 stops; 0 shows 5; seen 0>op; line 5 ok";
+    op calls 5; 0 stops; 0 shows 5; seen 0>op; line 5 ok; 0 has 0/0 fill 7; 0 marks 0 0";
 
 // The same, but server 0 has failed right after it has put.
 const PUT_LATE: &str =
@@ -46,7 +46,7 @@ const BALLOT_OF_1: &str =
 // Server 1, which holds the link alone, hears of the mark, and its copy of the block, which is none, takes the put away.
 const COPIED: &str =
     "helloask 1>0; 0 works off; hello 0>1; 1 works off; helloask 1>0; 0 works off; hello 0>1; 1 works off; sent 1 trim 1>0; trim 1>0; 0 works off;
-    trimmed 0>1; 1 works off; not sent 1 sync 1>0; told begin";
+    0 has 0 entries; trimmed 0>1; 1 works off; not sent 1 sync 1>0; told begin";
 
 // Server 1 stops once the link is in Both, and server 0 goes on alone.
 const ALONE: &str =

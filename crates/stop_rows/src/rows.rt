@@ -1,9 +1,9 @@
 //! The operator stops servers.
 
 use memory_runs::play;
+use row_runs::Row;
 use row_words::act_of;
 use std::test::Fail;
-use world_runs::Row;
 
 #[test]
 fn lines_that_stop_a_server(rt: HostRuntime) -> Result<(), Fail> {

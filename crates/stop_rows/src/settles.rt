@@ -1,8 +1,8 @@
 //! The operator waits until servers are settled.
 
 use memory_runs::play;
+use row_runs::Row;
 use std::test::Fail;
-use world_runs::Row;
 
 // Line 11 is the settle. Server 1 alone has the second write until then.
 const CAUGHT_UP: &str =
@@ -27,7 +27,7 @@ fn servers_are_settled(rt: HostRuntime) -> Result<(), Fail> {
         Row {
             shows: "a server that starts again has what it missed once its neighbour has copied it",
             script: CAUGHT_UP,
-            steps: "play out; line 10 ok; line 11 ok; line 12 ok; line 14 fill 2",
+            steps: "play out; line 10 ok; line 11 ok; line 12 ok; line 14 fill 2; 2 has 0/1 fill 2; 1 has 0/1 fill 2; 2 marks 0 none; 2 has 1 entries",
         },
         Row {
             shows: "a server without a slot for what it missed leaves no space",

@@ -1,8 +1,8 @@
 //! Snapshots beside servers that stop, start and are brought up to date.
 
 use memory_runs::play;
+use row_runs::Row;
 use std::test::Fail;
-use world_runs::Row;
 
 // Of three servers, servers 0 and 1 have block 0, servers 1 and 2 block 1, and servers 2 and 0 block 2. In the end servers 1 and then 0
 // are alone with what they have.

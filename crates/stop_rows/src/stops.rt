@@ -1,9 +1,9 @@
 //! A plan stops a server in a call of a device.
 
 use memory_runs::play;
+use row_runs::Row;
 use std::alloc::Global;
 use std::test::Fail;
-use world_runs::Row;
 
 // Of three servers, server 0 leads block 0, and server 1 is second.
 const SCRIPT: &str =

@@ -1,8 +1,8 @@
 //! A server of a pair stops in the middle of a write, and the other one goes on.
 
 use memory_runs::play;
+use row_runs::Row;
 use std::test::Fail;
-use world_runs::Row;
 
 // Of three servers, server 0 leads block 0, and server 1 is second.
 const SECONDARY_STOPS: &str =
@@ -15,7 +15,7 @@ const PRIMARY_STOPS: &str =
 fn a_secondary_stops(rt: HostRuntime) -> Result<(), Fail> {
     let rows: [Row; 2] = [
         Row {
-            shows: "the lead has put: the contents change with the vote that chooses the Leave, and the lead goes on alone",
+            shows: "the lead has put: the contents change with the vote that chooses the Leave, and the lead goes on alone and keeps a mark",
             script: SECONDARY_STOPS,
             steps: "a calls 2; agree; wait; a calls 4; write a>0; 0 works; reserve 0>1; 1 works; reserved 1>0; 0 works; 0 works; 0 works;
                 sent 1 replicate 0>1; op calls 5; 1 stops; 1 shows 5; seen 1>op; line 5 ok; replicate 0>1; not 1 works; told begin;
@@ -23,7 +23,7 @@ fn a_secondary_stops(rt: HostRuntime) -> Result<(), Fail> {
                 accept 2>2; 2 works; told begin; accept 2>0; 0 works; told begin take;
                 accepted 2>2; accepted 0>2; 2 works off; chosen 2>0; 0 works; 0 works; not sent 1 written 0>a; 0 works; 0 works; 0 works;
                 sent 1 written 0>a; written 0>a; line 4 open; agree; line 4 ok; told begin take end;
-                wait; b calls 7; agree; line 7 fill 7; told begin take end look",
+                0 has 0/0 fill 7; 0 marks 0 0; 1 has 0 entries; wait; b calls 7; agree; line 7 fill 7; told begin take end look",
         },
         Row {
             shows: "the lead has reserved: it puts alone once it knows of the Leave",

@@ -1,9 +1,11 @@
 //! Worlds stepped by chance.
 
+use chance_runs::{
+    Chance, Count, Habit, script_by, script_with_moves, script_with_snaps, simulate,
+};
 use memory_runs::start;
 use std::alloc::Global;
 use std::test::Fail;
-use world_runs::{Chance, Count, Habit, script_by, script_with_moves, script_with_snaps, simulate};
 
 fn simulate_seed(alloc: Global, seed: u32) -> Result<Count, Fail> {
     let mut chance = Chance::new(seed);

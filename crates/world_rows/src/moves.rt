@@ -4,8 +4,8 @@
 //! hold.
 
 use memory_runs::play;
+use row_runs::Row;
 use std::test::Fail;
-use world_runs::Row;
 
 // Servers 3 and 2 have block 0 under the old map, servers 0 and 1 under the new one. The read of block 1 waits until the region is on
 // its way.
@@ -57,10 +57,11 @@ a move one on 1 2\nb move two on 2 0\nwait\nc write one 0 fill 4\nd read two 0\n
 fn moves_and_what_is_asked_meanwhile(rt: HostRuntime) -> Result<(), Fail> {
     let rows: [Row; 4] = [
         Row {
-            shows: "a disk with a snapshot moves, and is read before and after by both names",
+            shows: "a disk with a snapshot moves, and is read before and after by both names; what the old map had is swept",
             script: WITH_A_SNAPSHOT,
             steps: "play out; line 11 fill 1; line 12 fill 2; line 13 fill 3; line 14 fill 2; line 16 ok; line 17 ok; line 18 fill 2|9; line 19 fill 2;
-                line 21 ok; line 23 fill 1; line 24 fill 2; line 25 fill 3; line 26 fill 9; line 27 fill 0",
+                line 21 ok; line 23 fill 1; line 24 fill 2; line 25 fill 3; line 26 fill 9; line 27 fill 0;
+                go on 100; 0 has 0 entries; 1 has 4 entries; 2 has 4 entries; 1 has 1/0 fill 3; 2 has 1/8 fill 9; 2 marks 1 none",
         },
         Row {
             shows: "a disk moves onto the same servers in another order, and is written and read meanwhile",

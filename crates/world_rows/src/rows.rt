@@ -1,9 +1,9 @@
 //! Rows: runs in orders that the plain schedule never takes.
 
 use memory_runs::play;
+use row_runs::Row;
 use row_words::act_of;
 use std::test::Fail;
-use world_runs::Row;
 
 // Of two servers, block 5 lies on link 1: server 1 leads it, and server 0 is second.
 const ONE_WRITE: &str =
@@ -13,13 +13,14 @@ const ONE_WRITE: &str =
 fn writes_step_by_step(rt: HostRuntime) -> Result<(), Fail> {
     let rows: [Row; 4] = [
         Row {
-            shows: "a reply that is lost is asked for again",
+            shows: "a reply that is lost is asked for again; the mark at the lead is gone when the write ends",
             script: ONE_WRITE,
             steps: "a calls 2; agree; a calls 3; told begin; write a>1; 1 works; reserve 1>0; 0 works;
                 drop reserved 0>1; not 1 works; 1 ticks; reserve 1>0; 0 works; reserved 0>1; 1 works; 1 works;
-                not sent 1 replicate 1>0; 1 works; not 1 works; replicate 1>0; told begin; 0 works; told begin take;
+                not sent 1 replicate 1>0; 1 works; not 1 works; replicate 1>0; told begin; 1 has 0/5 fill 7; 1 marks 0 5; 0 has 0/5 fill 0;
+                0 works; told begin take; 0 has 0/5 fill 7; 0 marks 0 none;
                 replicated 0>1; 1 works; not sent 1 written 1>a; 1 works; line 3 open; written 1>a; line 3 ok; told begin take end;
-                wait; b calls 5; read b>0; 0 works; data 0>b; line 5 fill 7; told begin take end look",
+                1 has 0/5 fill 7; not 1 has 0/5 fill 8; 1 marks 0 none; not 1 marks 0 5; wait; b calls 5; read b>0; 0 works; data 0>b; line 5 fill 7; told begin take end look",
         },
         Row {
             shows: "a copy that comes again is put once",
@@ -191,6 +192,8 @@ fn bad_words_are_found(rt: HostRuntime) -> Result<(), Fail> {
     assert!(rt; is_bad_at(&["drop", "letter", "1>0"], 2));
     assert!(rt; is_bad_at(&["line", "3", "maybe"], 3));
     assert!(rt; is_bad_at(&["told", "begin", "tkae"], 3));
+    assert!(rt; is_bad_at(&["1", "has", "0-5", "fill", "7"], 3));
+    assert!(rt; is_bad_at(&["1", "marks", "0", "2", "no"], 5));
     assert!(rt; is_bad_at(&[], 1));
     Ok(())
 }

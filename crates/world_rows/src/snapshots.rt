@@ -1,8 +1,8 @@
 //! Snapshots, and the fences that wait for servers.
 
 use memory_runs::play;
+use row_runs::Row;
 use std::test::Fail;
-use world_runs::Row;
 
 // Of three servers, servers 0 and 1 have block 0, servers 1 and 2 block 1, and servers 2 and 0 block 2.
 const BEFORE_AND_AFTER: &str =

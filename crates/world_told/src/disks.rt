@@ -4,7 +4,7 @@ use crate::fences::{Fences, Scope};
 use crate::members::Members;
 use crate::moves::{Moves, Noted};
 use petal_base::{
-    Cell, ClientId, Epoch, Inc, MapId, Name, NoMemory, OPERATOR, Seq, ServerId, Tuple,
+    BlockNo, Cell, ClientId, Epoch, Inc, MapId, Name, NoMemory, OPERATOR, Seq, ServerId, Tuple,
 };
 use petal_command::Command;
 use std::alloc::Global;
@@ -47,6 +47,20 @@ impl Link {
     /// Whether it is the cell's link.
     pub fn has(&self, cell: Cell) -> bool {
         cell.map as usize == self.map && self.count != 0 && cell.block % self.count == self.place
+    }
+
+    // Whether the server's copies count: in Both the secondary's, which are put last.
+    fn counts(&self, server: ServerId) -> bool {
+        match self.serving {
+            Serving::Both => self.secondary == server,
+            Serving::Only(holder) => holder == server,
+            Serving::Lost => false,
+        }
+    }
+
+    // Whether it is a link of one of these maps, and has the block.
+    fn is_of(&self, maps: &[usize], disk: usize, block: BlockNo) -> bool {
+        maps.get(self.map) == Some(&disk) && self.count != 0 && block % self.count == self.place
     }
 
     fn other_of(&self, server: ServerId) -> ServerId {
@@ -201,6 +215,23 @@ impl Disks {
         match self.links.iter().find(|link| link.has(cell)) {
             Some(link) => link.since,
             None => 0,
+        }
+    }
+
+    /// Whether the server's copy of the disk's block counts, under one of the disk's maps.
+    pub fn counts(&self, server: ServerId, name: &Name, block: BlockNo) -> bool {
+        match self.place(name) {
+            Some(disk) => self.links.iter().any(|link| link.counts(server)
+                && link.is_of(&self.maps, disk, block)),
+            None => false,
+        }
+    }
+
+    /// Whether the link is one of the disk's, and has the block.
+    pub fn is_on(&self, link: &Link, name: &Name, block: BlockNo) -> bool {
+        match self.place(name) {
+            Some(disk) => link.is_of(&self.maps, disk, block),
+            None => false,
         }
     }
 

@@ -3,16 +3,19 @@
 //! This says again, from the records alone, what the definition of a history's events says over the worlds of the rules. A put
 //! is not told by itself: that of a second server by the letter that tells its lead, in the same step; that of a lead that is
 //! ahead when its second server is taken out by its copy on its way; and that of a server that writes alone, later than the
-//! definition has it, by the letter that ends the write. Until then nobody reads the block.
+//! definition has it, by the letter that ends the write. Until then nobody reads the block. A put of which no letter tells is told
+//! by a read that shows it.
 
 use crate::choices::Choices;
+use crate::contents::settled;
 use crate::disks::{Disks, Done, Link};
+use crate::late::{Lates, committed_by, is_asked};
 use crate::operations::{
     Operation, ahead_on, entry_of, is_brought_in, is_replicated_in, replicated_by,
 };
-use crate::reads::{accepted, is_by_old_map, old_data};
+use crate::reads::{accepted, is_by_old_map, old_data, since_boot};
 use crate::writes::Writers;
-use petal_base::{ClientId, Key, NoMemory, SharedBlock};
+use petal_base::{ClientId, Key, NoMemory, OPERATOR, Seq, ServerId, SharedBlock};
 use petal_history::Record;
 use petal_machine::{Event, Write, WriteEnd};
 use petal_msg::{Actor, Body, Letter};
@@ -46,6 +49,7 @@ struct Telling<'a> {
     writers: Writers,
     choices: Choices,
     disks: Disks,
+    lates: Lates,
     told: Vec<Told>,
 }
 
@@ -98,6 +102,38 @@ pub fn tells(told: &[Told], words: &[&str]) -> bool {
 /// How many disks are told to be made.
 pub fn made(told: &[Told]) -> usize {
     told.iter().filter(|told| word_of(told) == "make").count()
+}
+
+// Whether the letter tells the same client that the same write is written.
+fn is_same_end(letter: &Letter, other: &Letter) -> bool {
+    match (&letter.body, &other.body) {
+        (Body::Written { seq }, Body::Written { seq: own }) => {
+            seq == own && letter.to == other.to && letter.from == other.from
+        }
+        _ => false,
+    }
+}
+
+fn ends_in(record: &Record, letter: &Letter) -> bool {
+    record
+        .sent
+        .as_slice()
+        .iter()
+        .any(|other| is_same_end(other.get(), letter))
+}
+
+// The client and the number of the write of which a server says by this letter, for the first time in its life, that it is written.
+fn written_by(before: &[Record], letter: &Letter) -> Option<(ClientId, Seq)> {
+    let (Actor::Server(server), Actor::Client(client)) = (letter.from, letter.to) else {
+        return None;
+    };
+    let Body::Written { seq } = &letter.body else {
+        return None;
+    };
+    let told = since_boot(before, server)
+        .iter()
+        .any(|record| ends_in(record, letter));
+    if told { None } else { Some((client, *seq)) }
 }
 
 /// How a write ends that is answered so.
@@ -183,7 +219,7 @@ impl<'a> Telling<'a> {
     // The open write of which the entry comes: it is of its disk's epoch.
     fn write_of(&mut self, key: Key, bytes: &SharedBlock) -> Result<Option<Write>, NoMemory> {
         match self.disks.name_at(key.map, key.epoch) {
-            Some(disk) => self.writers.take(disk, key.block, bytes),
+            Some(disk) => self.writers.giving(disk, key.block, bytes),
             None => Ok(None),
         }
     }
@@ -210,15 +246,50 @@ impl<'a> Telling<'a> {
         }
     }
 
-    // A server says that a write is written which was not told to have taken effect: it has put it alone.
+    // A server that has put a write says for the first time in its life that it is written: its bytes stand in their block.
     fn takes_last(&mut self, here: &Here, letter: &Letter) -> Result<(), NoMemory> {
-        let (Actor::Client(client), Body::Written { seq }) = (letter.to, &letter.body) else {
-            return Ok(());
-        };
-        match self.writers.take_last(client, *seq)? {
-            Some(write) => self.tell(here.step, Some(Event::Take(write))),
+        match written_by(here.before, letter) {
+            Some((client, seq)) => match self.writers.numbered(client, seq)? {
+                Some(write) => self.tell(here.step, Some(Event::Take(write))),
+                None => Ok(()),
+            },
             None => Ok(()),
         }
+    }
+
+    // Whether the server's job may have put the write where its copy counts.
+    fn is_late(&self, here: &Here, server: ServerId, write: &Write) -> bool {
+        self.disks.counts(server, &write.disk, write.block)
+            && is_asked(since_boot(here.before, server), server, write)
+    }
+
+    // Each open write that the job may have put so, where it had made its commit and tells nobody.
+    fn notes_late(&mut self, here: &Here) -> Result<(), NoMemory> {
+        let Some(server) = committed_by(here.own) else {
+            return Ok(());
+        };
+        for client in 0..OPERATOR {
+            if let Some(write) = self.writers.of(client) {
+                if self.is_late(here, server, write) {
+                    self.lates.add(here.step, self.told.len(), write)?;
+                }
+            }
+        }
+        Ok(())
+    }
+
+    // Each open write that the link's primary may have put without telling its second server: its copy counts from now on.
+    fn notes_passed(&mut self, here: &Here, link: &Link) -> Result<(), NoMemory> {
+        for client in 0..OPERATOR {
+            if let Some(write) = self.writers.of(client) {
+                if self.disks.is_on(link, &write.disk, write.block)
+                    && is_asked(from(here.before, link.since), link.primary, write)
+                {
+                    self.lates.add(here.step, self.told.len(), write)?;
+                }
+            }
+        }
+        Ok(())
     }
 
     // The copies of the link's primary count from now on: what it has put ahead of its second server takes effect.
@@ -226,7 +297,7 @@ impl<'a> Telling<'a> {
         for operation in ahead_on(self.alloc, from(here.before, link.since), link)? {
             self.take(here, operation)?;
         }
-        Ok(())
+        self.notes_passed(here, link)
     }
 
     fn takes(&mut self, here: &Here, done: &Done) -> Result<(), NoMemory> {
@@ -297,6 +368,7 @@ fn tell_all(telling: &mut Telling, records: &[Record]) -> Result<(), NoMemory> {
             later: &records[at + 1..],
             all: records,
         };
+        telling.notes_late(&here)?;
         telling.begins(&here)?;
         let done = telling.chooses(&here)?;
         telling.takes(&here, &done)?;
@@ -315,10 +387,12 @@ pub fn told_of(alloc: Global, script: &Script, records: &[Record]) -> Result<Vec
         writers: Writers::new(alloc)?,
         choices: Choices::new(alloc, script.servers),
         disks: Disks::new(alloc, script.servers)?,
+        lates: Lates::new(alloc),
         told: Vec::new(alloc),
     };
     tell_all(&mut telling, records)?;
-    Ok(telling.told)
+    telling.lates.show_all(&telling.told);
+    settled(alloc, telling.told, &telling.lates)
 }
 
 /// How many reads were answered by the map that their disk leaves.

@@ -6,9 +6,11 @@
 #![tactic(auto)]
 
 mod choices;
+mod contents;
 mod disks;
 mod events;
 mod fences;
+mod late;
 mod members;
 mod moves;
 mod operations;

@@ -101,7 +101,7 @@ fn is_boot(record: &Record, server: ServerId) -> bool {
 }
 
 /// The records since the server last booted.
-fn since_boot(records: &[Record], server: ServerId) -> &[Record] {
+pub fn since_boot(records: &[Record], server: ServerId) -> &[Record] {
     let mut last = records;
     for (at, record) in records.iter().enumerate() {
         if is_boot(record, server) {

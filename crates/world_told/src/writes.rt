@@ -5,12 +5,11 @@ use petal_machine::Write;
 use script_lines::Request;
 use std::alloc::Global;
 
-/// A client: how many requests it has called, its write that is not answered, and whether that has taken effect.
+/// A client: how many requests it has called, and its write that is not answered.
 #[derive(Drop)]
 struct Writer {
     called: Seq,
     open: Option<Write>,
-    is_taken: bool,
 }
 
 /// All clients, by number.
@@ -44,7 +43,7 @@ fn write_by(
 }
 
 /// The same write again.
-fn again(write: &Write) -> Result<Write, NoMemory> {
+pub fn again(write: &Write) -> Result<Write, NoMemory> {
     Ok(Write {
         client: write.client,
         seq: write.seq,
@@ -62,7 +61,6 @@ impl Writers {
             writers.push(Writer {
                 called: 0,
                 open: None,
-                is_taken: false,
             })?;
         }
         Ok(Writers { writers })
@@ -80,24 +78,27 @@ impl Writers {
         };
         writer.called = writer.called.saturating_add(1);
         writer.open = write_by(alloc, client, writer.called, request)?;
-        writer.is_taken = false;
         match &writer.open {
             Some(write) => Ok(Some(again(write)?)),
             None => Ok(None),
         }
     }
 
-    /// The open write that gives the disk's block these bytes takes effect: of several, that of the least client.
-    pub fn take(
-        &mut self,
+    /// The client's open write.
+    pub fn of(&self, client: ClientId) -> Option<&Write> {
+        self.writers.get(client as usize)?.open.as_ref()
+    }
+
+    /// The open write that gives the disk's block these bytes: of several, that of the least client.
+    pub fn giving(
+        &self,
         disk: &Name,
         block: BlockNo,
         bytes: &SharedBlock,
     ) -> Result<Option<Write>, NoMemory> {
-        for writer in self.writers.iter_mut() {
+        for writer in &self.writers {
             if let Some(write) = &writer.open {
                 if write.disk == *disk && write.block == block && write.bytes == *bytes {
-                    writer.is_taken = true;
                     return Ok(Some(again(write)?));
                 }
             }
@@ -105,16 +106,10 @@ impl Writers {
         Ok(None)
     }
 
-    /// A server says that the client's write is written. Gives the write where it takes effect only now.
-    pub fn take_last(&mut self, client: ClientId, seq: Seq) -> Result<Option<Write>, NoMemory> {
-        let Some(writer) = self.writers.get_mut(client as usize) else {
-            return Ok(None);
-        };
-        match &writer.open {
-            Some(write) if write.seq == seq && !writer.is_taken => {
-                writer.is_taken = true;
-                Ok(Some(again(write)?))
-            }
+    /// The client's open write, where it has this number.
+    pub fn numbered(&self, client: ClientId, seq: Seq) -> Result<Option<Write>, NoMemory> {
+        match self.of(client) {
+            Some(write) if write.seq == seq => Ok(Some(again(write)?)),
             _ => Ok(None),
         }
     }

@@ -1,11 +1,25 @@
 //! What is counted of a run.
 
-use crate::answers::{is_done, is_no_space, is_shown, is_unavailable};
-use crate::run::Run;
 use petal_msg::Body;
 use petal_world::{CommitEnd, Host, Step, WorkEnd};
 use script_lines::{Answer, Request};
+use world_runs::Run;
 use world_told::old_reads;
+
+fn is(answer: Option<&Answer>, wanted: &Answer) -> bool {
+    match answer {
+        Some(answer) => *answer == *wanted,
+        None => false,
+    }
+}
+
+// Whether the answer is a block.
+fn is_shown(answer: Option<&Answer>) -> bool {
+    match answer {
+        Some(Answer::Data(_)) => true,
+        _ => false,
+    }
+}
 
 /// What was counted in some runs.
 #[derive(Clone, Copy, Debug, PartialEq, Eq)]
@@ -100,11 +114,11 @@ impl Count {
     // One more line, which has this answer.
     fn add(&mut self, request: &Request, answer: Option<&Answer>) {
         let snapped = match request {
-            Request::Snap { .. } => is_done(answer),
+            Request::Snap { .. } => is(answer, &Answer::Ok),
             _ => false,
         };
         let moved = match request {
-            Request::Move { .. } => is_done(answer),
+            Request::Move { .. } => is(answer, &Answer::Ok),
             _ => false,
         };
         let read = match request {
@@ -113,8 +127,8 @@ impl Count {
         };
         let more = Count {
             answered: usize::from(answer.is_some()),
-            no_space: usize::from(is_no_space(answer)),
-            unavailable: usize::from(is_unavailable(answer)),
+            no_space: usize::from(is(answer, &Answer::NoSpace)),
+            unavailable: usize::from(is(answer, &Answer::Unavailable)),
             snapshots: usize::from(snapped),
             old_reads: usize::from(read),
             moves: usize::from(moved),

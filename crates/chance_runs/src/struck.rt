@@ -1,11 +1,11 @@
 //! Plans by chance, by which a sync of a server's device fails only after it has synced.
 
 use crate::chance::Chance;
-use crate::run::Run;
 use petal_base::{NoMemory, ServerId};
 use petal_disk::{CallKind, Plan, Which};
 use petal_world::Host;
 use std::alloc::Global;
+use world_runs::Run;
 
 /// One of so many next syncs of a server that runs is struck.
 const RUNNING: usize = 6;

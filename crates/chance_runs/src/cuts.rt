@@ -1,14 +1,15 @@
 //! A server that stops right after a commit, before anyone hears of it.
 //!
-//! In memory a device that is struck loses what was not synced, so a job or a boot that ends so has not made its commit. Here
-//! the commit is made: the job is done and the server stops at once, and the letters that it would have sent are taken back.
+//! In memory a device that is struck loses what was not synced. So a job or a boot whose call fails before its work has not made its
+//! commit; one whose last sync fails late has, as a plan can say. Here no device is struck: the job is done, the server stops at once,
+//! and the letters that it would have sent are taken back.
 
-use crate::run::{Order, Run};
 use petal_base::{NoMemory, OPERATOR, ServerId};
 use petal_command::Pax;
 use petal_msg::{Body, SharedLetter};
 use petal_world::Host;
 use std::alloc::Global;
+use world_runs::{Order, Run};
 
 /// So many jobs are done at most until one has made a commit that its letters tell of.
 const MOST_JOBS: u32 = 12;

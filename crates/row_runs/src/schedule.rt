@@ -41,23 +41,27 @@
 //! | `committed 1` | so many of all these had made their commit |
 //! | `sent 4 write a>1` | at least so many letters of this kind and way were sent |
 //! | `owners 8 data 0>a` | the block that the last such letter brings has at least so many owners |
+//! | `1 has 0/5 fill 7` | what server 1 has put last of block 5 under map 0 is a block of this byte; nothing put is zeros |
+//! | `1 marks 0 3 5`, `1 marks 0 none` | of map 0 exactly these blocks are marked at server 1, or none is |
+//! | `1 has 2 entries` | the store of server 1 has so many entries in all, of whatever disk and epoch |
+//!
+//! The last three are asked of a copy of the server: of a block or a mark only where the server knows the map, has a part in the block's
+//! link and the map is live.
 //!
 //! `not` before a step says that the world refuses it, or that there is no such letter; before an expectation, that it is not
-//! so. The kinds of letters are `down`, `seen`, `propose`, `prepare`, `promise`, `accept`,
-//! `accepted`, `refuse`, `chosen`, `ask`, `news`, `read`, `write`, `data`, `nothere`, `busy`, `held`, `wrongrev`, `written`, `full`, `reserve`,
-//! `reserved`, `pairfull`, `replicate`, `replicated`, `helloask`, `hello`, `trim`, `trimmed`, `sync`, `synced`, `syncfull`, `fill`, `filled` and
-//! `fillfull`; the events `make`, `freeze`, `begin`, `take`, `end` and `look`.
+//! so. The kinds of letters are the words of `with_kinds` (`row_words`); the events are `make`, `freeze`, `begin`, `take`, `end` and `look`.
 //!
 //! At the end of each row the plain machine takes all that it is told. A row that fails names itself, the step and, where a
 //! word is none of these, the word and its place in the step.
 
+use crate::held::Cast;
 use crate::player::Player;
-use crate::run::Run;
 use petal_base::NoMemory;
 use petal_world::Host;
 use row_words::{Act, act_of};
 use std::alloc::Global;
 use std::test::Fail;
+use world_runs::Run;
 
 /// What a run shows, its script, and its steps, in the form of this module.
 #[derive(Clone, Copy)]
@@ -95,15 +99,16 @@ fn step_of<'a>(words: &'a [&'a str]) -> Result<(bool, Act<'a>), usize> {
     }
 }
 
-fn fault_of<H: Host>(
+fn fault_of<H: Host, C: Cast<H>>(
     alloc: Global,
+    cast: &C,
     player: &mut Player<H>,
     words: &[&str],
 ) -> Result<Option<Fault>, NoMemory> {
     match step_of(words) {
         Err(place) => Ok(Some(Fault::BadWord(place))),
         Ok((wanted, act)) => {
-            if player.take(alloc, &act)? == wanted {
+            if player.take(alloc, cast, &act)? == wanted {
                 Ok(None)
             } else {
                 Ok(Some(Fault::NotSo))
@@ -132,12 +137,17 @@ fn fail(row: &Row, at: usize, words: &[&str], fault: Fault) -> Fail {
     }
 }
 
-fn walk<H: Host>(alloc: Global, row: &Row, player: &mut Player<H>) -> Result<(), Fail> {
+fn walk<H: Host, C: Cast<H>>(
+    alloc: Global,
+    cast: &C,
+    row: &Row,
+    player: &mut Player<H>,
+) -> Result<(), Fail> {
     let mut at = 0usize;
     for step in row.steps.split(';') {
         at = at.saturating_add(1);
         let words: Vec<&str> = step.split_whitespace().collect(alloc)?;
-        if let Some(fault) = fault_of(alloc, player, &words)? {
+        if let Some(fault) = fault_of(alloc, cast, player, &words)? {
             return Err(fail(row, at, &words, fault));
         }
     }
@@ -150,11 +160,16 @@ fn walk<H: Host>(alloc: Global, row: &Row, player: &mut Player<H>) -> Result<(),
     }
 }
 
-/// Plays a row on the run of its script that begins.
+/// Plays a row on the run of its script that begins, with these servers.
 ///
 /// # Errors
 /// What is wrong: the row, its step, and where a word is none of the form that word; or what the plain machine refuses.
-pub fn play_row<H: Host>(alloc: Global, row: &Row, run: Run<H>) -> Result<(), Fail> {
+pub fn play_row<H: Host, C: Cast<H>>(
+    alloc: Global,
+    cast: &C,
+    row: &Row,
+    run: Run<H>,
+) -> Result<(), Fail> {
     let mut player = Player::new(alloc, run);
-    walk(alloc, row, &mut player)
+    walk(alloc, cast, row, &mut player)
 }

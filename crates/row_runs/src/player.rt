@@ -1,13 +1,13 @@
 //! A run that a row steps.
 
-use crate::answers::is_so;
-use crate::rounds::play;
-use crate::run::Run;
+use crate::held::{Cast, is_held};
+use crate::wants::is_so;
 use petal_base::{NoMemory, ServerId, SharedBlock};
 use petal_msg::{Actor, Body, SharedLetter};
 use petal_world::Host;
 use row_words::{Act, Mail};
 use std::alloc::Global;
+use world_runs::{Run, play};
 use world_told::{made, tells};
 
 /// A run, and for each letter that was sent whether it is gone: handed over or lost.
@@ -322,7 +322,12 @@ impl<H: Host> Player<H> {
     }
 
     /// Takes a step, or looks whether what is expected is so. Gives whether it was taken, or is so.
-    pub fn take(&mut self, alloc: Global, act: &Act) -> Result<bool, NoMemory> {
+    pub fn take<C: Cast<H>>(
+        &mut self,
+        alloc: Global,
+        cast: &C,
+        act: &Act,
+    ) -> Result<bool, NoMemory> {
         match act {
             Act::Call(client, line) => self.run.call_line(alloc, *client, *line),
             Act::Work(server) => self.run.work(alloc, *server),
@@ -350,6 +355,7 @@ impl<H: Host> Player<H> {
             Act::Sent(count, mail) => Ok(self.count(mail) >= *count as usize),
             Act::Owners(count, mail) => Ok(self.owners(mail) >= *count as usize),
             Act::Told(words) => self.tells(alloc, words),
+            Act::Holds(server, held) => is_held(alloc, cast, &self.run, *server, held),
         }
     }
 

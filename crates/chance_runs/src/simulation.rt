@@ -3,14 +3,13 @@
 use crate::chance::Chance;
 use crate::count::{Count, counted};
 use crate::cuts::{boot_cut_off, stop_cut_off};
-use crate::rounds::begin;
-use crate::run::{Order, Run};
 use crate::struck::{arm_running, arm_stopped};
 use petal_base::{NoMemory, OPERATOR, ServerId};
 use petal_msg::{Actor, SharedLetter};
 use petal_world::Host;
 use std::alloc::Global;
 use std::test::Fail;
+use world_runs::{Order, Run, begin};
 
 const STEPS: usize = 2_000;
 

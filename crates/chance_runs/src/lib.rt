@@ -1,0 +1,20 @@
+//! Runs of worlds by chance, over servers of any kind, and the scripts and counts of them.
+//!
+//! To the layer above it promises no more than safety; tests show what it plays. It knows nothing of how a server keeps its
+//! blocks.
+#![tactic(auto)]
+
+mod chance;
+mod count;
+mod cuts;
+mod scripts;
+mod simulation;
+mod struck;
+
+pub use chance::Chance;
+pub use count::Count;
+pub use scripts::{
+    script_by, script_with_blanks, script_with_cuts, script_with_moves,
+    script_with_moves_and_starts, script_with_snaps, script_with_starts, script_with_stops,
+};
+pub use simulation::{Habit, simulate};
