@@ -44,7 +44,7 @@ use Rattle.law_moves.proofs.Then.{frozen_early}
 use Rattle.law_moves.proofs.There.{born_next, filled_next}
 use Rattle.law_moves.proofs.Visits.{unsaid_at}
 use Rattle.law_epochs.proofs.Scenes.{OneMore, ends_of, one_more}
-use Rattle.law_moves.proofs.Scenes.{FillsSo}
+use Rattle.law_moves.proofs.Scenes.{FillsSo, kept_along}
 
 module _ (it : OneMore) (all : AllKnown it.prior.script it.prior.records) where
   open it use {prior.{script, sound, records as front}, legal}
@@ -172,18 +172,9 @@ all_next script sound front own legal all past later e = elim (split_last front 
   | inr part ↦ all past part.0 part.1
 ]
 
-all_after : (script : Script) → IsSound script → (done later : List Record) → IsLegal script (done ++ later) → AllKnown script done
-    → AllKnown script (done ++ later)
-all_after script sound done [] legal all = subst (AllKnown script) (sym (append-nil done)) all
-all_after script sound done (own ∷ later) legal all =
-    let e = append_assoc done (own ∷ []) later in
-    let whole : IsLegal script ((done ++ own ∷ []) ++ later) = subst (IsLegal script) (sym e) legal in
-    subst (AllKnown script) e
-    (all_after script sound (done ++ own ∷ []) later whole
-    (all_next script sound done own (before_part script (done ++ own ∷ []) later whole) all))
-
 pub all_known : (script : Script) → IsSound script → (records : List Record) → IsLegal script records → AllKnown script records
-all_known script sound records legal = all_after script sound [] records legal (start_all script)
+all_known script sound records legal =
+    kept_along script (AllKnown script) (λ front own part. all_next script sound front own part) [] records legal (start_all script)
 
 pub known_after : (script : Script) → IsSound script → (records : List Record) → IsLegal script records → Known script records
 known_after script sound records legal = all_known script sound records legal records [] (sym (append-nil records))

@@ -21,6 +21,7 @@ use Rattle.law_copies.specs.Visits.{WasThere, is_at}
 use Rattle.law_copies.proofs.Histories.{start_good, step_goes}
 use Rattle.law_copies.proofs.Visited.{at_by}
 use Rattle.law_epochs.proofs.Scenes.{OneMore, ends_of, one_more}
+use Rattle.law_moves.proofs.Scenes.{kept_along}
 
 abbrev GoodAt : Script → List Record → Type 0
 GoodAt script records =
@@ -63,18 +64,10 @@ module _ (it : OneMore) (old : IsSeen it.prior.script it.prior.records) where
 
 -- ### Legal histories
 
-seen_from : (script : Script) → IsSound script → (done later : List Record) → IsLegal script (done ++ later) → IsSeen script done
-    → IsSeen script (done ++ later)
-seen_from script sound done [] legal old = subst (IsSeen script) (sym (append-nil done)) old
-seen_from script sound done (own ∷ later) legal old =
-    let e = append_assoc done (own ∷ []) later in
-    let whole : IsLegal script ((done ++ own ∷ []) ++ later) = subst (IsLegal script) (sym e) legal in
-    subst (IsSeen script) e
-    (seen_from script sound (done ++ own ∷ []) later whole (next (one_more script sound done own (before_part script (done ++ own ∷ []) later whole)) old))
-
 pub seen_after : (script : Script) → IsSound script → (records : List Record) → IsLegal script records → IsSeen script records
 seen_after script sound records legal =
-    seen_from script sound [] records legal (record { good = start_good (setting_of script); seen_all = start_seen script })
+    kept_along script (IsSeen script) (λ front own part. next (one_more script sound front own part)) [] records legal
+    (record { good = start_good (setting_of script); seen_all = start_seen script })
 
 -- ### What a server was at a place
 
