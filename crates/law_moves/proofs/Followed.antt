@@ -67,7 +67,7 @@ begun_by first second far_at (Some now) op copies e put =
 
 module _ (it : OneMore) (all : AllKnown it.prior.script it.prior.records) where
   open it use {prior.{script, sound, records as front}, own, legal}
-  open ends_of it use {setting, w, records, v, top, whole, By, present}
+  open ends_of it use {setting, records, v, top, whole, By, present}
 
   abbrev far_of_last : Own → Cell → ℕ
   far_of_last o q = progress (at cell_cmp o.pairs.last q)

@@ -49,7 +49,7 @@ use Rattle.law_moves.proofs.Scenes.{TwoLeads}
 
 module _ (it : OneMore) (all : AllKnown it.prior.script it.prior.records) where
   open it use {prior, prior.{script, records as front}}
-  open ends_of it use {setting, w, records, v, top, whole, By, present}
+  open ends_of it use {setting, w, v, top, whole, By, present}
 
   known : Known script front
   known = before it all

@@ -1,8 +1,7 @@
 -- After each legal history two copies are kept so that what a server was at each place is told: where it was at a place, it is one of the visits there,
 -- with the operations that it had.
-use Rattle.std.proofs.Common.{◌≡◌, ◌⊎◌, ◌++◌, ℕ, true, if◌then◌else◌, List, [], ◌∷◌, Some, refl, sym, ap, ◌∙◌, subst, inl, inr, arith, append_assoc}
+use Rattle.std.proofs.Common.{◌≡◌, ◌⊎◌, ◌++◌, ℕ, true, if◌then◌else◌, List, [], ◌∷◌, Some, refl, sym, ap, ◌∙◌, subst, inl, inr, arith}
 use Rattle.std.specs.Prelude.{is_some}
-use Rattle.std.proofs.lemmas.List.{append-nil}
 use Rattle.petal_base.specs.declared.cell.Cell.{Cell}
 use Rattle.script_lines.specs.declared.script.Script.{Script}
 use Rattle.petal_state.specs.State.{start as first_state}
@@ -15,7 +14,7 @@ use Rattle.petal_rules.proofs.Tests.{by_bool, none_some, some_or_none, true_fals
 use Rattle.law_state.proofs.Entries.{start_plain}
 use Rattle.law_state.proofs.Rows.{past_link}
 use Rattle.law_steps.proofs.Records.{none_before_none, split_last}
-use Rattle.law_stores.proofs.Ways.{At, before_part}
+use Rattle.law_stores.proofs.Ways.{At}
 use Rattle.law_copies.specs.Good.{Good}
 use Rattle.law_copies.specs.Visits.{WasThere, is_at}
 use Rattle.law_copies.proofs.Histories.{start_good, step_goes}

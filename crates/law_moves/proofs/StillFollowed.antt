@@ -56,7 +56,7 @@ replicate_key e = cc
 
 module _ (it : OneMore) (all : AllKnown it.prior.script it.prior.records) where
   open it use {prior, prior.{script, sound, records as front}}
-  open ends_of it use {setting, w, records, v, top, whole, By, top_whole, plain, present}
+  open ends_of it use {setting, w, v, top, whole, By, top_whole, plain, present}
 
   known : Known script front
   known = before it all
@@ -143,7 +143,7 @@ module _ (it : OneMore) (all : AllKnown it.prior.script it.prior.records) where
 
   module _ (s : IsSecondAt setting v) (a : AsksToPut s.f s.cell) where
     open s use {m, f, cell, row, runs, on, lies, seat, linked, both, second, low}
-    open a use {letter, number, key, version, bytes, is, of, rev}
+    open a use {letter, number, key, version, bytes, is, of}
 
     abbrev IsPast : Type 0
     IsPast = (place_by setting (v.servers m).log.applied row ≡ place_by setting f row)

@@ -56,7 +56,7 @@ use Rattle.law_moves.proofs.Scenes.{FillAtPlace, LeadsAt}
 
 module _ (it : OneMore) (all : AllKnown it.prior.script it.prior.records) where
   open it use {prior, prior.{script, sound, records as front}}
-  open ends_of it use {setting, w, records, v, top, whole, By, top_whole, plain}
+  open ends_of it use {setting, w, v, top, whole, By, top_whole, plain}
 
   known : Known script front
   known = before it all

@@ -38,7 +38,7 @@ use Rattle.law_moves.proofs.Scenes.{FillAtPlace}
 
 module _ (it : OneMore) (all : AllKnown it.prior.script it.prior.records) where
   open it use {prior.{script, records as front}, own}
-  open ends_of it use {setting, w, records, v, top, whole, top_whole}
+  open ends_of it use {setting, w, records, v, whole}
 
   known : Known script front
   known = before it all
@@ -81,7 +81,7 @@ module _ (it : OneMore) (all : AllKnown it.prior.script it.prior.records) where
   -- ### A server that was at the link's place, with a fill pending
 
   module _ (a : FillAtPlace setting whole) where
-    open a use {n, place, cell, pairs, op, row, is, fills, linked, spot}
+    open a use {n, place, cell, pairs, op, is, fills}
 
     unsaid_was : WasThere setting front n place cell pairs → WasFilled w op.key → ⊥
     unsaid_was = unsaid_there it all a
