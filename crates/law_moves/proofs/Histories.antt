@@ -30,7 +30,7 @@ use Rattle.law_moves.specs.Fills.{AreFilled, IsFrozen, IsThere, WasFilled}
 use Rattle.law_moves.specs.Still.{AreStill}
 use Rattle.law_moves.proofs.Followed.{followed_next}
 use Rattle.law_moves.proofs.Kept.{before}
-use Rattle.law_moves.proofs.Knows.{AllKnown, Known, Knows}
+use Rattle.law_moves.proofs.Knows.{AllKnown, Known, Knows, WereKnown}
 use Rattle.law_moves.proofs.Newer.{newest_next}
 use Rattle.law_moves.proofs.Newest.{stored_newest}
 use Rattle.law_moves.proofs.Newness.{AllNewest, start_newest}
@@ -45,7 +45,7 @@ use Rattle.law_moves.proofs.Visits.{unsaid_at}
 use Rattle.law_epochs.proofs.Scenes.{OneMore, ends_of, one_more}
 use Rattle.law_moves.proofs.Scenes.{FillsSo, kept_along}
 
-module _ (it : OneMore) (all : AllKnown it.prior.script it.prior.records) where
+module _ (it : OneMore) (all : WereKnown it) where
   open it use {prior.{script, sound, records as front}, legal}
   open ends_of it use {setting, v, records, present}
 
