@@ -55,7 +55,7 @@ pub record HadWrite (setting : Setting) (records : List Record) : Type 0 where
 module _ (it : History) (had : HadWrite (end_of it).setting it.records) where
   open it use {script, sound, records, legal}
   open end_of it use {setting, chosen}
-  open had use {n, place, cell, pairs, op, was, is, clients}
+  open had use {n, place, cell, op, was, is, clients}
 
   abbrev servers : ℕ
   servers = script.servers

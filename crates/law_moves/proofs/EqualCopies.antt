@@ -33,7 +33,7 @@ use Rattle.law_copies.proofs.Places.{at_most_or_above}
 use Rattle.law_epochs.proofs.Histories.{place_timely}
 use Rattle.law_moves.specs.Fills.{Has, IsFrozen}
 use Rattle.law_moves.proofs.Frozen.{frozen_stays}
-use Rattle.law_moves.proofs.Knows.{AllKnown}
+use Rattle.law_moves.proofs.Knows.{WereKnown}
 use Rattle.law_moves.proofs.Leads.{half_store}
 use Rattle.law_moves.proofs.Moved.{filled_stays, moved_all}
 use Rattle.law_moves.proofs.Opened.{opened_within}
@@ -58,7 +58,7 @@ frozen_on script sound past later legal rev key bytes f = record {
   newer = λ epoch lt has. filled_stays script past later sound legal _ (f.newer epoch lt has);
 }
 
-module _ (it : OneMore) (all : AllKnown it.prior.script it.prior.records) where
+module _ (it : OneMore) (all : WereKnown it) where
   open it use {prior.{script, sound, records as front}, own, legal}
   open ends_of it use {setting, records, v, whole, By, present}
 

@@ -36,7 +36,7 @@ use Rattle.law_copies.proofs.Visited.{at_by}
 use Rattle.law_copies.proofs.Places.{at_most_or_above}
 use Rattle.law_epochs.proofs.Histories.{second_timely}
 use Rattle.law_moves.specs.Fills.{Has}
-use Rattle.law_moves.proofs.Knows.{AllKnown, HaveFollowed}
+use Rattle.law_moves.proofs.Knows.{HaveFollowed, WereKnown}
 use Rattle.law_moves.proofs.Opened.{opened_mine}
 use Rattle.law_moves.proofs.EqualCopies.{asked_then, moved_now}
 use Rattle.law_moves.proofs.Still.{not_jumped}
@@ -65,9 +65,9 @@ begun_by first second far_at (Some now) op copies e put =
     by false off even = true_false off refl
     by true on ahead = ahead.begun
 
-module _ (it : OneMore) (all : AllKnown it.prior.script it.prior.records) where
+module _ (it : OneMore) (all : WereKnown it) where
   open it use {prior.{script, sound, records as front}, own, legal}
-  open ends_of it use {setting, w, records, v, top, whole, By, present}
+  open ends_of it use {setting, records, v, top, whole, By, present}
 
   abbrev far_of_last : Own → Cell → ℕ
   far_of_last o q = progress (at cell_cmp o.pairs.last q)

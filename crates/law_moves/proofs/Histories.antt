@@ -1,5 +1,5 @@
 -- All that is kept of moves is so after each legal history: by each step, where it was so after each front of the records.
-use Rattle.std.proofs.Common.{◌≡◌, ◌≤◌, ◌++◌, ℕ, List, [], ◌∷◌, false, Some, refl, sym, ap, ◌∙◌, subst, inl, inr, arith, append_assoc}
+use Rattle.std.proofs.Common.{◌≡◌, ◌≤◌, ◌++◌, ℕ, List, [], ◌∷◌, false, Some, refl, sym, ap, ◌∙◌, subst, inl, inr, arith}
 use Rattle.std.specs.Prelude.{fold, map, max}
 use Rattle.std.specs.List.{flat_map, range_with_len}
 use Rattle.std.proofs.lemmas.List.{append-nil}
@@ -26,12 +26,11 @@ use Rattle.petal_rules.specs.Writes.{is_clients}
 use Rattle.petal_rules.proofs.Tests.{none_some}
 use Rattle.law_state.specs.Homes.{stage_at}
 use Rattle.law_steps.proofs.Records.{none_before_none, split_last}
-use Rattle.law_stores.proofs.Ways.{before_part}
 use Rattle.law_moves.specs.Fills.{AreFilled, IsFrozen, IsThere, WasFilled}
 use Rattle.law_moves.specs.Still.{AreStill}
 use Rattle.law_moves.proofs.Followed.{followed_next}
 use Rattle.law_moves.proofs.Kept.{before}
-use Rattle.law_moves.proofs.Knows.{AllKnown, Known, Knows}
+use Rattle.law_moves.proofs.Knows.{AllKnown, Known, Knows, WereKnown}
 use Rattle.law_moves.proofs.Newer.{newest_next}
 use Rattle.law_moves.proofs.Newest.{stored_newest}
 use Rattle.law_moves.proofs.Newness.{AllNewest, start_newest}
@@ -44,9 +43,9 @@ use Rattle.law_moves.proofs.Then.{frozen_early}
 use Rattle.law_moves.proofs.There.{born_next, filled_next}
 use Rattle.law_moves.proofs.Visits.{unsaid_at}
 use Rattle.law_epochs.proofs.Scenes.{OneMore, ends_of, one_more}
-use Rattle.law_moves.proofs.Scenes.{FillsSo}
+use Rattle.law_moves.proofs.Scenes.{FillsSo, kept_along}
 
-module _ (it : OneMore) (all : AllKnown it.prior.script it.prior.records) where
+module _ (it : OneMore) (all : WereKnown it) where
   open it use {prior.{script, sound, records as front}, legal}
   open ends_of it use {setting, v, records, present}
 
@@ -172,18 +171,9 @@ all_next script sound front own legal all past later e = elim (split_last front 
   | inr part ↦ all past part.0 part.1
 ]
 
-all_after : (script : Script) → IsSound script → (done later : List Record) → IsLegal script (done ++ later) → AllKnown script done
-    → AllKnown script (done ++ later)
-all_after script sound done [] legal all = subst (AllKnown script) (sym (append-nil done)) all
-all_after script sound done (own ∷ later) legal all =
-    let e = append_assoc done (own ∷ []) later in
-    let whole : IsLegal script ((done ++ own ∷ []) ++ later) = subst (IsLegal script) (sym e) legal in
-    subst (AllKnown script) e
-    (all_after script sound (done ++ own ∷ []) later whole
-    (all_next script sound done own (before_part script (done ++ own ∷ []) later whole) all))
-
 pub all_known : (script : Script) → IsSound script → (records : List Record) → IsLegal script records → AllKnown script records
-all_known script sound records legal = all_after script sound [] records legal (start_all script)
+all_known script sound records legal =
+    kept_along script (AllKnown script) (λ front own part. all_next script sound front own part) [] records legal (start_all script)
 
 pub known_after : (script : Script) → IsSound script → (records : List Record) → IsLegal script records → Known script records
 known_after script sound records legal = all_known script sound records legal records [] (sym (append-nil records))

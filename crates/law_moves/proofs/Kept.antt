@@ -33,7 +33,7 @@ use Rattle.law_stores.proofs.Jobs.{ballot_store}
 use Rattle.law_epochs.proofs.Histories.{running_timely}
 use Rattle.law_moves.specs.Fills.{Has}
 use Rattle.law_moves.proofs.Changes.{Asked_put, IsPutOn, Own_put, Same, chain_so}
-use Rattle.law_moves.proofs.Knows.{AllKnown, Known}
+use Rattle.law_moves.proofs.Knows.{Known, WereKnown}
 use Rattle.law_moves.proofs.Steps.{Awakes, Enters, Goes_on, HasGone, HasStore, Is_bare, Is_blanked, Raises, Rests}
 use Rattle.law_moves.proofs.Steps.{Starts_ballot, Works, is_off, knows, stored}
 use Rattle.law_moves.proofs.Worlds.{steady_at, up}
@@ -57,7 +57,7 @@ kept_map P joins (Some b) s t was step = by_bool (b.joins == joins)
     (λ yes. subst P (ap (λ x. if x then b.store else t) (sym yes)) (subst P (ap (λ x. if x then b.store else s) yes) was))
     (λ no. subst P (ap (λ x. if x then b.store else t) (sym no)) (step (subst P (ap (λ x. if x then b.store else s) no) was)))
 
-module _ (it : OneMore) (all : AllKnown it.prior.script it.prior.records) where
+module _ (it : OneMore) (all : WereKnown it) where
   open it use {prior, prior.{script, sound, records as front}}
   open ends_of it use {setting, w, v, top}
 

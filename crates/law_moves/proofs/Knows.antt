@@ -23,6 +23,7 @@ use Rattle.law_copies.specs.Visits.{WasThere, place_by}
 use Rattle.law_moves.specs.Fills.{AreFilled, Has, WasFilled}
 use Rattle.law_moves.specs.Still.{AreStill}
 use Rattle.law_moves.proofs.Newness.{AllNewest}
+use Rattle.law_epochs.proofs.Scenes.{OneMore}
 use Rattle.law_moves.proofs.Scenes.{AsksToPut, FillAtPlace, IsSecondAt}
 
 -- what is frozen is of no epoch above that of the cell's disk
@@ -83,3 +84,10 @@ Known script records = Knows (setting_of script) records (At script records)
 
 abbrev pub AllKnown : Script → List Record → Type 0
 AllKnown script records = (before later : List Record) → records ≡ before ++ later → Known script before
+
+-- before the last record of a history
+abbrev pub WasKnown : OneMore → Type 0
+WasKnown it = Known it.prior.script it.prior.records
+
+abbrev pub WereKnown : OneMore → Type 0
+WereKnown it = AllKnown it.prior.script it.prior.records

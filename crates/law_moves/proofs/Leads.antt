@@ -114,7 +114,7 @@ module _ (one other : Option Own) (a b : Store) (cell : Cell) (ok : PairOk (pair
 module _ (it : History) (cell : Cell) (k : ℕ) (lead : LeadsAt (end_of it).setting (end_of it).w cell k) where
   open it use {records}
   open end_of it use {setting, w, chosen}
-  open lead use {runs, seat, low, leads}
+  open lead use {runs, seat, leads}
 
   abbrev own : Own
   own = (w.servers k).own

@@ -41,7 +41,7 @@ use Rattle.law_epochs.proofs.Reports.{resting}
 use Rattle.law_epochs.proofs.Sends.{IsMoverOwn, did_said, mover_store}
 use Rattle.law_epochs.proofs.Within.{AreWithin, IsWithin, OfKey, none_within, of_key_on, of_no_key}
 use Rattle.law_moves.proofs.Frozen.{frozen_same}
-use Rattle.law_moves.proofs.Knows.{Known}
+use Rattle.law_moves.proofs.Knows.{WasKnown}
 use Rattle.law_moves.proofs.Newest.{at_coming, frozen_newest, has_left}
 use Rattle.law_moves.proofs.Newness.{AllNewest, IsNewest}
 use Rattle.law_moves.proofs.Over.{facts, plain}
@@ -52,7 +52,7 @@ use Rattle.law_moves.proofs.Then.{frozen_then}
 use Rattle.law_moves.proofs.Told.{HasTold, lift, told_before, told_now}
 use Rattle.law_epochs.proofs.Scenes.{OneMore, ends_of}
 
-module _ (it : OneMore) (known : Known it.prior.script it.prior.records) (old : AllNewest (ends_of it).setting (ends_of it).w) where
+module _ (it : OneMore) (known : WasKnown it) (old : AllNewest (ends_of it).setting (ends_of it).w) where
   open it use {prior, prior.{script, sound, records as front}, legal}
   open ends_of it use {setting, w, records, v, By, present}
 

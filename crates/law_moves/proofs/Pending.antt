@@ -34,7 +34,7 @@ use Rattle.law_copies.proofs.Places.{at_most_or_above}
 use Rattle.law_moves.specs.Fills.{Has, IsFrozen, WasFilled}
 use Rattle.law_moves.proofs.Changes.{never_dead}
 use Rattle.law_moves.proofs.Kept.{before}
-use Rattle.law_moves.proofs.Knows.{AllKnown, Known}
+use Rattle.law_moves.proofs.Knows.{Known, WereKnown}
 use Rattle.law_moves.proofs.Leads.{other_idle, other_lacks}
 use Rattle.law_moves.proofs.Putting.{Is_new, It_was, did_was}
 use Rattle.law_moves.proofs.Saying.{Asks_copy, Is_done, Is_done_alone, Is_neither, Is_there, Says, did_says, is_filled}
@@ -47,9 +47,9 @@ use Rattle.law_moves.proofs.Worlds.{facts_at, firm, good, own_counts, rests, ste
 use Rattle.law_epochs.proofs.Scenes.{OneMore, ends_of}
 use Rattle.law_moves.proofs.Scenes.{TwoLeads}
 
-module _ (it : OneMore) (all : AllKnown it.prior.script it.prior.records) where
+module _ (it : OneMore) (all : WereKnown it) where
   open it use {prior, prior.{script, records as front}}
-  open ends_of it use {setting, w, records, v, top, whole, By, present}
+  open ends_of it use {setting, w, v, top, whole, By, present}
 
   known : Known script front
   known = before it all

@@ -22,7 +22,7 @@ use Rattle.law_steps.specs.DidLead.{DidLead, Asks_for, Repeats, Is_full, Opens, 
 use Rattle.law_steps.specs.DidLead.{Unmarks_alone, Closes_alone, Opens_fill, Opens_fill_alone, Has_fill, Has_no_room, Goes_on_dead, Taken, told}
 use Rattle.law_steps.specs.DidSecond.{DidSecond, Sets_apart, Promises, Declines, Follows, with_tickets}
 use Rattle.law_steps.proofs.CopyFrames.{of_holder, of_other}
-use Rattle.law_steps.proofs.Restages.{IsSame, same_itself, stood}
+use Rattle.law_steps.proofs.Restages.{IsSame, same_itself, same_on, stood}
 use Rattle.law_steps.proofs.Staged.{same_cell_or_apart}
 use Rattle.law_steps.proofs.Subjects.{of_ending, of_filler, of_lead, of_read, of_second, of_sweep, told_own}
 use Rattle.law_steps.proofs.Taking.{IsTaken, taking}
@@ -39,17 +39,6 @@ pub data WasSo (own new : Own) (q : Cell) (op : Pending) : Type 0 where
 
 told_same : (op : Pending) (reserved paired : Bool) → IsSame op (told op reserved paired)
 told_same op reserved paired = record { number = refl; kind = refl; client = refl; seq = refl; rev = refl; key = refl; bytes = refl }
-
-same_then : (a b c : Pending) → IsSame a b → IsSame b c → IsSame a c
-same_then a b c one two = record {
-  number = one.number ∙ two.number;
-  kind = one.kind ∙ two.kind;
-  client = one.client ∙ two.client;
-  seq = one.seq ∙ two.seq;
-  rev = one.rev ∙ two.rev;
-  key = one.key ∙ two.key;
-  bytes = one.bytes ∙ two.bytes;
-}
 
 module _ (heard : Body → Type 0) (here : Here) (own : Own) (never : NeverDead here own)
     (keyed : (cell : Cell) (op : Pending) → at cell_cmp own.pairs.pending cell ≡ Some op → cell_of op.key ≡ cell) where
@@ -149,7 +138,7 @@ module _ (heard : Body → Type 0) (here : Here) (own : Own) (never : NeverDead 
   lead_was _ (Marks_alone now o taken alone fresh) q op there =
       where_put now.pairs.pending o.cell (with_mark_at o Stale true) q op there
       (λ e same. goes_to _ q (taking own now o taken).old _ op (at_cell q o.cell _ e (taking own now o taken).was)
-      (same_then _ _ _ (same_old now o taken) (record { number = refl; kind = refl; client = refl; seq = refl; rev = refl; key = refl; bytes = refl }))
+      (same_on _ _ _ (same_old now o taken) (record { number = refl; kind = refl; client = refl; seq = refl; rev = refl; key = refl; bytes = refl }))
       (put_old now o taken) same)
       (λ ne is. stands _ q op (beside_old now o taken q op ne is))
   lead_was _ (Puts_alone now o taken alone stale fresh) q op there =
@@ -158,13 +147,13 @@ module _ (heard : Body → Type 0) (here : Here) (own : Own) (never : NeverDead 
       ap (λ (p : Pending). cell_of p.key) (taking own now o taken).is ∙ keyed o.cell (taking own now o taken).old (taking own now o taken).was in
       where_put now.pairs.pending o.cell (record o { version = entry.version; stage = record o.stage { put = true } }) q op there
       (λ e same. is_put _ q (taking own now o taken).old _ op (at_cell q o.cell _ e (taking own now o taken).was)
-      (same_then _ _ _ (same_old now o taken) (record { number = refl; kind = refl; client = refl; seq = refl; rev = refl; key = refl; bytes = refl }))
+      (same_on _ _ _ (same_old now o taken) (record { number = refl; kind = refl; client = refl; seq = refl; rev = refl; key = refl; bytes = refl }))
       (entry_there now.store o entry q (key_of ∙ sym e)) same)
       (λ ne is. stands _ q op (beside_old now o taken q op ne is))
   lead_was _ (Unmarks_alone now o taken alone stale has_put busy) q op there =
       where_put now.pairs.pending o.cell (with_mark_at o Busy false) q op there
       (λ e same. goes_to _ q (taking own now o taken).old _ op (at_cell q o.cell _ e (taking own now o taken).was)
-      (same_then _ _ _ (same_old now o taken) (record { number = refl; kind = refl; client = refl; seq = refl; rev = refl; key = refl; bytes = refl }))
+      (same_on _ _ _ (same_old now o taken) (record { number = refl; kind = refl; client = refl; seq = refl; rev = refl; key = refl; bytes = refl }))
       (put_old now o taken) same)
       (λ ne is. stands _ q op (beside_old now o taken q op ne is))
   lead_was _ (Closes_alone now o taken alone stale has_put free) q op there =

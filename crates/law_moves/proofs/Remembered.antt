@@ -25,7 +25,7 @@ use Rattle.law_steps.specs.Happens.{Handled, own_place}
 use Rattle.law_steps.proofs.Fronts.{front_more, front_on}
 use Rattle.law_steps.proofs.Remembering.{As_before, Told_of, did_remember}
 use Rattle.law_moves.specs.Fills.{AllFilled, IsOnWay, IsToldOf}
-use Rattle.law_moves.proofs.Knows.{HasBegun, HaveBegun, Known}
+use Rattle.law_moves.proofs.Knows.{HasBegun, HaveBegun, WasKnown}
 use Rattle.law_moves.proofs.Steps.{Awakes, Enters, HasGone, IsJob, Is_blanked, Raises, Rests}
 use Rattle.law_moves.proofs.Steps.{Starts_ballot, Works, gone}
 use Rattle.law_moves.proofs.Told.{HasTold, begun_here, told_before, told_now}
@@ -50,7 +50,7 @@ was_at t test id key is =
     by_bool (test id) (λ on. sym (e ∙ ap (λ b. cond b (at link_cmp t id) None) on) ∙ is)
     (λ off. none_some (e ∙ ap (λ b. cond b (at link_cmp t id) None) off) is)
 
-module _ (it : OneMore) (known : Known it.prior.script it.prior.records) where
+module _ (it : OneMore) (known : WasKnown it) where
   open it use {prior.{script, records as front}}
   open ends_of it use {setting, w, v}
 

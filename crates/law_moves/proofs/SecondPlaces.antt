@@ -50,7 +50,7 @@ module _ (it : OneMore) where
 
   -- a second server that runs, by a front by which it is In
   module _ (s : IsSecondAt setting v) (three : stage_at (By whole) s.cell ≡ 3) where
-    open s use {m, f, cell, row, runs, on, lies, seat, linked, both, second, low}
+    open s use {m, f, cell, row, runs, on, lies, seat, linked, both, second}
 
     abbrev mine_now : List Command
     mine_now = (v.servers m).log.applied

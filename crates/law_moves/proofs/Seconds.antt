@@ -64,7 +64,7 @@ record IsToFill (setting : Setting) (records : List Record) (w : World) : Type 0
 module _ (it : History) (s : IsToFill (end_of it).setting it.records (end_of it).w) where
   open it use {script, sound, records, legal}
   open end_of it use {setting, w, chosen, By}
-  open s use {n, m, cell, pairs, op, row, runs, seat, linked, both, first, second, there, is, fills, behind, alive}
+  open s use {n, m, cell, pairs, op, row, runs, seat, linked, both, first, second, there, is, fills, alive}
 
   abbrev mine : List Command
   mine = (w.servers m).log.applied

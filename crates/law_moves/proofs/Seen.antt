@@ -1,8 +1,7 @@
 -- After each legal history two copies are kept so that what a server was at each place is told: where it was at a place, it is one of the visits there,
 -- with the operations that it had.
-use Rattle.std.proofs.Common.{◌≡◌, ◌⊎◌, ◌++◌, ℕ, true, if◌then◌else◌, List, [], ◌∷◌, Some, refl, sym, ap, ◌∙◌, subst, inl, inr, arith, append_assoc}
+use Rattle.std.proofs.Common.{◌≡◌, ◌⊎◌, ◌++◌, ℕ, true, if◌then◌else◌, List, [], ◌∷◌, Some, refl, sym, ap, ◌∙◌, subst, inl, inr, arith}
 use Rattle.std.specs.Prelude.{is_some}
-use Rattle.std.proofs.lemmas.List.{append-nil}
 use Rattle.petal_base.specs.declared.cell.Cell.{Cell}
 use Rattle.script_lines.specs.declared.script.Script.{Script}
 use Rattle.petal_state.specs.State.{start as first_state}
@@ -15,12 +14,13 @@ use Rattle.petal_rules.proofs.Tests.{by_bool, none_some, some_or_none, true_fals
 use Rattle.law_state.proofs.Entries.{start_plain}
 use Rattle.law_state.proofs.Rows.{past_link}
 use Rattle.law_steps.proofs.Records.{none_before_none, split_last}
-use Rattle.law_stores.proofs.Ways.{At, before_part}
+use Rattle.law_stores.proofs.Ways.{At}
 use Rattle.law_copies.specs.Good.{Good}
 use Rattle.law_copies.specs.Visits.{WasThere, is_at}
 use Rattle.law_copies.proofs.Histories.{start_good, step_goes}
 use Rattle.law_copies.proofs.Visited.{at_by}
 use Rattle.law_epochs.proofs.Scenes.{OneMore, ends_of, one_more}
+use Rattle.law_moves.proofs.Scenes.{kept_along}
 
 abbrev GoodAt : Script → List Record → Type 0
 GoodAt script records =
@@ -63,18 +63,10 @@ module _ (it : OneMore) (old : IsSeen it.prior.script it.prior.records) where
 
 -- ### Legal histories
 
-seen_from : (script : Script) → IsSound script → (done later : List Record) → IsLegal script (done ++ later) → IsSeen script done
-    → IsSeen script (done ++ later)
-seen_from script sound done [] legal old = subst (IsSeen script) (sym (append-nil done)) old
-seen_from script sound done (own ∷ later) legal old =
-    let e = append_assoc done (own ∷ []) later in
-    let whole : IsLegal script ((done ++ own ∷ []) ++ later) = subst (IsLegal script) (sym e) legal in
-    subst (IsSeen script) e
-    (seen_from script sound (done ++ own ∷ []) later whole (next (one_more script sound done own (before_part script (done ++ own ∷ []) later whole)) old))
-
 pub seen_after : (script : Script) → IsSound script → (records : List Record) → IsLegal script records → IsSeen script records
 seen_after script sound records legal =
-    seen_from script sound [] records legal (record { good = start_good (setting_of script); seen_all = start_seen script })
+    kept_along script (IsSeen script) (λ front own part. next (one_more script sound front own part)) [] records legal
+    (record { good = start_good (setting_of script); seen_all = start_seen script })
 
 -- ### What a server was at a place
 

@@ -31,7 +31,7 @@ use Rattle.law_moves.specs.Still.{AreStill}
 use Rattle.law_moves.proofs.Frozen.{frozen_at, frozen_same, none_early}
 use Rattle.law_moves.proofs.Grown.{It_came, It_did, same_joins, served_before}
 use Rattle.law_moves.proofs.Kept.{before, kept_same, same_on}
-use Rattle.law_moves.proofs.Knows.{AllKnown, Known}
+use Rattle.law_moves.proofs.Knows.{Known, WereKnown}
 use Rattle.law_moves.proofs.Over.{dead_moved}
 use Rattle.law_moves.proofs.Steps.{Goes_on, HasStore, Is_bare, here, stored}
 use Rattle.law_moves.proofs.Worlds.{facts_at, own_counts, serving_on, steady_at, up}
@@ -39,7 +39,7 @@ use Rattle.law_moves.proofs.EqualCopies.{equal_now}
 use Rattle.law_epochs.proofs.Scenes.{OneMore, ends_of}
 use Rattle.law_moves.proofs.Scenes.{FillsSo}
 
-module _ (it : OneMore) (all : AllKnown it.prior.script it.prior.records) where
+module _ (it : OneMore) (all : WereKnown it) where
   open it use {prior, prior.{script, sound, records as front}, own, legal}
   open ends_of it use {setting, w, records, v, top, whole, By, top_whole, present}
 

@@ -42,7 +42,7 @@ use Rattle.law_epochs.proofs.Histories.{running_timely}
 use Rattle.law_epochs.proofs.Within.{is_of_entries}
 use Rattle.law_moves.proofs.Changes.{never_dead}
 use Rattle.law_moves.proofs.Kept.{before}
-use Rattle.law_moves.proofs.Knows.{AllKnown, Known}
+use Rattle.law_moves.proofs.Knows.{Known, WereKnown}
 use Rattle.law_moves.proofs.Putting.{did_follow}
 use Rattle.law_moves.proofs.Saying.{Asks_copy, Is_done, Is_done_alone, Is_neither, Is_there, Says, did_says, is_replicate}
 use Rattle.law_moves.proofs.Steps.{Awakes, Before, Enters, HasGone, IsPosted, Is_blanked, Other, Posted, Raises, Rests, Starts_ballot}
@@ -54,9 +54,9 @@ use Rattle.law_moves.proofs.Scenes.{AsksToPut, IsSecondAt}
 replicate_key : {number other v1 v2 : ℕ} {key one : Key} {b1 b2 : List ℕ} → body.Replicate number key v1 b1 ≡ body.Replicate other one v2 b2 → key ≡ one
 replicate_key e = cc
 
-module _ (it : OneMore) (all : AllKnown it.prior.script it.prior.records) where
+module _ (it : OneMore) (all : WereKnown it) where
   open it use {prior, prior.{script, sound, records as front}}
-  open ends_of it use {setting, w, records, v, top, whole, By, top_whole, plain, present}
+  open ends_of it use {setting, w, v, top, whole, By, top_whole, plain, present}
 
   known : Known script front
   known = before it all
@@ -143,7 +143,7 @@ module _ (it : OneMore) (all : AllKnown it.prior.script it.prior.records) where
 
   module _ (s : IsSecondAt setting v) (a : AsksToPut s.f s.cell) where
     open s use {m, f, cell, row, runs, on, lies, seat, linked, both, second, low}
-    open a use {letter, number, key, version, bytes, is, of, rev}
+    open a use {letter, number, key, version, bytes, is, of}
 
     abbrev IsPast : Type 0
     IsPast = (place_by setting (v.servers m).log.applied row ≡ place_by setting f row)

@@ -40,7 +40,7 @@ use Rattle.law_epochs.proofs.Within.{is_of_entries}
 use Rattle.law_moves.specs.Fills.{Has, IsFrozen, WasFilled}
 use Rattle.law_moves.specs.Left.{IsKept, IsOurs}
 use Rattle.law_moves.proofs.Frozen.{frozen_stays}
-use Rattle.law_moves.proofs.Knows.{Known}
+use Rattle.law_moves.proofs.Knows.{WasKnown}
 use Rattle.law_moves.proofs.Movers.{had, three, way}
 use Rattle.law_moves.proofs.NextFill.{next_is}
 use Rattle.law_moves.proofs.Steps.{Awakes, Before, Enters, HasGone, IsJob, IsPosted, Is_blanked, Other, Posted, Raises, Rests}
@@ -61,7 +61,7 @@ abbrev bytes_said : List ℕ → Body → List ℕ
 bytes_said other (body.Fill key bytes) = bytes
 bytes_said other _ = other
 
-module _ (it : OneMore) (known : Known it.prior.script it.prior.records) where
+module _ (it : OneMore) (known : WasKnown it) where
   open it use {prior, prior.{script, sound, records as front}, legal}
   open ends_of it use {setting, w, v}
 

@@ -34,7 +34,7 @@ use Rattle.law_moves.specs.Fills.{Has, IsFrozen, IsThere, WasFilled}
 use Rattle.law_moves.proofs.Changes.{never_dead}
 use Rattle.law_moves.proofs.Grown.{It_came, It_did, same_joins, served_before}
 use Rattle.law_moves.proofs.Kept.{before, has_on, kept_has}
-use Rattle.law_moves.proofs.Knows.{AllKnown, Known}
+use Rattle.law_moves.proofs.Knows.{Known, WereKnown}
 use Rattle.law_moves.proofs.Leads.{Followed, Holds, IsIdle, Nothing, spread}
 use Rattle.law_moves.proofs.Over.{AllMoved, over_told}
 use Rattle.law_moves.proofs.Saying.{Asks_copy, Is_done, Is_done_alone, Is_neither, Is_there, Says, did_says, is_filled}
@@ -56,7 +56,7 @@ filled_key e = cc
 fill_not_client : (op : Pending) → op.kind ≡ kind.Fill → is_clients op.kind ≡ false
 fill_not_client op e = ap is_clients e
 
-module _ (it : OneMore) (all : AllKnown it.prior.script it.prior.records) where
+module _ (it : OneMore) (all : WereKnown it) where
   open it use {prior, prior.{script, sound, records as front}, legal}
   open ends_of it use {setting, w, records, v, top, whole, By, top_whole, present}
 

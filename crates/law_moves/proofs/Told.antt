@@ -41,7 +41,7 @@ use Rattle.law_steps.proofs.Resting.{row_named}
 use Rattle.law_moves.specs.Fills.{AllFilled, Has, IsOnWay, IsToldOf, WasFilled}
 use Rattle.law_moves.specs.Left.{IsKept, IsOurs}
 use Rattle.law_moves.proofs.Frozen.{frozen_same}
-use Rattle.law_moves.proofs.Knows.{HasBegun, Known}
+use Rattle.law_moves.proofs.Knows.{HasBegun, WasKnown}
 use Rattle.law_moves.proofs.Moved.{filled_stays}
 use Rattle.law_moves.proofs.Movers.{had, known_told, three}
 use Rattle.law_moves.proofs.NextFill.{here_or_before, next_is}
@@ -63,7 +63,7 @@ ids_same one other a b = λ i. record { map = a i; link = b i }
 keys_same : (one other : Key) → one.map ≡ other.map → one.block ≡ other.block → one.epoch ≡ other.epoch → one ≡ other
 keys_same one other a b c = λ i. record { map = a i; block = b i; epoch = c i }
 
-module _ (it : OneMore) (known : Known it.prior.script it.prior.records) (y : ℕ) where
+module _ (it : OneMore) (known : WasKnown it) (y : ℕ) where
   open it use {prior, prior.{script, sound, records as front}, legal}
   open ends_of it use {setting, w, v, By, records, present}
 

@@ -42,7 +42,7 @@ use Rattle.law_copies.proofs.Places.{at_most_or_above, linked_between, one_row, 
 use Rattle.law_copies.proofs.Visited.{IsAt, at_by, is_at_so}
 use Rattle.law_moves.specs.Fills.{Has, IsFrozen, WasFilled}
 use Rattle.law_moves.proofs.Kept.{before}
-use Rattle.law_moves.proofs.Knows.{AllKnown, Known}
+use Rattle.law_moves.proofs.Knows.{Known, WereKnown}
 use Rattle.law_moves.proofs.Leads.{Alone, As_first, Behind, IsBehind, led_as}
 use Rattle.law_moves.proofs.Pending.{by_itself, posted_says}
 use Rattle.law_moves.proofs.Saying.{Asks_copy, Is_done, Is_done_alone, Is_neither, Is_there, Says, is_filled}
@@ -54,9 +54,9 @@ use Rattle.law_moves.proofs.Worlds.{chosen_twins, facts_at, good, own_counts, re
 use Rattle.law_epochs.proofs.Scenes.{History, OneMore, cut, ends_of}
 use Rattle.law_moves.proofs.Scenes.{FillAtPlace, LeadsAt}
 
-module _ (it : OneMore) (all : AllKnown it.prior.script it.prior.records) where
+module _ (it : OneMore) (all : WereKnown it) where
   open it use {prior, prior.{script, sound, records as front}}
-  open ends_of it use {setting, w, records, v, top, whole, By, top_whole, plain}
+  open ends_of it use {setting, w, v, top, whole, By, top_whole, plain}
 
   known : Known script front
   known = before it all

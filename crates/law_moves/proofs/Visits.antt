@@ -26,7 +26,7 @@ use Rattle.law_copies.specs.Visits.{WasThere, is_at}
 use Rattle.law_copies.proofs.Visited.{at_by}
 use Rattle.law_moves.specs.Fills.{WasFilled}
 use Rattle.law_moves.proofs.Kept.{before}
-use Rattle.law_moves.proofs.Knows.{AllKnown, AreUnsaid, Known}
+use Rattle.law_moves.proofs.Knows.{AreUnsaid, Known, WereKnown}
 use Rattle.law_moves.proofs.Pending.{by_itself, new_unsaid, posted_says}
 use Rattle.law_moves.proofs.Seen.{same_rest}
 use Rattle.law_moves.proofs.Steps.{Awakes, Before, Enters, HasGone, IsPosted, Is_blanked, Other, Posted, Raises, Rests, Starts_ballot, Works}
@@ -36,9 +36,9 @@ use Rattle.law_moves.proofs.Unsaid.{unsaid_new, unsaid_there}
 use Rattle.law_epochs.proofs.Scenes.{OneMore, ends_of}
 use Rattle.law_moves.proofs.Scenes.{FillAtPlace}
 
-module _ (it : OneMore) (all : AllKnown it.prior.script it.prior.records) where
+module _ (it : OneMore) (all : WereKnown it) where
   open it use {prior.{script, records as front}, own}
-  open ends_of it use {setting, w, records, v, top, whole, top_whole}
+  open ends_of it use {setting, w, records, v, whole}
 
   known : Known script front
   known = before it all
@@ -81,7 +81,7 @@ module _ (it : OneMore) (all : AllKnown it.prior.script it.prior.records) where
   -- ### A server that was at the link's place, with a fill pending
 
   module _ (a : FillAtPlace setting whole) where
-    open a use {n, place, cell, pairs, op, row, is, fills, linked, spot}
+    open a use {n, place, cell, pairs, op, is, fills}
 
     unsaid_was : WasThere setting front n place cell pairs → WasFilled w op.key → ⊥
     unsaid_was = unsaid_there it all a

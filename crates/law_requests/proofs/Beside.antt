@@ -51,7 +51,7 @@ pub record IsBeside (setting : Setting) (w : World) (lives : Lives) : Type 0 whe
   pub most : stage_at (chosen_state setting w) want.cell ≤ 2
 
 module _ (setting : Setting) (w : World) (firm : Firm setting w) (lives : Lives) (it : IsBeside setting w lives) where
-  open it use {n, inc, want, rev, p, m, runs, seat, row, there, has, both, known, place, most}
+  open it use {n, inc, want, rev, p, m, runs, seat, row, there, has, both, known, place}
 
   abbrev own : List Command
   own = (w.servers m).log.applied

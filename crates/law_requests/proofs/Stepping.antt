@@ -77,7 +77,7 @@ downs_untold n inc servers post i = ap (λ (b : Body). tells_request (subject_of
     (said_to_all (body.Down n inc) (filter (λ k. not (k == n)) (range_with_len 0 servers)) post i)
 
 module _ (scene : Scene) (ready : Ready scene.setting scene.state scene.w) (n stamp : ℕ) (what : Step) where
-  open scene use {setting, w, lives, asking}
+  open scene use {setting, w, lives}
 
   abbrev after : Acted → World
   after acted = (acts setting w n what stamp acted).world

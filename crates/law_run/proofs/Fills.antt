@@ -49,7 +49,7 @@ module _ (g : Grounded) where
     pub counts : authority chosen (cell_of key) ≡ Some n
 
   module _ (to : ComesTo) where
-    open to use {key, bytes, one, rev, frozen, row, there, has, n, counts}
+    open to use {key, bytes, one, frozen, row, there, has, n, counts}
 
     abbrev cell : Cell
     cell = cell_of key

@@ -94,7 +94,7 @@ module _ (this : ServerStep) where
     pub f : IsFoundAt this.setting this.state this.along.steady (later_world this) (record { letter = letter; seq = seq }) given
 
   module _ (it : IsFoundElsewhere) where
-    open it use {client, seq, cell, epoch, r, k, comes, none, same, letter, to, rev, given, f}
+    open it use {client, seq, cell, epoch, r, k, comes, none, same, to, rev, given, f}
 
     abbrev o : IsOfDisk this.setting this.w this.along.firm front (this.along.firm.servers this.n) this.setting.lines client seq k.told cell epoch k.read
     o = of this cell r client seq epoch k

@@ -70,7 +70,7 @@ same_data : {a b : ℕ} {xs ys : List ℕ} → body.Data a xs ≡ body.Data b ys
 same_data e = cc
 
 module _ (g : Grounded) (steady : IsSteady g.state) (y stamp : ℕ) (letter : Letter) (seq : ℕ) (bytes : List ℕ) (says : letter.body ≡ body.Data seq bytes) where
-  open g use {setting, state, w as u, firm, ground}
+  open g use {setting, w as u}
 
   abbrev S : Type 0
   S = IsShown setting u y letter seq bytes

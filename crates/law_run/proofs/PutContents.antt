@@ -46,7 +46,7 @@ use Rattle.law_run.proofs.Steps.{own_after, same_entry}
 use Rattle.law_run.proofs.Takes.{block_there}
 
 module _ (this : ServerStep) (same : chosen_log this.setting (later_world this) ≡ chosen_log this.setting this.w) where
-  open ends_of this use {v, chosen, own, here, hears}
+  open ends_of this use {v, chosen, own, here}
 
   chosen_is : chosen_state this.setting v ≡ chosen
   chosen_is = ap (state_after this.setting.servers) same

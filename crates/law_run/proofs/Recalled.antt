@@ -76,8 +76,8 @@ pub record GoesTo (g : Grounded) : Type 0 where
   pub asking : AskingBy g.setting v (lives_after g.ground.lives v)
 
 module _ (g : Grounded) (to : GoesTo g) where
-  open g use {setting, state, w, firm, ground}
-  open to use {v, then, grows, more, next, from, on, rests, asking}
+  open g use {setting, w, firm, ground}
+  open to use {v, then, grows, more, next, from, on, asking}
 
   logs : (n : ℕ) → IsPrefix (w.servers n).log.applied (v.servers n).log.applied
   logs = on.later.logs

@@ -32,7 +32,7 @@ pub record IsSame (old new : Pending) : Type 0 where
 pub same_itself : (op : Pending) → IsSame op op
 same_itself op = record { number = refl; kind = refl; client = refl; seq = refl; rev = refl; key = refl; bytes = refl }
 
-same_on : (a b c : Pending) → IsSame a b → IsSame b c → IsSame a c
+pub same_on : (a b c : Pending) → IsSame a b → IsSame b c → IsSame a c
 same_on a b c one two = record {
   number = one.number ∙ two.number;
   kind = one.kind ∙ two.kind;
