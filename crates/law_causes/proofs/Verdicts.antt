@@ -34,7 +34,7 @@ use Rattle.law_state.specs.Tables.{IsForRegion, IsForSnapshot, Of_disk, Of_regio
 use Rattle.law_state.proofs.Caughts.{act_caught}
 use Rattle.law_state.proofs.Entries.{acting}
 use Rattle.law_state.proofs.Fences.{Acted, IsRequeued, IsUnsettled, get_behind, head_get, ready_by, requeued_awaiting}
-use Rattle.law_state.proofs.Fences.{requeued_itself, requeued_reported, unsettled}
+use Rattle.law_state.proofs.Fences.{requeued_itself, requeued_reported}
 use Rattle.law_state.proofs.Passing.{one_passed, passed_here, passing, settled_keeps}
 use Rattle.law_state.proofs.Places.{get_last, get_within, text_itself}
 use Rattle.law_state.proofs.Moves.{IsNoting, act_moved, act_note, act_start}
@@ -249,7 +249,7 @@ module _ (servers : ℕ) (log : List Command) (plain : IsPlainLog servers log) w
       s = at k
 
       p : IsUnsettled servers s
-      p = unsettled servers s (plain_at servers log plain k)
+      p = (plain_at servers log plain k).unsettled
 
       still : (t : State) → IsRequeued s.view.queue t.view.queue → latest t c ≡ latest s c → Acted servers s t → Has t × Stays s t
       still t queue same acted = has_still s t p h queue same acted
@@ -621,7 +621,7 @@ module _ (servers : ℕ) (log : List Command) (plain : IsPlainLog servers log) w
             → IsMoving (told (with_move (at k) tuple row.id) c seq verdict.Ok) name
         begun_moving row found free acts =
             let t = told (with_move (at k) tuple row.id) c seq verdict.Ok in
-            let p = unsettled servers (at k) (plain_at servers log plain k) in
+            let p = (plain_at servers log plain k).unsettled in
             let later = named_on servers (at k) t p acts.plain acts.grown name row found in
             let known = row_known_at (at k) p name row found in
             let now : row_moving (length (at k).maps) row ≡ later.0 =

@@ -17,7 +17,7 @@ use Rattle.law_copies.specs.Copied.{AreCopying, IsCopied, IsCopying, IsFollowed}
 use Rattle.law_copies.specs.Steps.{IsStill}
 use Rattle.law_copies.proofs.Epochs.{epoch_place, same_chains, within}
 
-module _ (links : ℕ) (row : LinkRow) (cell : Cell) (vo : Option Own) (own : Own) (old : AreCopying links row cell (Some own) vo)
+module _ {links : ℕ} {row : LinkRow} {cell : Cell} {vo : Option Own} {own : Own} (old : AreCopying links row cell (Some own) vo)
     (all : IsCopied own cell) where
   abbrev chain : Chain
   chain = chain_in own.store.chains cell

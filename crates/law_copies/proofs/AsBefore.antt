@@ -33,7 +33,7 @@ pub holder_stays : (links : ℕ) (own to : Own) (row : LinkRow) (cell : Cell) (o
     → AreCopying links row cell (Some to) other × StaysTold row cell (Some own) other (Some to) other
 holder_stays links own to row cell other all old =
     let on = keeps_onward links own to row cell all in
-    let kept = steps.kept_step (λ b. Unit {0}) links row cell other own old to all.keeps (let e = all.next in omega arith) on.0 on.1 in
+    let kept = steps.kept_step (λ b. Unit {0}) old to all.keeps (let e = all.next in omega arith) on.0 on.1 in
     (kept.copying, kept.told)
 
 -- and of the other server's
@@ -41,7 +41,7 @@ pub other_stays : (links : ℕ) (own to : Own) (row : LinkRow) (cell : Cell) (ho
     → AreCopying links row cell holder (Some own)
     → AreCopying links row cell holder (Some to) × StaysTold row cell holder (Some own) holder (Some to)
 other_stays links own to row cell holder all old =
-    (kept_copying links row cell holder own old to all.keeps.rest, kept_told links row cell holder own old to all.keeps.rest)
+    (kept_copying old to all.keeps.rest, kept_told old to all.keeps.rest)
 
 pub stays_alike : (own to : Own) (row : LinkRow) (cell : Cell) (a b : Store)
     → at link_cmp to.copies.progress (id_of row) ≡ at link_cmp own.copies.progress (id_of row)

@@ -38,7 +38,7 @@ flagged_on own row = with_progress own row (record (progress_on own row) { caugh
 
 -- ### Of the ballot's own link
 
-module _ (links : ℕ) (row : LinkRow) (cell : Cell) (vo : Option Own) (own : Own) (old : AreCopying links row cell (Some own) vo) where
+module _ {links : ℕ} {row : LinkRow} {cell : Cell} {vo : Option Own} {own : Own} (old : AreCopying links row cell (Some own) vo) where
   module _ (state : State) (done : IsDone state row own cell) where
     abbrev to : Own
     to = flagged_on own row
@@ -73,8 +73,8 @@ module _ (links : ℕ) (row : LinkRow) (cell : Cell) (vo : Option Own) (own : Ow
           (λ o last met is. record {
             by = to;
             met = refl;
-            below = below (λ (b : Body). Unit {0}) links row cell vo own old o last met is;
-            trimmed = elim (trimmed_or (λ (b : Body). Unit {0}) links row cell vo own old o last met is) [
+            below = below (λ (b : Body). Unit {0}) old o last met is;
+            trimmed = elim (trimmed_or (λ (b : Body). Unit {0}) old o last met is) [
               | inl none ↦ inl none
               | inr t ↦ no_trimming last.op t
             ];
@@ -100,7 +100,7 @@ module _ (links : ℕ) (row : LinkRow) (cell : Cell) (vo : Option Own) (own : Ow
   apart_keeps : (to : Own) → IsAlikeOwn own to → to.pairs ≡ own.pairs → to.store ≡ own.store → IsPaced row own to
       → (progress_on to row).copied ≡ (progress_on own row).copied → BallotKeeps links row cell own vo to
   apart_keeps to same pairs store paced copied =
-      let step : HolderStep (λ b. Unit {0}) links row cell vo own to = steps.kept_step (λ b. Unit {0}) links row cell vo own old to
+      let step : HolderStep (λ b. Unit {0}) links row cell vo own to = steps.kept_step (λ b. Unit {0}) old to
       (keeps_alike cell own to same)
       (let e = ap (λ (p : Pairs). p.next) pairs in omega arith) paced
       (onward_by links row cell own to paced copied
@@ -116,7 +116,7 @@ module _ (links : ℕ) (row : LinkRow) (cell : Cell) (vo : Option Own) (own : Ow
 module _ (here : Here) (links : ℕ) (row : LinkRow) (cell : Cell) (vo : Option Own) (own : Own) (old : AreCopying links row cell (Some own) vo)
     (is : cell_link here.state cell ≡ Some row) (lives : HasAny own cell → live here.state cell ≡ true) where
   same_keeps : BallotKeeps links row cell own vo own
-  same_keeps = apart_keeps links row cell vo own old own
+  same_keeps = apart_keeps old own
       (record { pending = refl; followed = refl; copying = refl; last = refl; chains = refl; marks = refl }) refl refl
       (record { paged = refl; after = refl; flag = refl }) refl
 
@@ -127,10 +127,10 @@ module _ (here : Here) (links : ℕ) (row : LinkRow) (cell : Cell) (vo : Option 
       let same : row ≡ b.row = one_named here.state cell row id b.row is b.held.is
       (same_id (id_of row) (id_of b.row) t ∙ named_id here.state id b.row b.held.is) in
       subst (λ (r : LinkRow). BallotKeeps links row cell own vo (flagged_on own r)) same
-      (flagged_keeps links row cell vo own old here.state
+      (flagged_keeps old here.state
       (subst (λ (r : LinkRow). IsDone here.state r own cell) (sym same)
       (nothing_left here.state id b.row own b.held.is cell (is ∙ ap Some same) lives b.nothing))))
-      (λ no. apart_keeps links row cell vo own old (flagged_on own b.row)
+      (λ no. apart_keeps old (flagged_on own b.row)
       (record { pending = refl; followed = refl; copying = refl; last = refl; chains = refl; marks = refl }) refl refl
       (paced_beside own b.row (record (progress_on own b.row) { caught = true }) row no)
       (ap (λ (p : Progress). p.copied) (progress_beside own b.row (record (progress_on own b.row) { caught = true }) row no))))

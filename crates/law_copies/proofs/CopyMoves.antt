@@ -43,7 +43,7 @@ followed_on holder to other cell copy next g chain op past = record {
   put = λ i row lt there. g.put i row lt (ap (λ c. slice_get c i) (sym chain) ∙ there);
 }
 
-module _ (heard : Body → Type 0) (links : ℕ) (row : LinkRow) (cell : Cell) (vo : Option Own) (own : Own)
+module _ (heard : Body → Type 0) {links : ℕ} {row : LinkRow} {cell : Cell} {vo : Option Own} {own : Own}
     (old : AreCopying links row cell (Some own) vo) where
   abbrev Step : Own → Type 0
   Step to = HolderStep heard links row cell vo own to
@@ -80,7 +80,7 @@ module _ (heard : Body → Type 0) (links : ℕ) (row : LinkRow) (cell : Cell) (
 
     -- each last copy is an older one
     older : (o : Own) (last : LastCopy) → vo ≡ Some o → last_copy o cell ≡ Some last → last.op < own.pairs.next
-    older o last met is = subst (λ c. last.op < number_above c own.pairs.next) idle (below heard links row cell vo own old o last met is)
+    older o last met is = subst (λ c. last.op < number_above c own.pairs.next) idle (below heard old o last met is)
 
     met_other : (o : Own) × (vo ≡ Some o)
     met_other = elim (some_or_none vo) [ inl there ↦ there | inr none ↦ true_false (old.met own refl (inl paged)) (ap is_some none) ]
@@ -102,7 +102,7 @@ module _ (heard : Body → Type 0) (links : ℕ) (row : LinkRow) (cell : Cell) (
       by = begun;
       met = refl;
       below = subst (λ c. last.op < number_above c begun.pairs.next) (sym begun_is) (let lt = older o last met is in omega arith);
-      trimmed = elim (trimmed_or heard links row cell vo own old o last met is) [ inl none ↦ inl none | inr t ↦ none_some idle t.is ];
+      trimmed = elim (trimmed_or heard old o last met is) [ inl none ↦ inl none | inr t ↦ none_some idle t.is ];
     }
 
     unflagged : {A : Type 0} → is_flagged own (id_of row) ≡ true → A
@@ -141,7 +141,7 @@ module _ (heard : Body → Type 0) (links : ℕ) (row : LinkRow) (cell : Cell) (
     -- the last copy at the other server has no greater number
     up_to : (o : Own) (last : LastCopy) → vo ≡ Some o → last_copy o cell ≡ Some last → last.op ≤ copy.op
     up_to o last met there =
-        let lt = subst (λ x. last.op < number_above x own.pairs.next) is (below heard links row cell vo own old o last met there) in
+        let lt = subst (λ x. last.op < number_above x own.pairs.next) is (below heard old o last met there) in
         omega arith
 
     -- what the other server has beside is one thing
@@ -162,7 +162,7 @@ module _ (heard : Body → Type 0) (links : ℕ) (row : LinkRow) (cell : Cell) (
 
     -- the copy is not one that is all put
     not_put : {A : Type 0} → (copy.trimmed ≡ false) ⊎ (copy.index < length chain) → IsCopied own cell → A
-    not_put waits all = all_put links row cell vo own old all copy is waits
+    not_put waits all = all_put old all copy is waits
 
     -- #### The other server has trimmed
 
@@ -260,7 +260,7 @@ module _ (heard : Body → Type 0) (links : ℕ) (row : LinkRow) (cell : Cell) (
 
       -- nothing waits for it to be trimmed
       trimmed_last : (o : Own) (last : LastCopy) → vo ≡ Some o → last_copy o cell ≡ Some last → epochs_beyond o cell last.epochs ≡ []
-      trimmed_last o last met there = elim (trimmed_or heard links row cell vo own old o last met there) [
+      trimmed_last o last met there = elim (trimmed_or heard old o last met there) [
         | inl none ↦ none
         | inr t ↦ waits_not last.op done t
       ]
@@ -329,7 +329,7 @@ module _ (heard : Body → Type 0) (links : ℕ) (row : LinkRow) (cell : Cell) (
         none_left : {A : Type 0} (o : Own) (last : LastCopy) (index epoch : ℕ) → vo ≡ Some o → last_copy o cell ≡ Some last
             → slice_get last.epochs index ≡ Some epoch → index ≡ last.index → A
         none_left o last index epoch met there at_index e =
-            none_left_to_put links row cell vo own old put o last index epoch met there at_index e
+            none_left_to_put old put o last index epoch met there at_index e
 
         -- #### A mark of the block is taken away
 
@@ -355,7 +355,7 @@ module _ (heard : Body → Type 0) (links : ℕ) (row : LinkRow) (cell : Cell) (
                 (λ o last met there. record {
                   by = unmarked;
                   met = refl;
-                  below = below heard links row cell vo own old o last met there;
+                  below = below heard old o last met there;
                   trimmed = inl (trimmed_last o last met there);
                 })
                 (λ flag. not_flagged copy is flag) (λ page. old.met own refl page)
@@ -366,7 +366,7 @@ module _ (heard : Body → Type 0) (links : ℕ) (row : LinkRow) (cell : Cell) (
             marks = λ m. inr (ap is_some c.met);
             stored = λ some. some;
             alike = λ now still pages rises a. alike_by row cell own unmarked now
-                (Is_equal (copied_now links row cell vo own old put now still rises))
+                (Is_equal (copied_now old put now still rises))
                 (λ flag. not_flagged copy is flag);
             caught = λ flag. not_flagged copy is flag;
           }
@@ -426,7 +426,7 @@ module _ (heard : Body → Type 0) (links : ℕ) (row : LinkRow) (cell : Cell) (
             marks = λ m. inl (subst (λ (s : Store). IsMarked s cell) (sym store) m);
             stored = λ some none. some (sym chain_is ∙ none);
             alike = λ now still pages rises a. alike_by row cell own to now
-                (Is_equal (chain_is ∙ copied_now links row cell vo own old (put past) now still rises))
+                (Is_equal (chain_is ∙ copied_now old (put past) now still rises))
                 (λ flag. not_flagged copy is (sym flag_is ∙ flag));
             caught = λ flag. not_flagged copy is flag;
           }

@@ -28,7 +28,7 @@ use Rattle.law_copies.proofs.Rows.{row_at}
 
 -- ### What is to show of the last copy
 
-module _ (links : ℕ) (row : LinkRow) (cell : Cell) (vh : Option Own) (own : Own) (old : AreCopying links row cell vh (Some own)) where
+module _ {links : ℕ} {row : LinkRow} {cell : Cell} {vh : Option Own} {own : Own} (old : AreCopying links row cell vh (Some own)) where
   -- the copy at the holder follows, and the last one is one of the holder's
   pub other_copying : (to : Own)
       → ((h : Own) (copy : Copying) → vh ≡ Some h → copying_on h cell ≡ Some copy → copy.trimmed ≡ true → IsFollowed h own cell copy
@@ -283,7 +283,7 @@ module _ (it : CopiedEntry) where
         }
 
   pub put_copying : AreCopying links row q vh (Some to)
-  put_copying = other_copying links row q vh own old to (λ h copy met there t g. put_followed h copy met there g)
+  put_copying = other_copying old to (λ h copy met there t g. put_followed h copy met there g)
       (λ h copy l met there fresh at_cell op.
       let same : next ≡ l = same_some (sym put_last ∙ at_cell) in
       true_false (this_sent h copy met there (sym (ap (λ (x : LastCopy). x.op) same ∙ op))).0 fresh)

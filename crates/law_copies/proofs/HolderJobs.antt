@@ -64,7 +64,7 @@ module _ (heard : Body → Type 0) (here : Here) (links : ℕ) (row : LinkRow) (
     Says done = (post : Post) → In post done.posts → (about post.body).cell ≡ Some cell → IsTold row (Some done.own) vo post.body
 
     itself : (now : Own) → AreCopying links row cell (Some now) vo → HolderStep heard links row cell vo now now
-    itself now old = steps.kept_step heard links row cell vo now old now (keeps_itself cell now) (omega arith)
+    itself now old = steps.kept_step heard old now (keeps_itself cell now) (omega arith)
         (record { paged = refl; after = refl; flag = refl })
         (onward_by links row cell now now (record { paged = refl; after = refl; flag = refl }) refl (λ later copy lt on is. inl (copy, is)))
 
@@ -81,21 +81,21 @@ module _ (heard : Body → Type 0) (here : Here) (links : ℕ) (row : LinkRow) (
       itself now old,
       (λ post i e. subst (IsTold row (Some now) vo)
           (sym (posted _ (body.Trim copy.op cell (epochs_of (chain_in now.store.chains cell))) post i))
-          (moves.trim_told heard links row cell vo now old copy is fresh)),
+          (moves.trim_told heard old copy is fresh)),
     )
     copy_step on now old copy is _ (Sends r trimmed there) = (
       itself now old,
       (λ post i e. subst (IsTold row (Some now) vo)
           (sym (posted _ (body.Sync copy.op (key_at cell r.0) r.1.version copy.index r.1.bytes) post i))
-          (moves.entry_told heard links row cell vo now old copy is r trimmed there)),
+          (moves.entry_told heard old copy is r trimmed there)),
     )
     copy_step on now old copy is _ (Unmarks_copied kind synced left) =
-        (moves.unmarked_step heard links row cell vo now old copy is synced.trimmed synced.past kind, (λ post i e. none_in post i))
+        (moves.unmarked_step heard old copy is synced.trimmed synced.past kind, (λ post i e. none_in post i))
     copy_step on now old copy is _ (Closes_copy synced left) =
         let gone = without_copying now cell in
         let paced = paced_copied (cell_link here.state cell) gone cell.block row in
         let same = copied_alike (cell_link here.state cell) gone cell.block in (
-          moves.closed_step heard links row cell vo now old copy is synced.trimmed (closes here now cell).own
+          moves.closed_step heard old copy is synced.trimmed (closes here now cell).own
               (ap (λ t. at cell_cmp t cell) same.copying ∙ cell_gone now.copies.pending cell)
               (λ q ne. ap (λ t. at cell_cmp t q) same.copying ∙ cell_gone_apart now.copies.pending cell q ne) (closed_store here now cell)
               (closed_pairs here now cell)
@@ -108,11 +108,11 @@ module _ (heard : Body → Type 0) (here : Here) (links : ℕ) (row : LinkRow) (
     taken_copy_step f _ _ (Copy_as_is copy is) = (itself own f.old, is)
     taken_copy_step f _ _ (Copy_trimmed copy h is fresh) =
         let said = f.told (body.Trimmed copy.op cell) h refl in
-        (moves.trimmed_step heard links row cell vo own f.old copy is fresh said, moves.trimmed_is heard links row cell vo own f.old copy is fresh said)
+        (moves.trimmed_step heard f.old copy is fresh said, moves.trimmed_is heard f.old copy is fresh said)
     taken_copy_step f _ _ (Copy_synced copy h is trimmed lt) =
         let said = f.told (body.Synced copy.op cell copy.index) h refl in (
-          moves.synced_step heard links row cell vo own f.old copy is trimmed lt said,
-          moves.synced_is heard links row cell vo own f.old copy is trimmed lt said,
+          moves.synced_step heard f.old copy is trimmed lt said,
+          moves.synced_is heard f.old copy is trimmed lt said,
         )
 
     goes_on_at : (f : IsHolding heard here links row cell own vo) (now : Own) (copy : Copying) (done : Done) → TakenCopy heard own cell now copy
@@ -130,14 +130,14 @@ module _ (heard : Body → Type 0) (here : Here) (links : ℕ) (row : LinkRow) (
           | inl marked ↦ inl marked
           | inr all ↦ inr (record { whole = all.whole; stored = has_entry own.store.chains f.fit.filled cell all.stored }, all.past)
         ] in
-        let one = moves.begun_step heard links row cell vo own f.old n.paged n.free n.idle left in
+        let one = moves.begun_step heard f.old n.paged n.free n.idle left in
         let two = copy_step f.is (begins_copy own cell) one.copying (first_copy own.pairs.next)
-        (moves.begun_is heard links row cell vo own f.old n.paged n.free n.idle left) done step in
+        (moves.begun_is heard f.old n.paged n.free n.idle left) done step in
         (step_on heard links row cell vo own (begins_copy own cell) done.own one two.0, two.1)
 
     full_at : (f : IsHolding heard here links row cell own vo) (copy : Copying) → copying_on own cell ≡ Some copy → copy.trimmed ≡ true
         → copy.index < length (chain_in own.store.chains cell) → HolderStep heard links row cell vo own (with_full (without_copying own cell) true)
-    full_at f copy is trimmed lt = moves.full_step heard links row cell vo own f.old copy is trimmed (with_full (without_copying own cell) true)
+    full_at f copy is trimmed lt = moves.full_step heard f.old copy is trimmed (with_full (without_copying own cell) true)
         (cell_gone own.copies.pending cell) (λ q ne. cell_gone_apart own.copies.pending cell q ne) refl refl refl refl refl refl lt
 
   -- ### All jobs
@@ -222,7 +222,7 @@ module _ (heard : Body → Type 0) (here : Here) (links : ℕ) (row : LinkRow) (
         let fresh_here : (progress_on own row).paged ≡ false = ap (λ (x : LinkRow). (progress_on own x).paged) same ∙ fresh in
         let waited : same_block after (progress_on own row).after ≡ true = ap
         (λ (x : LinkRow). same_block after (progress_on own x).after) same ∙ at in
-        let one = steps.page_step heard links row cell vo own f.old after (cell_map here.state cell row f.is) fresh_here waited
+        let one = steps.page_step heard f.old after (cell_map here.state cell row f.is) fresh_here waited
         (unpaged_idle fresh_here cell f.is)
         (f.met after block said) (λ later on. unpaged_idle fresh_here (cell_at row later) (later_on later on)) block said in (
           subst (λ (x : LinkRow). HolderStep heard links row cell vo own (with_page own x (progress_on own x) block)) same one,
@@ -242,7 +242,7 @@ module _ (heard : Body → Type 0) (here : Here) (links : ℕ) (row : LinkRow) (
     taken_with : (c : Cell) → cell ≢ c → (was : Copying) → copying_on own c ≡ Some was → (new : Copying)
         → HolderStep heard links row cell vo own (with_copying own c new) × (copying_on (with_copying own c new) c ≡ Some new)
     taken_with c ne was is new = (
-      steps.kept_step heard links row cell vo own f.old (with_copying own c new) (copying_beside own c cell ne new) (omega arith)
+      steps.kept_step heard f.old (with_copying own c new) (copying_beside own c cell ne new) (omega arith)
           (record { paged = refl; after = refl; flag = refl })
           (going_onward here.state links row cell f.is f.links_are c ne own was new is),
       cell_same own.copies.pending c new,
@@ -273,12 +273,12 @@ module _ (heard : Body → Type 0) (here : Here) (links : ℕ) (row : LinkRow) (
         → (of : LinkRow) → cell_link here.state c ≡ Some of → (progress_on now of).paged ≡ true → (done : Done)
         → CopyStep here now c copy done → HolderStep heard links row cell vo now done.own
     step_apart c ne now old copy is of of_is paged _ (Unmarks_copied kind synced left) =
-        steps.kept_step heard links row cell vo now old _ (copy_step_beside heard here own now c copy _ cell ne (Unmarks_copied kind synced left))
+        steps.kept_step heard old _ (copy_step_beside heard here own now c copy _ cell ne (Unmarks_copied kind synced left))
         (omega arith) (record { paged = refl; after = refl; flag = refl })
         (onward_tables links row cell now _ refl refl (record { paged = refl; after = refl; flag = refl }))
     step_apart c ne now old copy is of of_is paged _ (Closes_copy synced left) =
         let onward = closed_onward here.state links row cell f.is f.links_are c ne now (old.ordered now refl) copy is of of_is paged in
-        steps.kept_step heard links row cell vo now old _ (copy_step_beside heard here own now c copy _ cell ne (Closes_copy synced left))
+        steps.kept_step heard old _ (copy_step_beside heard here own now c copy _ cell ne (Closes_copy synced left))
         (let e = ap (λ (p : Pairs). p.next) (closed_pairs here now c) in omega arith) (step_paced now c copy _ (Closes_copy synced left))
         (record { late = onward.late; yet = onward.yet; others = onward.others; page = onward.page })
     step_apart c ne now old copy is of of_is paged _ _ = itself cell now old

@@ -34,7 +34,7 @@ use Rattle.law_copies.proofs.Marks.{mark_there}
 use Rattle.law_copies.proofs.Onward.{IsOnward, onward_tables}
 use Rattle.law_copies.proofs.Pacing.{IsPaced, paced_table, page_flag, page_marks, progress_itself, same_block_is}
 
-module _ (heard : Body → Type 0) (links : ℕ) (row : LinkRow) (cell : Cell) (vo : Option Own) (own : Own)
+module _ (heard : Body → Type 0) {links : ℕ} {row : LinkRow} {cell : Cell} {vo : Option Own} {own : Own}
     (old : AreCopying links row cell (Some own) vo) where
   abbrev Step : Own → Type 0
   Step to = HolderStep heard links row cell vo own to
@@ -91,11 +91,11 @@ module _ (heard : Body → Type 0) (links : ℕ) (row : LinkRow) (cell : Cell) (
         (λ all ahead. elim (onward.yet all ahead) [
           | inl past ↦ inl past
           | inr (inl marked) ↦ inr (inl marked)
-          | inr (inr put) ↦ inr (inr (copied_now links row cell vo own old put now still rises))
+          | inr (inr put) ↦ inr (inr (copied_now old put now still rises))
         ]) covered
 
     pub kept_step : Step to
-    kept_step = calm_step heard links row cell vo own old to (record {
+    kept_step = calm_step heard old to (record {
       copying = k.rest.copying;
       next = next;
       flag = paced.flag;
@@ -145,7 +145,7 @@ module _ (heard : Body → Type 0) (links : ℕ) (row : LinkRow) (cell : Cell) (
       ]
 
       pub write_step : Step to
-      write_step = calm_step heard links row cell vo own old to (record {
+      write_step = calm_step heard old to (record {
         copying = ap (λ (c : Copies). at cell_cmp c.pending cell) copies;
         next = next;
         flag = paced.flag;
@@ -240,7 +240,7 @@ module _ (heard : Body → Type 0) (links : ℕ) (row : LinkRow) (cell : Cell) (
         less a b le ne = grind (arith, nat_tests)
 
     pub page_step : (block : Option ℕ) → heard (body.Hello row.map row.link after block) → Step (turned block)
-    page_step block h = calm_step heard links row cell vo own old (turned block) (record {
+    page_step block h = calm_step heard old (turned block) (record {
       copying = page_copying block cell;
       next = page_next block;
       flag = page_flag own row block;

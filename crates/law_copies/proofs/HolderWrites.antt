@@ -87,10 +87,10 @@ module _ (heard : Body → Type 0) (here : Here) (links : ℕ) (row : LinkRow) (
     k = taking own now op taken
 
     abbrev idle : copying_on own op.cell ≡ None
-    idle = steps.pending_idle heard links row op.cell vo own f.old k.old k.was
+    idle = steps.pending_idle heard f.old k.old k.was
 
     abbrev unflagged : is_flagged own (id_of row) ≡ false
-    unflagged = steps.pending_unflagged heard links row op.cell vo own f.old k.old k.was
+    unflagged = steps.pending_unflagged heard f.old k.old k.was
 
     keyed : cell_of op.key ≡ op.cell
     keyed = ap (λ (o : Pending). cell_of o.key) k.is ∙ (f.fit.ready.staged op.cell k.old k.was).keyed
@@ -117,7 +117,7 @@ module _ (heard : Body → Type 0) (here : Here) (links : ℕ) (row : LinkRow) (
         → (chain_in now.store.chains op.cell ≢ [] → chain_in to.store.chains op.cell ≢ [])
         → IsRising nat_cmp (chain_in to.store.chains op.cell) → HolderStep heard links row op.cell vo own to
     taken_step to copies next marks chain stored rises =
-        steps.write_step heard links row op.cell vo own f.old idle unflagged to (copies ∙ k.copies)
+        steps.write_step heard f.old idle unflagged to (copies ∙ k.copies)
         (let e = next in let e' = k.next in omega arith)
         (λ m. marks (taken_marks m)) (elim chain [ inl same ↦ inl (same ∙ taken_chain) | inr m ↦ inr m ])
         (λ some. stored (λ none. some (sym taken_chain ∙ none))) rises
@@ -160,15 +160,15 @@ module _ (heard : Body → Type 0) (here : Here) (links : ℕ) (row : LinkRow) (
       let chain : chain_in (ends here
       (gives_back (without_pending own op.cell)) op op.kind ending.Full).own.store.chains op.cell ≡ chain_in own.store.chains op.cell =
       ap (λ (s : Store). chain_in s.chains op.cell) e.store in
-      steps.write_step heard links row op.cell vo own f.old (steps.pending_idle heard links row op.cell vo own f.old op is)
-      (steps.pending_unflagged heard links row op.cell vo own f.old op is) _ e.copies (let n = e.next in omega arith)
+      steps.write_step heard f.old (steps.pending_idle heard f.old op is)
+      (steps.pending_unflagged heard f.old op is) _ e.copies (let n = e.next in omega arith)
       (λ m. subst (λ (s : Store). IsMarked s op.cell) (sym e.store) m) (inl chain) (λ some none. some (sym chain ∙ none))
       (subst (IsRising nat_cmp) (sym chain) (f.fit.rising op.cell))
 
   opens_at : (op : Pending) → copying_on own op.cell ≡ None → has_proposed here.state own op.cell ≡ false
       → (f : IsHolding heard here links row op.cell own vo)
       → HolderStep heard links row op.cell vo own (marks (with_opened own op) op Stale).own
-  opens_at op uncopied unheld f = steps.write_step heard links row op.cell vo own f.old uncopied
+  opens_at op uncopied unheld f = steps.write_step heard f.old uncopied
       (sym (held_as_flag here.state own op.cell row f.is) ∙ unheld) _ refl (omega arith)
       (λ m. elim m [
         | inl busy ↦ inl (mark_kept (with_ticket own.store) Stale Busy op.cell op.cell busy)
@@ -195,7 +195,7 @@ module _ (heard : Body → Type 0) (here : Here) (links : ℕ) (row : LinkRow) (
 
     pub kept : (done : Done) → KeepsCell cell own done.own → own.pairs.next ≤ done.own.pairs.next → IsPaced row own done.own
         → IsOnward links row cell own done.own → Step done
-    kept done k next paced onward = steps.kept_step heard links row cell vo own f.old done.own k next paced onward
+    kept done k next paced onward = steps.kept_step heard f.old done.own k next paced onward
 
     -- where nothing is changed of copies at the holder
     pub same_paced : (to : Own) → to.copies.progress ≡ own.copies.progress → to.copies.pending ≡ own.copies.pending
@@ -264,10 +264,10 @@ module _ (heard : Body → Type 0) (here : Here) (links : ℕ) (row : LinkRow) (
     asks_told : (post : Post) → Asks here own post → (about post.body).cell ≡ Some cell → IsTold row (Some own) vo post.body
     asks_told _ (A_trim c copy at is fresh so) e =
         subst (λ (q : Cell). IsTold row (Some own) vo (body.Trim copy.op q (epochs_of (chain_in own.store.chains q)))) (sym (same_some e))
-        (moves.trim_told heard links row cell vo own f.old copy (subst (λ (q : Cell). copying_on own q ≡ Some copy) (same_some e) is) fresh)
+        (moves.trim_told heard f.old copy (subst (λ (q : Cell). copying_on own q ≡ Some copy) (same_some e) is) fresh)
     asks_told _ (A_copied_entry c copy r at is trimmed there so) e =
         subst (λ (q : Cell). IsTold row (Some own) vo (body.Sync copy.op (key_at q r.0) r.1.version copy.index r.1.bytes)) (sym (same_some e))
-        (moves.entry_told heard links row cell vo own f.old copy (subst (λ (q : Cell). copying_on own q ≡ Some copy) (same_some e) is) r trimmed
+        (moves.entry_told heard f.old copy (subst (λ (q : Cell). copying_on own q ≡ Some copy) (same_some e) is) r trimmed
         (subst (λ (q : Cell). slice_get (chain_in own.store.chains q) copy.index ≡ Some r) (same_some e) there))
     asks_told post (An_entry_to_move _ next) e =
         untold row (Some own) vo post.body (filling_not post.body (ap (λ (p : Post). subject_of p.body) next.is))

@@ -191,7 +191,7 @@ pub record IsCalm (links : ℕ) (row : LinkRow) (cell : Cell) (own to : Own) : T
   pub left : IsLeft own row cell → IsLeft to row cell ⊎ IsCopied own cell
   pub ordered : AreInOrder links row cell to
 
-module _ (heard : Body → Type 0) (links : ℕ) (row : LinkRow) (cell : Cell) (vo : Option Own) (own : Own)
+module _ (heard : Body → Type 0) {links : ℕ} {row : LinkRow} {cell : Cell} {vo : Option Own} {own : Own}
     (old : AreCopying links row cell (Some own) vo) where
   -- the last copy's number is below
   pub below : (o : Own) (last : LastCopy) → vo ≡ Some o → last_copy o cell ≡ Some last
@@ -227,7 +227,7 @@ module _ (heard : Body → Type 0) (links : ℕ) (row : LinkRow) (cell : Cell) (
           left = λ w.
               let waits : (copy.trimmed ≡ false) ⊎ (copy.index < length (chain_in own.store.chains cell)) =
               elim w [ inl fresh ↦ inl fresh | inr lt ↦ inr (subst (λ (chain : Chain). copy.index < length chain) same.chain lt) ] in
-              elim (calm.left (c.left waits)) [ inl left ↦ left | inr all ↦ all_put links row cell vo own old all copy was waits ];
+              elim (calm.left (c.left waits)) [ inl left ↦ left | inr all ↦ all_put old all copy was waits ];
           beside = c.beside;
           met = c.met;
           followed = λ t.
@@ -274,7 +274,7 @@ module _ (heard : Body → Type 0) (links : ℕ) (row : LinkRow) (cell : Cell) (
         (λ number t. inr (calm_trimming number t, (calm.busy t.copy t.is).chain))
         (λ o last index epoch met is at e l. elim (calm.left l) [
           | inl left ↦ left
-          | inr all ↦ none_left_to_put links row cell vo own old all o last index epoch met is at e
+          | inr all ↦ none_left_to_put old all o last index epoch met is at e
         ])
         (λ number index r h copy is op.
         let was = sym calm.copying ∙ is in

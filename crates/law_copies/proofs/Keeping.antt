@@ -101,7 +101,7 @@ module _ (it : AtSeat) where
         second = λ cell row first is alive both follows ok known.
             second_step (in_both cell row is alive both) follows first (rests.pending k) rising fit.bare ok known done did;
         holder = λ cell row other f. holders.holds (Handled w k) here (links_at cell) row other own cell f done did;
-        other = λ cell row holder f. others.follows (Handled w k) here (links_at cell) row holder own cell f done did;
+        other = λ cell row holder f. others.follows f done did;
         unlinked = λ cell none alive. unlinked_keeps (Handled w k) here own fit cell alive none done did;
         lost = λ cell row is alive lost. lost_keeps (Handled w k) here own fit cell alive row is lost done did;
         silent = λ cell not_of. idle_silent (Handled w k) here own fit cell (not_of_idle here steady cell not_of) done did;
@@ -212,8 +212,8 @@ module _ (it : AtSeat) where
     other_keeps cell row holder f =
         let keeps = keeps_alike cell own to alike.0 in
         record {
-          copying = kept_copying (links_at cell) row cell holder own f.old to keeps.rest;
-          told = kept_told (links_at cell) row cell holder own f.old to keeps.rest;
+          copying = kept_copying f.old to keeps.rest;
+          told = kept_told f.old to keeps.rest;
           says = λ post i of. told_mute row holder (Some to) post.body (mute post i);
           marks = keeps.marks;
           changes = inl keeps.rest.chain;

@@ -60,8 +60,8 @@ kept_here : (links : ℕ) (row : LinkRow) (cell : Cell) (vh : Option Own) (own :
     → ((post : Post) → In post done.posts → (about post.body).cell ≡ Some cell → IsTold row vh (Some done.own) post.body)
     → KeepsHere links row cell vh own done
 kept_here links row cell vh own old done k says = record {
-  copying = following.kept_copying links row cell vh own old done.own k.rest;
-  told = following.kept_told links row cell vh own old done.own k.rest;
+  copying = following.kept_copying old done.own k.rest;
+  told = following.kept_told old done.own k.rest;
   says = says;
   marks = k.marks;
   changes = inl k.rest.chain;
@@ -81,15 +81,15 @@ trims_here links row cell vh own now same copying told last is holder _ (Is_trim
   changes = inl (ap (λ (s : Store). chain_in s.chains cell) same);
 }
 trims_here links row cell vh own now same copying told last is holder _ (Drops_entry epoch epochs left) = record {
-  copying = following.dropped_copying links row cell vh now copying last is epoch epochs left;
-  told = λ said e t. stays_told now _ cell (following.dropped_onward links row cell vh now copying last is epoch epochs left) row vh said e
+  copying = following.dropped_copying copying last is epoch epochs left;
+  told = λ said e t. stays_told now _ cell (following.dropped_onward copying last is epoch epochs left) row vh said e
       (told said e t);
   says = λ post i. none_in post i;
   marks = λ kind. ap (λ (s : Store). is_marked s kind cell) same;
-  changes = inr (following.dropped_by links row cell vh now copying last is epoch epochs left);
+  changes = inr (following.dropped_by copying last is epoch epochs left);
 }
 
-module _ (heard : Body → Type 0) (here : Here) (links : ℕ) (row : LinkRow) (vh : Option Own) (own : Own) where
+module _ {heard : Body → Type 0} {here : Here} {links : ℕ} {row : LinkRow} {vh : Option Own} {own : Own} where
   -- ### At the cell
 
   copied_to : (cell : Cell) (f : IsFollowing heard here links row cell vh own) (number : ℕ) (epochs : List ℕ) (holder : ℕ) (done : Done)
@@ -106,11 +106,11 @@ module _ (heard : Body → Type 0) (here : Here) (links : ℕ) (row : LinkRow) (
     | inr asked ↦
         let o = asked.own in
         trims_here links row cell vh own (with_last_copy own cell (first_last number epochs)) refl
-        (following.begun_copying links row cell vh own f.old number epochs o asked.met asked.trimming asked.epochs_are newer)
+        (following.begun_copying f.old number epochs o asked.met asked.trimming asked.epochs_are newer)
         (stays_told own _ cell
-        (following.begun_onward links row cell vh own f.old number epochs o asked.met asked.trimming asked.epochs_are newer) row vh)
+        (following.begun_onward f.old number epochs o asked.met asked.trimming asked.epochs_are newer) row vh)
         (first_last number epochs)
-        (following.now_last links row cell vh own f.old number epochs o asked.met asked.trimming asked.epochs_are newer) holder done step
+        (following.now_last f.old number epochs o asked.met asked.trimming asked.epochs_are newer) holder done step
   ]
 
   trims_on : (cell : Cell) (f : IsFollowing heard here links row cell vh own) (last : LastCopy) → last_copy own cell ≡ Some last
@@ -161,7 +161,7 @@ module _ (heard : Body → Type 0) (here : Here) (links : ℕ) (row : LinkRow) (
 
   -- ### All jobs
 
-  module _ (cell : Cell) (f : IsFollowing heard here links row cell vh own) where
+  module _ {cell : Cell} (f : IsFollowing heard here links row cell vh own) where
     abbrev mine : IsOtherOf here.me row f.by
     mine = other_row here.me row f.by f.held
 

@@ -182,15 +182,7 @@ module _ (setting : Setting) (w : World) (rests : Rests setting w) (firm : Firm 
   serves_by : (n stamp : ℕ) (what : Step) → is_blank what ≡ false → MayServer what w n
       → Firm setting (acts setting w n what stamp (server_step what (server_state setting w n) n (w.servers n))).world
       → Serving setting w n what (server_step what (server_state setting w n) n (w.servers n))
-  serves_by n stamp what other may later = server_serves (record {
-    setting = setting;
-    w = w;
-    rests = rests;
-    firm = firm;
-    n = n;
-    steady = own_steady setting w firm n;
-    stamp = stamp;
-  }) what other may later
+  serves_by n stamp what other may later = server_serves setting w rests firm n (own_steady setting w firm n) stamp what other may later
 
   rests_by : (who : Actor) (what : Step) (stamp : ℕ) → MayActor who what setting w → Firm setting (step who what setting w stamp).world
       → Rests setting (step who what setting w stamp).world

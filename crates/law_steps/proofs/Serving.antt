@@ -34,6 +34,8 @@ use Rattle.petal_rules.proofs.ListLemmas.{in-append, put_same}
 use Rattle.petal_rules.proofs.Tests.{by_test, all_put, only, true_false}
 use Rattle.law_state.specs.Firm.{Firm}
 use Rattle.law_state.proofs.Steady.{log_rev}
+use Rattle.law_state.specs.Steady.{IsSteady}
+use Rattle.law_steps.specs.Ready.{Rests}
 use Rattle.law_steps.specs.Operations.{IsStaged}
 use Rattle.law_steps.specs.DidLead.{Asks, Asks_for, Of_the_log}
 use Rattle.law_steps.specs.Did.{Did, Ignores, By_lead}
@@ -254,29 +256,37 @@ module _ (it : KnownServer) where
       by_test (λ (x : Server). S (Boot (work_end.Fault After)) (stays x)) (is_overfull (raised server)) _ _
       (λ full. stays_serve (Boot (work_end.Fault After))) (λ room. Fails refl rests)
 
-  pub server_serves : (what : Step) → is_blank what ≡ false → MayServer what w n → F what (server_step what (server_state setting w n) n server)
+  step_serves : (what : Step) → is_blank what ≡ false → MayServer what w n → F what (server_step what (server_state setting w n) n server)
       → S what (server_step what (server_state setting w n) n server)
   unfolding In
-  server_serves (Call line) other may later = absurd may
-  server_serves (Deliver letter) other may later =
+  step_serves (Call line) other may later = absurd may
+  step_serves (Deliver letter) other may later =
       by_test (λ (x : Server). S (Deliver letter) (record { server = x; letters = [] })) server.life.running _ _
       (λ runs. Goes log (silent own) _ runs (By_job log (silent own) refl Ignores (inr (leaves_silent own)))
       (queue_delivered letter may.comes.sent may.comes.own) (inr rests_idle))
       (λ rests. Stays (glance_sender here server) []
       (by_test (λ (who : Sender). who.from ≡ actor.Server n) server.life.running _ _ (λ t. refl) (λ t. refl)) (λ post i. absurd i))
-  server_serves Tick other may later =
+  step_serves Tick other may later =
       let done : Done = record { own = own; posts = tick_posts here server; jobs = [] } in
       Goes (asks_next (voter_of here) log) done _ may.runs
       (By_job (asks_next (voter_of here) log) done refl (By_lead _ (Asks_for _ tick_asks)) (ticks.tick_seated it may.runs))
       queue_started
       (inr (record { same = refl; asks = tick_asks }))
-  server_serves (Work work_end.Done) other may later = works_serve server.queue refl may.busy may.acts.runs later
-  server_serves (Work (work_end.Fault Before)) other may later = stops_serve (Work (work_end.Fault Before)) may.acts.runs
-  server_serves (Work (work_end.Fault After)) other may later = faults_serve (Work (work_end.Fault After)) server.queue refl may.busy may.acts.runs later
-  server_serves (StopIn Before) other may later = stops_serve (StopIn Before) may.acts.runs
-  server_serves (StopIn After) other may later = faults_serve (StopIn After) server.queue refl may.busy may.acts.runs later
-  server_serves Blank other may later = true_false refl other
-  server_serves Stop other may later = stops_serve Stop may.runs
-  server_serves (Boot end) other may later = boots_serve end may.rests
-  server_serves (Arm which plan) other may later = stays_serve (Arm which plan)
-  server_serves (Glance line round) other may later = glances_serve line round
+  step_serves (Work work_end.Done) other may later = works_serve server.queue refl may.busy may.acts.runs later
+  step_serves (Work (work_end.Fault Before)) other may later = stops_serve (Work (work_end.Fault Before)) may.acts.runs
+  step_serves (Work (work_end.Fault After)) other may later = faults_serve (Work (work_end.Fault After)) server.queue refl may.busy may.acts.runs later
+  step_serves (StopIn Before) other may later = stops_serve (StopIn Before) may.acts.runs
+  step_serves (StopIn After) other may later = faults_serve (StopIn After) server.queue refl may.busy may.acts.runs later
+  step_serves Blank other may later = true_false refl other
+  step_serves Stop other may later = stops_serve Stop may.runs
+  step_serves (Boot end) other may later = boots_serve end may.rests
+  step_serves (Arm which plan) other may later = stays_serve (Arm which plan)
+  step_serves (Glance line round) other may later = glances_serve line round
+
+-- the same by its parts
+pub server_serves : (setting : Setting) (w : World) → Rests setting w → Firm setting w → (n : ℕ) → IsSteady (server_state setting w n) → (stamp : ℕ)
+    (what : Step) → is_blank what ≡ false → MayServer what w n
+    → Firm setting (acts setting w n what stamp (server_step what (server_state setting w n) n (w.servers n))).world
+    → Serving setting w n what (server_step what (server_state setting w n) n (w.servers n))
+server_serves setting w rests firm n steady stamp =
+    step_serves (record { setting = setting; w = w; rests = rests; firm = firm; n = n; steady = steady; stamp = stamp })

@@ -2,11 +2,14 @@
 use Rattle.law_state.proofs.Noting.{log_dead, log_noted, log_twins}
 use Rattle.law_state.proofs.a_region_moves_behind_its_links.Goals as goal
 
+-- a cell that leaves had no link noted when it began to
 pub returns-clause-noted : goal.returns-clause-noted
 returns-clause-noted c = log_noted
 
+-- it dies at the entry by which the last link is noted
 pub returns-clause-dead : goal.returns-clause-dead
 returns-clause-dead c = log_dead
 
+-- the stages of the two cells change together
 pub returns-clause-twins : goal.returns-clause-twins
 returns-clause-twins c = log_twins
