@@ -77,29 +77,7 @@ impl Open {
                 self.counts(rev, *seq) && self.request.is_read(),
             )),
             Body::WrongRev { seq } => Ok(again_if(*seq == self.seq)),
-            Body::Down { .. }
-            | Body::Seen { .. }
-            | Body::Propose { .. }
-            | Body::Pax(_)
-            | Body::Ask { .. }
-            | Body::News { .. }
-            | Body::Read { .. }
-            | Body::Write { .. }
-            | Body::Reserve { .. }
-            | Body::Reserved { .. }
-            | Body::PairFull { .. }
-            | Body::Replicate { .. }
-            | Body::Replicated { .. }
-            | Body::HelloAsk { .. }
-            | Body::Hello { .. }
-            | Body::Trim { .. }
-            | Body::Trimmed { .. }
-            | Body::Sync { .. }
-            | Body::Synced { .. }
-            | Body::SyncFull { .. }
-            | Body::Fill { .. }
-            | Body::Filled { .. }
-            | Body::FillFull { .. } => Ok(Heard::Nothing),
+            _ => Ok(Heard::Nothing),
         }
     }
 }

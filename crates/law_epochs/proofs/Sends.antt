@@ -1,7 +1,6 @@
 -- What is so of each entry of a server, of what it has pending and of what it moves is so of the keys that it tells of in each job.
 use Rattle.std.proofs.Common.{◌≡◌, ◌⊎◌, ℕ, false, List, Option, Some, refl, ap, sym, ◌∙◌, subst, inl, inr}
-use Rattle.std.specs.Prelude.{filter, slice_get}
-use Rattle.busy_marks.specs.Marks.{above}
+use Rattle.std.specs.Prelude.{slice_get}
 use Rattle.petal_base.specs.declared.cell.Cell.{Cell}
 use Rattle.global_tables.specs.declared.link.LinkRow.{LinkRow}
 use Rattle.petal_base.specs.declared.cell.Key.{Key}
@@ -21,20 +20,20 @@ use Rattle.petal_msg.specs.declared.operation.Far.TheVariants as far
 use Rattle.petal_msg.specs.declared.operation.OpKind.{OpKind}
 use Rattle.petal_msg.specs.declared.operation.OpKind.TheVariants as kind
 use Rattle.petal_msg.specs.declared.operation.Pending.{Pending}
-use Rattle.petal_rules.specs.Copies.{begins_copy, least, marked_blocks, page_wanted}
+use Rattle.petal_rules.specs.Copies.{begins_copy, page_wanted}
 use Rattle.petal_rules.specs.Lists.{In}
 use Rattle.petal_rules.specs.Server.{Own, Here, Post, Done}
 use Rattle.petal_rules.specs.Store.{Stored, cell_cmp, chain_in, epochs_of}
 use Rattle.petal_rules.specs.Writes.{acts, ended, ends, follows, gives_back, moved_as, next_stage, tells, with_last, without_pending}
-use Rattle.law_steps.specs.DidLead.{DidLead, Asks_for, Repeats, Is_full, Opens, Marks, Puts, Gives_up, Unmarks, Closes, Opens_alone, Marks_alone, Puts_alone}
-use Rattle.law_steps.specs.DidLead.{Unmarks_alone, Closes_alone, Opens_fill, Opens_fill_alone, Has_fill, Has_no_room, Goes_on_dead, IsNextFill, Taken, Asks}
-use Rattle.law_steps.specs.DidLead.{A_slot, A_copy, A_trim, A_copied_entry, A_page, An_entry_to_move, Of_the_log}
+use Rattle.law_steps.specs.DidLead.{DidLead, Asks_for, Repeats, Is_full, Opens, Gives_up, Closes}
+use Rattle.law_steps.specs.DidLead.{Closes_alone, Opens_fill, Has_fill, Has_no_room, Goes_on_dead, IsNextFill, Taken, Asks}
+use Rattle.law_steps.specs.DidLead.{A_copy, A_copied_entry, An_entry_to_move, Of_the_log}
 use Rattle.law_steps.specs.DidFiller.{IsNextKey, Is_filled, Is_out_of_slots, filled_to}
 use Rattle.law_steps.specs.DidSecond.{DidSecond, with_tickets, Sets_apart, Promises, Declines, Follows}
-use Rattle.law_steps.specs.DidHolder.{DidHolder, CopyStep, Asks_to_trim, Sends, Unmarks_copied, Closes_copy, Asks_page, Turns_page}
-use Rattle.law_steps.specs.DidHolder.{Begins_copy, Goes_on_copying, Finds_it_full, Tidies}
+use Rattle.law_steps.specs.DidHolder.{DidHolder, CopyStep, Asks_to_trim, Sends, Asks_page}
+use Rattle.law_steps.specs.DidHolder.{Begins_copy, Goes_on_copying}
 use Rattle.law_steps.specs.DidOther.{OtherReply, Replies, DidOther, TrimStep, Is_trimmed, Drops_entry, Answers_page, Is_copied_to}
-use Rattle.law_steps.specs.DidOther.{Goes_on_trimming, Puts_entry, Has_entry, Has_no_slot}
+use Rattle.law_steps.specs.DidOther.{Goes_on_trimming, Puts_entry}
 use Rattle.law_steps.specs.Did.{Did, Ignores, Refuses, By_read, By_lead, By_second, By_holder, By_other, By_filler, By_sweep}
 use Rattle.law_steps.proofs.Letters.{one_post, posted}
 use Rattle.law_steps.proofs.Subjects.{of_read, of_sweep}

@@ -22,13 +22,13 @@ use Rattle.petal_rules.specs.Sweeping.{without_dead}
 use Rattle.petal_rules.specs.Store.{Chain, Store, Stored, chain_in, chains_with, version_of, without_entry}
 use Rattle.petal_rules.specs.Server.{Own, Here, Done}
 use Rattle.petal_rules.specs.Writes.{gives_back, pending_on, last_on, without_pending}
-use Rattle.law_steps.specs.DidLead.{DidLead, Asks_for, Repeats, Is_full, Gives_up, Opens, Marks, Puts, Unmarks, Closes, Opens_alone, Marks_alone, Puts_alone}
-use Rattle.law_steps.specs.DidLead.{Unmarks_alone, Closes_alone, Opens_fill, Opens_fill_alone, Has_fill, Has_no_room, Goes_on_dead, Taken}
-use Rattle.law_steps.specs.DidSecond.{DidSecond, Sets_apart, Promises, Declines, Follows}
-use Rattle.law_steps.specs.DidHolder.{DidHolder, CopyStep, TakenCopy, Asks_to_trim, Sends, Unmarks_copied, Closes_copy, Copy_as_is, Copy_trimmed, Copy_synced}
-use Rattle.law_steps.specs.DidHolder.{Asks_page, Turns_page, Begins_copy, Goes_on_copying, Finds_it_full, Tidies}
-use Rattle.law_steps.specs.DidOther.{DidOther, TrimStep, first_last, Is_trimmed, Drops_entry, Answers_page, Is_copied_to}
-use Rattle.law_steps.specs.DidOther.{Goes_on_trimming, Puts_entry, Has_entry, Has_no_slot}
+use Rattle.law_steps.specs.DidLead.{DidLead, Gives_up, Puts, Closes, Marks_alone, Puts_alone}
+use Rattle.law_steps.specs.DidLead.{Unmarks_alone, Closes_alone, Goes_on_dead, Taken}
+use Rattle.law_steps.specs.DidSecond.{DidSecond, Promises, Follows}
+use Rattle.law_steps.specs.DidHolder.{DidHolder, CopyStep, TakenCopy, Closes_copy, Copy_as_is, Copy_trimmed, Copy_synced}
+use Rattle.law_steps.specs.DidHolder.{Turns_page, Begins_copy, Goes_on_copying}
+use Rattle.law_steps.specs.DidOther.{DidOther, TrimStep, first_last, Is_trimmed, Drops_entry, Is_copied_to}
+use Rattle.law_steps.specs.DidOther.{Goes_on_trimming, Puts_entry}
 use Rattle.law_steps.specs.Did.{Did, Ignores, Refuses, By_read, By_lead, By_second, By_holder, By_other, By_filler, By_sweep}
 use Rattle.law_steps.specs.Happens.{IsSeated}
 use Rattle.law_steps.specs.DidSweep.{Sweeps, cell_swept}

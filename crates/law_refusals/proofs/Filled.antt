@@ -22,9 +22,9 @@ use Rattle.petal_rules.specs.Writes.{acts, ended, ends, gives_back, moved_as, ne
 use Rattle.petal_rules.proofs.Tests.{true_false}
 use Rattle.law_steps.specs.Did.{Did, Ignores, Refuses, By_read, By_lead, By_second, By_holder, By_other, By_filler, By_sweep}
 use Rattle.law_steps.specs.DidFiller.{DidFiller, Is_filled, Is_out_of_slots}
-use Rattle.law_steps.specs.DidLead.{DidLead, IsNewFill, Asks_for, Repeats, Is_full, Gives_up, Opens, Marks, Puts, Unmarks, Closes, Opens_alone, Marks_alone}
-use Rattle.law_steps.specs.DidLead.{Puts_alone, Unmarks_alone, Closes_alone, Opens_fill, Opens_fill_alone, Has_fill, Has_no_room, Goes_on_dead, Asks, A_slot}
-use Rattle.law_steps.specs.DidLead.{A_copy, A_trim, A_copied_entry, A_page, An_entry_to_move, Of_the_log}
+use Rattle.law_steps.specs.DidLead.{DidLead, IsNewFill, Asks_for, Repeats, Is_full, Gives_up, Opens, Closes}
+use Rattle.law_steps.specs.DidLead.{Closes_alone, Opens_fill, Has_fill, Has_no_room, Goes_on_dead, Asks}
+use Rattle.law_steps.specs.DidLead.{An_entry_to_move, Of_the_log}
 use Rattle.law_steps.proofs.CopyFrames.{of_holder, of_other}
 use Rattle.law_steps.proofs.Letters.{one_post, posted}
 use Rattle.law_steps.proofs.Subjects.{of_read, of_second, of_sweep}

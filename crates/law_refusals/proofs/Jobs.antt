@@ -38,8 +38,8 @@ use Rattle.law_state.proofs.Alone.{both_row, lead_first, second_both}
 use Rattle.law_state.proofs.Cells.{both_first, both_leads}
 use Rattle.law_steps.specs.DidRead.{DidRead}
 use Rattle.law_steps.specs.DidLead.{DidLead, Asks_for, Repeats, Is_full, Gives_up, Opens, Marks, Puts, Unmarks, Closes, Opens_alone, Marks_alone, Puts_alone}
-use Rattle.law_steps.specs.DidLead.{Unmarks_alone, Closes_alone, Opens_fill, Opens_fill_alone, Has_fill, Has_no_room, Goes_on_dead, Taken, Asks, A_slot, A_copy}
-use Rattle.law_steps.specs.DidLead.{A_trim, A_copied_entry, A_page, An_entry_to_move, Of_the_log}
+use Rattle.law_steps.specs.DidLead.{Unmarks_alone, Closes_alone, Opens_fill, Opens_fill_alone, Goes_on_dead, Taken, Asks, A_slot}
+use Rattle.law_steps.specs.DidLead.{An_entry_to_move, Of_the_log}
 use Rattle.law_steps.specs.DidSecond.{DidSecond, Sets_apart, Promises, Declines, Follows, FoundNoSlot}
 use Rattle.law_steps.specs.Did.{Did, Ignores, Refuses, By_read, By_lead, By_second, By_holder, By_other, By_filler, By_sweep}
 use Rattle.law_steps.specs.Happens.{Handled, IsSeated, own_place}

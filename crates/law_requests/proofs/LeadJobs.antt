@@ -36,8 +36,8 @@ use Rattle.petal_rules.proofs.Tests.{by_bool, by_test, none_some, same_or_apart,
 use Rattle.law_state.proofs.Steady.{log_rev}
 use Rattle.law_steps.specs.Operations.{done_to}
 use Rattle.law_steps.specs.DidLead.{DidLead, IsNew, Asks_for, Repeats, Is_full, Gives_up, Opens, Marks, Puts, Unmarks, Closes, Opens_alone, Marks_alone}
-use Rattle.law_steps.specs.DidLead.{Puts_alone, Unmarks_alone, Closes_alone, Opens_fill, Opens_fill_alone, Has_fill, Has_no_room, Goes_on_dead, Taken, Asks}
-use Rattle.law_steps.specs.DidLead.{A_slot, A_copy, A_trim, A_copied_entry, A_page, An_entry_to_move, Of_the_log}
+use Rattle.law_steps.specs.DidLead.{Puts_alone, Unmarks_alone, Closes_alone, Opens_fill, Opens_fill_alone, Goes_on_dead, Taken, Asks}
+use Rattle.law_steps.specs.DidLead.{An_entry_to_move, Of_the_log}
 use Rattle.law_steps.specs.Did.{is_not_here}
 use Rattle.law_steps.specs.Happens.{Handled, IsSeated, own_place}
 use Rattle.law_steps.proofs.Letters.{one_post, posted}

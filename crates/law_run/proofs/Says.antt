@@ -25,9 +25,9 @@ use Rattle.petal_rules.specs.State.{second}
 use Rattle.petal_rules.specs.Writes.{ended, ends, gives_back, is_clients, old_lead, without_pending}
 use Rattle.petal_rules.specs.World.{stamped}
 use Rattle.petal_rules.proofs.Tests.{same_some, true_false}
-use Rattle.law_steps.specs.DidLead.{DidLead, Asks, A_slot, A_copy, A_trim, A_copied_entry, A_page, An_entry_to_move, Of_the_log, Asks_for, Repeats, Is_full}
-use Rattle.law_steps.specs.DidLead.{Gives_up, Opens, Marks, Puts, Unmarks, Closes, Opens_alone, Marks_alone, Puts_alone, Unmarks_alone, Closes_alone}
-use Rattle.law_steps.specs.DidLead.{Opens_fill, Opens_fill_alone, Has_fill, Has_no_room, Goes_on_dead}
+use Rattle.law_steps.specs.DidLead.{DidLead, Asks, An_entry_to_move, Of_the_log, Asks_for, Repeats, Is_full}
+use Rattle.law_steps.specs.DidLead.{Gives_up, Opens, Closes, Closes_alone}
+use Rattle.law_steps.specs.DidLead.{Opens_fill, Has_fill, Has_no_room, Goes_on_dead}
 use Rattle.law_steps.specs.DidSecond.{DidSecond}
 use Rattle.law_steps.specs.Did.{Did, IsRefusal, Ignores, Refuses, By_read, By_lead, By_second, By_holder, By_other, By_filler, By_sweep}
 use Rattle.law_steps.proofs.CopyFrames.{of_holder, of_other}

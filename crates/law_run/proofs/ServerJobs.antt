@@ -20,7 +20,7 @@ use Rattle.petal_rules.specs.World.{chosen_state, kept}
 use Rattle.petal_rules.proofs.Tests.{is_the_one, same_some, true_false}
 use Rattle.law_state.specs.Steady.{IsSteady}
 use Rattle.law_state.proofs.Cells.{led_by, second_by}
-use Rattle.law_steps.specs.DidSecond.{DidSecond, Sets_apart, Promises, Declines, Follows}
+use Rattle.law_steps.specs.DidSecond.{DidSecond, Follows}
 use Rattle.law_steps.specs.DidOther.{DidOther}
 use Rattle.law_steps.specs.Did.{Did, Ignores, Refuses, By_read, By_lead, By_second, By_holder, By_other, By_filler, By_sweep}
 use Rattle.law_steps.specs.Happens.{IsSeated}
