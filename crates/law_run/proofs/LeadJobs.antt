@@ -31,7 +31,6 @@ use Rattle.law_state.proofs.Roles.{secondary_is_one}
 use Rattle.law_steps.specs.Operations.{answering, putting}
 use Rattle.law_steps.specs.DidLead.{DidLead, Taken, Is_full, Gives_up, Opens, Marks, Puts, Unmarks, Closes, Opens_alone, Marks_alone}
 use Rattle.law_steps.specs.DidLead.{Puts_alone, Unmarks_alone, Closes_alone, Opens_fill, Opens_fill_alone, Goes_on_dead}
-use Rattle.law_steps.specs.Happens.{Handled, own_place}
 use Rattle.law_steps.proofs.Restages.{stood}
 use Rattle.law_steps.proofs.Staged.{same_cell_or_apart}
 use Rattle.law_steps.proofs.Subjects.{of_ending}
