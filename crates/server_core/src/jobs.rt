@@ -218,16 +218,11 @@ fn handles<D: Disk>(
         | Body::WrongRev { .. }
         | Body::Written { .. }
         | Body::Full { .. } => silent(here, side, store),
-        Body::HelloAsk { .. }
-        | Body::Hello { .. }
-        | Body::Trim { .. }
-        | Body::Trimmed { .. }
-        | Body::Sync { .. }
-        | Body::Synced { .. }
-        | Body::SyncFull { .. } => copies(here, side, store, &letter.body),
         Body::Fill { .. } | Body::Filled { .. } | Body::FillFull { .. } => {
             fills(here, side, store, &letter.body)
         }
+        // all others are of copies, as `copies` asks
+        _ => copies(here, side, store, &letter.body),
     }
 }
 
