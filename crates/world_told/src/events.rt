@@ -15,7 +15,7 @@ use crate::operations::{
 };
 use crate::reads::{accepted, is_by_old_map, old_data, since_boot};
 use crate::writes::Writers;
-use petal_base::{ClientId, Key, NoMemory, OPERATOR, Seq, ServerId, SharedBlock};
+use petal_base::{ClientId, Key, NoMemory, OPERATOR, Seq, SharedBlock};
 use petal_history::Record;
 use petal_machine::{Event, Write, WriteEnd};
 use petal_msg::{Actor, Body, Letter};
@@ -257,20 +257,16 @@ impl<'a> Telling<'a> {
         }
     }
 
-    // Whether the server's job may have put the write where its copy counts.
-    fn is_late(&self, here: &Here, server: ServerId, write: &Write) -> bool {
-        self.disks.counts(server, &write.disk, write.block)
-            && is_asked(since_boot(here.before, server), server, write)
-    }
-
-    // Each open write that the job may have put so, where it had made its commit and tells nobody.
+    // Each open write that the server's job may have put where its copy counts, and had made its commit and tells nobody.
     fn notes_late(&mut self, here: &Here) -> Result<(), NoMemory> {
         let Some(server) = committed_by(here.own) else {
             return Ok(());
         };
         for client in 0..OPERATOR {
             if let Some(write) = self.writers.of(client) {
-                if self.is_late(here, server, write) {
+                if self.disks.counts(server, &write.disk, write.block)
+                    && is_asked(since_boot(here.before, server), server, write)
+                {
                     self.lates.add(here.step, self.told.len(), write)?;
                 }
             }
@@ -391,8 +387,10 @@ pub fn told_of(alloc: Global, script: &Script, records: &[Record]) -> Result<Vec
         told: Vec::new(alloc),
     };
     tell_all(&mut telling, records)?;
-    telling.lates.show_all(&telling.told);
-    settled(alloc, telling.told, &telling.lates)
+    let told = telling.told;
+    let mut lates = telling.lates;
+    lates.show_all(&told);
+    settled(alloc, told, &lates)
 }
 
 /// How many reads were answered by the map that their disk leaves.

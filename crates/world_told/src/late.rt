@@ -94,14 +94,21 @@ fn freezes(told: &Told, name: &Name, own: &Name) -> bool {
     }
 }
 
-// How many of these events were told before the snapshot was taken, or all of them where a read is of none.
-fn seen_by(told: &[Told], disk: &Name, snap: &Option<Name>) -> usize {
-    match snap {
-        None => told.len(),
-        Some(snap) => match told.iter().position(|told| freezes(told, disk, snap)) {
-            Some(at) => at,
-            None => 0,
-        },
+// Those of these events that were told before the snapshot was taken, or all of them where a read is of none.
+fn seen_by<'a>(told: &'a [Told], disk: &Name, snap: &Option<Name>) -> &'a [Told] {
+    let Some(snap) = snap else {
+        return told;
+    };
+    match told.iter().position(|own| freezes(own, disk, snap)) {
+        Some(at) => upto(told, at),
+        None => &[],
+    }
+}
+
+fn upto(told: &[Told], end: usize) -> &[Told] {
+    match told.get(..end) {
+        Some(first) => first,
+        None => told,
     }
 }
 
@@ -180,9 +187,9 @@ impl Lates {
             block: *block,
             bytes,
         };
-        let end = seen_by(before, disk, snap);
-        if let Some(after) = missing_after(&before[..end], shown) {
-            self.show(shown, after, end);
+        let seen = seen_by(before, disk, snap);
+        if let Some(after) = missing_after(seen, shown) {
+            self.show(shown, after, seen.len());
         }
     }
 
@@ -192,7 +199,7 @@ impl Lates {
             return;
         }
         for end in 0..told.len() {
-            self.show_by(&told[..end + 1]);
+            self.show_by(upto(told, end.saturating_add(1)));
         }
     }
 
