@@ -1,7 +1,6 @@
 -- That the past of an append is not empty.
 use Rattle.std.specs.Prelude.{OnOk, Result}
-use Rattle.std.proofs.Common.{◌≡◌, inl, inr, ℕ, List, [], ◌∷◌, ◌++◌, length, refl, sym, ap, subst, arith, length-append, Ok, Err}
-use Rattle.petal_disk.specs.Mixes.{Mixes}
+use Rattle.std.proofs.Common.{◌≡◌, inl, inr, ℕ, List, [], ◌∷◌, ◌++◌, length, sym, ap, subst, arith, length-append, Ok, Err}
 use Rattle.block_journal.specs.Records.{Stands, Stored}
 use Rattle.block_journal.specs.Region.{Region}
 use Rattle.block_journal.proofs.Frame.{stands_once}

@@ -47,6 +47,7 @@ impl Remembering {
 impl Disk for Remembering {
     ghost use Rattle.std.specs.Prelude.{length};
     ghost use Rattle.std.proofs.Common.{inl, inr, refl};
+    ghost use Rattle.petal_disk.specs.Padded.{length-padded, length-left};
     ghost use Rattle.disk_moments.specs.Moments.{LeftSince, Remembers, only_here, remembers_on};
 
     ghost size = { λ r. ⟦<MemDisk as Disk>⟧.size r.disk };
@@ -65,9 +66,9 @@ impl Disk for Remembering {
 
     ghost came_to = { λ first last. Remembers first.past.items first.disk last.past.items last.disk };
 
-    ghost whole = { λ r told. ⟦<MemDisk as Disk>⟧.whole r.disk told };
+    ghost whole = { λ r told. length-padded r.disk.now.items r.disk.len r.disk.within };
 
-    ghost left_whole = { λ r c left. ⟦<MemDisk as Disk>⟧.left_whole r.disk c left };
+    ghost left_whole = { λ r c left. length-left r.disk.now.items r.disk.kept.items r.disk.len c r.disk.within left };
 
     ghost counts_now = { λ r t c le now. inl now };
 

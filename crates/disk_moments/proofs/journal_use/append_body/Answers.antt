@@ -4,6 +4,9 @@ use Rattle.petal_disk.specs.Padded.{padded}
 use Rattle.petal_disk.proofs.Mixed.{mixes_now}
 use Rattle.petal_disk.proofs.Padding.{same_padded}
 use Rattle.petal_disk.specs.declared.memory_disk.MemDisk.{MemDisk}
+use denote.Exit.{yes}
+use denote.Param.Send.{arg_send, param_send}
+use Rattle.disk_moments.proofs.remembering.Remembering.TheSendSync.{the_send}
 use Rattle.disk_moments.proofs.Pasts.{was_left, on_ok}
 use Rattle.disk_moments.proofs.journal_use.append_body.Goals as goal
 
@@ -16,3 +19,6 @@ returns-clause-past c bodies stored =
     old.disk new.disk 8 c.args.journal.now c.append.new.self _ _ bodies c.args.body.now c.append.ensures.place.0 c.append.ensures.place.1
     (mixes_now _ _ (same_padded old.disk.now.items old.disk.kept.items old.disk.len old.disk.same_size)) c.append.ensures.run stored (appended tt bodies stored))
     c.append.ensures.appended
+
+pub append-requires-send-D : goal.append-requires-send-D
+append-requires-send-D c κs = param_send 1 _ (arg_send _ yes _ the_send)
