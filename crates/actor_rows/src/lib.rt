@@ -3,12 +3,4 @@
 #![tactic(auto)]
 
 #[cfg(test)]
-mod chains;
-#[cfg(test)]
-mod clients;
-#[cfg(test)]
-mod locks;
-#[cfg(test)]
-mod reads;
-#[cfg(test)]
-mod settles;
+mod tests;

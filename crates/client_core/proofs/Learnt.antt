@@ -7,10 +7,11 @@ use Rattle.petal_state.specs.Command.{after, state_after}
 use Rattle.petal_rules.proofs.Applied.{state_append}
 use Rattle.client_core.specs.Core.{Core, state_of}
 use Rattle.script_lines.specs.declared.answer.Answer.{Answer}
-use Rattle.client_core.specs.Learning.{learnt, fated}
+use Rattle.client_core.specs.Learning.{learnt}
+use Rattle.open_request.specs.Judging.{fated}
 use Rattle.client_core.specs.declared.learning.Learning.{Learning as Here}
-use Rattle.client_core.specs.declared.judging.Fate.{Fate}
-use Rattle.client_core.specs.declared.judging.Fate.TheVariants.{Waits, Answered}
+use Rattle.open_request.specs.declared.judging.Fate.{Fate}
+use Rattle.open_request.specs.declared.judging.Fate.TheVariants.{Waits, Answered}
 use Rattle.petal_rules.specs.Clients.{Client, Asked, Learning, answered_where, witnessed, judged_by, judged, takes_entry, takes_all}
 use Rattle.petal_rules.specs.Clients.{command_of, is_witness, refusal, verdict_for}
 

@@ -1,21 +1,22 @@
 -- What a call, and the entries of a letter, send and leave: the rule's outcome from the parts that the code computes.
-use Rattle.std.proofs.Common.{◌≡◌, ℕ, ◌+◌, false, List, [], length, Option, Some, None, refl, sym, ◌∙◌, ap, subst}
+use Rattle.std.proofs.Common.{◌≡◌, ℕ, ◌+◌, List, length, Option, Some, None, refl, sym, ◌∙◌, ap, subst}
 use Rattle.petal_command.specs.declared.command.Command.{Command}
 use Rattle.petal_msg.specs.declared.letter.Actor.TheVariants as actor
 use Rattle.petal_msg.specs.declared.letter.Letter.{Letter}
 use Rattle.script_lines.specs.declared.request.Request.{Request}
 use Rattle.petal_rules.specs.State.{State, servers_of}
 use Rattle.petal_rules.specs.Server.{letters_of}
-use Rattle.petal_rules.specs.Clients.{Client, Asked, asks_to_propose, called, first_round, goes_out, goes_out_where, sends}
+use Rattle.petal_rules.specs.Clients.{Client, Asked, asks_to_propose, called, goes_out, goes_out_where, sends}
 use Rattle.petal_rules.specs.Clients.{sends_or_proposes, then_goes_out, to_propose}
 use Rattle.client_core.specs.Core.{Core, at_core, state_of}
-use Rattle.client_core.specs.Open.{goes_old_where, on_way, sent_last, turned, way_of, with_send, with_witnesses}
-use Rattle.client_core.specs.Sending.{posts_of, sent_by, sent_where}
+use Rattle.open_request.specs.Open.{fresh, goes_old_where, on_way, sent_last, turned, way_of, with_send, with_witnesses}
+use Rattle.client_core.specs.Sending.{sent_by, sent_where}
+use Rattle.open_request.specs.Posting.{posts_of}
 use Rattle.client_core.specs.Learning.{learnt}
 use Rattle.client_core.specs.declared.learning.Learning.{Learning as Here}
-use Rattle.client_core.specs.declared.judging.Fate.TheVariants.{Waits}
+use Rattle.open_request.specs.declared.judging.Fate.TheVariants.{Waits}
 use Rattle.client_core.specs.declared.reaction.Reaction.{Reaction}
-use Rattle.client_core.specs.declared.open.Way.{Way}
+use Rattle.open_request.specs.declared.open.Way.{Way}
 use Rattle.client_core.specs.declared.sending.Sent.{Sent}
 
 -- the request goes out as it stands
@@ -56,42 +57,17 @@ old_way_sent core state asked witnesses way sent at_state is_open same way_is is
     let goes : Asked → Type 0 = λ (a : Asked). goes_out state core.me (record core.client { asks = core.client.asks }) a ≡ sent_by core.client a sent in
     rw (← at_state) (rw is_open (subst goes (λ i. on_way asked (same i) (way_is i)) (is core.client)))
 
-called_goes_out : (core : Core) (line : ℕ) (request : Request) (fresh : Asked)
-    → fresh ≡ record {
-      line = line;
-      seq = core.client.seq + 1;
-      request = request;
-      turn = 0;
-      rev = (state_of core).rev;
-      witnesses = 0;
-      told = false;
-      old_way = false;
-      round = first_round request;
-      seen = [];
-    }
-    → called (state_of core) core.me core.client line request ≡ goes_out (state_of core) core.me (record core.client { seq = fresh.seq }) fresh
-called_goes_out core line request fresh is = rw is refl
-
 -- a call
-pub called_is : (core new : Core) (line : ℕ) (request : Request) (fresh : Asked) (sent : Sent) (letters : List Letter)
-    → fresh ≡ record {
-      line = line;
-      seq = core.client.seq + 1;
-      request = request;
-      turn = 0;
-      rev = (state_of core).rev;
-      witnesses = 0;
-      told = false;
-      old_way = false;
-      round = first_round request;
-      seen = [];
-    }
-    → ((client : Client) → goes_out (state_of core) core.me (record client { asks = core.client.asks }) fresh ≡ sent_by client fresh sent)
+pub called_is : (core new : Core) (line : ℕ) (request : Request) (asked : Asked) (sent : Sent) (letters : List Letter)
+    → asked ≡ fresh line (core.client.seq + 1) request (state_of core).rev
+    → ((client : Client) → goes_out (state_of core) core.me (record client { asks = core.client.asks }) asked ≡ sent_by client asked sent)
     → letters ≡ letters_of (record { from = actor.Client core.me; inc = 0; rev = length core.client.applied }) 0 (posts_of sent.post)
-    → new ≡ record core { client = record core.client { seq = fresh.seq; asks = sent.asks; asked = Some (sent_last sent.last fresh) } }
+    → new ≡ record core { client = record core.client { seq = asked.seq; asks = sent.asks; asked = Some (sent_last sent.last asked) } }
     → ◌≡◌ {A = Core × Reaction} (new, record { letters = letters; answer = None }) (at_core core (called (state_of core) core.me core.client line request))
-called_is core new line request fresh sent letters fresh_is sent_is letters_are new_is =
-    rw (new_is, letters_are) (ap (at_core core) (sym (called_goes_out core line request fresh fresh_is ∙ sent_is (record core.client { seq = fresh.seq }))))
+called_is core new line request asked sent letters asked_is sent_is letters_are new_is =
+    let goes : called (state_of core) core.me core.client line request ≡ goes_out (state_of core) core.me (record core.client { seq = asked.seq }) asked =
+    rw asked_is refl in
+    rw (new_is, letters_are) (ap (at_core core) (sym (goes ∙ sent_is (record core.client { seq = asked.seq }))))
 
 -- what is known where the request waits still
 learnt_waits : (client : Client) (asked : Option Asked) (now : Here) (witnesses : ℕ) → now.fate ≡ Waits witnesses

@@ -1,11 +1,14 @@
 -- A client's core, and what a step of it leaves, sends and answers.
-use Rattle.std.specs.Prelude.{ℕ, ◌==◌, ◌||◌, Bool}
+use Rattle.std.specs.Prelude.{ℕ, ◌==◌, ◌||◌, Bool, Option, Some, None}
 use Rattle.petal_state.specs.Command.{state_after}
 use Rattle.petal_rules.specs.State.{State}
 use Rattle.petal_rules.specs.Server.{letters_of}
-use Rattle.petal_rules.specs.Clients.{Client, client_sender}
+use Rattle.petal_rules.specs.Clients.{Asked, Client, client_sender}
 use Rattle.petal_rules.specs.Clients as rules
 use Rattle.petal_rules.specs.World.{greatest_u32, round_of, turn_of}
+use Rattle.open_request.specs.Open.{settle_in}
+use Rattle.open_request.specs.Orders.{order_in, order_of}
+use Rattle.open_request.specs.declared.order.Order.{Order}
 use Rattle.client_core.specs.declared.reaction.Reaction.{Reaction}
 
 -- a client's number, how many servers there are, and what the rules know of it
@@ -29,3 +32,13 @@ at_core core reacted = (
 abbrev pub is_spent : Client → Bool
 is_spent client =
     (client.seq == greatest_u32) || (turn_of client.asked == greatest_u32) || (round_of client.asked == greatest_u32)
+
+-- the open request's line, with what it asks of which server
+abbrev pub ordered : Option Asked → Option (ℕ × Order × ℕ)
+ordered None = None
+ordered (Some asked) = order_in asked (order_of asked.request)
+
+-- the open request's line and its round, where it is a settle
+abbrev pub settle_of : Option Asked → Option (ℕ × ℕ)
+settle_of None = None
+settle_of (Some asked) = settle_in asked asked.request

@@ -1,17 +1,9 @@
 -- A client on its way through the entries of a letter, in code: the request itself stays where it is.
 use Rattle.std.specs.Prelude.{Option, Some, None}
-use Rattle.petal_rules.specs.State.{State}
 use Rattle.petal_rules.specs.Clients.{Client, Asked}
 use Rattle.petal_rules.specs.Clients as rules
 use Rattle.client_core.specs.declared.learning.Learning.{Learning}
-use Rattle.client_core.specs.declared.judging.Fate.{Fate}
-use Rattle.client_core.specs.declared.judging.Fate.TheVariants.{Waits, Answered}
-
--- the open request, as its fate has it
-abbrev pub fated : State → Client → Asked → Fate → rules.Learning
-fated state client asked (Waits witnesses) =
-    record { state = state; client = record client { asked = Some (record asked { witnesses = witnesses }) }; answer = None }
-fated state client asked (Answered given) = record { state = state; client = record client { asked = None }; answer = Some (asked.line, given) }
+use Rattle.open_request.specs.Judging.{fated}
 
 -- what the rules know of it, where this request was open as the letter came
 abbrev pub learnt : Client → Option Asked → Learning → rules.Learning

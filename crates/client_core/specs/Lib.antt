@@ -1,4 +1,3 @@
 pub mod Core
-pub mod Open
 pub mod Sending
 pub mod Learning

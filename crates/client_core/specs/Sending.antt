@@ -1,14 +1,9 @@
 -- What a send of the open request does.
-use Rattle.std.specs.Prelude.{List, [], ◌∷◌, Option, Some, None}
-use Rattle.petal_rules.specs.Server.{Post}
+use Rattle.std.specs.Prelude.{Some, None}
 use Rattle.petal_rules.specs.Clients.{Client, Asked, Reaction}
-use Rattle.client_core.specs.Open.{sent_last, with_send}
+use Rattle.open_request.specs.Open.{sent_last, with_send}
+use Rattle.open_request.specs.Posting.{posts_of}
 use Rattle.client_core.specs.declared.sending.Sent.{Sent}
-
--- one post at most
-abbrev pub posts_of : Option Post → List Post
-posts_of None = []
-posts_of (Some post) = post ∷ []
 
 -- what a client leaves and sends whose request goes out
 abbrev pub sent_by : Client → Asked → Sent → Reaction

@@ -4,23 +4,22 @@ ghost use Rattle.std.specs.Prelude.{◌≡◌, ◌↔◌, ◌+◌, ◌<◌, leng
 ghost use Rattle.std.specs.Option.{option_map_or};
 ghost use Rattle.petal_state.specs.Command.{state_after};
 ghost use Rattle.petal_rules.specs.State.{servers_of};
-ghost use Rattle.petal_rules.specs.Clients.{Client, first_client, called, first_round, heard, hears_of, next_entries, sees, takes_entries};
+ghost use Rattle.petal_rules.specs.Clients.{Client, first_client, called, heard, hears_of, next_entries, sees, takes_entries};
 ghost use Rattle.petal_rules.specs.Clients.{then_goes_out, ticked, asking, goes_out_where};
 ghost use Rattle.petal_rules.specs.World.{round_of, turn_of};
-ghost use Rattle.client_core.specs.Core.{at_core, is_spent, state_of};
-ghost use Rattle.client_core.specs.Open.{answers_where, blank_of, goes_old_where, in_round, outcome, settle_of, start_of, stop_of, with_send, with_witnesses};
+ghost use Rattle.client_core.specs.Core.{at_core, is_spent, ordered, settle_of, state_of};
+ghost use Rattle.open_request.specs.Open.{answers_where, fresh, goes_old_where, in_round, outcome, with_send, with_witnesses};
 ghost use Rattle.client_core.specs.Learning.{learnt};
 
-use crate::hearing::Heard;
-use crate::judging::Fate;
 use crate::learning::Learning;
-use crate::open::{Last, Open, was_sent, was_witnessed};
-use crate::posting::{one_letter, two_letters};
 use crate::reaction::Reaction;
-use crate::round::{Round, Sight, went_round};
 use crate::sending::Sent;
 use ghost_list::GhostList;
 use global_state::GlobalState;
+use open_request::{
+    Fate, Heard, Last, Open, Order, Round, Sight, one_letter, two_letters, was_sent, was_witnessed,
+    went_round,
+};
 use petal_base::{CLIENTS, ClientId, NoMemory, Rev, Seq, Sequence, ServerId};
 use petal_command::{ClientNumber, Command};
 use petal_msg::{Actor, Body, Letter};
@@ -166,33 +165,13 @@ impl ClientCore {
         self.seq == Seq::MAX || self.turn() == u32::MAX || self.round() == u32::MAX
     }
 
-    /// The line of the open request, where it stops this server.
-    pub fn stops(&self, server: ServerId) -> Option<u32>
-        ensures { result ≡ stop_of server self.now.client.asked }
+    /// The line of the open request, with what it asks of which server, where it asks that of one.
+    pub fn order(&self) -> Option<(u32, Order, ServerId)>
+        ensures { result ≡ ordered self.now.client.asked }
     {
         match &self.asked {
             None => None,
-            Some(open) => open.stops(server),
-        }
-    }
-
-    /// The line of the open request, where it starts this server.
-    pub fn starts(&self, server: ServerId) -> Option<u32>
-        ensures { result ≡ start_of server self.now.client.asked }
-    {
-        match &self.asked {
-            None => None,
-            Some(open) => open.starts(server),
-        }
-    }
-
-    /// The line of the open request, where it blanks this server.
-    pub fn blanks(&self, server: ServerId) -> Option<u32>
-        ensures { result ≡ blank_of server self.now.client.asked }
-    {
-        match &self.asked {
-            None => None,
-            Some(open) => open.blanks(server),
+            Some(open) => open.order(),
         }
     }
 
@@ -409,18 +388,7 @@ impl ClientCore {
 
     /// The request under the client's next number, before it is sent.
     fn opened(&self, alloc: Global, line: u32, request: Request) -> Result<Open, NoMemory>
-        ensures { IfOk result (λ asked. asked ≡ record {
-          line = line;
-          seq = self.now.client.seq + 1;
-          request = request;
-          turn = 0;
-          rev = (state_of self.now).rev;
-          witnesses = 0;
-          told = false;
-          old_way = false;
-          round = first_round request;
-          seen = [];
-        }) }
+        ensures { IfOk result (λ asked. asked ≡ fresh line (self.now.client.seq + 1) request (state_of self.now).rev) }
     {
         let seq = self.seq.checked_add(1).ok_or(NoMemory)?;
         Open::new(alloc, line, seq, request, self.state.rev())

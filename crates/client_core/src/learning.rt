@@ -8,9 +8,9 @@ ghost use Rattle.client_core.specs.Core.{state_of};
 ghost use Rattle.client_core.specs.Learning.{learnt};
 
 use crate::ClientCore;
-use crate::judging::{Fate, judged};
 use ghost_list::{Change, GhostList};
 use global_state::GlobalState;
+use open_request::{Fate, judged};
 use petal_base::{NoMemory, Rev};
 use petal_command::Command;
 use std::alloc::Global;

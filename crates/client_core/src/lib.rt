@@ -6,15 +6,10 @@
 #![tactic(auto)]
 
 mod client;
-mod hearing;
-mod judging;
 mod learning;
-mod open;
-mod posting;
-mod proposing;
 mod reaction;
-mod round;
 mod sending;
 
 pub use client::ClientCore;
+pub use open_request::{Order, order_of};
 pub use reaction::Reaction;

@@ -1,20 +1,18 @@
 //! What a send of the open request does.
 
-ghost use Rattle.std.specs.Prelude.{◌≡◌, ◌+◌, ◌%◌, ℕ, List, IfOk};
+ghost use Rattle.std.specs.Prelude.{◌≡◌, ◌+◌, ◌%◌, ℕ, List, None, IfOk};
 ghost use Rattle.petal_command.specs.declared.command.Command.{Command as Entry};
 ghost use Rattle.petal_msg.specs.declared.body.Body.TheVariants as body;
 ghost use Rattle.petal_msg.specs.declared.letter.Actor.TheVariants as actor;
 ghost use Rattle.petal_rules.specs.State.{State, servers_of};
 ghost use Rattle.petal_rules.specs.Clients.{Client, asks_to_propose, goes_out, goes_out_where, sends};
 ghost use Rattle.client_core.specs.Core.{state_of};
-ghost use Rattle.client_core.specs.Open.{goes_old_where, on_way, with_witnesses};
+ghost use Rattle.open_request.specs.Open.{goes_old_where, on_way, with_witnesses};
 ghost use Rattle.client_core.specs.Sending.{sent_by, sent_where};
 
 use crate::ClientCore;
-use crate::open::{Last, Open, Way};
-use crate::posting::{Post, post_for};
-use crate::proposing::to_propose;
 use global_state::GlobalState;
+use open_request::{Last, Open, Post, Way, post_for, to_propose};
 use petal_base::{NoMemory, ServerId};
 use petal_command::Command;
 use petal_msg::{Actor, Body};
@@ -27,16 +25,6 @@ pub struct Sent {
     pub asks: ServerId,
     pub last: Last,
 }
-
-/// Of no request there is no send.
-const NEVER: Last = Last {
-    turn: 0,
-    rev: 0,
-    way: Way {
-        told: false,
-        old_way: false,
-    },
-};
 
 /// The server after this one.
 pub fn next_server(asks: ServerId, servers: u8) -> Result<ServerId, NoMemory>
@@ -116,6 +104,25 @@ impl ClientCore {
         })
     }
 
+    /// Of no request there is no send.
+    fn no_send(&self) -> Sent
+        ensures post { result.post ≡ None }
+        ensures asks { result.asks ≡ self.now.client.asks }
+    {
+        Sent {
+            post: None,
+            asks: self.asks,
+            last: Last {
+                turn: 0,
+                rev: 0,
+                way: Way {
+                    told: false,
+                    old_way: false,
+                },
+            },
+        }
+    }
+
     /// A request that was just called goes out.
     #[tactic(auto, using(petal_rules::proofs::Applied::servers_after))]
     pub(crate) fn sends_first(&self, alloc: Global, asked: &Open) -> Result<Sent, NoMemory>
@@ -140,11 +147,7 @@ impl ClientCore {
             goes_out_where state.now self.now.me client client.asked ≡ sent_where client sent) }
     {
         match &self.asked {
-            None => Ok(Sent {
-                post: None,
-                asks: self.asks,
-                last: NEVER,
-            }),
+            None => Ok(self.no_send()),
             Some(asked) => {
                 let sent = self.goes_out(alloc, state, asked, witnesses, asked.way())?;
                 Ok(sent)
@@ -159,11 +162,7 @@ impl ClientCore {
             ≡ sent_where self.now.client sent) }
     {
         match &self.asked {
-            None => Ok(Sent {
-                post: None,
-                asks: self.asks,
-                last: NEVER,
-            }),
+            None => Ok(self.no_send()),
             Some(asked) => {
                 let sent = self.goes_out(alloc, &self.state, asked, asked.witnesses, asked.way())?;
                 Ok(sent)
@@ -178,11 +177,7 @@ impl ClientCore {
             ≡ sent_where self.now.client sent) }
     {
         match &self.asked {
-            None => Ok(Sent {
-                post: None,
-                asks: self.asks,
-                last: NEVER,
-            }),
+            None => Ok(self.no_send()),
             Some(asked) => {
                 let way = Way {
                     told: true,

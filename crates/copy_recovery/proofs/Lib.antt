@@ -1,5 +1,1 @@
-pub mod Least
-pub mod Links
-pub mod Stages
-pub mod Trims
 pub mod Pages

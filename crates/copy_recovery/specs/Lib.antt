@@ -1,5 +1,1 @@
-pub mod Walks
-pub mod Entries
-pub mod Stages
-pub mod Found
 pub mod Again

@@ -5,14 +5,12 @@ ghost use Rattle.petal_rules.specs.Copies as copies;
 ghost use Rattle.petal_rules.specs.Store.{Store as Stored};
 ghost use Rattle.pair_side.specs.Side.{own_of, HasTicketsAt};
 ghost use Rattle.pair_side.specs.Done.{IsDone, IsSaid};
-ghost use Rattle.copy_recovery.specs.Walks.{side_own};
+ghost use Rattle.link_blocks.specs.Walks.{side_own};
 
-use crate::copy::followed;
-use crate::roles::other_in;
-use crate::walk::{cell_at, marked_above};
 use busy_marks::MarkKind;
 use global_state::{LinkRow, holder_of};
 use kept_chains::mark;
+use link_blocks::{cell_at, followed, marked_above, other_in};
 use pair_side::{Done, FollowUp, Here, Side, WorkError, link_id, says_to, silent};
 use petal_base::BlockNo;
 use petal_disk::Disk;

@@ -6,30 +6,36 @@ use petal_disk::{
     CallKind, Disk, Failed, MemDisk, MemShelf, MemSink, MemSource, Plan, Planned, Shelf,
     ShelfError, Sink, Source, Which, read_full, write_all, write_kept,
 };
-use std::process::Abort;
+use std::alloc::Global;
 use std::test::Fail;
 
-fn read_in_pieces(rt: &impl Abort, source: &mut MemSource) {
+// Of three reads the second one fails.
+fn is_read_in_pieces(source: &mut MemSource) -> bool {
     let mut buffer = [0; 3];
-    assert_eq!(rt; source.read(&mut buffer), Ok(3));
-    assert_eq!(rt; source.read(&mut buffer), Err(Failed));
-    assert_eq!(rt; read_full(source, &mut buffer), Ok(1));
-    assert_eq!(rt; buffer, [4, 2, 3]);
+    let first = source.read(&mut buffer);
+    let second = source.read(&mut buffer);
+    let third = read_full(source, &mut buffer);
+    first == Ok(3) && second == Err(Failed) && third == Ok(1) && buffer == [4, 2, 3]
 }
 
-fn write_twice(rt: &impl Abort, sink: &mut MemSink) {
-    assert_eq!(rt; sink.write(b"lost"), Err(Failed));
-    assert_eq!(rt; write_all(sink, b"kept"), Ok(()));
+// Of two writes the first one fails.
+fn takes_the_second(sink: &mut MemSink) -> bool {
+    sink.write(b"lost") == Err(Failed) && write_all(sink, b"kept") == Ok(())
 }
 
 #[test]
-fn listed_calls_of_streams_fail(rt: HostRuntime) -> Result<(), Fail> {
+fn listed_calls_of_sources_fail(rt: HostRuntime) -> Result<(), Fail> {
     let alloc = rt.alloc();
     let mut source = MemSource::new(vec![in alloc; 1, 2, 3, 4]?, vec![in alloc; 2]?);
-    read_in_pieces(&rt, &mut source);
-    let mut sink = MemSink::new(alloc, vec![in alloc; 1]?);
-    write_twice(&rt, &mut sink);
-    assert_eq!(rt; sink.into_bytes().as_slice(), b"kept".as_slice());
+    assert!(rt; is_read_in_pieces(&mut source));
+    Ok(())
+}
+
+#[test]
+fn listed_calls_of_sinks_fail(rt: HostRuntime) -> Result<(), Fail> {
+    let mut sink = MemSink::new(rt.alloc(), vec![in rt.alloc(); 1]?);
+    assert!(rt; takes_the_second(&mut sink));
+    assert!(rt; sink.into_bytes().as_slice() == b"kept".as_slice());
     Ok(())
 }
 
@@ -55,8 +61,8 @@ fn a_plan_is_met_once(rt: HostRuntime) -> Result<(), Fail> {
     let mut disk = Planned::new(MemDisk::new(rt.alloc(), 8)?);
     assert!(rt; meet_plan(&mut disk));
     let mut seen = [0; 8];
-    assert_eq!(rt; disk.into_disk().read(0, &mut seen), Ok(()));
-    assert_eq!(rt; &seen, b"abcdef\0\0");
+    let read = disk.into_disk().read(0, &mut seen);
+    assert!(rt; read == Ok(()) && seen == *b"abcdef\0\0");
     Ok(())
 }
 
@@ -84,13 +90,17 @@ fn fail_late<D: Disk>(
     Ok([seen, left])
 }
 
+// Whether this is what is there then, and the device has stopped where its plan said so.
+fn is_kept(alloc: Global, kind: CallKind, stop: bool, wanted: [[u8; 4]; 2]) -> Result<bool, Fail> {
+    let mut disk = Planned::new(MemDisk::new(alloc, 4)?);
+    let kept = fail_late(&mut disk, kind, stop);
+    Ok(kept == Ok(wanted) && disk.stopped() == stop)
+}
+
 #[test]
 fn a_late_sync_outlasts_a_crash(rt: HostRuntime) -> Result<(), Fail> {
     for stop in [false, true] {
-        let mut disk = Planned::new(MemDisk::new(rt.alloc(), 4)?);
-        let kept = fail_late(&mut disk, CallKind::Sync, stop);
-        assert_eq!(rt; kept, Ok([*b"abcd", *b"abcd"]));
-        assert_eq!(rt; disk.stopped(), stop);
+        assert!(rt; is_kept(rt.alloc(), CallKind::Sync, stop, [*b"abcd", *b"abcd"])?);
     }
     Ok(())
 }
@@ -98,10 +108,7 @@ fn a_late_sync_outlasts_a_crash(rt: HostRuntime) -> Result<(), Fail> {
 #[test]
 fn a_late_write_is_whole_and_lost_in_a_crash(rt: HostRuntime) -> Result<(), Fail> {
     for stop in [false, true] {
-        let mut disk = Planned::new(MemDisk::new(rt.alloc(), 4)?);
-        let kept = fail_late(&mut disk, CallKind::Write, stop);
-        assert_eq!(rt; kept, Ok([*b"abcd", [0; 4]]));
-        assert_eq!(rt; disk.stopped(), stop);
+        assert!(rt; is_kept(rt.alloc(), CallKind::Write, stop, [*b"abcd", [0; 4]])?);
     }
     Ok(())
 }

@@ -57,16 +57,21 @@ join_of_1 = Join 1 2 false
 abbrev pub wants_of_1 : World → List Command
 wants_of_1 w = wanted_by (here_of (server_state comeback w 1) 1 (w.servers 1)) (w.servers 1)
 
--- a tick of server 1 asks server 2 or 0 what follows, which is letter k, and it starts a ballot. It and server 0 promise and
--- accept, and both hear and apply what is chosen
+-- a tick of this server of three asks another one what follows, which is letter k, and it starts a ballot. It and the other server promise
+-- and accept, and both hear and apply what is chosen. Of the letters that it sends to all, its own and that to the other one are so many behind
+-- the first
+abbrev pub ballot_of : (server other its_own to_other k : ℕ) → List Move
+ballot_of server other its_own to_other k =
+    server_ticks server ∷ Works server
+    ∷ passes (k + (2 + its_own)) server ++ passes (k + (2 + to_other)) other
+    ++ passes (k + 4) server ++ passes (k + 5) server
+    ++ passes (k + (7 + its_own)) server ++ passes (k + (7 + to_other)) other
+    ++ passes (k + 9) server ++ passes (k + 10) server
+    ++ passes (k + (12 + its_own)) server ++ Works server ∷ passes (k + (12 + to_other)) other ++ Works other ∷ []
+
+-- that of server 1, with server 0
 abbrev pub ballot_moves : ℕ → List Move
-ballot_moves k =
-    server_ticks 1 ∷ Works 1
-    ∷ passes (k + 2) 1 ++ passes (k + 3) 0
-    ++ passes (k + 4) 1 ++ passes (k + 5) 1
-    ++ passes (k + 7) 1 ++ passes (k + 8) 0
-    ++ passes (k + 9) 1 ++ passes (k + 10) 1
-    ++ passes (k + 12) 1 ++ Works 1 ∷ passes (k + 13) 0 ++ Works 0 ∷ []
+ballot_moves k = ballot_of 1 0 0 1 k
 
 -- the Leave of its first incarnation is chosen, and then its Join
 abbrev pub left_acts : List Act

@@ -1,5 +1,5 @@
 -- Runs in which a server that has returned is brought up to date.
-use Rattle.std.specs.Prelude.{ℕ, ◌+◌, List, [], ◌∷◌, ◌++◌}
+use Rattle.std.specs.Prelude.{ℕ, List, [], ◌∷◌, ◌++◌}
 use Rattle.petal_rules.specs.World.{World}
 use Rattle.petal_history.specs.Examples.{passes, server_ticks}
 use Rattle.petal_history.specs.Play.{Move, Calls, Hands, Works, plays}
@@ -75,13 +75,7 @@ written_moves = Calls 0 2 ∷ passes 0 0
 
 -- a ballot of server 0, with server 1, whose first letter is letter k
 abbrev pub ballot_of_0 : ℕ → List Move
-ballot_of_0 k =
-    server_ticks 0 ∷ Works 0
-    ∷ passes (k + 3) 0 ++ passes (k + 2) 1
-    ++ passes (k + 4) 0 ++ passes (k + 5) 0
-    ++ passes (k + 8) 0 ++ passes (k + 7) 1
-    ++ passes (k + 9) 0 ++ passes (k + 10) 0
-    ++ passes (k + 13) 0 ++ Works 0 ∷ passes (k + 12) 1 ++ Works 1 ∷ []
+ballot_of_0 k = boots.ballot_of 0 1 1 0 k
 
 -- its Leave is chosen, and then its Join
 abbrev pub gone_moves : List Move

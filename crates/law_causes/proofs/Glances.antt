@@ -30,6 +30,7 @@ use Rattle.petal_history.specs.Legal.{IsLegal, world_after}
 use Rattle.petal_history.specs.Order.{AreRising}
 use Rattle.petal_history.specs.Sound.{IsSound}
 use Rattle.petal_history.specs.declared.record.Record.{Record}
+use Rattle.law_state.specs.Moments.{IsMoment}
 use Rattle.law_answers.proofs.Places.{line_at, one_place}
 use Rattle.law_steps.specs.Happens.{Heard}
 use Rattle.law_steps.specs.Turned.{Turned, IsSame, StaysOpen, Goes_on, Is_told, Begins, Reads, Ends, Shown, IsSeenAs}
@@ -61,20 +62,23 @@ module _ (script : Script) (records : List Record) (sound : IsSound script) (ris
 
   -- one of the records is a glance of this line at the server, which the answer tells of
   pub record Glanced (line : Line) (n : ℕ) (given : Answer) : Type 0 where
-    pub front : List Record
-    pub own : Record
-    pub behind : List Record
-    pub is : records ≡ front ++ own ∷ behind
+    pub moment : IsMoment records
+    pub open moment use *
     pub so : IsGlance setting (world_after setting (start setting) front) own line n given
+
+  -- the operator's line at this place has this number
+  record IsOperators (number place : ℕ) : Type 0 where
+    line : Line
+    is : slice_get (lines_of lines operator) place ≡ Some line
+    number_is : line.number ≡ number
 
   -- a letter shows whether a server runs, at the glance of this line, which the operator has called. The last one that it has
   -- called was then glanced at
   record IsShown (w : World) (letter : Letter) (number : ℕ) (running : Bool) : Type 0 where
     to : letter.to ≡ actor.Client operator
     place : ℕ
-    line : Line
-    is : slice_get (lines_of lines operator) place ≡ Some line
-    number_is : line.number ≡ number
+    of : IsOperators number place
+    open of use *
     called : place < (w.clients operator).seq
     last : place + 1 ≡ (w.clients operator).seq → w.control.glanced ≡ Some number
     fails : (n : ℕ) → AsksToBoot line.request n → running ≡ false → Fails number
@@ -122,9 +126,7 @@ module _ (script : Script) (records : List Record) (sound : IsSound script) (ris
     shown_on v same letter number running s last = record {
       to = s.to;
       place = s.place;
-      line = s.line;
-      is = s.is;
-      number_is = s.number_is;
+      of = s.of;
       called = subst (λ (clients : ℕ → Client). s.place < (clients operator).seq) (sym same) s.called;
       last = λ e. last (e ∙ ap (λ (clients : ℕ → Client). (clients operator).seq) same);
       fails = s.fails;
@@ -165,9 +167,7 @@ module _ (script : Script) (records : List Record) (sound : IsSound script) (ris
         record {
           to = to;
           place = o.before;
-          line = o.line;
-          is = o.is;
-          number_is = sym o.line_is ∙ may.line_is ∙ same;
+          of = record { line = o.line; is = o.is; number_is = sym o.line_is ∙ may.line_is ∙ same };
           called = omega arith;
           last = λ e. ap Some same;
           fails = λ m asks off.
@@ -184,10 +184,7 @@ module _ (script : Script) (records : List Record) (sound : IsSound script) (ris
               let done = due.2 in
               let at = glanced_at o.line.request n m _ _ done named in
               record {
-                front = front;
-                own = own;
-                behind = behind;
-                is = lies;
+                moment = record { front = front; own = own; behind = behind; is = lies };
                 so = record {
                   asked = may.asked;
                   opened = line_of lines w may.asked o (record { is = may.is; first = due.1 });
@@ -259,10 +256,7 @@ module _ (script : Script) (records : List Record) (sound : IsSound script) (ris
           boots = asks;
           fresh = may.opened.first;
           fails = λ rests. record {
-            front = front;
-            own = own;
-            behind = behind;
-            is = lies;
+            moment = record { front = front; own = own; behind = behind; is = lies };
             server = n;
             asked = may.asked;
             line = o.line;
@@ -381,9 +375,7 @@ module _ (script : Script) (records : List Record) (sound : IsSound script) (ris
         record {
           to = s.to;
           place = s.place;
-          line = s.line;
-          is = s.is;
-          number_is = s.number_is;
+          of = s.of;
           called = elim g.seq [ inl e ↦ omega arith | inr e ↦ omega arith ];
           last = λ at. elim g.seq [
             | inl e ↦ ap (λ (control : Control). control.glanced) same ∙ s.last (at ∙ e)

@@ -108,10 +108,7 @@ module _ (script : Script) (sound : IsSound script) (rise : AreRising script.lin
   has_glance records legal line n given there named told =
       let g = was_glanced script records sound rise legal line n given there named told in
       record {
-        front = g.front;
-        own = g.own;
-        behind = g.behind;
-        is = g.is;
+        moment = g.moment;
         so = g.so;
         once = λ other round i again. elim (in-append other g.front g.behind i) [
           | inl before ↦

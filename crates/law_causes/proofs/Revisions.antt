@@ -17,6 +17,7 @@ use Rattle.petal_history.specs.Legal.{Follows, IsLegal, IsLegalFrom, stepped, wo
 use Rattle.petal_history.specs.declared.record.Record.{Record}
 use Rattle.script_lines.specs.declared.script.Script.{Script}
 use Rattle.law_state.proofs.Steady.{log_rev}
+use Rattle.law_state.proofs.Moments.{first_moment, moment_later}
 use Rattle.law_steps.specs.Ready.{AreFirm, Rests}
 use Rattle.law_steps.proofs.Histories.{rests_next, firm_now, start_rests}
 use Rattle.law_causes.specs.Reasons.{IsOtherRev, HasReason}
@@ -94,14 +95,7 @@ sent_more (actor.Client c) what setting w stamp = refl
 later_reason : (setting : Setting) (w : World) (own : Record) (later : List Record) (letter : Letter) (seq : ℕ)
     → HasReason setting (stepped setting w own).world later letter seq
     → HasReason setting w (own ∷ later) letter seq
-later_reason setting w own later letter seq r = record {
-  front = own ∷ r.front;
-  own = r.own;
-  behind = r.behind;
-  is = ap (λ rs. own ∷ rs) r.is;
-  sent = r.sent;
-  so = r.so;
-}
+later_reason setting w own later letter seq r = record { moment = moment_later own later r.moment; sent = r.sent; so = r.so }
 
 reasons_from : (setting : Setting) (w : World) (records : List Record) → AreFirm setting w records → Rests setting w → IsLegalFrom setting w records
     → (letter : Letter) (seq : ℕ)
@@ -115,10 +109,7 @@ reasons_from setting w (own ∷ later) firm rests legal letter seq h e =
       | inl now ↦ elim (in-append letter (stepped setting w own).letters w.sent (subst (In letter) (sent_more own.actor own.step setting w own.stamp) now)) [
         | inr before ↦ inl before
         | inl i ↦ inr (record {
-          front = [];
-          own = own;
-          behind = later;
-          is = refl;
+          moment = first_moment own later;
           sent = subst (In letter) (sym legal.0.sent) i;
           so = step_tells setting w own rests legal.0 letter seq i e;
         })

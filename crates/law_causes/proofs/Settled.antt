@@ -39,6 +39,7 @@ use Rattle.petal_history.specs.declared.record.Record.{Record}
 use Rattle.law_answers.proofs.Places.{line_at}
 use Rattle.law_state.proofs.Entries.{log_plain}
 use Rattle.law_state.proofs.Steady.{front_plain, log_rev}
+use Rattle.law_state.proofs.Moments.{last_moment, moment_more}
 use Rattle.law_steps.specs.Happens.{Heard}
 use Rattle.law_steps.specs.Ready.{IsRising}
 use Rattle.law_steps.specs.Turned.{Turned, Goes_on, Is_told, Begins, Reads, Ends, Shown, Judges}
@@ -230,20 +231,8 @@ module _ (script : Script) (sound : IsSound script) where
     abbrev next : List Record
     next = done ++ own ∷ []
 
-    later_is : (front : List Record) (one : Record) (behind : List Record) → done ≡ front ++ one ∷ behind
-        → next ≡ front ++ one ∷ (behind ++ own ∷ [])
-    later_is front one behind is = ap (λ xs. xs ++ own ∷ []) is ∙ append_assoc front (one ∷ behind) (own ∷ [])
-
     abbrev glanced_on : (line round server : ℕ) → Glanced done line round server → Glanced next line round server
-    glanced_on line round server g = record {
-      front = g.front;
-      own = g.own;
-      behind = g.behind ++ own ∷ [];
-      is = later_is g.front g.own g.behind g.is;
-      within = g.within;
-      who = g.who;
-      what = g.what;
-    }
+    glanced_on line round server g = record { moment = moment_more done own g.moment; within = g.within; who = g.who; what = g.what }
 
     saw_on : (line round server : ℕ) (told : Option ℕ) (rev : ℕ) → Saw done line round server told rev → Saw next line round server told rev
     saw_on line round server told rev s = record { at = glanced_on line round server s.at; so = s.so; known = s.known }
@@ -264,10 +253,7 @@ module _ (script : Script) (sound : IsSound script) where
 
     settled_on : (number : ℕ) (given : Answer) → Ends_settle done number given → Ends_settle next number given
     settled_on number answer.Ok s = record {
-      front = s.front;
-      own = s.own;
-      behind = s.behind ++ own ∷ [];
-      is = later_is s.front s.own s.behind s.is;
+      moment = moment_more done own s.moment;
       who = s.who;
       round = s.round;
       shown = s.shown;
@@ -320,10 +306,7 @@ module _ (script : Script) (sound : IsSound script) where
         | Sight l r glance to mine so rev ↦
             let t = tells_of (w.servers n) line round l r running inc full (sym so ∙ e) in
             let at : Glanced whole line round n = record {
-              front = done;
-              own = own;
-              behind = [];
-              is = refl;
+              moment = last_moment done own;
               within = within;
               who = who;
               what = does ∙ glance ∙ (λ j. Glance (t.line_is j) (t.round_is j));
@@ -491,10 +474,7 @@ module _ (script : Script) (sound : IsSound script) where
             let mine = to_operator asked is sight has line in
             let all = each ∙ servers_are in
             record {
-              front = done;
-              own = own;
-              behind = [];
-              is = refl;
+              moment = last_moment done own;
               who = who ∙ ap actor.Client mine;
               round = asked.round;
               shown = map (λ row. row.1) seen;

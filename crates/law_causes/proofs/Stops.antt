@@ -26,6 +26,8 @@ use Rattle.petal_history.specs.Legal.{IsLegal, stepped, world_after}
 use Rattle.petal_history.specs.Sound.{IsSound}
 use Rattle.petal_history.specs.declared.record.Record.{Record}
 use Rattle.law_state.proofs.Disks.{first_at_start}
+use Rattle.law_state.specs.Moments.{IsMoment}
+use Rattle.law_state.proofs.Moments.{first_moment, moment_later}
 use Rattle.law_log.specs.Requested.{NoneBoots}
 use Rattle.law_log.proofs.Histories.{who_runs_is_in}
 use Rattle.law_log.proofs.Unbooted.{unbooted}
@@ -98,10 +100,8 @@ module _ (setting : Setting) (w : World) (n : ℕ) (told : MayStop w n → IsRea
 
 -- one of the records is of a step after which the server runs no more
 record Ceases (setting : Setting) (w : World) (records : List Record) (n : ℕ) : Type 0 where
-  front : List Record
-  own : Record
-  behind : List Record
-  is : records ≡ front ++ own ∷ behind
+  moment : IsMoment records
+  open moment use *
   ran : ((world_after setting w front).servers n).life.running ≡ true
   since : StaysDown setting (stepped setting (world_after setting w front) own).world behind n
 
@@ -118,16 +118,9 @@ ceases setting w (own ∷ later) n rests =
     let v = (stepped setting w own).world in
     elim (ceases setting v later n rests) [
       | inl since ↦ by_bool (w.servers n).life.running
-          (λ on. inr (record { front = []; own = own; behind = later; is = refl; ran = on; since = since }))
+          (λ on. inr (record { moment = first_moment own later; ran = on; since = since }))
           (λ off. inl (off, since))
-      | inr c ↦ inr (record {
-        front = own ∷ c.front;
-        own = c.own;
-        behind = c.behind;
-        is = ap (λ records. own ∷ records) c.is;
-        ran = c.ran;
-        since = c.since;
-      })
+      | inr c ↦ inr (record { moment = moment_later own later c.moment; ran = c.ran; since = c.since })
     ]
 
 -- a server that may be stopped was told so by a line of the script
@@ -154,10 +147,7 @@ stops_for_a_reason script records sound legal n low rests =
           let s = step_why setting w n (told_by_line script c.front sound parts.0 n) c.ran c.own.actor c.own.step c.own.stamp
           parts.1.0.may.may down in
           record {
-            front = c.front;
-            own = c.own;
-            behind = c.behind;
-            is = c.is;
+            moment = c.moment;
             stops = record { who = s.0; ran = c.ran; rests = down };
             why = s.1;
             since = c.since;

@@ -1,5 +1,5 @@
 -- Why a start or a blank fails: the boot that it gives its server.
-use Rattle.std.specs.Prelude.{◌≡◌, ◌++◌, ℕ, List, ◌∷◌, true}
+use Rattle.std.specs.Prelude.{◌≡◌, ℕ, List, true}
 use Rattle.petal_msg.specs.declared.letter.Actor.TheVariants as actor
 use Rattle.script_lines.specs.declared.request.Line.{Line}
 use Rattle.petal_rules.specs.Boots.{raised}
@@ -12,6 +12,7 @@ use Rattle.petal_rules.specs.declared.step.Step.TheVariants.{Boot}
 use Rattle.petal_rules.specs.declared.step.WorkEnd.TheVariants as work_end
 use Rattle.petal_history.specs.Legal.{world_after}
 use Rattle.petal_history.specs.declared.record.Record.{Record}
+use Rattle.law_state.specs.Moments.{IsMoment}
 use Rattle.law_causes.specs.Lines.{AsksToBoot, IsLineOf}
 
 -- why a boot leaves the server stopped: a device failed, or the journal has no room for the record of the next incarnation
@@ -22,10 +23,8 @@ pub data IsReasonToFail (w : World) (n : ℕ) (what : Step) : Type 0 where
 -- the line of this number starts or blanks a server, and one of the records is of the boot that it gave the server while it was open, which
 -- left the server stopped for such a reason
 pub record HasReasonToFail (setting : Setting) (w : World) (records : List Record) (number : ℕ) : Type 0 where
-  pub front : List Record
-  pub own : Record
-  pub behind : List Record
-  pub is : records ≡ front ++ own ∷ behind
+  pub moment : IsMoment records
+  pub open moment use *
   pub server : ℕ
   pub asked : Asked
   pub line : Line

@@ -1,5 +1,5 @@
 -- What the answer of a line that names a server comes by: its glance.
-use Rattle.std.specs.Prelude.{◌≡◌, ◌≢◌, ◌++◌, ℕ, Bool, false, List, ◌∷◌, if◌then◌else◌}
+use Rattle.std.specs.Prelude.{◌≡◌, ◌≢◌, ◌++◌, ℕ, Bool, false, List, if◌then◌else◌}
 use Rattle.petal_msg.specs.declared.letter.Actor.TheVariants as actor
 use Rattle.script_lines.specs.declared.answer.Answer.{Answer}
 use Rattle.script_lines.specs.declared.answer.Answer.TheVariants as answer
@@ -12,6 +12,7 @@ use Rattle.petal_rules.specs.World.{Setting, World}
 use Rattle.petal_rules.specs.declared.step.Step.TheVariants.{Glance}
 use Rattle.petal_history.specs.Legal.{world_after}
 use Rattle.petal_history.specs.declared.record.Record.{Record}
+use Rattle.law_state.specs.Moments.{IsMoment}
 use Rattle.law_causes.specs.Lines.{IsLineOf}
 
 -- a stop is answered `ok`, where its server does not run; a start or a blank `ok` where its server runs, and `failed` where it does
@@ -32,9 +33,7 @@ pub record IsGlance (setting : Setting) (w : World) (own : Record) (line : Line)
 
 -- one of the records is such a glance, and no other one is a glance for this line
 pub record HasGlance (setting : Setting) (w : World) (records : List Record) (line : Line) (server : ℕ) (given : Answer) : Type 0 where
-  pub front : List Record
-  pub own : Record
-  pub behind : List Record
-  pub is : records ≡ front ++ own ∷ behind
+  pub moment : IsMoment records
+  pub open moment use *
   pub so : IsGlance setting (world_after setting w front) own line server given
   pub once : (other : Record) (round : ℕ) → In other (front ++ behind) → other.step ≢ Glance line.number round

@@ -1,5 +1,5 @@
 -- Why a client is told that its letter has another revision.
-use Rattle.std.specs.Prelude.{◌≡◌, ◌≢◌, ◌++◌, ℕ, List, ◌∷◌, true, Some}
+use Rattle.std.specs.Prelude.{◌≡◌, ◌≢◌, ℕ, List, ◌∷◌, true, Some}
 use Rattle.petal_msg.specs.Kinds.{asked_by}
 use Rattle.petal_msg.specs.declared.letter.Actor.TheVariants as actor
 use Rattle.petal_msg.specs.declared.letter.Letter.{Letter}
@@ -13,6 +13,7 @@ use Rattle.petal_rules.specs.declared.step.Step.TheVariants.{Work}
 use Rattle.petal_rules.specs.declared.step.WorkEnd.TheVariants as work_end
 use Rattle.petal_history.specs.Legal.{world_after}
 use Rattle.petal_history.specs.declared.record.Record.{Record}
+use Rattle.law_state.specs.Moments.{IsMoment}
 
 -- in this step a server that is In as itself handled a read or write of this number, which a client had sent to it at another
 -- revision than the server's own, and told that client
@@ -34,9 +35,7 @@ pub record IsOtherRev (setting : Setting) (w : World) (own : Record) (letter : L
 
 -- one of the records sent the letter, and was such a step
 pub record HasReason (setting : Setting) (w : World) (records : List Record) (letter : Letter) (seq : ℕ) : Type 0 where
-  pub front : List Record
-  pub own : Record
-  pub behind : List Record
-  pub is : records ≡ front ++ own ∷ behind
+  pub moment : IsMoment records
+  pub open moment use *
   pub sent : In letter own.sent
   pub so : IsOtherRev setting (world_after setting w front) own letter seq

@@ -1,5 +1,5 @@
 -- What a settle is answered by: its glances, round by round.
-use Rattle.std.specs.Prelude.{◌≡◌, ◌≤◌, ◌<◌, ◌++◌, ℕ, true, List, ◌∷◌, Option, Some, None, length, slice_get, if◌then◌else◌}
+use Rattle.std.specs.Prelude.{◌≡◌, ◌≤◌, ◌<◌, ℕ, true, List, Option, Some, None, length, slice_get, if◌then◌else◌}
 use Rattle.petal_msg.specs.declared.letter.Actor.TheVariants as actor
 use Rattle.script_lines.specs.declared.answer.Answer.{Answer}
 use Rattle.script_lines.specs.declared.answer.Answer.TheVariants as answer
@@ -10,6 +10,7 @@ use Rattle.petal_rules.specs.World.{Setting, World, client_state, server_state}
 use Rattle.petal_rules.specs.declared.step.Step.TheVariants.{Glance}
 use Rattle.petal_history.specs.Legal.{world_after}
 use Rattle.petal_history.specs.declared.record.Record.{Record}
+use Rattle.law_state.specs.Moments.{IsMoment}
 
 -- as which incarnation the server runs, if it does
 abbrev pub runs_as : Server → Option ℕ
@@ -17,10 +18,8 @@ runs_as server = if server.life.running then Some server.life.inc else None
 
 -- one of the records is a glance of the line at this server, in this round
 pub record HasGlanceAt (setting : Setting) (w : World) (records : List Record) (line round server : ℕ) : Type 0 where
-  pub front : List Record
-  pub own : Record
-  pub behind : List Record
-  pub is : records ≡ front ++ own ∷ behind
+  pub moment : IsMoment records
+  pub open moment use *
   pub within : server < setting.servers
   pub who : own.actor ≡ actor.Server server
   pub what : own.step ≡ Glance line round
@@ -43,10 +42,8 @@ pub record HasFoundFull (setting : Setting) (w : World) (records : List Record) 
 -- at one of the records the operator had seen each server in one round of the line's glances, none of them at a later revision than its
 -- own was then; and as these showed them, all was settled by the operator's state
 pub record WasSettled (setting : Setting) (w : World) (records : List Record) (line : ℕ) : Type 0 where
-  pub front : List Record
-  pub own : Record
-  pub behind : List Record
-  pub is : records ≡ front ++ own ∷ behind
+  pub moment : IsMoment records
+  pub open moment use *
   pub who : own.actor ≡ actor.Client operator
   pub round : ℕ
   pub shown : List (Option ℕ)

@@ -15,6 +15,7 @@ use Rattle.petal_rules.specs.declared.step.Step.TheVariants.{Work, StopIn, Stop}
 use Rattle.petal_rules.specs.declared.step.WorkEnd.TheVariants as work_end
 use Rattle.petal_history.specs.Legal.{stepped, world_after}
 use Rattle.petal_history.specs.declared.record.Record.{Record}
+use Rattle.law_state.specs.Moments.{IsMoment}
 use Rattle.law_steps.specs.Happens.{own_place}
 use Rattle.law_causes.specs.Lines.{AsksToStop, IsLineOf}
 
@@ -41,10 +42,8 @@ StaysDown setting w (own ∷ later) n = ((w.servers n).life.running ≡ false) �
 
 -- one of the records is of a step in which the server stopped, for such a reason, and it has not run since
 pub record HasReasonToStop (setting : Setting) (w : World) (records : List Record) (n : ℕ) : Type 0 where
-  pub front : List Record
-  pub own : Record
-  pub behind : List Record
-  pub is : records ≡ front ++ own ∷ behind
+  pub moment : IsMoment records
+  pub open moment use *
   pub stops : Stops setting (world_after setting w front) own n
   pub why : IsReasonToStop setting (world_after setting w front) n own.step
   pub since : StaysDown setting (stepped setting (world_after setting w front) own).world behind n

@@ -307,9 +307,7 @@ module _ (it : AtJob) where
     ]
       where
         b : HasBeen setting w k there cell
-        b =
-            let h = good.been k there cell o visit in
-            record { front = h.front; within = h.within; row = h.row; linked = h.linked; alive = h.alive; at = h.at }
+        b = let h = good.been k there cell o visit in record { front = h.front; within = h.within; placed = h.placed }
 
         alive : AliveIn (server_state setting w k) cell
         alive = alive_own cell lives

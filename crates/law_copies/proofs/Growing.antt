@@ -449,9 +449,7 @@ module _ (it : AtNext) where
     stores = stores;
     now = next_store it;
     here = here_next;
-    been = λ n place cell own visit.
-        let b = good.been n place cell own visit in
-        record { front = b.front; within = b.within; row = b.row; linked = b.linked; alive = b.alive; at = b.at };
+    been = λ n place cell own visit. let b = good.been n place cell own visit in record { front = b.front; within = b.within; placed = b.placed };
     came = good.came;
     born = λ cell none. born_then it cell (unborn_before cell none);
     unheard = unheard_next;

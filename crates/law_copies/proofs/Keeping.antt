@@ -212,11 +212,13 @@ module _ (it : AtSeat) where
     other_keeps cell row holder f =
         let keeps = keeps_alike cell own to alike.0 in
         record {
-          copying = kept_copying f.old to keeps.rest;
-          told = kept_told f.old to keeps.rest;
-          says = λ post i of. told_mute row holder (Some to) post.body (mute post i);
-          marks = keeps.marks;
-          changes = inl keeps.rest.chain;
+          here = record {
+            copying = kept_copying f.old to keeps.rest;
+            told = kept_told f.old to keeps.rest;
+            says = λ post i of. told_mute row holder (Some to) post.body (mute post i);
+            marks = keeps.marks;
+            changes = inl keeps.rest.chain;
+          };
           pages = λ post i after block e. no_page post.body (mute post i) row.map row.link after block e;
           rising = rises cell (seated.rising it cell);
         }

@@ -233,18 +233,21 @@ module _ (it : CellInBoth) (ready : IsReady it.here.state it.here.me (has_propos
             (omega (arith, number)));
       }
 
+  -- which it says to nobody
+  twice_keeps : (op one two : Pending) (new : Own) → new.store.chains ≡ own.store.chains → new.pairs.next ≡ own.pairs.next
+      → new.pairs.pending ≡ put cell_cmp (put cell_cmp own.pairs.pending op.cell one) op.cell two
+      → (op.cell ≡ cell → Keeps (pair_of own second_own op.cell) (record (pair_of own second_own op.cell) { pending = Some two })) → K new []
+  twice_keeps op one two new chains next pending keeps =
+      record { keeps = moved_twice op one two new chains next pending keeps; says = none_said new }
+
   marks_keeps : (op : Pending) → heard (body.Reserved op.op op.cell) → at cell_cmp own.pairs.pending op.cell ≡ Some op → op.stage ≡ waiting
       → K (marks (with_pending own (with_reserved op)) (with_reserved op) Busy).own []
   marks_keeps op h is stage =
       let one = with_reserved op in
       let two = with_mark_at one Busy true in
-      let new = (marks (with_pending own one) one Busy).own in
       let at_put = ap (λ (s : Stage). s.put) stage in
-      record {
-        keeps = moved_twice op one two new refl refl refl
-            (λ e. moves.marks (pair_of own second_own op.cell) op two (ok_at op.cell e) is at_put (known_at _ h op.cell refl e) refl at_put);
-        says = none_said new;
-      }
+      twice_keeps op one two (marks (with_pending own one) one Busy).own refl refl refl
+      (λ e. moves.marks (pair_of own second_own op.cell) op two (ok_at op.cell e) is at_put (known_at _ h op.cell refl e) refl at_put)
 
   puts_keeps : (op : Pending) → at cell_cmp own.pairs.pending op.cell ≡ Some op → op.stage ≡ putting → K (puts own op).own []
   puts_keeps op is stage =
@@ -272,13 +275,9 @@ module _ (it : CellInBoth) (ready : IsReady it.here.state it.here.me (has_propos
   unmarks_keeps op h is stage =
       let one = with_paired op in
       let two = with_mark_at one Busy false in
-      let new = (unmarks (with_pending own one) one Busy).own in
       let at_put = ap (λ (s : Stage). s.put) stage in
-      record {
-        keeps = moved_twice op one two new refl refl refl
-            (λ e. moves.unmarks (pair_of own second_own op.cell) op two (ok_at op.cell e) is at_put (known_at _ h op.cell refl e) refl at_put);
-        says = none_said new;
-      }
+      twice_keeps op one two (unmarks (with_pending own one) one Busy).own refl refl refl
+      (λ e. moves.unmarks (pair_of own second_own op.cell) op two (ok_at op.cell e) is at_put (known_at _ h op.cell refl e) refl at_put)
 
   -- ### Another cell, which it holds alone
 

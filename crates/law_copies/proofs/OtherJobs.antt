@@ -2,7 +2,6 @@
 use Rattle.std.proofs.Common.{◌≡◌, ◌<◌, ◌⊎◌, ℕ, true, List, Option, Some, refl, sym, ap, ◌∙◌, subst, inl, inr, arith}
 use Rattle.std.specs.Prelude.{filter}
 use Rattle.busy_marks.specs.Marks.{above}
-use Rattle.busy_marks.specs.declared.marks.MarkKind.{MarkKind}
 use Rattle.global_tables.specs.Link.{other_of}
 use Rattle.global_tables.specs.declared.link.LinkRow.{LinkRow}
 use Rattle.petal_base.specs.declared.cell.Cell.{Cell}
@@ -31,7 +30,7 @@ use Rattle.law_steps.proofs.Letters.{one_post, posted}
 use Rattle.law_steps.proofs.Staged.{same_cell_or_apart}
 use Rattle.law_steps.proofs.Subjects.{of_filler, of_read, of_second, of_sweep}
 use Rattle.law_copies.specs.Copied.{AreCopying, IsPage, IsTold, IsUpTo}
-use Rattle.law_copies.specs.Steps.{IsFollowing, IsLeftBy, KeepsCell, OtherKeeps, StaysTold}
+use Rattle.law_copies.specs.Steps.{IsFollowing, KeepsCell, KeepsHere, OtherKeeps, StaysTold}
 use Rattle.law_copies.proofs.Apart.{away}
 use Rattle.law_copies.proofs.Following as following
 use Rattle.law_copies.proofs.Following.{CopiedEntry}
@@ -46,14 +45,6 @@ use Rattle.law_copies.proofs.Standing.{IsHeldHere, IsOtherOf, alone_not_row, alo
 use Rattle.law_copies.proofs.Standing.{one_named, other_alone, other_not_alone, other_not_leading, other_row}
 use Rattle.law_copies.proofs.Working.{Away, IsLedHere, filler_beside, holder_beside, holder_cell, lead_beside, lead_cell, lead_leads, led_alive}
 use Rattle.law_copies.proofs.Working.{other_beside, other_cell, second_beside, second_follows, sweep_beside}
-
--- what a job keeps of the cell, but for pages and for the order of its epochs
-record KeepsHere (links : ℕ) (row : LinkRow) (cell : Cell) (vh : Option Own) (own : Own) (done : Done) : Type 0 where
-  copying : AreCopying links row cell vh (Some done.own)
-  told : StaysTold row cell vh (Some own) vh (Some done.own)
-  says : (post : Post) → In post done.posts → (about post.body).cell ≡ Some cell → IsTold row vh (Some done.own) post.body
-  marks : (kind : MarkKind) → is_marked done.own.store kind cell ≡ is_marked own.store kind cell
-  changes : (chain_in done.own.store.chains cell ≡ chain_in own.store.chains cell) ⊎ IsLeftBy row vh cell
 
 kept_here : (links : ℕ) (row : LinkRow) (cell : Cell) (vh : Option Own) (own : Own) (old : AreCopying links row cell vh (Some own)) (done : Done)
     → KeepsCell cell own done.own
@@ -303,13 +294,8 @@ module _ {heard : Body → Type 0} {here : Here} {links : ℕ} {row : LinkRow} {
     -- what is kept
     pub follows : (done : Done) → Did heard here own done → OtherKeeps links row cell vh own done
     follows done d =
-        let h = here_by done d in
         record {
-          copying = h.copying;
-          told = h.told;
-          says = h.says;
-          marks = h.marks;
-          changes = h.changes;
+          here = here_by done d;
           pages = page_is done d;
           rising = did_rising heard here own f.fit.rising done d cell;
         }

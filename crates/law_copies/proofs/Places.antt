@@ -216,18 +216,8 @@ module _ (setting : Setting) where
 pub reached_on : {setting : Setting} {top next : List Command} {visits later : Visits} {cell : Cell} {place : ℕ}
     (r : HasReached setting top visits cell place) → IsPrefix r.front next → (own : Own) → later r.server place cell ≡ Some own
     → HasReached setting next later cell place
-reached_on r prefix own visited = record {
-  front = r.front;
-  prefix = prefix;
-  row = r.row;
-  linked = r.linked;
-  alive = r.alive;
-  at = r.at;
-  own = own;
-  visited = visited;
-  server = r.server;
-  serving = r.serving;
-}
+reached_on r prefix own visited =
+    record { front = r.front; prefix = prefix; placed = r.placed; own = own; visited = visited; server = r.server; serving = r.serving }
 
 -- so does a place at which a holder has been since the other server came back with nothing
 pub has_filled_on : {setting : Setting} {top next : List Command} {visits later : Visits} {front f : List Command} {cell : Cell} {holder other : ℕ}

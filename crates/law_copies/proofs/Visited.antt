@@ -24,7 +24,8 @@ use Rattle.law_state.specs.Started.{is_flagged}
 use Rattle.law_steps.specs.Ready.{IsRising}
 use Rattle.law_steps.proofs.Fronts.{front_itself, front_on}
 use Rattle.law_steps.proofs.Records.{split_last}
-use Rattle.law_copies.specs.Visits.{AliveIn, AreReached, HasBeen, HasReached, IsHere, IsLinked, Visits, is_alive, is_at, place_by, place_on, store_by, visited}
+use Rattle.law_copies.specs.Visits.{AliveIn, AreReached, HasBeen, HasReached, IsHere, IsLinked, IsPlaced, Visits, is_alive}
+use Rattle.law_copies.specs.Visits.{is_at, place_by, place_on, store_by, visited}
 use Rattle.law_copies.proofs.AtStep.{AtStep}
 use Rattle.law_copies.proofs.Places.{one_row, reached_on}
 
@@ -98,12 +99,10 @@ module _ (setting : Setting) (n : ℕ) (server : Server) where
 
   -- it serves the link there
   pub record ServesAt (cell : Cell) (place : ℕ) : Type 0 where
-    pub row : LinkRow
-    pub linked : IsLinked setting server.log.applied cell row
+    pub placed : IsPlaced setting server.log.applied cell place
+    pub open placed use *
     pub seat : is_in (state_in setting.servers server.log) n server.life.inc ≡ true
-    pub alive : AliveIn (state_in setting.servers server.log) cell
     pub serving : serves n row row.state ≡ true
-    pub at : place_by setting server.log.applied row ≡ place
 
   pub served_by : (cell : Cell) → (served_at cell ≡ 0) ⊎ ServesAt cell (served_at cell)
   served_by cell = by_bool (is_seated cell)
@@ -115,12 +114,9 @@ module _ (setting : Setting) (n : ℕ) (server : Server) where
       elim (some_or_none (cell_link (state_in setting.servers server.log) cell)) [
         | inl h ↦ by_bool (serves n h.0 h.0.state)
             (λ serving. inr (record {
-              row = h.0;
-              linked = h.1;
+              placed = record { row = h.0; linked = h.1; alive = alive; at = sym (served_so cell h.0 h.1 two.0 alive serving) };
               seat = two.0;
-              alive = alive;
               serving = serving;
-              at = sym (served_so cell h.0 h.1 two.0 alive serving);
             }))
             (λ off. inl (seated ∙ ap place_served h.1 ∙ ap (λ b. if b then place_by setting server.log.applied h.0 else 0) off))
         | inr none ↦ inl (seated ∙ ap place_served none)
@@ -241,10 +237,7 @@ module _ (it : AtStep) where
           (front_on was.front (w.servers k).log.applied front (subst (λ m. IsPrefix was.front (w.servers m).log.applied) e was.within) step.onward))
       | inr ne ↦ subst (λ (s : Server). IsPrefix was.front s.log.applied) (sym (step.others n ne)) was.within
     ];
-    row = was.row;
-    linked = was.linked;
-    alive = was.alive;
-    at = was.at;
+    placed = was.placed;
   }
 
   pub been_now : (n place : ℕ) (cell : Cell) (own : Own) → later n place cell ≡ Some own → HasBeen setting v n place cell
@@ -254,10 +247,7 @@ module _ (it : AtStep) where
       front = front;
       within = subst (λ m. IsPrefix front (v.servers m).log.applied) (sym now.who)
           (subst (λ (s : Server). IsPrefix front s.log.applied) (sym step.here) (front_itself front));
-      row = now.there.row;
-      linked = now.there.linked;
-      alive = now.there.alive;
-      at = sym now.there.at;
+      placed = record { row = now.there.row; linked = now.there.linked; alive = now.there.alive; at = sym now.there.at };
     }
   ]
 
@@ -323,10 +313,7 @@ module _ (it : AtStep) where
               (record {
                 front = front;
                 prefix = step.within;
-                row = s.row;
-                linked = s.linked;
-                alive = s.alive;
-                at = s.at;
+                placed = s.placed;
                 server = k;
                 serving = s.serving;
                 own = server.own;

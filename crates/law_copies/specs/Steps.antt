@@ -122,12 +122,17 @@ pub record IsLeftBy (row : LinkRow) (holder : Option Own) (cell : Cell) : Type 0
   pub left : IsLeft by row cell
 
 -- what the job keeps, with what is known of what it sends; the cell's chain changes only where the holder has the block left to copy
-pub record OtherKeeps (links : ℕ) (row : LinkRow) (cell : Cell) (holder : Option Own) (own : Own) (done : Done) : Type 0 where
+pub record KeepsHere (links : ℕ) (row : LinkRow) (cell : Cell) (holder : Option Own) (own : Own) (done : Done) : Type 0 where
   pub copying : AreCopying links row cell holder (Some done.own)
   pub told : StaysTold row cell holder (Some own) holder (Some done.own)
   pub says : (post : Post) → In post done.posts → (about post.body).cell ≡ Some cell → IsTold row holder (Some done.own) post.body
   pub marks : (kind : MarkKind) → is_marked done.own.store kind cell ≡ is_marked own.store kind cell
   pub changes : (chain_in done.own.store.chains cell ≡ chain_in own.store.chains cell) ⊎ IsLeftBy row holder cell
+
+-- and of its pages and chains
+pub record OtherKeeps (links : ℕ) (row : LinkRow) (cell : Cell) (holder : Option Own) (own : Own) (done : Done) : Type 0 where
+  pub here : KeepsHere links row cell holder own done
+  pub open here use *
   pub pages : (post : Post) → In post done.posts → (after block : Option ℕ) → post.body ≡ body.Hello row.map row.link after block
       → IsPage cell done.own.store (Some done.own) after block
   pub rising : IsRising nat_cmp (chain_in done.own.store.chains cell)

@@ -86,14 +86,19 @@ pub record IsHere (setting : Setting) (w : World) (visits : Visits) (n : ℕ) (c
   pub is : visits n (place_by setting (w.servers n).log.applied row) cell ≡ Some own
   pub same : own ≡ (w.servers n).own
 
--- a server has been only at places of its own entries, with the cell not dead there
-pub record HasBeen (setting : Setting) (w : World) (n place : ℕ) (cell : Cell) : Type 0 where
-  pub front : List Command
-  pub within : IsPrefix front (w.servers n).log.applied
+-- by these entries the cell's link is at this place, and the cell is not dead
+pub record IsPlaced (setting : Setting) (front : List Command) (cell : Cell) (place : ℕ) : Type 0 where
   pub row : LinkRow
   pub linked : IsLinked setting front cell row
   pub alive : AliveIn (state_after setting.servers front) cell
   pub at : place_by setting front row ≡ place
+
+-- a server has been only at places of its own entries, with the cell not dead there
+pub record HasBeen (setting : Setting) (w : World) (n place : ℕ) (cell : Cell) : Type 0 where
+  pub front : List Command
+  pub within : IsPrefix front (w.servers n).log.applied
+  pub placed : IsPlaced setting front cell place
+  pub open placed use *
 
 -- no server of the cell's link has been at a later place than this one at which it served the link
 abbrev pub IsLast : (reached : Cell → ℕ) → Setting → List Command → Cell → LinkRow → Type 0
@@ -103,10 +108,8 @@ IsLast reached setting front cell row = reached cell ≤ place_by setting front 
 pub record HasReached (setting : Setting) (top : List Command) (visits : Visits) (cell : Cell) (place : ℕ) : Type 0 where
   pub front : List Command
   pub prefix : IsPrefix front top
-  pub row : LinkRow
-  pub linked : IsLinked setting front cell row
-  pub alive : AliveIn (state_after setting.servers front) cell
-  pub at : place_by setting front row ≡ place
+  pub placed : IsPlaced setting front cell place
+  pub open placed use *
   pub server : ℕ
   pub serving : serves server row row.state ≡ true
   pub own : Own

@@ -11,12 +11,9 @@
 
 ghost use Rattle.std.specs.Prelude.{List};
 ghost use Rattle.petal_base.specs.declared.cell.Cell.{Cell};
-ghost use Rattle.script_lines.specs.declared.script.Script.{Script};
-ghost use Rattle.petal_rules.specs.World.{chosen_log, chosen_state, counted, setting_of, start};
+ghost use Rattle.petal_rules.specs.World.{chosen_log, chosen_state, counted};
 ghost use Rattle.petal_history.specs.Claims.{TwoCopies, Covered, MarksFirst};
-ghost use Rattle.petal_history.specs.Legal.{IsLegal, world_after};
-ghost use Rattle.petal_history.specs.Sound.{IsSound};
-ghost use Rattle.petal_history.specs.declared.record.Record.{Record};
+ghost use Rattle.law_state.specs.Histories.{IsLegal, IsSound, Record, Script, setting_of, start, world_after};
 ghost use Rattle.law_copies.specs.Good.{Good};
 
 /// After every legal history of a sound script, the two copies of each cell in Both keep the rule, by the stores that count.

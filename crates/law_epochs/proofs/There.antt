@@ -131,12 +131,7 @@ module _ (it : History) (had : HadWrite (end_of it).setting it.records) where
           r.made.drained r.holds
       made_before (next ∷ rest) e =
           let made : WasDraining setting was.before n inc r.until = record {
-            before = r.made.before;
-            own = next;
-            later = rest;
-            is = e;
-            lives = r.made.lives;
-            runs = r.made.runs;
+            ran = record { before = r.made.before; own = next; later = rest; is = e; lives = r.made.lives; runs = r.made.runs };
             at = r.made.at;
             drained = r.made.drained;
           } in

@@ -1,5 +1,5 @@
 -- A server that boots, in the schedule: its incarnation is raised, and it begins with what its device knows.
-use Rattle.std.proofs.Common.{◌≡◌, ◌+◌, inl, inr, ℕ, true, false, List, [], ◌∷◌, Option, Some, None, refl, sym, ap, ◌∙◌, subst, arith}
+use Rattle.std.proofs.Common.{◌≡◌, ◌+◌, ℕ, Bool, true, false, List, [], ◌∷◌, Option, Some, None, refl, sym, ap, ◌∙◌, subst, arith}
 use Rattle.petal_command.specs.declared.ballot.Ballot.{Ballot}
 use Rattle.petal_command.specs.declared.command.Command.{Command}
 use Rattle.petal_paxos.specs.Kept.{committed, inc_of, known_at}
@@ -14,9 +14,9 @@ use Rattle.petal_rules.specs.Boots.{known_front, read_log}
 use Rattle.petal_rules.specs.Log.{Log, commits}
 use Rattle.law_log.specs.Logged.{AreLow, IsBusyAs, IsSeenAt}
 use Rattle.law_log.proofs.Jobs.{run_known}
-use Rattle.law_log.proofs.Kept.{in_committed}
+use Rattle.law_log.proofs.Kept.{same_votes}
 use Rattle.law_log.proofs.Lists.{put_away, put_here}
-use Rattle.law_log.proofs.Turns.{HasTurn, IsApart, apart_both, apart_turn, asked_more, low_turn, no_posts, seen_same}
+use Rattle.law_log.proofs.Turns.{HasTurn, IsApart, Turns, apart_both, apart_turn, asked_more, low_turn, no_posts, seen_same}
 
 no_inc : (inc place : ℕ) (ballot : Ballot) (command : Command) → Inc inc ≡ Accepted place ballot command → ⊥
 no_inc inc place ballot command e = absurd cc
@@ -47,13 +47,7 @@ seen_raised n records entries p inc is seen = record {
   acceptors = λ place. seen.acceptors place ∙ sym (acceptor_inc records (inc + 1) place);
   known = λ place. seen.known place ∙ sym (known_inc records (inc + 1) place);
   inc = put_here p.incs n (p.incs n + 1) ∙ ap (λ k. k + 1) (seen.inc ∙ is) ∙ sym (inc_committed records (Inc (inc + 1)));
-  votes = λ place ballot command. (
-    λ i. (in_committed records (Inc (inc + 1)) place ballot command).1 (inr ((seen.votes place ballot command).0 i)),
-    λ i. elim ((in_committed records (Inc (inc + 1)) place ballot command).0 i) [
-      | inl e ↦ absurd (no_inc (inc + 1) place ballot command e)
-      | inr old ↦ (seen.votes place ballot command).1 old
-    ],
-  );
+  votes = same_votes n records entries p (Inc (inc + 1)) (λ place ballot command. no_inc (inc + 1) place ballot command) seen;
   told = λ place command e. let t = seen.told place command (sym (known_inc records (inc + 1) place) ∙ e) in record { from = t.from; is = t.is };
   applied = λ i command e. known_inc records (inc + 1) (i + 1) ∙ seen.applied i command e;
 }
@@ -84,42 +78,40 @@ pub record StoppedLog : Type 0 where
 module _ (it : StoppedLog) (Good : ℕ → Command → Type 0) where
   open it use {servers, n, log, p, inc, is, low, seen, asleep}
 
+  abbrev q : World
+  q = raise p n
+
+  raised_turns : (running : Bool) (left : Log) (next : Option Phase) → IsSeenAt n left.records left.applied q
+      → IsBusyAs servers n running left.phase (turn q n next) → Turns servers n running left [] p (turn q n next)
+  raised_turns running left next seen busy = record {
+    apart = apart_both n p q (turn q n next) (apart_raise n p) (apart_turn n q next);
+    low = low_turn q n next (low_raise p n low);
+    seen = seen_same n left.records left.applied q (turn q n next) (λ x i. i) (λ place. refl) (λ place. refl) refl
+        (λ place ballot command. (λ i. i, λ i. i)) seen;
+    busy = busy;
+    posted = λ post i. no_posts post i;
+  }
+
   -- it runs
   pub wake_turn : HasTurn servers n true (read_log (commits log (Inc (inc + 1)))) [] p Good
   wake_turn =
-      let q = raise p n in
       let raised = commits log (Inc (inc + 1)) in
       record {
         events = Boots n Goes ∷ [];
         wanted = λ place command h. absurd h;
-        turns = rw asleep (record {
-          apart = apart_both n p q (turn q n (Some Idle)) (apart_raise n p) (apart_turn n q (Some Idle));
-          low = low_turn q n (Some Idle) (low_raise p n low);
-          seen = seen_same n raised.records (known_front raised) q (turn q n (Some Idle)) (λ x i. i) (λ place. refl) (λ place. refl) refl
-              (λ place ballot command. (λ i. i, λ i. i))
-              (seen_read n raised log.applied q (seen_raised n log.records log.applied p inc is seen));
-          busy = record { proposer = subst (IsProposer true Idle) (sym (put_here q.proposers n (Some Idle))) (refl, tt); asked = tt };
-          posted = λ post i. no_posts post i;
-        });
+        turns = rw asleep (raised_turns true (read_log raised) (Some Idle)
+            (seen_read n raised log.applied q (seen_raised n log.records log.applied p inc is seen))
+            (record { proposer = subst (IsProposer true Idle) (sym (put_here q.proposers n (Some Idle))) (refl, tt); asked = tt }));
       }
 
   -- it failed behind its commit, and doesn't run
   pub fail_turn : IsBusyAs servers n false log.phase p → HasTurn servers n false (commits log (Inc (inc + 1))) [] p Good
-  fail_turn busy =
-      let q = raise p n in
-      let raised = commits log (Inc (inc + 1)) in
-      record {
-        events = Boots n StopsAfter ∷ [];
-        wanted = λ place command h. absurd h;
-        turns = rw asleep (record {
-          apart = apart_both n p q (turn q n None) (apart_raise n p) (apart_turn n q None);
-          low = low_turn q n None (low_raise p n low);
-          seen = seen_same n raised.records log.applied q (turn q n None) (λ x i. i) (λ place. refl) (λ place. refl) refl
-              (λ place ballot command. (λ i. i, λ i. i)) (seen_raised n log.records log.applied p inc is seen);
-          busy = record {
-            proposer = subst (IsProposer false log.phase) (sym (put_here q.proposers n None)) refl;
-            asked = asked_more p (turn q n None) (λ x i. i) n servers log.phase busy.asked;
-          };
-          posted = λ post i. no_posts post i;
-        });
-      }
+  fail_turn busy = record {
+    events = Boots n StopsAfter ∷ [];
+    wanted = λ place command h. absurd h;
+    turns = rw asleep (raised_turns false (commits log (Inc (inc + 1))) None (seen_raised n log.records log.applied p inc is seen)
+        (record {
+          proposer = subst (IsProposer false log.phase) (sym (put_here q.proposers n None)) refl;
+          asked = asked_more p (turn q n None) (λ x i. i) n servers log.phase busy.asked;
+        }));
+  }

@@ -72,6 +72,21 @@ pub record Reacts (Told : ℕ → Command → Type 0) (lines : List Line) (me be
   pub fine : IsFine Told lines me reacted.client
   pub posts : (post : Post) → Among post reacted.posts → IsClients (IsOf lines me reacted.client.seq) post.body
 
+-- what a call of the line opens, as its client's request of this number
+abbrev pub newly_asked : State → Line → ℕ → Asked
+newly_asked state line seq = record {
+  line = line.number;
+  seq = seq;
+  request = line.request;
+  turn = 0;
+  rev = state.rev;
+  witnesses = 0;
+  told = false;
+  old_way = false;
+  round = first_round line.request;
+  seen = [];
+}
+
 -- ### What is posted
 
 read_dated : (state : State) (cell : Cell) (epoch : Option ℕ) (client seq turn : ℕ) (post : Post)
@@ -198,19 +213,7 @@ module _ (Told : ℕ → Command → Type 0) (lines : List Line) (me : ℕ) (sta
       → Reacts Told lines me client.seq (called state me client line.number line.request)
   calling client line f is =
       wider (client.seq + 1) client.seq _ (omega arith)
-      (goes (record client { seq = client.seq + 1 })
-      (record {
-        line = line.number;
-        seq = client.seq + 1;
-        request = line.request;
-        turn = 0;
-        rev = state.rev;
-        witnesses = 0;
-        told = false;
-        old_way = false;
-        round = first_round line.request;
-        seen = [];
-      }) f.applied
+      (goes (record client { seq = client.seq + 1 }) (newly_asked state line (client.seq + 1)) f.applied
       (record { before = client.seq; line = line; is = is; seq = refl; request = refl; past = omega arith }))
 
   -- ### A reply

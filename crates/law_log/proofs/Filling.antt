@@ -31,48 +31,28 @@ use Rattle.petal_rules.proofs.ListLemmas.{in-append}
 use Rattle.petal_rules.proofs.Tests.{by_test}
 use Rattle.law_log.proofs.Copying.{IsCalm, IsKept, calm_silent}
 use Rattle.law_log.proofs.Flags.{link_cmp_total}
-use Rattle.law_log.proofs.Pairs.{IsDated, IsQuiet, no_letter, dated_moved, posted_dated, quiet_goes, quiet_says_to, quiet_silent}
-use Rattle.law_log.proofs.Stores.{Keeps, kept, keeps_goes}
+use Rattle.law_log.proofs.Pairs.{IsDated, Leaves, no_letter, dated_moved, pair_goes, pair_says_to, pair_silent, posted_dated, quiet_silent}
 use Rattle.law_log.proofs.Turns.{no_posts}
 
 -- ### The new lead
 
-quiet_opens : (here : Here) (own : Own) (moving : Moving) (room : Bool) → IsQuiet (opens_fill here own moving room)
-quiet_opens here own moving false = quiet_says_to own _ _ (dated_moved moving.key ending.Full)
-quiet_opens here own moving true = quiet_goes here (with_opened own (fill_operation here own.pairs.next moving)) (cell_of moving.key)
+pair_opens : (here : Here) (own : Own) (moving : Moving) (room : Bool) → Leaves own (opens_fill here own moving room)
+pair_opens here own moving false = pair_says_to own _ _ (dated_moved moving.key ending.Full)
+pair_opens here own moving true = pair_goes here (with_opened own (fill_operation here own.pairs.next moving)) (cell_of moving.key)
 
-quiet_hears : (here : Here) (own : Own) (moving : Moving) (busy has back : Bool) → IsQuiet (hears_fill here own moving busy has back)
-quiet_hears here own moving true has back = quiet_silent own
-quiet_hears here own moving false true back = quiet_says_to own _ _ (dated_moved moving.key ending.Written)
-quiet_hears here own moving false false true = quiet_silent own
-quiet_hears here own moving false false false = quiet_opens here own moving (nat_lt 0 (free_of own.store))
+pair_hears : (here : Here) (own : Own) (moving : Moving) (busy has back : Bool) → Leaves own (hears_fill here own moving busy has back)
+pair_hears here own moving true has back = pair_silent own
+pair_hears here own moving false true back = pair_says_to own _ _ (dated_moved moving.key ending.Written)
+pair_hears here own moving false false true = pair_silent own
+pair_hears here own moving false false false = pair_opens here own moving (nat_lt 0 (free_of own.store))
 
-pub quiet_fill : (here : Here) (own : Own) (moving : Moving) → IsQuiet (on_fill here own moving)
+pub pair_fill : (here : Here) (own : Own) (moving : Moving) → Leaves own (on_fill here own moving)
 unfolding on_fill
-quiet_fill here own moving =
-    by_test IsQuiet (is_lead here.state here.me (cell_of moving.key)) _ _
-    (λ e. quiet_hears here own moving (is_under_way own (cell_of moving.key))
+pair_fill here own moving =
+    by_test (Leaves own) (is_lead here.state here.me (cell_of moving.key)) _ _
+    (λ e. pair_hears here own moving (is_under_way own (cell_of moving.key))
     (has_epoch (chain_in own.store.chains (cell_of moving.key)) moving.key.epoch) (has_proposed here.state own (cell_of moving.key)))
-    (λ e. quiet_silent own)
-
--- they leave all copies as they are
-keeps_opens : (here : Here) (own : Own) (moving : Moving) (room : Bool) → Keeps (kept own) (opens_fill here own moving room)
-keeps_opens here own moving false = refl
-keeps_opens here own moving true = keeps_goes here (with_opened own (fill_operation here own.pairs.next moving)) (cell_of moving.key)
-
-keeps_hears : (here : Here) (own : Own) (moving : Moving) (busy has back : Bool) → Keeps (kept own) (hears_fill here own moving busy has back)
-keeps_hears here own moving true has back = refl
-keeps_hears here own moving false true back = refl
-keeps_hears here own moving false false true = refl
-keeps_hears here own moving false false false = keeps_opens here own moving (nat_lt 0 (free_of own.store))
-
-pub keeps_fill : (here : Here) (own : Own) (moving : Moving) → Keeps (kept own) (on_fill here own moving)
-unfolding on_fill
-keeps_fill here own moving =
-    by_test (Keeps (kept own)) (is_lead here.state here.me (cell_of moving.key)) _ _
-    (λ e. keeps_hears here own moving (is_under_way own (cell_of moving.key))
-    (has_epoch (chain_in own.store.chains (cell_of moving.key)) moving.key.epoch) (has_proposed here.state own (cell_of moving.key)))
-    (λ e. refl)
+    (λ e. pair_silent own)
 
 -- ### The old lead
 

@@ -2,10 +2,9 @@
 use Rattle.std.proofs.Common.{◌≡◌, Bool, true, false, cond, Option, Some, None, refl, sym, ap, ◌∙◌}
 use Rattle.std.specs.Prelude.{unwrap_or}
 use Rattle.std.specs.Option.{option_map_or}
-use Rattle.std.specs.declared.cmp.Ordering.{Ordering}
-use Rattle.std.specs.declared.cmp.Ordering.TheVariants.{Less, Equal, Greater}
-use Rattle.std.specs.Ordering.{nat_cmp, is_eq, eq_by_cmp, ordering_then}
-use Rattle.std.specs.Cmp.{IsTotalOrder, nat_cmp_total, ranked, tied_itself}
+use Rattle.std.specs.declared.cmp.Ordering.TheVariants.{Equal}
+use Rattle.std.specs.Ordering.{nat_cmp, is_eq, eq_by_cmp}
+use Rattle.std.specs.Cmp.{Equal-is, IsTotalOrder, nat_cmp_total, ranked, tied_itself, tied_then}
 use Rattle.std.proofs.lemmas.Cmp.{on_total, then_total}
 use Rattle.global_tables.specs.declared.link.LinkRow.{LinkRow}
 use Rattle.petal_msg.specs.declared.copying.LinkId.{LinkId}
@@ -15,29 +14,21 @@ use Rattle.petal_table.proofs.Rows.{at-put}
 use Rattle.petal_rules.specs.Progress.{no_progress, progress_on, with_progress}
 use Rattle.petal_rules.specs.Server.{Own}
 use Rattle.petal_rules.specs.State.{id_of, link_cmp}
-use Rattle.petal_rules.proofs.Tests.{by_bool}
+use Rattle.petal_rules.proofs.Tests.{both_true, by_bool}
 use Rattle.law_state.specs.Started.{is_flagged}
 
 -- names stand in a line
 pub link_cmp_total : IsTotalOrder link_cmp
 link_cmp_total = then_total (on_total (λ (l : LinkId). l.map) nat_cmp_total) (on_total (λ (l : LinkId). l.link) nat_cmp_total)
 
-tied : (r : Ordering) → is_eq r ≡ true → r ≡ Equal
-tied Less e = cc
-tied Equal e = refl
-tied Greater e = cc
-
-both_tied : (r s : Ordering) → ordering_then r s ≡ Equal → (r ≡ Equal) × (s ≡ Equal)
-both_tied Less s e = cc
-both_tied Equal s e = (refl, e)
-both_tied Greater s e = cc
-
 -- names that tie are one
 link_cmp_same : (a b : LinkId) → link_cmp a b ≡ Equal → a ≡ b
 link_cmp_same a b e =
-    let both = both_tied (nat_cmp a.map b.map) (nat_cmp a.link b.link) e in
-    let map = ranked a.map b.map Equal (sym both.0) in
-    let link = ranked a.link b.link Equal (sym both.1) in
+    let first = nat_cmp a.map b.map in
+    let second = nat_cmp a.link b.link in
+    let both = both_true (is_eq first) (is_eq second) (tied_then first second ∙ ap is_eq e) in
+    let map = ranked a.map b.map Equal (sym ((Equal-is first).0 both.0)) in
+    let link = ranked a.link b.link Equal (sym ((Equal-is second).0 both.1)) in
     λ i. record { map = map i; link = link i }
 
 -- a link's flag, where its row stands
@@ -57,7 +48,7 @@ pub flags_put : (own : Own) (row : LinkRow) (new : Progress) → ((progress_on o
     → is_flagged own id ≡ true → is_flagged (with_progress own row new) id ≡ true
 flags_put own row new keeps id is = by_bool (eq_by_cmp link_cmp id (id_of row))
     (λ e.
-    let same : id ≡ id_of row = link_cmp_same id (id_of row) (tied (link_cmp id (id_of row)) e) in
+    let same : id ≡ id_of row = link_cmp_same id (id_of row) ((Equal-is (link_cmp id (id_of row))).0 e) in
     ap (λ o. option_map_or (λ (p : Progress). p.caught) o false)
     (at-put link_cmp_total own.copies.progress (id_of row) new id ∙ ap (λ b. cond b (Some new) (at link_cmp own.copies.progress id)) e)
     ∙ keeps (sym (same_caught own row) ∙ ap (is_flagged own) (sym same) ∙ is))
@@ -66,7 +57,7 @@ flags_put own row new keeps id is = by_bool (eq_by_cmp link_cmp id (id_of row))
 
 -- links of one name
 pub same_id : (a b : LinkId) → eq_by_cmp link_cmp a b ≡ true → a ≡ b
-same_id a b e = link_cmp_same a b (tied (link_cmp a b) e)
+same_id a b e = link_cmp_same a b ((Equal-is (link_cmp a b)).0 e)
 
 -- of another link nothing changes
 pub progress_beside : (own : Own) (row : LinkRow) (new : Progress) (other : LinkRow) → eq_by_cmp link_cmp (id_of other) (id_of row) ≡ false

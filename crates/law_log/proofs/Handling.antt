@@ -25,33 +25,31 @@ use Rattle.petal_rules.proofs.ListLemmas.{in-append}
 use Rattle.petal_rules.proofs.Tests.{by_test, only}
 use Rattle.law_log.proofs.Copying.{IsCalm, IsKept, kept_itself, calm_silent, calm_copies, calm_mends, calm_hello_ask, calm_hello, calm_trims, calm_trim, calm_sync}
 use Rattle.law_log.proofs.Copying.{calm_trimmed, calm_synced, calm_sync_full, dated_copy_posts, dated_page_posts}
-use Rattle.law_log.proofs.Filling.{calm_fill_full, calm_filled, calm_sweeps, keeps_fill, dated_fill_posts, quiet_fill}
-use Rattle.law_log.proofs.Pairs.{IsDated, IsOther, IsQuiet, no_letter, other_dated, quiet_goes, quiet_read, quiet_write, quiet_reserve, quiet_reserved}
-use Rattle.law_log.proofs.Pairs.{quiet_pair_full, quiet_replicate, quiet_replicated}
-use Rattle.law_log.proofs.Stores.{Keeps, kept, keeps_goes, keeps_read, keeps_write, keeps_reserve, keeps_reserved}
-use Rattle.law_log.proofs.Stores.{keeps_pair_full, keeps_replicate, keeps_replicated}
+use Rattle.law_log.proofs.Filling.{calm_fill_full, calm_filled, calm_sweeps, dated_fill_posts, pair_fill}
+use Rattle.law_log.proofs.Pairs.{IsDated, IsOther, Leaves, no_letter, other_dated, pair_goes, pair_read, pair_write, pair_reserve, pair_reserved}
+use Rattle.law_log.proofs.Pairs.{pair_pair_full, pair_replicate, pair_replicated}
 use Rattle.law_log.proofs.Turns.{no_posts}
 
 -- an operation leaves the copies as they are
-calm_pair : (own : Own) (done : Done) → IsQuiet done → Keeps (kept own) done → IsCalm own done
-calm_pair own done quiet keeps = record {
-  quiet = quiet;
+calm_pair : (own : Own) (done : Done) → Leaves own done → IsCalm own done
+calm_pair own done pair = record {
+  quiet = pair.quiet;
   kept = record {
-    flags = λ id h. ap (λ (x : Copies). option_map_or (λ (p : Progress). p.caught) (at link_cmp x.progress id) false) keeps ∙ h;
+    flags = λ id h. ap (λ (x : Copies). option_map_or (λ (p : Progress). p.caught) (at link_cmp x.progress id) false) pair.copies ∙ h;
   };
 }
 
 pub calm_handles : (here : Here) (own : Own) (what : Body) → IsCalm own (handles here own what)
 unfolding handles
 calm_handles here own (body.Read client seq cell epoch) =
-    calm_pair own _ (quiet_read here own client seq cell epoch) (keeps_read here own client seq cell epoch)
-calm_handles here own (body.Write client seq cell epoch bytes) = calm_pair own _ (quiet_write here own _) (keeps_write here own _)
-calm_handles here own (body.Reserve number cell) = calm_pair own _ (quiet_reserve here own number cell) (keeps_reserve here own number cell)
-calm_handles here own (body.Reserved number cell) = calm_pair own _ (quiet_reserved here own number cell) (keeps_reserved here own number cell)
-calm_handles here own (body.PairFull number cell) = calm_pair own _ (quiet_pair_full here own number cell) (keeps_pair_full here own number cell)
+    calm_pair own _ (pair_read here own client seq cell epoch)
+calm_handles here own (body.Write client seq cell epoch bytes) = calm_pair own _ (pair_write here own _)
+calm_handles here own (body.Reserve number cell) = calm_pair own _ (pair_reserve here own number cell)
+calm_handles here own (body.Reserved number cell) = calm_pair own _ (pair_reserved here own number cell)
+calm_handles here own (body.PairFull number cell) = calm_pair own _ (pair_pair_full here own number cell)
 calm_handles here own (body.Replicate number key version bytes) =
-    calm_pair own _ (quiet_replicate here own number key bytes) (keeps_replicate here own number key bytes)
-calm_handles here own (body.Replicated number cell) = calm_pair own _ (quiet_replicated here own number cell) (keeps_replicated here own number cell)
+    calm_pair own _ (pair_replicate here own number key bytes)
+calm_handles here own (body.Replicated number cell) = calm_pair own _ (pair_replicated here own number cell)
 calm_handles here own (body.HelloAsk map link after) = calm_hello_ask here own _ after
 calm_handles here own (body.Hello map link after block) = calm_hello here own _ after block
 calm_handles here own (body.Trim number cell epochs) = calm_trim here own number cell epochs
@@ -59,14 +57,14 @@ calm_handles here own (body.Trimmed number cell) = calm_trimmed here own number 
 calm_handles here own (body.Sync number key version index bytes) = calm_sync here own _
 calm_handles here own (body.Synced number cell index) = calm_synced here own number cell index
 calm_handles here own (body.SyncFull number cell) = calm_sync_full own number cell
-calm_handles here own (body.Fill key bytes) = calm_pair own _ (quiet_fill here own _) (keeps_fill here own _)
+calm_handles here own (body.Fill key bytes) = calm_pair own _ (pair_fill here own _)
 calm_handles here own (body.Filled key) = calm_filled here own key
 calm_handles here own (body.FillFull key) = calm_fill_full here own key
 calm_handles here own _ = calm_silent own
 
 pub calm_stages : (here : Here) (own : Own) (cell : Cell) → IsCalm own (stages here own cell)
 calm_stages here own cell =
-    by_test (IsCalm own) (is_some (pending_on own cell)) _ _ (λ e. calm_pair own _ (quiet_goes here own cell) (keeps_goes here own cell))
+    by_test (IsCalm own) (is_some (pending_on own cell)) _ _ (λ e. calm_pair own _ (pair_goes here own cell))
     (λ e. by_test (IsCalm own) (is_some (copying_on own cell)) _ _ (λ f. calm_copies here own cell) (λ f. calm_trims here own cell))
 
 -- what a job of the pairs leaves: no letter of the log was sent or queued

@@ -20,7 +20,8 @@ use Rattle.petal_state.specs.Command.{may_join, state_after}
 use Rattle.petal_rules.specs.Server.{Server}
 use Rattle.law_state.specs.Firm.{Firm}
 use Rattle.law_log.specs.Logged.{Catches, Drains, IsBacked, IsCalledAnywhere, IsSaidBy, Logged, Minded, Moves, Waits}
-use Rattle.law_log.specs.Requested.{HasBegun, HasStopped, IsCalledFor, IsCaughtAt, IsReportAt, WasDraining, WasMoving, WasReturning, WasStarted, WasWanted}
+use Rattle.law_log.specs.Requested.{HasBegun, HasStopped, IsCalledFor, IsCaughtAt, IsReportAt, WasDraining, WasMoving, WasReturning, WasRunning}
+use Rattle.law_log.specs.Requested.{WasStarted, WasWanted}
 use Rattle.law_log.proofs.Chosen.{agrees, caught_at, caught_was, firm, called_for, join_at, join_chosen, join_waited, moved_was, report_at, report_was}
 use Rattle.law_log.proofs.Chosen.{in_begun, leave_chosen, out_stopped, runs_in, has_schedule, grown_log}
 use Rattle.law_log.proofs.Facts.{IsFair, leave_stopped}
@@ -40,27 +41,30 @@ Past script records server inc front (Waits blank) = WasReturning (setting_of sc
 Past script records server inc front Drains = WasDraining (setting_of script) records server inc front
 Past script records server inc front (Moves of region link) = WasMoving (setting_of script) records front of region link
 
+-- a server that runs at a front of the records
+abbrev ran_so : (script : Script) (records before : List Record) (own : Record) (later : List Record) → records ≡ before ++ own ∷ later → (n : ℕ)
+    → ((At script before).servers n).life.running ≡ true
+    → WasRunning (setting_of script) records n ((At script before).servers n).life.inc
+ran_so script records before own later is n runs = record { before = before; own = own; later = later; is = is; lives = refl; runs = runs }
+
 pub logged : (script : Script) (records : List Record) → IsSound script → IsLegal script records
     → Logged (Past script records) (setting_of script) (At script records)
 logged script records sound legal =
     (history_goes (setting_of script) (sound_fair script sound) records (start (setting_of script)) (start_logged (setting_of script)) legal
     (λ before own later is n. record {
-      waits = λ runs. record { before = before; own = own; later = later; is = is; lives = refl; runs = runs; waits = refl };
-      drains = λ runs drained. record { before = before; own = own; later = later; is = is; lives = refl; runs = runs; at = refl; drained = drained };
+      waits = λ runs. record { ran = ran_so script records before own later is n runs; waits = refl };
+      drains = λ runs drained. record { ran = ran_so script records before own later is n runs; at = refl; drained = drained };
       moves = λ runs row region moved. record {
-        server = n;
-        inc = ((At script before).servers n).life.inc;
-        before = before;
-        own = own;
-        later = later;
-        is = is;
-        lives = refl;
-        runs = runs;
+        moving = record {
+          server = n;
+          inc = ((At script before).servers n).life.inc;
+          seated = moved.seated;
+          row = row;
+          linked = moved.linked;
+          moves = moved.moves;
+        };
+        ran = ran_so script records before own later is n runs;
         at = refl;
-        seated = moved.seated;
-        row = row;
-        linked = moved.linked;
-        moves = moved.moves;
         left = moved.left;
       };
       catches = λ id minded. record {

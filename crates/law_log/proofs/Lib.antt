@@ -6,7 +6,6 @@ pub mod Taking
 pub mod Proposing
 pub mod Jobs
 pub mod Boots
-pub mod Stores
 pub mod Unbooted
 pub mod Pairs
 pub mod Flags

@@ -1,4 +1,5 @@
--- Operations of the pairs say nothing of the log, and put no letter into the queue; neither does what a tick sends for them.
+-- Operations of the pairs say nothing of the log, put no letter into the queue, and leave all copies as they are; neither does what a tick sends
+-- for them say anything of the log.
 use Rattle.std.proofs.Common.{◌≡◌, ℕ, Bool, true, false, true≢false, ◌==◌, ◌&&◌, not, List, [], ◌∷◌, Option, Some, None, refl, inl, inr}
 use Rattle.std.specs.Prelude.{nat_lt}
 use Rattle.std.specs.List.{flat_map}
@@ -29,9 +30,10 @@ use Rattle.petal_paxos.specs.Schedule.{World}
 use Rattle.petal_rules.specs.Jobs.{awaited, sent_anew}
 use Rattle.petal_rules.specs.Lists.{In as Among}
 use Rattle.petal_rules.specs.Reads.{on_read, reply_to, said}
-use Rattle.petal_rules.specs.Server.{Own, Here, Post, Done, post_to, silent, says, says_to}
+use Rattle.petal_rules.specs.Server.{Own, Copies, Here, Post, Done, post_to, silent, says, says_to}
 use Rattle.petal_rules.specs.State.{is_lead, is_second, readable}
-use Rattle.petal_rules.specs.Writes.{Wanted, Standing, Older, Again, Newer, acts, ended, ends, finishes, gives_back, moved_as, without_pending, goes_on_with}
+use Rattle.petal_rules.specs.Writes.{Wanted, Standing, Older, Again, Newer, acts, ended, ends, finishes, gives_back, gives_up}
+use Rattle.petal_rules.specs.Writes.{moved_as, without_pending, goes_on_with}
 use Rattle.petal_rules.specs.Writes.{goes_on, pending_on, opens, opened, takes_newer, takes, is_pending_for, is_kept_back, is_under_way, on_write, is_reserving}
 use Rattle.petal_rules.specs.Writes.{is_replicating, hears_reserved, on_reserved, hears_pair_full, on_pair_full, hears_replicated, on_replicated, tells}
 use Rattle.petal_rules.specs.Writes.{reserves, hears_reserve, on_reserve, follows_once, hears_replicate, on_replicate, last_on}
@@ -96,9 +98,33 @@ posted_dated (Some n) what h post i = only (λ (x : Post). IsDated x.body) (reco
 pub quiet_says_to : (own : Own) (server : Option ℕ) (what : Body) → IsDated what → IsQuiet (says_to own server what)
 quiet_says_to own server what h = record { posts = posted_dated server what h; jobs = no_letter }
 
-quiet_ending : (own : Own) (client seq : ℕ) (what : Ending) → IsQuiet (finishes own client seq what)
-quiet_ending own client seq ending.Written = quiet_says _ _ _ refl
-quiet_ending own client seq ending.Full = quiet_says _ _ _ refl
+-- what it says is handled at its revision alone, and it leaves these copies
+pub record IsOfPairs (done : Done) (are : Copies) : Type 0 where
+  pub quiet : IsQuiet done
+  pub copies : done.own.copies ≡ are
+
+-- it leaves those of this server
+abbrev pub Leaves : Own → Done → Type 0
+Leaves own done = IsOfPairs done own.copies
+
+pub pair_silent : (own : Own) → Leaves own (silent own)
+pair_silent own = record { quiet = quiet_silent own; copies = refl }
+
+pair_stage : (own : Own) (cell : Cell) → Leaves own (record { own = own; posts = []; jobs = job.Stage cell ∷ [] })
+pair_stage own cell = record { quiet = quiet_stage own cell; copies = refl }
+
+pair_says : (own : Own) (to : Actor) (what : Body) → IsDated what → Leaves own (says own to what)
+pair_says own to what h = record { quiet = quiet_says own to what h; copies = refl }
+
+pub pair_says_to : (own : Own) (server : Option ℕ) (what : Body) → IsDated what → Leaves own (says_to own server what)
+pair_says_to own server what h = record { quiet = quiet_says_to own server what h; copies = refl }
+
+pair_up : (own : Own) (op : Pending) → (gives_up own op).copies ≡ own.copies
+pair_up own op = by_test (λ (left : Own). left.copies ≡ own.copies) op.stage.put _ _ (λ e. refl) (λ e. refl)
+
+pair_ending : (own : Own) (client seq : ℕ) (what : Ending) → Leaves own (finishes own client seq what)
+pair_ending own client seq ending.Written = pair_says _ _ _ refl
+pair_ending own client seq ending.Full = pair_says _ _ _ refl
 
 dated_ending : (seq : ℕ) (what : Ending) → IsDated (ended seq what)
 dated_ending seq ending.Written = refl
@@ -109,27 +135,27 @@ dated_moved key ending.Written = refl
 dated_moved key ending.Full = refl
 
 -- of a fill the old lead is told
-quiet_ends : (here : Here) (own : Own) (op : Pending) (what : OpKind) (how : Ending) → IsQuiet (ends here own op what how)
-quiet_ends here own op kind.Write how = quiet_ending own op.client op.seq how
-quiet_ends here own op kind.Fill how = quiet_says_to own _ _ (dated_moved op.key how)
-quiet_ends here own op kind.Copy how = quiet_silent own
+pair_ends : (here : Here) (own : Own) (op : Pending) (what : OpKind) (how : Ending) → Leaves own (ends here own op what how)
+pair_ends here own op kind.Write how = pair_ending own op.client op.seq how
+pair_ends here own op kind.Fill how = pair_says_to own _ _ (dated_moved op.key how)
+pair_ends here own op kind.Copy how = pair_silent own
 
-quiet_act : (here : Here) (own : Own) (op : Pending) (what : Action) → IsQuiet (acts here own op what)
-quiet_act here own op action.Reserve = quiet_says_to own _ _ refl
-quiet_act here own op (action.Mark kind) = quiet_stage _ op.cell
-quiet_act here own op action.Put = quiet_stage _ op.cell
-quiet_act here own op action.Replicate = quiet_says_to own _ _ refl
-quiet_act here own op (action.Unmark kind) = quiet_stage _ op.cell
-quiet_act here own op action.Answer = quiet_ends here (without_pending own op.cell) op op.kind ending.Written
-quiet_act here own op action.Drop = quiet_silent _
+pair_act : (here : Here) (own : Own) (op : Pending) (what : Action) → Leaves own (acts here own op what)
+pair_act here own op action.Reserve = pair_says_to own _ _ refl
+pair_act here own op (action.Mark kind) = pair_stage _ op.cell
+pair_act here own op action.Put = pair_stage _ op.cell
+pair_act here own op action.Replicate = pair_says_to own _ _ refl
+pair_act here own op (action.Unmark kind) = pair_stage _ op.cell
+pair_act here own op action.Answer = pair_ends here (without_pending own op.cell) op op.kind ending.Written
+pair_act here own op action.Drop = record { quiet = quiet_silent _; copies = pair_up own op }
 
-quiet_next : (here : Here) (own : Own) (op : Option Pending) → IsQuiet (goes_on_with here own op)
-quiet_next here own None = quiet_silent own
-quiet_next here own (Some op) = quiet_act here own op _
+pair_next : (here : Here) (own : Own) (op : Option Pending) → Leaves own (goes_on_with here own op)
+pair_next here own None = pair_silent own
+pair_next here own (Some op) = pair_act here own op _
 
-pub quiet_goes : (here : Here) (own : Own) (cell : Cell) → IsQuiet (goes_on here own cell)
+pub pair_goes : (here : Here) (own : Own) (cell : Cell) → Leaves own (goes_on here own cell)
 unfolding goes_on
-quiet_goes here own cell = quiet_next here own (pending_on own cell)
+pair_goes here own cell = pair_next here own (pending_on own cell)
 
 dated_reply : (seq : ℕ) (what : Reply) → IsDated (said seq what)
 dated_reply seq (reply.Data bytes) = refl
@@ -137,99 +163,95 @@ dated_reply seq reply.NotHere = refl
 dated_reply seq reply.BlockBusy = refl
 dated_reply seq reply.Held = refl
 
-pub quiet_read : (here : Here) (own : Own) (client seq : ℕ) (cell : Cell) (epoch : ℕ) → IsQuiet (on_read here own client seq cell epoch)
+pub pair_read : (here : Here) (own : Own) (client seq : ℕ) (cell : Cell) (epoch : ℕ) → Leaves own (on_read here own client seq cell epoch)
 unfolding on_read
-quiet_read here own client seq cell epoch =
-    by_test IsQuiet (readable here.state here.me cell) _ _ (λ e. quiet_says own _ _ (dated_reply seq (reply_to here own cell epoch))) (λ e. quiet_silent own)
+pair_read here own client seq cell epoch =
+    by_test (Leaves own) (readable here.state here.me cell) _ _ (λ e. pair_says own _ _ (dated_reply seq (reply_to here own cell epoch))) (λ e. pair_silent own)
 
-quiet_opens : (here : Here) (own : Own) (want : Wanted) (room : Bool) → IsQuiet (opens here own want room)
-quiet_opens here own want false = quiet_ending own want.client want.seq ending.Full
-quiet_opens here own want true = quiet_goes here (opened here own want) want.cell
+pair_opens : (here : Here) (own : Own) (want : Wanted) (room : Bool) → Leaves own (opens here own want room)
+pair_opens here own want false = pair_ending own want.client want.seq ending.Full
+pair_opens here own want true = pair_goes here (opened here own want) want.cell
 
-quiet_newer : (here : Here) (own : Own) (want : Wanted) (kept_back busy : Bool) → IsQuiet (takes_newer here own want kept_back busy)
-quiet_newer here own want true busy = quiet_says own _ _ refl
-quiet_newer here own want false true = quiet_says own _ _ refl
-quiet_newer here own want false false = quiet_opens here own want _
+pair_newer : (here : Here) (own : Own) (want : Wanted) (kept_back busy : Bool) → Leaves own (takes_newer here own want kept_back busy)
+pair_newer here own want true busy = pair_says own _ _ refl
+pair_newer here own want false true = pair_says own _ _ refl
+pair_newer here own want false false = pair_opens here own want _
 
-quiet_takes : (here : Here) (own : Own) (want : Wanted) (how : Standing) → IsQuiet (takes here own want how)
-quiet_takes here own want Older = quiet_silent own
-quiet_takes here own want (Again what) = quiet_says own _ _ (dated_ending want.seq what)
-quiet_takes here own want Newer =
-    by_test IsQuiet (is_pending_for (pending_on own want.cell) want) _ _ (λ e. quiet_silent own)
-    (λ e. quiet_newer here own want (is_kept_back here.state own want.cell) (is_under_way own want.cell))
+pair_takes : (here : Here) (own : Own) (want : Wanted) (how : Standing) → Leaves own (takes here own want how)
+pair_takes here own want Older = pair_silent own
+pair_takes here own want (Again what) = pair_says own _ _ (dated_ending want.seq what)
+pair_takes here own want Newer =
+    by_test (Leaves own) (is_pending_for (pending_on own want.cell) want) _ _ (λ e. pair_silent own)
+    (λ e. pair_newer here own want (is_kept_back here.state own want.cell) (is_under_way own want.cell))
 
-pub quiet_write : (here : Here) (own : Own) (want : Wanted) → IsQuiet (on_write here own want)
+pub pair_write : (here : Here) (own : Own) (want : Wanted) → Leaves own (on_write here own want)
 unfolding on_write
-quiet_write here own want =
-    by_test IsQuiet (is_lead here.state here.me want.cell) _ _ (λ e. quiet_takes here own want _) (λ e. quiet_silent own)
+pair_write here own want =
+    by_test (Leaves own) (is_lead here.state here.me want.cell) _ _ (λ e. pair_takes here own want _) (λ e. pair_silent own)
 
-quiet_hears_reserved : (here : Here) (own : Own) (number : ℕ) (o : Option Pending) → IsQuiet (hears_reserved here own number o)
-quiet_hears_reserved here own number None = quiet_silent own
-quiet_hears_reserved here own number (Some op) = by_test IsQuiet (is_reserving op number) _ _ (λ e. quiet_goes here _ op.cell) (λ e. quiet_silent own)
+-- where an operation is pending, or none
+pair_found : (own : Own) (what : Option Pending → Done) → Leaves own (what None) → ((op : Pending) → Leaves own (what (Some op))) → (o : Option Pending)
+    → Leaves own (what o)
+pair_found own what none some None = none
+pair_found own what none some (Some op) = some op
 
-pub quiet_reserved : (here : Here) (own : Own) (number : ℕ) (cell : Cell) → IsQuiet (on_reserved here own number cell)
+pub pair_reserved : (here : Here) (own : Own) (number : ℕ) (cell : Cell) → Leaves own (on_reserved here own number cell)
 unfolding on_reserved
-quiet_reserved here own number cell = quiet_hears_reserved here own number (pending_on own cell)
+pair_reserved here own number cell = pair_found own (hears_reserved here own number) (pair_silent own)
+    (λ op. by_test (Leaves own) (is_reserving op number) _ _ (λ e. pair_goes here _ op.cell) (λ e. pair_silent own)) (pending_on own cell)
 
-quiet_hears_full : (here : Here) (own : Own) (number : ℕ) (o : Option Pending) → IsQuiet (hears_pair_full here own number o)
-quiet_hears_full here own number None = quiet_silent own
-quiet_hears_full here own number (Some op) =
-    by_test IsQuiet (is_reserving op number && not op.stage.put) _ _
-    (λ e. quiet_ends here (gives_back (without_pending own op.cell)) op op.kind ending.Full) (λ e. quiet_silent own)
-
-pub quiet_pair_full : (here : Here) (own : Own) (number : ℕ) (cell : Cell) → IsQuiet (on_pair_full here own number cell)
+pub pair_pair_full : (here : Here) (own : Own) (number : ℕ) (cell : Cell) → Leaves own (on_pair_full here own number cell)
 unfolding on_pair_full
-quiet_pair_full here own number cell = quiet_hears_full here own number (pending_on own cell)
+pair_pair_full here own number cell = pair_found own (hears_pair_full here own number) (pair_silent own)
+    (λ op. by_test (Leaves own) (is_reserving op number && not op.stage.put) _ _
+    (λ e. pair_ends here (gives_back (without_pending own op.cell)) op op.kind ending.Full) (λ e. pair_silent own)) (pending_on own cell)
 
-quiet_hears_replicated : (here : Here) (own : Own) (number : ℕ) (o : Option Pending) → IsQuiet (hears_replicated here own number o)
-quiet_hears_replicated here own number None = quiet_silent own
-quiet_hears_replicated here own number (Some op) = by_test IsQuiet (is_replicating op number) _ _ (λ e. quiet_goes here _ op.cell) (λ e. quiet_silent own)
-
-pub quiet_replicated : (here : Here) (own : Own) (number : ℕ) (cell : Cell) → IsQuiet (on_replicated here own number cell)
+pub pair_replicated : (here : Here) (own : Own) (number : ℕ) (cell : Cell) → Leaves own (on_replicated here own number cell)
 unfolding on_replicated
-quiet_replicated here own number cell = quiet_hears_replicated here own number (pending_on own cell)
+pair_replicated here own number cell = pair_found own (hears_replicated here own number) (pair_silent own)
+    (λ op. by_test (Leaves own) (is_replicating op number) _ _ (λ e. pair_goes here _ op.cell) (λ e. pair_silent own)) (pending_on own cell)
 
-quiet_tells : (here : Here) (own : Own) (cell : Cell) (number : ℕ) (how : Far) → IsQuiet (tells here own cell number how)
-quiet_tells here own cell number far.Reserved = quiet_says_to own _ _ refl
-quiet_tells here own cell number far.Replicated = quiet_says_to own _ _ refl
+pair_tells : (here : Here) (own : Own) (cell : Cell) (number : ℕ) (how : Far) → Leaves own (tells here own cell number how)
+pair_tells here own cell number far.Reserved = pair_says_to own _ _ refl
+pair_tells here own cell number far.Replicated = pair_says_to own _ _ refl
 
-quiet_reserves : (here : Here) (own : Own) (cell : Cell) (number : ℕ) (has room : Bool) → IsQuiet (reserves here own cell number has room)
-quiet_reserves here own cell number true room = quiet_tells here _ cell number far.Reserved
-quiet_reserves here own cell number false true = quiet_tells here _ cell number far.Reserved
-quiet_reserves here own cell number false false = quiet_says_to own _ _ refl
+pair_reserves : (here : Here) (own : Own) (cell : Cell) (number : ℕ) (has room : Bool) → Leaves own (reserves here own cell number has room)
+pair_reserves here own cell number true room = pair_tells here _ cell number far.Reserved
+pair_reserves here own cell number false true = pair_tells here _ cell number far.Reserved
+pair_reserves here own cell number false false = pair_says_to own _ _ refl
 
-quiet_hears_reserve : (here : Here) (own : Own) (cell : Cell) (number : ℕ) (o : Option LastOp) → IsQuiet (hears_reserve here own cell number o)
-quiet_hears_reserve here own cell number None = quiet_reserves here own cell number false _
-quiet_hears_reserve here own cell number (Some last) =
-    by_test IsQuiet (nat_lt number last.op) _ _ (λ e. quiet_silent own)
-    (λ e. by_test IsQuiet (number == last.op) _ _ (λ f. quiet_tells here own cell number last.far) (λ f. quiet_reserves here own cell number _ _))
+pair_hears_reserve : (here : Here) (own : Own) (cell : Cell) (number : ℕ) (o : Option LastOp) → Leaves own (hears_reserve here own cell number o)
+pair_hears_reserve here own cell number None = pair_reserves here own cell number false _
+pair_hears_reserve here own cell number (Some last) =
+    by_test (Leaves own) (nat_lt number last.op) _ _ (λ e. pair_silent own)
+    (λ e. by_test (Leaves own) (number == last.op) _ _ (λ f. pair_tells here own cell number last.far) (λ f. pair_reserves here own cell number _ _))
 
-pub quiet_reserve : (here : Here) (own : Own) (number : ℕ) (cell : Cell) → IsQuiet (on_reserve here own number cell)
+pub pair_reserve : (here : Here) (own : Own) (number : ℕ) (cell : Cell) → Leaves own (on_reserve here own number cell)
 unfolding on_reserve
-quiet_reserve here own number cell =
-    by_test IsQuiet (is_second here.state here.me cell) _ _ (λ e. quiet_hears_reserve here own cell number (last_on own cell)) (λ e. quiet_silent own)
+pair_reserve here own number cell =
+    by_test (Leaves own) (is_second here.state here.me cell) _ _ (λ e. pair_hears_reserve here own cell number (last_on own cell)) (λ e. pair_silent own)
 
-quiet_once : (here : Here) (own : Own) (number : ℕ) (key : Key) (bytes : List ℕ) (how : Far) → IsQuiet (follows_once here own number key bytes how)
-quiet_once here own number key bytes far.Reserved = quiet_tells here _ (cell_of key) number far.Replicated
-quiet_once here own number key bytes far.Replicated = quiet_tells here own (cell_of key) number far.Replicated
+pair_once : (here : Here) (own : Own) (number : ℕ) (key : Key) (bytes : List ℕ) (how : Far) → Leaves own (follows_once here own number key bytes how)
+pair_once here own number key bytes far.Reserved = pair_tells here _ (cell_of key) number far.Replicated
+pair_once here own number key bytes far.Replicated = pair_tells here own (cell_of key) number far.Replicated
 
-quiet_hears_replicate : (here : Here) (own : Own) (number : ℕ) (key : Key) (bytes : List ℕ) (o : Option LastOp)
-    → IsQuiet (hears_replicate here own number key bytes o)
-quiet_hears_replicate here own number key bytes None = quiet_silent own
-quiet_hears_replicate here own number key bytes (Some last) =
-    by_test IsQuiet (number == last.op) _ _ (λ e. quiet_once here own number key bytes last.far) (λ e. quiet_silent own)
+pair_hears_replicate : (here : Here) (own : Own) (number : ℕ) (key : Key) (bytes : List ℕ) (o : Option LastOp)
+    → Leaves own (hears_replicate here own number key bytes o)
+pair_hears_replicate here own number key bytes None = pair_silent own
+pair_hears_replicate here own number key bytes (Some last) =
+    by_test (Leaves own) (number == last.op) _ _ (λ e. pair_once here own number key bytes last.far) (λ e. pair_silent own)
 
-pub quiet_replicate : (here : Here) (own : Own) (number : ℕ) (key : Key) (bytes : List ℕ) → IsQuiet (on_replicate here own number key bytes)
+pub pair_replicate : (here : Here) (own : Own) (number : ℕ) (key : Key) (bytes : List ℕ) → Leaves own (on_replicate here own number key bytes)
 unfolding on_replicate
-quiet_replicate here own number key bytes =
-    by_test IsQuiet (is_second here.state here.me (cell_of key)) _ _ (λ e. quiet_hears_replicate here own number key bytes (last_on own (cell_of key)))
-    (λ e. quiet_silent own)
+pair_replicate here own number key bytes =
+    by_test (Leaves own) (is_second here.state here.me (cell_of key)) _ _ (λ e. pair_hears_replicate here own number key bytes (last_on own (cell_of key)))
+    (λ e. pair_silent own)
 
 -- ### A tick
 
 dated_awaited : (here : Here) (own : Own) (op : Pending) (what : Action) (post : Post) → Among post (awaited here own op what) → IsDated post.body
-dated_awaited here own op action.Reserve post i = (quiet_act here own op action.Reserve).posts post i
-dated_awaited here own op action.Replicate post i = (quiet_act here own op action.Replicate).posts post i
+dated_awaited here own op action.Reserve post i = (pair_act here own op action.Reserve).quiet.posts post i
+dated_awaited here own op action.Replicate post i = (pair_act here own op action.Replicate).quiet.posts post i
 dated_awaited here own op _ post i = no_posts post i
 
 pub dated_anew : (here : Here) (own : Own) (rows : List (Cell × Pending)) (post : Post) → Among post (flat_map (λ row. sent_anew here own row.1) rows)

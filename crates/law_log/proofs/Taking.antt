@@ -24,7 +24,7 @@ use Rattle.law_log.specs.Logged.{IsSeenAt, IsLow}
 use Rattle.petal_paxos.proofs.Committed.{known_promise, known_accepted, known_here, known_elsewhere, acceptor_promise, acceptor_accepted}
 use Rattle.petal_paxos.proofs.Committed.{acceptor_chosen, inc_promise, inc_accepted, inc_chosen}
 use Rattle.law_log.proofs.RunningLog.{RunningLog}
-use Rattle.law_log.proofs.Kept.{in_committed}
+use Rattle.law_log.proofs.Kept.{in_committed, same_votes}
 use Rattle.law_log.proofs.Lists.{put_here, put_away, put_at_here, put_at_beside, put_at_itself}
 use Rattle.law_log.proofs.Turns.{apart_itself, no_posts, Turns, HasTurn, by_letter, replied, seen_same, busy_same, apart_both, low_keep}
 use Rattle.law_log.proofs.Turns.{low_cast, low_learn, apart_keep, apart_cast, apart_learn}
@@ -68,14 +68,7 @@ seen_promise n records entries p place b o seen = record {
   ];
   known = λ j. seen.known j ∙ sym (known_promise records place b j);
   inc = seen.inc ∙ sym (inc_promise records place b);
-  votes = λ j ballot command. (
-    λ i. (in_committed records (Promise place b) j ballot command).1 (inr ((seen.votes j ballot command).0 i)),
-    λ i. elim ((in_committed records (Promise place b) j ballot command).0 i) [
-      | inl e ↦ absurd (no_promise place j b ballot command e)
-      | inr old ↦
-          (seen.votes j ballot command).1 old
-    ],
-  );
+  votes = same_votes n records entries p (Promise place b) (λ j ballot command. no_promise place j b ballot command) seen;
   told = λ j command e. let t = seen.told j command (sym (known_promise records place b j) ∙ e) in record { from = t.from; is = t.is };
   applied = λ i command e. known_promise records place b (i + 1) ∙ seen.applied i command e;
 }
@@ -124,14 +117,7 @@ seen_learn n records entries p place c t one seen = record {
     | inr ne ↦ put_at_beside p.known n place _ n j (λ e. ne (sym e)) ∙ seen.known j ∙ sym (known_elsewhere records place c j (λ e. ne (sym e)))
   ];
   inc = seen.inc ∙ sym (inc_chosen records place c);
-  votes = λ j ballot command. (
-    λ i. (in_committed records (Chosen place c) j ballot command).1 (inr ((seen.votes j ballot command).0 i)),
-    λ i. elim ((in_committed records (Chosen place c) j ballot command).0 i) [
-      | inl e ↦ absurd (no_choice place j ballot c command e)
-      | inr old ↦
-          (seen.votes j ballot command).1 old
-    ],
-  );
+  votes = same_votes n records entries p (Chosen place c) (λ j ballot command. no_choice place j ballot c command) seen;
   told = λ j command e. elim (same_or_apart place j) [
     | inl is ↦ (let same : c ≡ command = same_some (sym (known_here records place c) ∙ ap (known_at (committed records (Chosen place c))) is ∙ e) in
         record { from = t.from; is = subst (λ (x : ℕ × Command). In (sent t.from (pax.Chosen x.0 x.1)) p.letters) (λ i. (is i, same i)) t.is })

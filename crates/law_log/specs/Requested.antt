@@ -80,15 +80,19 @@ pub record IsReportAt (servers : ℕ) (front : List Command) (server inc fence :
   pub number : active.number ≡ fence
   pub awaited : awaits active server ≡ true
 
--- on the way the server ran as this incarnation, with these entries applied, and none of its clients' writes was under way on a cell of
--- which the active fence held the writes; and then it took one step more
-pub record WasDraining (setting : Setting) (records : List Record) (server inc : ℕ) (front : List Command) : Type 0 where
+-- on the way the server ran as this incarnation; and then it took one step more
+pub record WasRunning (setting : Setting) (records : List Record) (server inc : ℕ) : Type 0 where
   pub before : List Record
   pub own : Record
   pub later : List Record
   pub is : records ≡ before ++ own ∷ later
   pub lives : ((world_after setting (start setting) before).servers server).life.inc ≡ inc
   pub runs : ((world_after setting (start setting) before).servers server).life.running ≡ true
+
+-- it did so with these entries applied, and none of its clients' writes was under way on a cell of which the active fence held the writes
+pub record WasDraining (setting : Setting) (records : List Record) (server inc : ℕ) (front : List Command) : Type 0 where
+  pub ran : WasRunning setting records server inc
+  pub open ran use *
   pub at : ((world_after setting (start setting) before).servers server).log.applied ≡ front
   pub drained : has_held_write (state_after setting.servers front) ((world_after setting (start setting) before).servers server).own ≡ false
 
@@ -106,19 +110,11 @@ pub record IsMovedAt (servers : ℕ) (front : List Command) (of region link : �
 -- on the way such a server ran as the incarnation by which it was In, with these entries applied, and nothing was left of the link's blocks of
 -- the region; and then it took one step more
 pub record WasMoving (setting : Setting) (records : List Record) (front : List Command) (of region link : ℕ) : Type 0 where
-  pub server : ℕ
-  pub inc : ℕ
-  pub before : List Record
-  pub own : Record
-  pub later : List Record
-  pub is : records ≡ before ++ own ∷ later
-  pub lives : ((world_after setting (start setting) before).servers server).life.inc ≡ inc
-  pub runs : ((world_after setting (start setting) before).servers server).life.running ≡ true
+  pub moving : IsMovedAt setting.servers front of region link
+  pub open moving use *
+  pub ran : WasRunning setting records server inc
+  pub open ran use *
   pub at : ((world_after setting (start setting) before).servers server).log.applied ≡ front
-  pub seated : is_in (state_after setting.servers front) server inc ≡ true
-  pub row : LinkRow
-  pub linked : link_at (state_after setting.servers front).links of link ≡ Some row
-  pub moves : region_to_move (state_after setting.servers front) server row ≡ Some region
   pub left : fill_of (state_after setting.servers front) server row ((world_after setting (start setting) before).servers server).own ≡ None
 
 -- ### What servers want of themselves
@@ -146,14 +142,10 @@ pub record WasStarted (setting : Setting) (records : List Record) (holder inc : 
   pub at : ((world_after setting (start setting) before).servers holder).log.applied ≡ front
   pub minded : is_flagged ((world_after setting (start setting) before).servers holder).own id ≡ true
 
--- on the way the server ran as this incarnation, its store waited to be filled or not, and then it took one step more
+-- on the way the server ran as this incarnation, and its store waited to be filled or not; and then it took one step more
 pub record WasReturning (setting : Setting) (records : List Record) (server inc : ℕ) (blank : Bool) : Type 0 where
-  pub before : List Record
-  pub own : Record
-  pub later : List Record
-  pub is : records ≡ before ++ own ∷ later
-  pub lives : ((world_after setting (start setting) before).servers server).life.inc ≡ inc
-  pub runs : ((world_after setting (start setting) before).servers server).life.running ≡ true
+  pub ran : WasRunning setting records server inc
+  pub open ran use *
   pub waits : ((world_after setting (start setting) before).servers server).own.store.fresh ≡ blank
 
 -- no record tells of a boot

@@ -75,6 +75,12 @@ module _ (heard : Body → Type 0) (here : Here) (own : Own) (never : NeverDead 
   at_cell : (q cell : Cell) (o : Pending) → q ≡ cell → pending_on own cell ≡ Some o → at cell_cmp own.pairs.pending q ≡ Some o
   at_cell q cell o e is = ap (at cell_cmp own.pairs.pending) e ∙ is
 
+  -- it goes on by two puts at its cell
+  goes_twice : (new : Own) (o first next : Pending) → pending_on own o.cell ≡ Some o → IsSame o next → next.stage.put ≡ o.stage.put → (q : Cell) (op : Pending)
+      → at cell_cmp (put cell_cmp (put cell_cmp own.pairs.pending o.cell first) o.cell next) q ≡ Some op → WasSo own new q op
+  goes_twice new o first next is same put q op there = put_twice own.pairs.pending o.cell first next q op there
+      (λ e one. goes_to new q o next op (at_cell q o.cell o e is) same put one) (λ ne is_q. stands new q op is_q)
+
   -- the entry of an operation that is put
   entry_there : (store : Store) (op : Pending) (entry : Stored) (q : Cell) → cell_of op.key ≡ q
       → Has (chain_in (chains_with store.chains op.key entry) q) op.key.epoch
@@ -112,10 +118,8 @@ module _ (heard : Body → Type 0) (here : Here) (own : Own) (never : NeverDead 
       (λ e same. Is_new (ap (λ (p : Pending). p.op) (sym same)) (ap (λ (p : Pending). p.stage.put) (sym same)))
       (λ ne is. stands _ q op is)
   lead_was _ (Marks o h is both stage) q op there =
-      put_twice own.pairs.pending o.cell (with_reserved o) (with_mark_at (with_reserved o) Busy true) q op there
-      (λ e same. goes_to _ q o _ op (at_cell q o.cell o e is)
-      (record { number = refl; kind = refl; client = refl; seq = refl; rev = refl; key = refl; bytes = refl }) refl same)
-      (λ ne is_q. stands _ q op is_q)
+      goes_twice _ o (with_reserved o) (with_mark_at (with_reserved o) Busy true) is
+      (record { number = refl; kind = refl; client = refl; seq = refl; rev = refl; key = refl; bytes = refl }) refl q op there
   lead_was _ (Puts o is both stage) q op there =
       let entry : Stored = record { version = version_of (chain_in own.store.chains o.cell) + 1; bytes = o.bytes } in
       where_put own.pairs.pending o.cell (record o { version = entry.version; stage = record o.stage { put = true } }) q op there
@@ -124,10 +128,8 @@ module _ (heard : Body → Type 0) (here : Here) (own : Own) (never : NeverDead 
       (entry_there own.store o entry q (keyed o.cell o is ∙ sym e)) same)
       (λ ne is_q. stands _ q op is_q)
   lead_was _ (Unmarks o h is both stage) q op there =
-      put_twice own.pairs.pending o.cell (with_paired o) (with_mark_at (with_paired o) Busy false) q op there
-      (λ e same. goes_to _ q o _ op (at_cell q o.cell o e is)
-      (record { number = refl; kind = refl; client = refl; seq = refl; rev = refl; key = refl; bytes = refl }) refl same)
-      (λ ne is_q. stands _ q op is_q)
+      goes_twice _ o (with_paired o) (with_mark_at (with_paired o) Busy false) is
+      (record { number = refl; kind = refl; client = refl; seq = refl; rev = refl; key = refl; bytes = refl }) refl q op there
   lead_was _ (Closes o is both stage) q op there =
       gone_own _ o.cell q op (ap (λ t. at cell_cmp t q) (sym (of_ending here (without_pending own o.cell) o o.kind Written).pending) ∙ there)
   lead_was _ (Opens_alone want new alone) q op there =

@@ -1,6 +1,6 @@
 -- After each legal history two copies are kept so that what a server was at each place is told: where it was at a place, it is one of the visits there,
 -- with the operations that it had.
-use Rattle.std.proofs.Common.{◌≡◌, ◌⊎◌, ◌++◌, ℕ, true, if◌then◌else◌, List, [], ◌∷◌, Some, refl, sym, ap, ◌∙◌, subst, inl, inr, arith}
+use Rattle.std.proofs.Common.{◌≡◌, ◌++◌, ℕ, true, if◌then◌else◌, List, [], ◌∷◌, Some, sym, ap, ◌∙◌, subst, inl, inr, arith}
 use Rattle.std.specs.Prelude.{is_some}
 use Rattle.petal_base.specs.declared.cell.Cell.{Cell}
 use Rattle.script_lines.specs.declared.script.Script.{Script}
@@ -20,6 +20,7 @@ use Rattle.law_copies.specs.Visits.{WasThere, is_at}
 use Rattle.law_copies.proofs.Histories.{start_good, step_goes}
 use Rattle.law_copies.proofs.Visited.{at_by}
 use Rattle.law_epochs.proofs.Scenes.{OneMore, ends_of, one_more}
+use Rattle.law_epochs.proofs.Parts.{one_in_other}
 use Rattle.law_moves.proofs.Scenes.{kept_along}
 
 abbrev GoodAt : Script → List Record → Type 0
@@ -70,21 +71,8 @@ seen_after script sound records legal =
 
 -- ### What a server was at a place
 
-heads : {A : Type 0} {x z : A} {xs zs : List A} → x ∷ xs ≡ z ∷ zs → x ≡ z
-heads e = cc
-
 tails : {A : Type 0} {x z : A} {xs zs : List A} → x ∷ xs ≡ z ∷ zs → xs ≡ zs
 tails e = cc
-
--- of two fronts of one list one goes on with a part of the other's rest
-meet : {A : Type 0} (a b c d : List A) → a ++ b ≡ c ++ d
-    → ((r : List A) × (c ≡ a ++ r) × (b ≡ r ++ d)) ⊎ ((r : List A) × (a ≡ c ++ r) × (d ≡ r ++ b))
-meet [] b c d e = inl (c, refl, e)
-meet (x ∷ a) b [] d e = inr (x ∷ a, refl, sym e)
-meet (x ∷ a) b (z ∷ c) d e = elim (meet a b c d (tails e)) [
-  | inl h ↦ inl (h.0, (λ i. heads (sym e) i ∷ h.1 i), h.2)
-  | inr h ↦ inr (h.0, (λ i. heads e i ∷ h.1 i), h.2)
-]
 
 -- what follows one front of a list is one
 pub same_rest : {A : Type 0} (xs ys zs : List A) → xs ++ ys ≡ xs ++ zs → ys ≡ zs
@@ -94,7 +82,7 @@ same_rest (x ∷ xs) ys zs e = same_rest xs ys zs (tails e)
 -- two times at one place tell the same
 same_there : (script : Script) (records : List Record) (n place : ℕ) (cell : Cell) (one other : Pairs)
     → WasThere (setting_of script) records n place cell one → WasThere (setting_of script) records n place cell other → one ≡ other
-same_there script records n place cell one other a b = elim (meet a.before a.later b.before b.later (sym a.is ∙ b.is)) [
+same_there script records n place cell one other a b = elim (one_in_other a.before a.later b.before b.later (sym a.is ∙ b.is)) [
   | inl h ↦ sym (a.since h.0 b.later h.2 (subst (λ rs. is_at (setting_of script) n ((At script rs).servers n) place cell ≡ true) h.1 b.there))
       ∙ ap (λ rs. ((At script rs).servers n).own.pairs) (sym h.1) ∙ b.had
   | inr h ↦ sym a.had ∙ ap (λ rs. ((At script rs).servers n).own.pairs) h.1

@@ -1,7 +1,7 @@
 -- A server remembers that a slot was wanting since a letter told it so: of its last copy, by the link's other server, which had none; or of an
 -- entry that it is to move, by the new map's lead, which had none, or whose second server had none.
 use Rattle.std.proofs.Common.{◌≡◌, ◌<◌, ℕ, Bool, List, [], ◌∷◌, ◌++◌, length, Option, Some, None, true, false, refl, sym}
-use Rattle.std.proofs.Common.{ap, ◌∙◌, subst, ◌⊎◌, inl, inr, append_assoc}
+use Rattle.std.proofs.Common.{ap, ◌∙◌, subst, ◌⊎◌, inl, inr}
 use Rattle.busy_marks.specs.Marks.{above}
 use Rattle.global_tables.specs.declared.link.LinkRow.{LinkRow}
 use Rattle.petal_base.specs.declared.cell.Cell.{Cell}
@@ -19,7 +19,7 @@ use Rattle.petal_msg.specs.declared.letter.Actor.{Actor}
 use Rattle.petal_msg.specs.declared.letter.Actor.TheVariants as actor
 use Rattle.petal_msg.specs.declared.letter.Letter.{Letter}
 use Rattle.script_lines.specs.declared.script.Script.{Script}
-use Rattle.petal_rules.specs.Copies.{Entry, page_wanted, with_copied, with_page}
+use Rattle.petal_rules.specs.Copies.{page_wanted, with_copied, with_page}
 use Rattle.petal_rules.specs.Crossing.{crossed}
 use Rattle.petal_rules.specs.Jobs.{Acted}
 use Rattle.petal_rules.specs.Lists.{In}
@@ -27,7 +27,7 @@ use Rattle.petal_rules.specs.Progress.{copying_on, progress_on, with_progress}
 use Rattle.petal_rules.specs.Returns.{holds_link, proposed}
 use Rattle.petal_rules.specs.Server.{Own, Copies, Here, Post, Done, Server, post_to}
 use Rattle.petal_rules.specs.State.{State, link_named}
-use Rattle.petal_rules.specs.Store.{chain_in, free_of}
+use Rattle.petal_rules.specs.Store.{chain_in}
 use Rattle.petal_rules.specs.World.{Setting, World, server_state, setting_of, start, step, MayActor}
 use Rattle.petal_rules.specs.declared.step.Step.{Step}
 use Rattle.petal_rules.specs.declared.step.Step.TheVariants.{Blank, Work}
@@ -38,11 +38,12 @@ use Rattle.petal_rules.proofs.Tests.{all_put, by_test, true_false}
 use Rattle.petal_history.specs.Legal.{Follows, IsLegal, stepped, world_after}
 use Rattle.petal_history.specs.declared.record.Record.{Record}
 use Rattle.law_state.specs.Firm.{Firm}
+use Rattle.law_state.proofs.Moments.{last_moment, moment_more}
 use Rattle.law_steps.specs.Did.{Did, Ignores, Refuses, By_read, By_lead, By_second, By_holder, By_other, By_filler, By_sweep}
 use Rattle.law_steps.specs.DidFiller.{DidFiller, IsNextKey, Is_filled, Is_out_of_slots}
 use Rattle.law_steps.specs.DidHolder.{DidHolder, CopyStep, Unmarks_copied, Closes_copy, TakenCopy, Copy_as_is}
 use Rattle.law_steps.specs.DidHolder.{Asks_page, Turns_page, Begins_copy, Goes_on_copying, Finds_it_full}
-use Rattle.law_steps.specs.DidOther.{OtherReply, Replies, DidOther, TrimStep, IsOfCopy, Is_trimmed, Drops_entry, Is_copied_to}
+use Rattle.law_steps.specs.DidOther.{OtherReply, Replies, DidOther, TrimStep, Is_trimmed, Drops_entry, Is_copied_to}
 use Rattle.law_steps.specs.DidOther.{Goes_on_trimming, Puts_entry, Has_no_slot}
 use Rattle.law_steps.specs.Happens.{Handled, By_job, By_ballot, By_entry, Serving, Goes, Ends, Stays, Wakes, Fails, own_place}
 use Rattle.law_steps.specs.Ready.{AreFirm, Rests}
@@ -50,7 +51,7 @@ use Rattle.law_steps.proofs.Histories.{own_steady, rests_next, start_rests, worl
 use Rattle.law_steps.proofs.Letters.{one_post, posted}
 use Rattle.law_steps.proofs.Serving.{server_serves}
 use Rattle.law_steps.proofs.Subjects.{of_filler, of_lead, of_read, of_second, of_sweep}
-use Rattle.law_refusals.specs.Full.{By_copy, By_fill, HasEndedFull, HasFilledFull, HasFoundNone, HasJob, WasDeclined, WasTold}
+use Rattle.law_refusals.specs.Full.{By_copy, By_fill, HasEndedFull, HasFilledFull, HasFoundNone, HasJob, LacksRoom, WasDeclined, WasTold}
 use Rattle.law_refusals.proofs.Along.{IsNext, along}
 use Rattle.law_refusals.proofs.Leads.{asks_quiet, is_no_leads, lead_quiet}
 use Rattle.law_refusals.proofs.Refused.{fill_now}
@@ -152,13 +153,7 @@ module _ (heard : Body → Type 0) (here : Here) (own : Own) where
   record Declines (post : Post) (number : ℕ) (cell : Cell) : Type 0 where
     holder : ℕ
     to : post.to ≡ actor.Server holder
-    entry : Entry
-    last : LastCopy
-    asked : IsOfCopy heard here own entry holder last
-    number_is : entry.op ≡ number
-    cell_is : cell_of entry.key ≡ cell
-    next : entry.index ≡ last.index
-    none_free : free_of own.store ≡ 0
+    lacks : LacksRoom heard here own holder number cell
 
   abbrev Says : Post → ℕ → Cell → Type 0
   Says post number cell = post.body ≡ body.SyncFull number cell
@@ -198,13 +193,7 @@ module _ (heard : Body → Type 0) (here : Here) (own : Own) where
       record {
         holder = holder;
         to = sent.0;
-        entry = entry;
-        last = last;
-        asked = of_copy;
-        number_is = same.0;
-        cell_is = same.1;
-        next = so;
-        none_free = full;
+        lacks = record { entry = entry; last = last; asked = of_copy; number_is = same.0; cell_is = same.1; next = so; none_free = full };
       }
   reply_declines to said _ post i number cell says = unsaid post.body number cell (ap is_no_leads (posted to said post i)) says
 
@@ -332,32 +321,14 @@ module _ (setting : Setting) where
         → Tells records letter number cell
     fills : (letter : Letter) (key : Key) → In letter (W records).sent → letter.body ≡ body.FillFull key → WasDeclined setting records letter key
 
-  behind_more : (records front behind : List Record) (own next : Record) → records ≡ front ++ own ∷ behind
-      → records ++ next ∷ [] ≡ front ++ own ∷ (behind ++ next ∷ [])
-  behind_more records front behind own next lies = ap (λ xs. xs ++ next ∷ []) lies ∙ append_assoc front (own ∷ behind) (next ∷ [])
-
   abbrev job_more : (records : List Record) (next : Record) (n inc : ℕ) → HasJob setting records n inc → HasJob setting (records ++ next ∷ []) n inc
-  job_more records next n inc h = record {
-    front = h.front;
-    own = h.own;
-    behind = h.behind ++ next ∷ [];
-    lies = behind_more records h.front h.behind h.own next h.lies;
-    who = h.who;
-    works = h.works;
-    runs = h.runs;
-    lives = h.lives;
-  }
+  job_more records next n inc h =
+      record { moment = moment_more records next h.moment; who = h.who; works = h.works; runs = h.runs; lives = h.lives }
 
   ended_more : (records : List Record) (next : Record) (n inc : ℕ) → HasEndedFull setting records n inc → HasEndedFull setting (records ++ next ∷ []) n inc
   ended_more records next n inc h = record {
     job = job_more records next n inc h.job;
-    cell = h.cell;
-    copy = h.copy;
-    copying = h.copying;
-    trimmed = h.trimmed;
-    left = h.left;
-    heard = h.heard;
-    told = h.told;
+    full = h.full;
   }
 
   filled_more : (records : List Record) (next : Record) (n inc : ℕ) → HasFilledFull setting records n inc
@@ -377,28 +348,14 @@ module _ (setting : Setting) where
 
   declined_more : (records : List Record) (next : Record) (letter : Letter) (key : Key) → WasDeclined setting records letter key
       → WasDeclined setting (records ++ next ∷ []) letter key
-  declined_more records next letter key h = record {
-    front = h.front;
-    own = h.own;
-    behind = h.behind ++ next ∷ [];
-    lies = behind_more records h.front h.behind h.own next h.lies;
-    sent = h.sent;
-    reason = h.reason;
-  }
+  declined_more records next letter key h = record { moment = moment_more records next h.moment; sent = h.sent; reason = h.reason }
 
   tells_more : (records : List Record) (next : Record) (letter : Letter) (number : ℕ) (cell : Cell) → Tells records letter number cell
       → Tells (records ++ next ∷ []) letter number cell
   tells_more records next letter number cell t = record {
     holder = t.holder;
     to = t.to;
-    told = record {
-      front = t.told.front;
-      own = t.told.own;
-      behind = t.told.behind ++ next ∷ [];
-      lies = behind_more records t.told.front t.told.behind t.told.own next t.told.lies;
-      sent = t.told.sent;
-      reason = t.told.reason;
-    };
+    told = record { moment = moment_more records next t.told.moment; sent = t.told.sent; reason = t.told.reason };
   }
 
   module _ (done : List Record) (own : Record) (kept : Kept done) (on : IsNext setting done own) where
@@ -410,7 +367,7 @@ module _ (setting : Setting) where
 
     abbrev job_now : (n inc : ℕ) → IsTold setting w own.actor own.step n inc → HasJob setting (done ++ own ∷ []) n inc
     job_now n inc t =
-        record { front = done; own = own; behind = []; lies = refl; who = t.is; works = t.works; runs = t.runs; lives = t.lives }
+        record { moment = last_moment done own; who = t.is; works = t.works; runs = t.runs; lives = t.lives }
 
     copy_now : (n inc : ℕ) → IsTold setting w own.actor own.step n inc → HearsFull (Handled w n) (w.servers n).own
         → HasEndedFull setting (done ++ own ∷ []) n inc
@@ -418,13 +375,15 @@ module _ (setting : Setting) where
         let tells = kept.letters h.said.letter h.copy.op h.cell h.said.sent h.said.is in
         record {
           job = job_now n inc t;
-          cell = h.cell;
-          copy = h.copy;
-          copying = h.copying;
-          trimmed = h.trimmed;
-          left = h.left;
-          heard = h.said;
-          told = subst (λ k. WasTold setting done h.said.letter k h.copy.op h.cell) (one_server (sym tells.to ∙ h.said.own)) tells.told;
+          full = record {
+            cell = h.cell;
+            copy = h.copy;
+            copying = h.copying;
+            trimmed = h.trimmed;
+            left = h.left;
+            heard = h.said;
+            told = subst (λ k. WasTold setting done h.said.letter k h.copy.op h.cell) (one_server (sym tells.to ∙ h.said.own)) tells.told;
+          };
         }
 
     fill_heard : (n inc : ℕ) → IsTold setting w own.actor own.step n inc → HearsFillFull (Handled w n) (own_place setting w n) (w.servers n).own
@@ -468,23 +427,9 @@ module _ (setting : Setting) where
                   holder = d.holder;
                   to = s.to ∙ d.to;
                   told = record {
-                    front = done;
-                    own = own;
-                    behind = [];
-                    lies = refl;
+                    moment = last_moment done own;
                     sent = subst (In letter) (sym follows.sent) h;
-                    reason = record {
-                      server = s.server;
-                      is = s.is;
-                      works = works;
-                      entry = d.entry;
-                      last = d.last;
-                      asked = d.asked;
-                      number_is = d.number_is;
-                      cell_is = d.cell_is;
-                      next = d.next;
-                      none_free = d.none_free;
-                    };
+                    reason = record { server = s.server; is = s.is; works = works; lacks = d.lacks };
                   };
                 })
           ]
@@ -496,10 +441,7 @@ module _ (setting : Setting) where
         elim (step_sent setting w on.firm kept.rests own.actor own.step own.stamp follows.may.may on.later letter h) [
           | inr aside ↦ true_false aside (ap (λ b. is_aside (subject_of b)) says)
           | inl s ↦ record {
-            front = done;
-            own = own;
-            behind = [];
-            lies = refl;
+            moment = last_moment done own;
             sent = subst (In letter) (sym follows.sent) h;
             reason = fill_now setting w kept.rests own.actor own.step letter s key says;
           }

@@ -7,8 +7,6 @@ use Rattle.petal_table.specs.Table.{at}
 use Rattle.petal_msg.specs.Kinds.{Subject, Filling, is_logged, subject_of}
 use Rattle.petal_msg.specs.declared.body.Body.{Body}
 use Rattle.petal_msg.specs.declared.body.Body.TheVariants as body
-use Rattle.petal_msg.specs.declared.operation.Action.{Action}
-use Rattle.petal_msg.specs.declared.operation.Action.TheVariants as action
 use Rattle.petal_msg.specs.declared.operation.Ending.{Ending}
 use Rattle.petal_msg.specs.declared.operation.Ending.TheVariants as ending
 use Rattle.petal_msg.specs.declared.operation.OpKind.{OpKind}
@@ -18,7 +16,7 @@ use Rattle.petal_rules.specs.Fills.{Moving}
 use Rattle.petal_rules.specs.Lists.{In}
 use Rattle.petal_rules.specs.Server.{Own, Here, Post, Done}
 use Rattle.petal_rules.specs.Store.{cell_cmp, free_of}
-use Rattle.petal_rules.specs.Writes.{acts, ended, ends, gives_back, moved_as, next_stage, old_lead, pending_on, without_pending}
+use Rattle.petal_rules.specs.Writes.{ended, ends, gives_back, moved_as, next_stage, old_lead, pending_on, without_pending}
 use Rattle.petal_rules.proofs.Tests.{true_false}
 use Rattle.law_steps.specs.Did.{Did, Ignores, Refuses, By_read, By_lead, By_second, By_holder, By_other, By_filler, By_sweep}
 use Rattle.law_steps.specs.DidFiller.{DidFiller, Is_filled, Is_out_of_slots}
@@ -27,11 +25,8 @@ use Rattle.law_steps.specs.DidLead.{Closes_alone, Opens_fill, Has_fill, Has_no_r
 use Rattle.law_steps.specs.DidLead.{An_entry_to_move, Of_the_log}
 use Rattle.law_steps.proofs.CopyFrames.{of_holder, of_other}
 use Rattle.law_steps.proofs.Letters.{one_post, posted}
+use Rattle.law_steps.proofs.Operating.{acts_say, is_fill_full, written_says}
 use Rattle.law_steps.proofs.Subjects.{of_read, of_second, of_sweep}
-
-abbrev pub is_fill_full : Body → Bool
-is_fill_full (body.FillFull key) = true
-is_fill_full _ = false
 
 abbrev is_filling : Subject → Bool
 is_filling Filling = true
@@ -61,25 +56,6 @@ asks_unfilled here own _ _ = refl
 ended_unfilled : (seq : ℕ) (how : Ending) → is_fill_full (ended seq how) ≡ false
 ended_unfilled seq ending.Written = refl
 ended_unfilled seq ending.Full = refl
-
--- an operation that ends as written
-written_unfilled : (here : Here) (own : Own) (op : Pending) (of : OpKind) (post : Post) → In post (ends here own op of ending.Written).posts
-    → is_fill_full post.body ≡ false
-unfolding In
-written_unfilled here own op kind.Write post i = ap is_fill_full (one_post _ _ post i).1
-written_unfilled here own op kind.Fill post i = ap is_fill_full (posted _ _ post i)
-written_unfilled here own op kind.Copy post i = absurd i
-
-acts_unfilled : (here : Here) (own : Own) (op : Pending) (next : Action) (post : Post) → In post (acts here own op next).posts
-    → is_fill_full post.body ≡ false
-unfolding In
-acts_unfilled here own op action.Reserve post i = ap is_fill_full (posted _ _ post i)
-acts_unfilled here own op (action.Mark which) post i = absurd i
-acts_unfilled here own op action.Put post i = absurd i
-acts_unfilled here own op action.Replicate post i = ap is_fill_full (posted _ _ post i)
-acts_unfilled here own op (action.Unmark which) post i = absurd i
-acts_unfilled here own op action.Answer post i = written_unfilled here (without_pending own op.cell) op op.kind post i
-acts_unfilled here own op action.Drop post i = absurd i
 
 same_key : {a b : Key} → body.FillFull a ≡ body.FillFull b → a ≡ b
 same_key e = cc
@@ -117,15 +93,15 @@ module _ (heard : Body → Type 0) (here : Here) (own : Own)
       gives_up_none op h is (gives_back (without_pending own op.cell)) op.kind refl post i key says
   lead_none _ (Opens want new both) post i key says = unfilled post.body key says (ap is_fill_full (posted _ _ post i))
   lead_none _ (Closes op is both stage) post i key says =
-      unfilled post.body key says (written_unfilled here (without_pending own op.cell) op op.kind post i)
+      unfilled post.body key says (written_says here (without_pending own op.cell) op op.kind post i).1
   lead_none _ (Closes_alone now op taken alone stale put free) post i key says =
-      unfilled post.body key says (written_unfilled here (without_pending now op.cell) op op.kind post i)
+      unfilled post.body key says (written_says here (without_pending now op.cell) op op.kind post i).1
   lead_none _ (Opens_fill moving new room both) post i key says = unfilled post.body key says (ap is_fill_full (posted _ _ post i))
   lead_none _ (Has_fill moving filled) post i key says = unfilled post.body key says (ap is_fill_full (posted _ _ post i))
   lead_none _ (Has_no_room moving new no_room) post i key says =
       Has_none moving (same_key (sym (posted (old_lead here.state (cell_of moving.key)) (body.FillFull moving.key) post i) ∙ says)) new no_room
   lead_none _ (Goes_on_dead now op taken off) post i key says =
-      unfilled post.body key says (acts_unfilled here now op (next_stage here.state here.me op) post i)
+      unfilled post.body key says (acts_say here now op (next_stage here.state here.me op) post i).1
   lead_none _ _ post i key says = absurd i
 
   filler_none : (done : Done) → DidFiller heard here own done → (post : Post) → In post done.posts → (key : Key) → post.body ≡ body.FillFull key → SaysNone key

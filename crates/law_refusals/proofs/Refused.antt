@@ -1,6 +1,6 @@
 -- A server refuses a request in the step that found the reason: another operation pending on the block, or a copy under way; or a fence,
 -- or a ballot of its own for the link's Caught, that holds the request back; or that the new map has nothing of what a read asked for.
-use Rattle.std.proofs.Common.{◌≡◌, ℕ, Bool, List, [], ◌∷◌, ◌++◌, true, false, Some, None, refl, sym, ap, ◌∙◌, subst, ◌⊎◌, inl, inr}
+use Rattle.std.proofs.Common.{◌≡◌, ℕ, Bool, List, [], ◌∷◌, ◌++◌, true, false, Some, refl, sym, ap, ◌∙◌, subst, ◌⊎◌, inl, inr}
 use Rattle.petal_base.specs.Cells.{cell_of}
 use Rattle.petal_base.specs.declared.cell.Cell.{Cell}
 use Rattle.petal_base.specs.declared.cell.Key.{Key}
@@ -15,8 +15,7 @@ use Rattle.petal_msg.specs.declared.letter.Letter.{Letter}
 use Rattle.script_lines.specs.declared.script.Script.{Script}
 use Rattle.petal_rules.specs.Lists.{In}
 use Rattle.petal_rules.specs.Server.{Own, Here, Post, Done}
-use Rattle.petal_rules.specs.State.{coming}
-use Rattle.petal_rules.specs.Store.{cell_cmp, chain_in, entry_at}
+use Rattle.petal_rules.specs.Store.{cell_cmp}
 use Rattle.petal_rules.specs.World.{Setting, World, setting_of, start}
 use Rattle.petal_rules.specs.declared.step.Step.{Step}
 use Rattle.petal_rules.specs.declared.step.Step.TheVariants.{Work}
@@ -25,31 +24,22 @@ use Rattle.petal_rules.proofs.Tests.{true_false}
 use Rattle.petal_history.specs.Legal.{IsLegal, world_after}
 use Rattle.petal_history.specs.declared.record.Record.{Record}
 use Rattle.law_steps.specs.Did.{Did, Ignores, Refuses, IsBusy, IsHeldBack, By_read, By_lead, By_second, By_holder, By_other, By_filler, By_sweep, is_not_here}
-use Rattle.law_steps.specs.DidRead.{DidRead, IsReadable, Shows, Not_here}
+use Rattle.law_steps.specs.DidRead.{DidRead, Shows, Not_here}
 use Rattle.law_steps.specs.Happens.{Handled, own_place}
 use Rattle.law_steps.specs.Ready.{AreFirm, Rests}
 use Rattle.law_steps.proofs.CopyFrames.{of_holder, of_other}
 use Rattle.law_steps.proofs.Histories.{firm_now, front_firm, front_legal, rests_after, start_rests}
 use Rattle.law_steps.proofs.Letters.{one_post}
+use Rattle.law_steps.proofs.Operating.{is_fill_full}
 use Rattle.law_steps.proofs.Subjects.{of_filler, of_second, of_sweep}
 use Rattle.law_refusals.specs.Full.{HadNoFill, At_the_lead, At_the_second}
-use Rattle.law_refusals.specs.Reasons.{FoundBusy, FoundHeld, FoundNothing}
-use Rattle.law_refusals.proofs.Filled.{SaysNone, Has_none, Is_declined, asks_unfilled, did_none, is_fill_full}
+use Rattle.law_refusals.specs.Reasons.{FoundBusy, FoundHeld, FoundNothing, HasNothingOf}
+use Rattle.law_refusals.proofs.Filled.{SaysNone, Has_none, Is_declined, asks_unfilled, did_none}
 use Rattle.law_refusals.proofs.Leads.{lead_quiet, refused_no_leads}
 use Rattle.law_refusals.proofs.Sent.{SentBy, is_aside, step_sent}
 
 abbrev is_refusal : Body → Bool
 is_refusal said = is_refused (subject_of said)
-
--- the server may read the cell that a client's read asked for, which is coming, and has nothing of it
-record HasNothingOf (heard : Body → Type 0) (here : Here) (own : Own) (to : Actor) (seq : ℕ) : Type 0 where
-  client : ℕ
-  to_client : to ≡ actor.Client client
-  cell : Cell
-  epoch : ℕ
-  may : IsReadable heard here own client seq cell epoch
-  comes : coming here.state cell ≡ true
-  none : entry_at (chain_in own.store.chains cell) epoch ≡ None
 
 -- what was so where a server said so
 record HasGround (heard : Body → Type 0) (here : Here) (own : Own) (to : Actor) (said : Body) : Type 0 where
@@ -69,15 +59,8 @@ read_refuse heard here own _ (Not_here client seq cell epoch may comes none) pos
     record {
       busy = λ number so. absurd (let f : body.NotHere seq ≡ body.BlockBusy number = sym sent.1 ∙ so in cc);
       held = λ number so. absurd (let f : body.NotHere seq ≡ body.Held number = sym sent.1 ∙ so in cc);
-      nothing = λ number so. subst (HasNothingOf heard here own post.to) (one_number (sym sent.1 ∙ so)) (record {
-        client = client;
-        to_client = sent.0;
-        cell = cell;
-        epoch = epoch;
-        may = may;
-        comes = comes;
-        none = none;
-      });
+      nothing = λ number so. subst (HasNothingOf heard here own post.to) (one_number (sym sent.1 ∙ so))
+          (record { client = client; to_client = sent.0; cell = cell; epoch = epoch; may = may; comes = comes; none = none });
     }
 
 -- of all that a server may have done, a refusal alone says so, or a read
@@ -172,13 +155,7 @@ module _ (script : Script) (front : List Record) (own : Record) (firm : AreFirm 
       record {
         server = f.server;
         is = f.is;
-        client = g.client;
-        to_client = g.to_client;
-        cell = g.cell;
-        epoch = g.epoch;
-        may = g.may;
-        comes = g.comes;
-        none = g.none;
+        nothing = g;
       }
 
   pub fill_reason : (key : Key) → In letter own.sent → letter.body ≡ body.FillFull key → HadNoFill setting w own.actor own.step key

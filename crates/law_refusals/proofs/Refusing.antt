@@ -1,6 +1,6 @@
 -- Over every legal history, each answer that there was no space has a reason.
 use Rattle.std.proofs.Common.{◌≡◌, ℕ, List, [], ◌∷◌, ◌++◌, Bool, true, false, Option, Some, None, refl, sym}
-use Rattle.std.proofs.Common.{ap, ◌∙◌, subst, ◌⊎◌, inl, inr, append_assoc}
+use Rattle.std.proofs.Common.{ap, ◌∙◌, subst, ◌⊎◌, inl, inr}
 use Rattle.std.specs.Prelude.{◌||◌, if◌then◌else◌, is_some, ◌==◌}
 use Rattle.std.specs.Ordering.{nat_cmp}
 use Rattle.petal_base.specs.declared.cell.Cell.{Cell}
@@ -36,6 +36,7 @@ use Rattle.petal_rules.proofs.Tests.{same_some, none_some, by_test}
 use Rattle.petal_history.specs.Legal.{IsLegal, IsLegalFrom, world_after}
 use Rattle.petal_history.specs.Sound.{IsSound}
 use Rattle.petal_history.specs.declared.record.Record.{Record}
+use Rattle.law_state.proofs.Moments.{last_moment, moment_more}
 use Rattle.law_steps.specs.Happens.{Heard}
 use Rattle.law_steps.specs.Ready.{AreFirm, Rests}
 use Rattle.law_steps.specs.Turned.{Turned, Goes_on, Is_told, Begins, Reads, Ends, Shown, Judges, IsReason, By_verdict, By_witness, IsSeenAs}
@@ -56,17 +57,11 @@ module _ (setting : Setting) where
   W records = world_after setting (start setting) records
 
   refused_more : (done : List Record) (own : Record) (c seq : ℕ) → WasRefused setting done c seq → WasRefused setting (done ++ own ∷ []) c seq
-  refused_more done own c seq r = record {
-    front = r.front;
-    own = r.own;
-    behind = r.behind ++ own ∷ [];
-    lies = ap (λ xs. xs ++ own ∷ []) r.lies ∙ append_assoc r.front (r.own ∷ r.behind) (own ∷ []);
-    reason = r.reason;
-  }
+  refused_more done own c seq r = record { moment = moment_more done own r.moment; reason = r.reason }
 
   refused_now : (done : List Record) (own : Record) (c seq : ℕ) → HadNoSlot setting (W done) own.actor own.step c seq
       → WasRefused setting (done ++ own ∷ []) c seq
-  refused_now done own c seq h = record { front = done; own = own; behind = []; lies = refl; reason = h }
+  refused_now done own c seq h = record { moment = last_moment done own; reason = h }
 
   pub record Kept (done : List Record) : Type 0 where
     pub rests : Rests setting (W done)

@@ -22,7 +22,7 @@ use Rattle.law_steps.specs.Did.{Did}
 use Rattle.law_steps.specs.Happens.{Handled, IsIdle, By_job, By_ballot, By_entry, Serving, Goes, Ends, Stays, Wakes, Fails, own_place, without_rev}
 use Rattle.law_steps.specs.Ready.{Rests}
 use Rattle.law_steps.proofs.Histories.{own_steady}
-use Rattle.law_steps.proofs.Letters.{said}
+use Rattle.law_steps.proofs.Letters.{Said, said}
 use Rattle.law_steps.proofs.Sending.{is_ask, turned_asks}
 use Rattle.law_steps.proofs.Serving.{server_serves}
 use Rattle.law_steps.proofs.Turning.{client_turns, is_call}
@@ -42,10 +42,9 @@ pub record SentBy (setting : Setting) (w : World) (who : Actor) (what : Step) (l
   pub done : Done
   pub did : Did (Handled w server) (own_place setting w server) (w.servers server).own done
   pub works : (what ≡ Work work_end.Done) ⊎ IsIdle (own_place setting w server) (w.servers server).own done
-  pub post : Post
-  pub there : In post done.posts
-  pub to : letter.to ≡ post.to
-  pub body : letter.body ≡ post.body
+  pub stamp : ℕ
+  pub sent : Said (sender (own_place setting w server)) stamp done.posts letter
+  pub open sent use {post, there, to, body}
 
 logged_aside : (subject : Subject) → is_logged subject ≡ true → is_aside subject ≡ true
 logged_aside Logged e = refl
@@ -79,17 +78,14 @@ module _ (setting : Setting) (w : World) (n stamp : ℕ) (what : Step) where
   serves_sent : (acted : Acted) → Serving setting w n what acted → (letter : Letter) → In letter (stamped stamp acted.letters) → S letter
   unfolding In
   serves_sent _ (Goes _ _ queue runs (By_job log done same did seat) queued works) letter h =
-      let sent = said (sender (own_place setting w n)) stamp 0 done.posts letter h in
       inl (record {
         server = n;
         is = refl;
         done = done;
         did = did;
         works = works;
-        post = sent.post;
-        there = sent.there;
-        to = sent.to;
-        body = sent.body;
+        stamp = stamp;
+        sent = said (sender (own_place setting w n)) stamp 0 done.posts letter h;
       })
   serves_sent _ (Goes _ _ queue runs (By_ballot log started posts same starts logged) queued works) letter h =
       aside (sender (own_place setting w n)) posts (λ post i. logged_aside (subject_of post.body) (logged post i)) letter h

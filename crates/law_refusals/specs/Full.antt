@@ -1,11 +1,12 @@
 -- Why a server remembers that a slot was wanting: the other server of a link that it holds alone had none for the next entry of a copy, or the
 -- lead of a disk's new map, or its second server, had none for an entry that this one was to move.
-use Rattle.std.specs.Prelude.{◌≡◌, ◌<◌, ◌++◌, ℕ, true, List, ◌∷◌, length, Some}
+use Rattle.std.specs.Prelude.{◌≡◌, ◌<◌, ℕ, true, List, length, Some}
 use Rattle.global_tables.specs.declared.link.LinkRow.{LinkRow}
 use Rattle.petal_base.specs.declared.cell.Cell.{Cell}
 use Rattle.petal_base.specs.declared.cell.Key.{Key}
 use Rattle.petal_base.specs.Cells.{cell_of}
 use Rattle.petal_table.specs.Table.{at}
+use Rattle.petal_msg.specs.declared.body.Body.{Body}
 use Rattle.petal_msg.specs.declared.body.Body.TheVariants as body
 use Rattle.petal_msg.specs.declared.copying.Copying.{Copying}
 use Rattle.petal_msg.specs.declared.copying.LastCopy.{LastCopy}
@@ -18,6 +19,7 @@ use Rattle.petal_rules.specs.Copies.{Entry}
 use Rattle.petal_rules.specs.Fills.{Moving}
 use Rattle.petal_rules.specs.Lists.{In}
 use Rattle.petal_rules.specs.Progress.{copying_on}
+use Rattle.petal_rules.specs.Server.{Here, Own}
 use Rattle.petal_rules.specs.Store.{cell_cmp, chain_in, free_of}
 use Rattle.petal_rules.specs.World.{Setting, World, start}
 use Rattle.petal_rules.specs.declared.step.Step.{Step}
@@ -25,51 +27,51 @@ use Rattle.petal_rules.specs.declared.step.Step.TheVariants.{Work}
 use Rattle.petal_rules.specs.declared.step.WorkEnd.TheVariants as work_end
 use Rattle.petal_history.specs.Legal.{world_after}
 use Rattle.petal_history.specs.declared.record.Record.{Record}
+use Rattle.law_state.specs.Moments.{IsMoment}
 use Rattle.law_causes.specs.Settles.{HasFoundFull}
 use Rattle.law_steps.specs.DidFiller.{IsNextKey}
 use Rattle.law_steps.specs.DidLead.{IsNewFill}
 use Rattle.law_steps.specs.DidOther.{IsOfCopy}
 use Rattle.law_steps.specs.Happens.{Handled, own_place}
 
--- a server's job was to put the next entry of the copy of this number, the last one of the cell to this server, by the one that holds the
--- cell's link, by this server's own state; and no slot was free
+-- a server is to put the next entry of the copy of this number, the last one of the cell to this server, by the one that holds the
+-- cell's link, by this server's own state; and no slot is free
+pub record LacksRoom (heard : Body → Type 0) (here : Here) (own : Own) (holder number : ℕ) (cell : Cell) : Type 0 where
+  pub entry : Entry
+  pub last : LastCopy
+  pub asked : IsOfCopy heard here own entry holder last
+  pub number_is : entry.op ≡ number
+  pub cell_is : cell_of entry.key ≡ cell
+  pub next : entry.index ≡ last.index
+  pub none_free : free_of own.store ≡ 0
+
+-- so was a server in a job
 pub record HadNoRoom (setting : Setting) (w : World) (who : Actor) (what : Step) (holder number : ℕ) (cell : Cell) : Type 0 where
   pub server : ℕ
   pub is : who ≡ actor.Server server
   pub works : what ≡ Work work_end.Done
-  pub entry : Entry
-  pub last : LastCopy
-  pub asked : IsOfCopy (Handled w server) (own_place setting w server) (w.servers server).own entry holder last
-  pub number_is : entry.op ≡ number
-  pub cell_is : cell_of entry.key ≡ cell
-  pub next : entry.index ≡ last.index
-  pub none_free : free_of (w.servers server).own.store ≡ 0
+  pub lacks : LacksRoom (Handled w server) (own_place setting w server) (w.servers server).own holder number cell
+  pub open lacks use *
 
 -- one of these records tells of such a step, which sent the letter
 pub record WasTold (setting : Setting) (records : List Record) (letter : Letter) (holder number : ℕ) (cell : Cell) : Type 0 where
-  pub front : List Record
-  pub own : Record
-  pub behind : List Record
-  pub lies : records ≡ front ++ own ∷ behind
+  pub moment : IsMoment records
+  pub open moment use *
   pub sent : In letter own.sent
   pub reason : HadNoRoom setting (world_after setting (start setting) front) own.actor own.step holder number cell
 
 -- one of these records tells of a job of the server, as this incarnation
 pub record HasJob (setting : Setting) (records : List Record) (server inc : ℕ) : Type 0 where
-  pub front : List Record
-  pub own : Record
-  pub behind : List Record
-  pub lies : records ≡ front ++ own ∷ behind
+  pub moment : IsMoment records
+  pub open moment use *
   pub who : own.actor ≡ actor.Server server
   pub works : own.step ≡ Work work_end.Done
   pub runs : ((world_after setting (start setting) front).servers server).life.running ≡ true
   pub lives : ((world_after setting (start setting) front).servers server).life.inc ≡ inc
 
--- such a job, in which the server heard that the copy which was under way on a cell
--- found no slot for its next entry; and of the earlier step that sent the letter
-pub record HasEndedFull (setting : Setting) (records : List Record) (server inc : ℕ) : Type 0 where
-  pub job : HasJob setting records server inc
-  pub open job use *
+-- after these records the server is told that the copy which is under way on a cell finds no slot for its next entry; and of the earlier step
+-- that sent the letter
+pub record HearsCopyFull (setting : Setting) (front : List Record) (server : ℕ) : Type 0 where
   pub cell : Cell
   pub copy : Copying
   pub copying : copying_on ((world_after setting (start setting) front).servers server).own cell ≡ Some copy
@@ -77,6 +79,13 @@ pub record HasEndedFull (setting : Setting) (records : List Record) (server inc 
   pub left : copy.index < length (chain_in ((world_after setting (start setting) front).servers server).own.store.chains cell)
   pub heard : Handled (world_after setting (start setting) front) server (body.SyncFull copy.op cell)
   pub told : WasTold setting front heard.letter server copy.op cell
+
+-- such a job, in which the server heard it
+pub record HasEndedFull (setting : Setting) (records : List Record) (server inc : ℕ) : Type 0 where
+  pub job : HasJob setting records server inc
+  pub open job use *
+  pub full : HearsCopyFull setting front server
+  pub open full use *
 
 -- ### Entries that move
 
@@ -93,10 +102,8 @@ pub data HadNoFill (setting : Setting) (w : World) (who : Actor) (what : Step) (
 
 -- one of these records tells of such a step, which sent the letter
 pub record WasDeclined (setting : Setting) (records : List Record) (letter : Letter) (key : Key) : Type 0 where
-  pub front : List Record
-  pub own : Record
-  pub behind : List Record
-  pub lies : records ≡ front ++ own ∷ behind
+  pub moment : IsMoment records
+  pub open moment use *
   pub sent : In letter own.sent
   pub reason : HadNoFill setting (world_after setting (start setting) front) own.actor own.step key
 

@@ -1,9 +1,10 @@
 -- Why a request was refused.
-use Rattle.std.specs.Prelude.{◌≡◌, ◌≤◌, ◌<◌, ◌⊎◌, ◌++◌, ℕ, true, List, ◌∷◌, length, Some, None}
+use Rattle.std.specs.Prelude.{◌≡◌, ◌≤◌, ◌<◌, ◌⊎◌, ℕ, true, List, length, Some, None}
 use Rattle.std.specs.Ordering.{nat_cmp}
 use Rattle.petal_base.specs.declared.cell.Cell.{Cell}
 use Rattle.petal_command.specs.declared.command.Command.{Command}
 use Rattle.petal_table.specs.Table.{at}
+use Rattle.petal_msg.specs.declared.body.Body.{Body}
 use Rattle.petal_msg.specs.declared.body.Body.TheVariants as body
 use Rattle.petal_msg.specs.declared.letter.Actor.{Actor}
 use Rattle.petal_msg.specs.declared.letter.Actor.TheVariants as actor
@@ -13,6 +14,7 @@ use Rattle.petal_msg.specs.declared.operation.Finished.{Finished}
 use Rattle.petal_msg.specs.declared.operation.Pending.{Pending}
 use Rattle.script_lines.specs.declared.request.Request.TheVariants.{Settle}
 use Rattle.petal_rules.specs.Lists.{In}
+use Rattle.petal_rules.specs.Server.{Here, Own}
 use Rattle.petal_state.specs.Command.{state_after}
 use Rattle.petal_rules.specs.State.{coming, first, second, is_in, is_lead}
 use Rattle.petal_rules.specs.Store.{cell_cmp, chain_in, entry_at, free_of}
@@ -25,6 +27,7 @@ use Rattle.petal_rules.specs.declared.step.WorkEnd.TheVariants as work_end
 use Rattle.petal_history.specs.Claims.{IsPrefix}
 use Rattle.petal_history.specs.Legal.{world_after}
 use Rattle.petal_history.specs.declared.record.Record.{Record}
+use Rattle.law_state.specs.Moments.{IsMoment}
 use Rattle.law_steps.specs.Operations.{done_to}
 use Rattle.law_steps.specs.DidRead.{IsReadable}
 use Rattle.law_steps.specs.DidSecond.{FoundNoSlot}
@@ -50,10 +53,8 @@ pub data HadNoSlot (setting : Setting) (w : World) (who : Actor) (what : Step) (
 
 -- one of these records tells of such a step
 pub record WasRefused (setting : Setting) (records : List Record) (client seq : ℕ) : Type 0 where
-  pub front : List Record
-  pub own : Record
-  pub behind : List Record
-  pub lies : records ≡ front ++ own ∷ behind
+  pub moment : IsMoment records
+  pub open moment use *
   pub reason : HadNoSlot setting (world_after setting (start setting) front) own.actor own.step client seq
 
 -- the request that the client has open, which this line's answer ends
@@ -91,18 +92,23 @@ pub record FoundHeld (setting : Setting) (w : World) (who : Actor) (seq : ℕ) :
 
 -- ### What the new map has nothing of
 
--- a server's step found that it has nothing of what this client's read asked for: the server may read the cell, which is coming by its own
--- state, and no fence holds its reads; and its chain has no entry at the epoch or below
-pub record FoundNothing (setting : Setting) (w : World) (who to : Actor) (seq : ℕ) : Type 0 where
-  pub server : ℕ
-  pub is : who ≡ actor.Server server
+-- the server may read the cell that this client's read asked for, which is coming by its own state, and no fence holds its reads; and its chain
+-- has no entry at the epoch or below
+pub record HasNothingOf (heard : Body → Type 0) (here : Here) (own : Own) (to : Actor) (seq : ℕ) : Type 0 where
   pub client : ℕ
   pub to_client : to ≡ actor.Client client
   pub cell : Cell
   pub epoch : ℕ
-  pub may : IsReadable (Handled w server) (own_place setting w server) (w.servers server).own client seq cell epoch
-  pub comes : coming (server_state setting w server) cell ≡ true
-  pub none : entry_at (chain_in (w.servers server).own.store.chains cell) epoch ≡ None
+  pub may : IsReadable heard here own client seq cell epoch
+  pub comes : coming here.state cell ≡ true
+  pub none : entry_at (chain_in own.store.chains cell) epoch ≡ None
+
+-- a server's step found that it has nothing of what this client's read asked for
+pub record FoundNothing (setting : Setting) (w : World) (who to : Actor) (seq : ℕ) : Type 0 where
+  pub server : ℕ
+  pub is : who ≡ actor.Server server
+  pub nothing : HasNothingOf (Handled w server) (own_place setting w server) (w.servers server).own to seq
+  pub open nothing use *
 
 -- ### What is kept
 

@@ -12,12 +12,8 @@ ghost use Rattle.petal_msg.specs.declared.letter.Actor.TheVariants.{Client};
 ghost use Rattle.petal_msg.specs.declared.letter.Letter.{Letter};
 ghost use Rattle.petal_base.specs.declared.cell.Key.{Key};
 ghost use Rattle.script_lines.specs.declared.answer.Answer.TheVariants.{NoSpace};
-ghost use Rattle.script_lines.specs.declared.script.Script.{Script};
 ghost use Rattle.petal_rules.specs.Lists.{In};
-ghost use Rattle.petal_rules.specs.World.{setting_of, start};
-ghost use Rattle.petal_history.specs.Legal.{IsLegal, world_after};
-ghost use Rattle.petal_history.specs.Sound.{IsSound};
-ghost use Rattle.petal_history.specs.declared.record.Record.{Record};
+ghost use Rattle.law_state.specs.Histories.{IsLegal, IsSound, Record, Script, setting_of, start, world_after};
 ghost use Rattle.law_refusals.specs.Reasons.{FoundBusy, FoundHeld, FoundNothing, HasReason};
 ghost use Rattle.law_refusals.specs.Full.{HadNoFill, HasFoundNone};
 

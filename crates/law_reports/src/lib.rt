@@ -2,11 +2,7 @@
 #![tactic(auto)]
 
 ghost use Rattle.std.specs.Prelude.{List};
-ghost use Rattle.script_lines.specs.declared.script.Script.{Script};
-ghost use Rattle.petal_rules.specs.World.{setting_of, start};
-ghost use Rattle.petal_history.specs.Legal.{IsLegal, world_after};
-ghost use Rattle.petal_history.specs.Sound.{IsSound};
-ghost use Rattle.petal_history.specs.declared.record.Record.{Record};
+ghost use Rattle.law_state.specs.Histories.{IsLegal, IsSound, Record, Script, setting_of, start, world_after};
 ghost use Rattle.law_reports.specs.Reports.{WritesNothingHeld};
 
 /// After every legal history of a sound script, a running server whose report to a fence is chosen has no client's write pending

@@ -58,12 +58,7 @@ module _ (servers : ℕ) (front whole : List Command) (plain : IsPlainLog server
   write_stays lines client seq cell bytes one low most =
       let h = (log_below servers front whole plain prefix).finds one.name one.disk one.found in
       record {
-        line = one.line;
-        is = one.is;
-        name = one.name;
-        block = one.block;
-        pattern = one.pattern;
-        asks = one.asks;
+        by_line = one.by_line;
         disk = h.now;
         found = h.is;
         cell_is = one.cell_is ∙ asked_stays one.name one.disk h.now one.block one.found h.is h.disk_is

@@ -232,12 +232,7 @@ module _ (script : Script) (sound : IsSound script) where
       | inl last ↦ drained_last n until (subst (λ rs. ((At rs).servers n).log.applied ≡ until) (sym last) was.at)
           (subst (λ rs. has_held_write (state_after setting.servers until) ((At rs).servers n).own ≡ false) (sym last) was.drained) cell op is clients holds
       | inr more ↦ drained_before n inc until (record {
-        before = was.before;
-        own = was.own;
-        later = more.0;
-        is = more.1;
-        lives = was.lives;
-        runs = was.runs;
+        ran = record { before = was.before; own = was.own; later = more.0; is = more.1; lives = was.lives; runs = was.runs };
         at = was.at;
         drained = was.drained;
       }) cell op is clients holds

@@ -100,12 +100,7 @@ module _ (setting : Setting) (w : World) (lives : Lives) (firm : Firm setting w)
     says_known known ways from _ (A_write asked name block pattern disk who is asks found rev) =
         let a = known asked is in
         let write : IsWrite own lines c asked.seq (cell_asked own disk block false) (pattern_block pattern) = record {
-          line = a.line;
-          is = a.is;
-          name = name;
-          block = block;
-          pattern = pattern;
-          asks = sym a.asks ∙ asks;
+          by_line = record { line = a.line; is = a.is; name = name; block = block; pattern = pattern; asks = sym a.asks ∙ asks };
           disk = disk;
           found = found;
           cell_is = refl;
@@ -141,12 +136,7 @@ module _ (setting : Setting) (w : World) (lives : Lives) (firm : Firm setting w)
               let h = (ways asked is).old_way old in
               record { letter = h.letter; there = more_sent h.letter h.there; to = h.to; is = h.is; at = h.at ∙ long };
           read = record {
-            line = a.line;
-            is = a.is;
-            name = name;
-            snap = snap;
-            block = block;
-            asks = sym a.asks ∙ asks;
+            by_line = record { line = a.line; is = a.is; name = name; snap = snap; block = block; asks = sym a.asks ∙ asks };
             disk = disk;
             found = found;
             cell_is = refl;

@@ -15,28 +15,38 @@ use Rattle.petal_rules.specs.State.{State, find}
 use Rattle.petal_rules.specs.Clients.{Client, Asked, epoch_for}
 use Rattle.law_steps.specs.Turned.{line_by}
 
--- the client's request of this number is a write of this cell with these bytes. In a region that is on its way it is of the new map's cell
-pub record IsWrite (state : State) (lines : List Line) (client seq : ℕ) (cell : Cell) (bytes : List ℕ) : Type 0 where
+-- the client's line of this number asks for a write
+pub record AsksWrite (lines : List Line) (client seq : ℕ) : Type 0 where
   pub line : Line
   pub is : line_by lines client seq ≡ Some line
   pub name : List ℕ
   pub block : ℕ
   pub pattern : Pattern
   pub asks : line.request ≡ request.Write name block pattern
+
+-- the client's request of this number is a write of this cell with these bytes. In a region that is on its way it is of the new map's cell
+pub record IsWrite (state : State) (lines : List Line) (client seq : ℕ) (cell : Cell) (bytes : List ℕ) : Type 0 where
+  pub by_line : AsksWrite lines client seq
+  pub open by_line use *
   pub disk : DiskView
   pub found : find state name ≡ Some disk
   pub cell_is : cell ≡ cell_asked state disk block false
   pub bytes_is : bytes ≡ pattern_block pattern
 
--- it is a read of this cell at this epoch. In a region that is on its way it is of the new map's cell, or of the old one's where its client was
--- told that the new map has nothing
-pub record IsRead (state : State) (lines : List Line) (client seq : ℕ) (told : Bool) (cell : Cell) (epoch : ℕ) : Type 0 where
+-- the client's line of this number asks for a read
+pub record AsksRead (lines : List Line) (client seq : ℕ) : Type 0 where
   pub line : Line
   pub is : line_by lines client seq ≡ Some line
   pub name : List ℕ
   pub snap : Option (List ℕ)
   pub block : ℕ
   pub asks : line.request ≡ request.Read name snap block
+
+-- it is a read of this cell at this epoch. In a region that is on its way it is of the new map's cell, or of the old one's where its client was
+-- told that the new map has nothing
+pub record IsRead (state : State) (lines : List Line) (client seq : ℕ) (told : Bool) (cell : Cell) (epoch : ℕ) : Type 0 where
+  pub by_line : AsksRead lines client seq
+  pub open by_line use *
   pub disk : DiskView
   pub found : find state name ≡ Some disk
   pub cell_is : cell ≡ cell_asked state disk block told

@@ -18,7 +18,7 @@ use Rattle.law_run.proofs.Frames.{OwnFollow, SaysOk, CountsOk, own_follow}
 use Rattle.law_run.proofs.Machine.{IsTake, Nearly, AllTaken, all_taken, seat_onward, stands_held}
 use Rattle.law_run.proofs.Snapshots.{snapshots_on}
 use Rattle.law_run.proofs.Steps.{ServerStep, TakesTold, ends_of, new}
-use Rattle.law_run.proofs.Takes.{Gives, IsAsBefore, AreTold, takes_told}
+use Rattle.law_run.proofs.Takes.{Gives, IsAsBefore, IsWriteOf, AreTold, takes_told}
 
 module _ (this : ServerStep) where
   open ends_of this use {v}
@@ -50,12 +50,9 @@ module _ (this : ServerStep) where
   -- a write under way gives a block its new content at the disk's epoch, and a server has an entry of the block; its contents at epochs below
   -- stay
   pub record IsGiven (row : DiskRow) (block : ℕ) : Type 0 where
-    pub write : Write
-    pub within : write.client < 9
+    pub write_is : IsWriteOf row block (now_kept row row.epoch block)
+    pub open write_is use *
     pub under_way : open_write this.w write.client ≡ Some write
-    pub disk_is : write.disk ≡ row.name
-    pub block_is : write.block ≡ block
-    pub bytes_is : write.bytes ≡ now_kept row row.epoch block
     pub below : (epoch : ℕ) → epoch < row.epoch → StaysAt row epoch block
     pub looked : In block (blocks_in this.setting (counted this.setting v))
 
@@ -90,12 +87,8 @@ module _ (this : ServerStep) where
     gives row h b there = elim (given row h b) [
       | inl same ↦ (let k = same row.epoch there in inl (had_so row h b ∙ k.0, before row h b ∙ k.1))
       | inr g ↦ inr (record {
-        write = g.write;
-        within = g.within;
+        write_is = g.write_is;
         under_way = g.under_way;
-        disk_is = g.disk_is;
-        block_is = g.block_is;
-        bytes_is = g.bytes_is;
         looked = g.looked;
       })
     ]
@@ -113,15 +106,17 @@ module _ (this : ServerStep) where
     each e h =
         let t = told.each e h in
         record {
-          row = t.row;
-          there = t.there;
-          block = t.block;
-          write = t.it.write;
-          is = t.it.is;
+          of = record {
+            row = t.row;
+            there = t.there;
+            block = t.block;
+            write = t.it.write;
+            is = t.it.is;
+            disk_is = t.it.disk_is;
+            block_is = t.it.block_is;
+            bytes_is = t.it.bytes_is;
+          };
           seat = under_way t.it.write t.it.under_way;
-          disk_is = t.it.disk_is;
-          block_is = t.it.block_is;
-          bytes_is = t.it.bytes_is;
         }
 
     -- the contents at epochs below that of the disk stay

@@ -12,8 +12,8 @@ use Rattle.global_tables.specs.declared.disk.DiskRow.{DiskRow}
 use Rattle.global_tables.specs.declared.disk.Snapshot.{Snapshot}
 use Rattle.petal_machine.specs.declared.event.Event.{Event}
 use Rattle.petal_machine.specs.declared.event.Event.TheVariants.{Begin, End, Freeze, Look, Make, Take}
-use Rattle.petal_machine.specs.declared.state.Disk.{Disk}
-use Rattle.petal_machine.specs.declared.state.Snapshot as machine
+use Rattle.petal_machine.specs.declared.state.PlainDisk.{PlainDisk}
+use Rattle.petal_machine.specs.declared.state.PlainSnapshot.{PlainSnapshot}
 use Rattle.petal_machine.specs.Machine.{Plain, disk_of, is_named, same_bytes, with_disk}
 use Rattle.petal_machine.specs.Run.{Obeys, after, frozen, replay, written}
 use Rattle.petal_rules.specs.Lists.{In}
@@ -148,18 +148,18 @@ no_freezes old rows there = all_empty (λ (row : DiskRow). map (freeze_of row) (
 -- ### Snapshots never change
 
 -- the disk is there later, with the snapshots that it had
-pub record HasMore (later : Option Disk) (disk : Disk) : Type 0 where
-  pub now : Disk
+pub record HasMore (later : Option PlainDisk) (disk : PlainDisk) : Type 0 where
+  pub now : PlainDisk
   pub is : later ≡ Some now
-  pub more : List machine.Snapshot
+  pub more : List PlainSnapshot
   pub snaps : now.snaps ≡ disk.snaps ++ more
 
-has_same : (later : Option Disk) (disk : Disk) → later ≡ Some disk → HasMore later disk
+has_same : (later : Option PlainDisk) (disk : PlainDisk) → later ≡ Some disk → HasMore later disk
 has_same later disk is = record { now = disk; is = is; more = []; snaps = sym (append-nil disk.snaps) }
 
 -- one disk is changed, by which it keeps its snapshots
-changed_more : (ds : List Disk) (name : List ℕ) (f : Disk → Disk) (other : List ℕ) (disk : Disk) → ((d : Disk) → (f d).name ≡ d.name)
-    → (more : List machine.Snapshot) → (f disk).snaps ≡ disk.snaps ++ more → disk_of ds other ≡ Some disk
+changed_more : (ds : List PlainDisk) (name : List ℕ) (f : PlainDisk → PlainDisk) (other : List ℕ) (disk : PlainDisk) → ((d : PlainDisk) → (f d).name ≡ d.name)
+    → (more : List PlainSnapshot) → (f disk).snaps ≡ disk.snaps ++ more → disk_of ds other ≡ Some disk
     → HasMore (disk_of (with_disk ds name f) other) disk
 changed_more ds name f other disk keeps more snaps is = by_bool (same_bytes other name)
     (λ on.
@@ -173,7 +173,7 @@ changed_more ds name f other disk keeps more snaps is = by_bool (same_bytes othe
     (λ off. has_same _ disk (with_apart ds name f other keeps
     (λ e. true_false (ap (λ n. same_bytes n name) e ∙ text_itself name) off) ∙ is))
 
-snaps_after : (m : Plain) (e : Event) (name : List ℕ) (disk : Disk) → disk_of m.disks name ≡ Some disk → HasMore (disk_of (after m e).disks name) disk
+snaps_after : (m : Plain) (e : Event) (name : List ℕ) (disk : PlainDisk) → disk_of m.disks name ≡ Some disk → HasMore (disk_of (after m e).disks name) disk
 snaps_after m (Make other) name disk is =
     has_same _ disk (ap (λ ds. disk_of ds name) (disks_after m (Make other)) ∙ find_front (is_named name) m.disks _ disk is)
 snaps_after m (Freeze other snap) name disk is =
@@ -188,7 +188,7 @@ snaps_after m (Look other snap block bytes) name disk is =
     has_same _ disk (ap (λ ds. disk_of ds name) (disks_after m (Look other snap block bytes)) ∙ is)
 
 -- each event leaves a disk the snapshots that it has
-pub snaps_stay : (m : Plain) (es : List Event) (name : List ℕ) (disk : Disk) → disk_of m.disks name ≡ Some disk
+pub snaps_stay : (m : Plain) (es : List Event) (name : List ℕ) (disk : PlainDisk) → disk_of m.disks name ≡ Some disk
     → HasMore (disk_of (replay m es).disks name) disk
 snaps_stay m [] name disk is = has_same _ disk is
 snaps_stay m (e ∷ es) name disk is =

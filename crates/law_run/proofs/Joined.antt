@@ -1,8 +1,7 @@
 -- A server that came back with nothing serves none of its links until the other server has filled it.
-use Rattle.std.proofs.Common.{◌≡◌, ◌++◌, ◌==◌, ℕ, Bool, List, [], ◌∷◌, true, false, Some, sym, ap, ◌∙◌, subst, ◌⊎◌, inl, inr, append_assoc}
+use Rattle.std.proofs.Common.{◌≡◌, ◌++◌, ◌==◌, ℕ, Bool, List, [], ◌∷◌, true, false, Some, sym, ap, ◌∙◌, ◌⊎◌, inl, inr}
 use Rattle.std.specs.Prelude.{◌&&◌, ◌||◌, if◌then◌else◌}
 use Rattle.std.proofs.lemmas.Grind.{fold-append}
-use Rattle.std.proofs.lemmas.List.{append-nil}
 use Rattle.petal_base.specs.declared.cell.Cell.{Cell}
 use Rattle.petal_command.specs.declared.command.Command.{Command}
 use Rattle.petal_command.specs.declared.command.Command.TheVariants.{Join, Leave, Caught}
@@ -15,7 +14,7 @@ use Rattle.petal_state.specs.Place.{touches}
 use Rattle.petal_state.specs.State.{start}
 use Rattle.petal_rules.specs.Blanked.{blank_joins_from}
 use Rattle.petal_rules.specs.State.{State}
-use Rattle.petal_rules.proofs.Tests.{by_bool, none_some}
+use Rattle.petal_rules.proofs.Tests.{by_bool, none_some, same_or_apart}
 use Rattle.petal_history.specs.Claims.{IsPrefix}
 use Rattle.law_state.specs.Below.{HasLater}
 use Rattle.law_state.specs.Joins.{HasJoinedSince}
@@ -23,11 +22,11 @@ use Rattle.law_state.specs.Places.{By_leave, By_join, By_caught, IsCaughtStill, 
 use Rattle.law_state.specs.Plain.{IsPlainLog}
 use Rattle.law_state.specs.Rows.{ByBoth, ByOne, ByNone}
 use Rattle.law_state.proofs.Again.{log_alone, log_lost}
-use Rattle.law_state.proofs.BlankJoins.{counts_joins}
 use Rattle.law_state.proofs.Grown.{one_before}
 use Rattle.law_state.proofs.Steady.{front_plain, log_below, log_steady}
 use Rattle.law_state.proofs.Touching.{log_touched}
-use Rattle.law_steps.proofs.Fronts.{front_itself, front_more, front_on}
+use Rattle.law_steps.proofs.Fronts.{front_more, front_on}
+use Rattle.law_stores.proofs.Counts.{joined_where}
 
 -- ### Where it joined
 
@@ -38,41 +37,13 @@ module _ (servers : ℕ) (n : ℕ) where
   abbrev JoinsSince : (front whole : List Command) → Type 0
   JoinsSince front whole = (inc : ℕ) × HasJoinedSince servers front whole n inc true
 
-  more_by : (front entries : List Command) → (joins (front ++ entries) ≡ joins front) ⊎ JoinsSince front (front ++ entries)
-  more_by front [] = inl (ap joins (append-nil front))
-  more_by front (entry ∷ rest) = elim (counts_joins servers front entry n) [
-    | inr b ↦ inr (
-      b.inc,
-      record {
-        until = front;
-        behind = front_itself front;
-        stands = record {
-          later = rest;
-          is = sym (append_assoc front (entry ∷ []) rest) ∙ ap (λ (x : Command). (front ++ x ∷ []) ++ rest) b.is;
-        };
-        may = b.may;
-      },
-    )
-    | inl same ↦
-        let whole : (front ++ entry ∷ []) ++ rest ≡ front ++ entry ∷ rest = append_assoc front (entry ∷ []) rest in
-        elim (more_by (front ++ entry ∷ []) rest) [
-          | inl on ↦ inl (ap joins (sym whole) ∙ on ∙ same)
-          | inr j ↦ inr (
-            j.0,
-            record {
-              until = j.1.until;
-              behind = front_on front (front ++ entry ∷ []) j.1.until (front_more front entry) j.1.behind;
-              stands = subst (IsPrefix (j.1.until ++ Join n j.0 true ∷ [])) whole j.1.stands;
-              may = j.1.may;
-            },
-          )
-        ]
-  ]
-
   -- a longer log has as many of its Joins with an empty store, or it joined with one since
   pub more_joins : (front whole : List Command) → IsPrefix front whole → (joins whole ≡ joins front) ⊎ JoinsSince front whole
   more_joins front whole prefix =
-      subst (λ (log : List Command). (joins log ≡ joins front) ⊎ JoinsSince front log) (sym prefix.is) (more_by front prefix.later)
+      elim (same_or_apart (joins whole) (joins front)) [
+        | inl same ↦ inl same
+        | inr apart ↦ inr (joined_where servers n front whole prefix (λ e. apart (sym e)))
+      ]
 
 -- ### What becomes of its links
 

@@ -14,7 +14,7 @@ use Rattle.petal_machine.specs.declared.event.Event.{Event}
 use Rattle.petal_machine.specs.declared.event.Event.TheVariants.{Make, Begin, Take, End, Look}
 use Rattle.petal_machine.specs.declared.event.Write.{Write}
 use Rattle.petal_machine.specs.declared.event.WriteEnd.{WriteEnd}
-use Rattle.petal_machine.specs.declared.state.Disk.{Disk}
+use Rattle.petal_machine.specs.declared.state.PlainDisk.{PlainDisk}
 use Rattle.petal_machine.specs.declared.state.Open.{Open}
 use Rattle.petal_machine.specs.Machine.{Plain, same_bytes, is_named, content, disk_of, open_of, is_of, but_of, stands, has_content, remembers, with_disk}
 use Rattle.petal_machine.specs.Run.{IsOpen, Obeys, after, changed, written, replay}
@@ -33,15 +33,16 @@ replay-append m (e ∷ es) fs = replay-append (after m e) es fs
 
 -- ### The disk
 
-pub stands_there : (m : Plain) (disk : Disk) (w : Write) → disk_of m.disks w.disk ≡ Some disk
+pub stands_there : (m : Plain) (disk : PlainDisk) (w : Write) → disk_of m.disks w.disk ≡ Some disk
     → stands m.disks w ≡ same_bytes (content disk.now w.block) w.bytes
 stands_there m disk w is = ap (has_content w) is
 
-unnamed : (name other : List ℕ) (disk : Disk) → disk.name ≡ name → other ≢ name → is_named other disk ≡ false
+unnamed : (name other : List ℕ) (disk : PlainDisk) → disk.name ≡ name → other ≢ name → is_named other disk ≡ false
 unnamed name other disk is ne = by_bool (is_named other disk) (λ t. absurd (ne (sym (nat_lists_same disk.name other t) ∙ is))) (λ f. f)
 
 -- a disk that was changed, and the others
-pub with_same : (ds : List Disk) (name : List ℕ) (f : Disk → Disk) (disk : Disk) → ((d : Disk) → (f d).name ≡ d.name) → disk_of ds name ≡ Some disk
+pub with_same : (ds : List PlainDisk) (name : List ℕ) (f : PlainDisk → PlainDisk) (disk : PlainDisk) → ((d : PlainDisk) → (f d).name ≡ d.name)
+    → disk_of ds name ≡ Some disk
     → disk_of (with_disk ds name f) name ≡ Some (f disk)
 with_same [] name f disk keeps e = none_some refl e
 with_same (d ∷ ds) name f disk keeps e = by_bool (is_named name d)
@@ -54,7 +55,7 @@ with_same (d ∷ ds) name f disk keeps e = by_bool (is_named name d)
     ∙ ap (λ b. cond b (Some d) (disk_of (with_disk ds name f) name)) no
     ∙ with_same ds name f disk keeps (sym (ap (λ b. cond b (Some d) (disk_of ds name)) no) ∙ e))
 
-pub with_apart : (ds : List Disk) (name : List ℕ) (f : Disk → Disk) (other : List ℕ) → ((d : Disk) → (f d).name ≡ d.name) → other ≢ name
+pub with_apart : (ds : List PlainDisk) (name : List ℕ) (f : PlainDisk → PlainDisk) (other : List ℕ) → ((d : PlainDisk) → (f d).name ≡ d.name) → other ≢ name
     → disk_of (with_disk ds name f) other ≡ disk_of ds other
 with_apart [] name f other keeps ne = refl
 with_apart (d ∷ ds) name f other keeps ne = by_bool (is_named name d)
@@ -77,7 +78,8 @@ content_apart blocks block bytes other ne = ap (λ o. unwrap_or o zero_block) (a
 
 -- ### Writes under way
 
-remember_each : (disks : List Disk) (opened : List Open) (c : ℕ) → open_of (map (remembers disks) opened) c ≡ option_map (remembers disks) (open_of opened c)
+remember_each : (disks : List PlainDisk) (opened : List Open) (c : ℕ)
+    → open_of (map (remembers disks) opened) c ≡ option_map (remembers disks) (open_of opened c)
 remember_each disks [] c = refl
 remember_each disks (o ∷ os) c =
     let later = remember_each disks os c in
@@ -122,7 +124,7 @@ pub still : (m : Plain) (c : ℕ) (o : Option Open) → open_of m.opened c ≡ o
 still m c None e h = refl
 still m c (Some o) e h = λ i. Some (record { write = o.write; held = or_so o.held (stands m.disks o.write) (h c o e) i })
 
-pub onward_by : (m k : Plain) (disks : List Disk) → ((c : ℕ) → open_of k.opened c ≡ option_map (remembers disks) (open_of m.opened c)) → Onward m k
+pub onward_by : (m k : Plain) (disks : List PlainDisk) → ((c : ℕ) → open_of k.opened c ≡ option_map (remembers disks) (open_of m.opened c)) → Onward m k
 onward_by m k disks h = record {
   none = λ c e. h c ∙ ap (option_map (remembers disks)) e;
   some = λ c o e. record {
@@ -229,7 +231,7 @@ end_others m w how c h ne =
 
 -- ### Disks that are made
 
-abbrev pub new_disk : List ℕ → Disk
+abbrev pub new_disk : List ℕ → PlainDisk
 new_disk name = record { name = name; now = []; snaps = [] }
 
 pub make_same : (m : Plain) (name : List ℕ) → disk_of m.disks name ≡ None → disk_of (after m (Make name)).disks name ≡ Some (new_disk name)
@@ -244,7 +246,7 @@ make_others m name other ne =
     ∙ ap (λ b. option_or (disk_of m.disks other) (cond b (Some (new_disk name)) None)) (unnamed name other (new_disk name) refl ne)
     ∙ or_none (disk_of m.disks other)
   where
-    or_none : (o : Option Disk) → option_or o None ≡ o
+    or_none : (o : Option PlainDisk) → option_or o None ≡ o
     or_none None = refl
     or_none (Some x) = refl
 
@@ -254,13 +256,13 @@ make_onward m name = onward_by m (after m (Make name)) (changed m (Make name)).d
 -- ### Takes
 
 -- a write whose block has its bytes has had them
-pub stands_held : (m : Plain) (disk : Disk) (c : ℕ) (w : Write) → disk_of m.disks w.disk ≡ Some disk → IsMindful m
+pub stands_held : (m : Plain) (disk : PlainDisk) (c : ℕ) (w : Write) → disk_of m.disks w.disk ≡ Some disk → IsMindful m
     → Seat (Some w) (open_of m.opened c) → content disk.now w.block ≡ w.bytes → held_in (open_of m.opened c) ≡ true
 stands_held m disk c w is mindful seat has =
     ap held_in seat.1 ∙ mindful c (record { write = w; held = seat.0 }) seat.1
     (stands_there m disk w is ∙ ap (λ b. same_bytes b w.bytes) has ∙ nat_list_eq_equiv.refl w.bytes)
 
-take_same : (m : Plain) (disk : Disk) (w : Write) → disk_of m.disks w.disk ≡ Some disk
+take_same : (m : Plain) (disk : PlainDisk) (w : Write) → disk_of m.disks w.disk ≡ Some disk
     → disk_of (after m (Take w)).disks w.disk ≡ Some (written w.block w.bytes disk)
 take_same m disk w is = ap (λ ds. disk_of ds w.disk) (disks_after m (Take w)) ∙ with_same m.disks w.disk (written w.block w.bytes) disk (λ d. refl) is
 
@@ -274,17 +276,22 @@ take_onward m w = onward_by m (after m (Take w)) (changed m (Take w)).disks (ope
 -- takes that give blocks of these disks the contents that they are to have, where they are to have one
 module _ (rows : List DiskRow) (apart : (one other : DiskRow) → In one rows → In other rows → one.name ≡ other.name → one ≡ other)
     (has : DiskRow → (epoch block : ℕ) → Bool) (to : DiskRow → (epoch block : ℕ) → List ℕ) where
-  -- the event takes a write under way of what the block is to have
-  pub record IsTake (m : Plain) (e : Event) : Type 0 where
+  -- the event takes a write, which has the content that the block is to have
+  pub record IsTakeOf (e : Event) : Type 0 where
     pub row : DiskRow
     pub there : In row rows
     pub block : ℕ
     pub write : Write
     pub is : e ≡ Take write
-    pub seat : IsOpen m.opened write
     pub disk_is : write.disk ≡ row.name
     pub block_is : write.block ≡ block
     pub bytes_is : write.bytes ≡ to row row.epoch block
+
+  -- the event takes a write under way of what the block is to have
+  pub record IsTake (m : Plain) (e : Event) : Type 0 where
+    pub of : IsTakeOf e
+    pub open of use *
+    pub seat : IsOpen m.opened write
 
   -- a take of the block is among these
   pub record IsToCome (es : List Event) (row : DiskRow) (block : ℕ) : Type 0 where
@@ -295,7 +302,7 @@ module _ (rows : List DiskRow) (apart : (one other : DiskRow) → In one rows �
 
   -- each block of the disk has what it is to have, or a take of it is to come; and its snapshots have it
   pub record Nearly (m : Plain) (es : List Event) (row : DiskRow) : Type 0 where
-    pub disk : Disk
+    pub disk : PlainDisk
     pub is : disk_of m.disks row.name ≡ Some disk
     pub same : (b : ℕ) → has row row.epoch b ≡ true → (content disk.now b ≡ to row row.epoch b) ⊎ IsToCome es row b
     pub snapshots : AreSnapshots disk.snaps row.snaps (has row) (to row)
@@ -367,17 +374,7 @@ module _ (rows : List DiskRow) (apart : (one other : DiskRow) → In one rows �
   take_later : (m k : Plain) → Onward m k → (e : Event) → IsTake m e → IsTake k e
   take_later m k onward e t =
       let g = onward.some t.write.client (record { write = t.write; held = t.seat.held }) t.seat.is in
-      record {
-        row = t.row;
-        there = t.there;
-        block = t.block;
-        write = t.write;
-        is = t.is;
-        seat = record { held = g.now.held; is = g.is ∙ (λ i. Some (record { write = g.same i; held = g.now.held })) };
-        disk_is = t.disk_is;
-        block_is = t.block_is;
-        bytes_is = t.bytes_is;
-      }
+      record { of = t.of; seat = record { held = g.now.held; is = g.is ∙ (λ i. Some (record { write = g.same i; held = g.now.held })) } }
 
   none_left : (row : DiskRow) (b : ℕ) → IsToCome [] row b → ⊥
   unfolding In

@@ -12,7 +12,7 @@ use Rattle.std.specs.Map.{lookup}
 use Rattle.petal_table.specs.Table.{Table, at, put}
 use Rattle.petal_table.proofs.Rows.{at_same, at_apart}
 use Rattle.petal_rules.specs.Lists.{In}
-use Rattle.petal_rules.proofs.ListLemmas.{in_former, in_later, in-append}
+use Rattle.petal_rules.proofs.ListLemmas.{in_former, in_later}
 use Rattle.petal_rules.proofs.Tests.{none_some, same_or_apart}
 
 pub into_map : {A B : Type 0} (f : A → B) (xs : List A) (x : A) → In x xs → In (f x) (map f xs)
@@ -32,14 +32,6 @@ unfolding In
 of_map f [] y h = absurd h
 of_map f (x ∷ xs) y (inl e) = (x, inl refl, e)
 of_map f (x ∷ xs) y (inr h) = let found = of_map f xs y h in (found.0, inr found.1, found.2)
-
-pub of_flat_map : {A B : Type 0} (f : A → List B) (xs : List A) (y : B) → In y (flat_map f xs) → (x : A) × In x xs × In y (f x)
-unfolding In
-of_flat_map f [] y h = absurd h
-of_flat_map f (x ∷ xs) y h = elim (in-append y (f x) (flat_map f xs) h) [
-  | inl now ↦ (x, inl refl, now)
-  | inr later ↦ let found = of_flat_map f xs y later in (found.0, inr found.1, found.2)
-]
 
 pub into_range : (start n i : ℕ) → start ≤ i → i < start + n → In i (range_with_len start n)
 unfolding In

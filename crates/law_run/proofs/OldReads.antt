@@ -189,10 +189,8 @@ module _ (setting : Setting) (state : State) (steady : IsSteady state) where
   some_data None two given e = inr e
   some_data (Some x) two given e = inl e
 
-  -- a letter among those that a step sent
-  record IsAmong (told : NotThere) (later : List Record) (letters : List Letter) (given : ℕ × List ℕ) : Type 0 where
-    letter : Letter
-    there : In letter letters
+  -- the letter has the data
+  record HasData (told : NotThere) (later : List Record) (letter : Letter) (given : ℕ × List ℕ) : Type 0 where
     seq : ℕ
     bytes : List ℕ
     says : letter.body ≡ body.Data seq bytes
@@ -202,9 +200,16 @@ module _ (setting : Setting) (state : State) (steady : IsSteady state) where
     accepts : accepted later letter ≡ Some given.0
     bytes_are : bytes ≡ given.1
 
+  -- so has one of those that a step sent
+  record IsAmong (told : NotThere) (later : List Record) (letters : List Letter) (given : ℕ × List ℕ) : Type 0 where
+    letter : Letter
+    there : In letter letters
+    data_is : HasData told later letter given
+    open data_is use *
+
   one_data : (told : NotThere) (later : List Record) (letter : Letter) (said : Body) (given : ℕ × List ℕ) → letter.body ≡ said
-      → data_of told later letter said ≡ Some given → (letters : List Letter) → In letter letters → IsAmong told later letters given
-  one_data told later letter (body.Data seq bytes) given says e letters there =
+      → data_of told later letter said ≡ Some given → HasData told later letter given
+  one_data told later letter (body.Data seq bytes) given says e =
       by_bool (same_actor told.letter.to letter.to && (told.letter.rev == letter.rev) && (told.seq == seq))
       (λ t.
       let outer = both_true (same_actor told.letter.to letter.to && (told.letter.rev == letter.rev)) (told.seq == seq) t in
@@ -213,8 +218,6 @@ module _ (setting : Setting) (state : State) (steady : IsSteady state) where
       sym (ap (λ b. if b then option_map (λ (line : ℕ). (line, bytes)) (accepted later letter) else None) t) ∙ e in
       let m = mapped (accepted later letter) bytes given is in
       record {
-        letter = letter;
-        there = there;
         seq = seq;
         bytes = bytes;
         says = says;
@@ -231,28 +234,15 @@ module _ (setting : Setting) (state : State) (steady : IsSteady state) where
       mapped None bytes given e = none_some refl e
       mapped (Some line) bytes given e = let same : (line, bytes) ≡ given = same_some e in
           (ap (λ (g : ℕ × List ℕ). Some g.0) same, ap (λ (g : ℕ × List ℕ). g.1) same)
-  one_data told later letter _ given says e letters there = none_some refl e
+  one_data told later letter _ given says e = none_some refl e
 
   in_data : (told : NotThere) (later : List Record) (letters : List Letter) (given : ℕ × List ℕ) → data_among told later letters ≡ Some given
       → IsAmong told later letters given
   unfolding In
   in_data told later [] given e = none_some refl e
   in_data told later (letter ∷ letters) given e = elim (some_data (data_of told later letter letter.body) (data_among told later letters) given e) [
-    | inl now ↦ one_data told later letter letter.body given refl now (letter ∷ letters) (inl refl)
-    | inr on ↦
-        let k = in_data told later letters given on in
-        record {
-          letter = k.letter;
-          there = inr k.there;
-          seq = k.seq;
-          bytes = k.bytes;
-          says = k.says;
-          to = k.to;
-          rev = k.rev;
-          seq_is = k.seq_is;
-          accepts = k.accepts;
-          bytes_are = k.bytes_are;
-        }
+    | inl now ↦ record { letter = letter; there = inl refl; data_is = one_data told later letter letter.body given refl now }
+    | inr on ↦ let k = in_data told later letters given on in record { letter = k.letter; there = inr k.there; data_is = k.data_is }
   ]
 
   -- what was found, at a world on the way

@@ -62,12 +62,14 @@ module _ (this : ServerStep) where
       → ((epoch : ℕ) → epoch < p.row.epoch → StaysAt this p.row epoch p.block) → In p.block (blocks_in this.setting (counted this.setting (later_world this)))
       → IsGiven this p.row p.block
   placed_given op cell p bytes below looked = record {
-    write = p.write;
-    within = subst (λ c. c < 9) (sym p.own) p.within;
+    write_is = record {
+      write = p.write;
+      within = subst (λ c. c < 9) (sym p.own) p.within;
+      disk_is = p.disk_is;
+      block_is = p.block_is;
+      bytes_is = p.bytes_is ∙ sym bytes;
+    };
     under_way = ap (open_write this.w) p.own ∙ p.under_way;
-    disk_is = p.disk_is;
-    block_is = p.block_is;
-    bytes_is = p.bytes_is ∙ sym bytes;
     below = below;
     looked = looked;
   }

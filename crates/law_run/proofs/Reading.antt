@@ -26,8 +26,8 @@ use Rattle.global_tables.specs.Disk.{disk_at, snapshot_named}
 use Rattle.global_tables.specs.declared.disk.DiskRow.{DiskRow}
 use Rattle.global_tables.specs.declared.disk.Snapshot.{Snapshot}
 use Rattle.petal_machine.specs.Run.{MayLook}
-use Rattle.petal_machine.specs.declared.state.Disk.{Disk}
-use Rattle.petal_machine.specs.declared.state.Snapshot as machine
+use Rattle.petal_machine.specs.declared.state.PlainDisk.{PlainDisk}
+use Rattle.petal_machine.specs.declared.state.PlainSnapshot.{PlainSnapshot}
 use Rattle.petal_state.specs.Command.{state_after}
 use Rattle.petal_state.specs.declared.answer.DiskView.{DiskView}
 use Rattle.script_lines.specs.declared.request.Line.{Line}
@@ -59,7 +59,7 @@ abbrev pub IsAskedAt : (epoch : ℕ) → Option (List ℕ) → ℕ → Type 0
 IsAskedAt epoch snap e = (e ≡ epoch) ⊎ ((snap ≡ None) × (epoch ≤ e))
 
 -- the machine has these bytes, where the disk's content at the epoch is these
-pub may_look : (disks : List Disk) (row : DiskRow) (has : (epoch block : ℕ) → Bool) (contents : (epoch block : ℕ) → List ℕ) → Holds disks row has contents
+pub may_look : (disks : List PlainDisk) (row : DiskRow) (has : (epoch block : ℕ) → Bool) (contents : (epoch block : ℕ) → List ℕ) → Holds disks row has contents
     → (epoch block : ℕ) (bytes : List ℕ) (snap : Option (List ℕ)) → AsksFor row epoch snap
     → ((e : ℕ) → IsAskedAt epoch snap e → (has e block ≡ true) × (contents e block ≡ bytes)) → MayLook disks row.name snap block bytes
 may_look disks row has contents holds epoch block bytes _ (The_disk le) so =
@@ -71,7 +71,7 @@ may_look disks row has contents holds epoch block bytes _ (A_snapshot name snap 
     record {
       known = record { disk = holds.disk; is = holds.is };
       blocks = found.0.blocks;
-      is = ap (option_map (λ (s : machine.Snapshot). s.blocks)) found.1;
+      is = ap (option_map (λ (s : PlainSnapshot). s.blocks)) found.1;
       has = found.2.1 block k.0 ∙ k.1;
     }
 

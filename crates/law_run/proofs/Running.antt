@@ -170,7 +170,7 @@ module _ (script : Script) (sound : IsSound script) (whole : List Command) (all 
         let serving = server_serves setting w ground.ready.rests along.firm n
         (own_steady setting w along.firm n) stamp what refl may.1 next.after.firm in
         let t = step_told at sound.numbered acted serving (record {
-          along = next.after;
+          next = next.after;
           onward = next.now;
           grows = next.grows;
           grown = grown_at script sound whole all w v next.after.firm next.grows;

@@ -3,7 +3,7 @@ use Rattle.law_run.proofs.Grounds.{never_dead, proposed_store}
 use Rattle.law_run.proofs.NotHere.{not_here_told}
 use Rattle.law_steps.specs.DidRead.{Not_here, Shows}
 use Rattle.law_run.proofs.Shows.{AreCalm, data_of, show_told}
-use Rattle.law_run.proofs.Steps.{IsMiddle, LooksTold, ServerStep, ServerTold, ServesAt, kept_here, later_world, letters, new, quiet_looks}
+use Rattle.law_run.proofs.Steps.{LooksTold, Next, ServerStep, ServerTold, ServesAt, after_step, kept_here, later_world, letters, new, quiet_looks}
 use Rattle.petal_history.specs.Legal.{IsLegalFrom}
 use Rattle.petal_state.specs.CellState.{named_cell}
 use Rattle.std.proofs.Common.{◌≡◌, ◌+◌, ℕ, List, [], true, Some, refl, sym, ap, ◌∙◌, subst, inl, ◌||◌, false, Option, None}
@@ -28,21 +28,17 @@ use Rattle.petal_rules.specs.State.{servers_of}
 use Rattle.petal_rules.specs.Progress.{copying_on}
 use Rattle.petal_rules.specs.Store.{Store, cell_cmp, chain_in}
 use Rattle.petal_rules.specs.Writes.{is_under_way}
-use Rattle.petal_rules.specs.World.{World, acts, stamped, chosen_log, chosen_state, server_state}
+use Rattle.petal_rules.specs.World.{World, stamped, chosen_log, server_state}
 use Rattle.petal_rules.specs.declared.job.Job.{Job}
 use Rattle.petal_rules.proofs.Settled.{IsSettling, settling}
 use Rattle.petal_rules.proofs.Tests.{true_false}
-use Rattle.petal_history.specs.Claims.{IsPrefix}
-use Rattle.law_state.specs.Tables.{IsGrown}
 use Rattle.law_steps.specs.Did.{Did, By_read}
 use Rattle.law_steps.specs.Happens.{Handled, Worked, By_job, By_ballot, By_entry, IsSeated, Serving, Goes, Ends, Stays, Wakes, Fails}
 use Rattle.law_steps.specs.Happens.{own_place, without_rev, served_so, stopped_so}
 use Rattle.law_steps.proofs.Letters.{said}
 use Rattle.law_steps.proofs.Serving.{chosen_same}
 use Rattle.law_copies.specs.Pair.{owns_of}
-use Rattle.law_run.specs.Follow.{Ground}
 use Rattle.law_run.specs.Onward.{Onward}
-use Rattle.law_run.proofs.Along.{Along}
 use Rattle.law_moves.proofs.Chains.{did_stores, NeverDead}
 use Rattle.law_run.proofs.Frames.{AreKept, As_before, Anew, OwnFollow, Runs, SaysOk, kept_own}
 use Rattle.law_run.proofs.LogSteps.{IsOfKind, Of_the_log, Of_a_boot, Of_the_rest}
@@ -75,28 +71,8 @@ none_pending own cell free = by (at cell_cmp own.pairs.pending cell) free
     by (Some op) e = true_false refl e
 
 module _ (at : ServesAt) where
-  abbrev pub after_step : Acted → World
-  after_step acted = (acts at.setting at.w at.n at.what at.stamp acted).world
-
-  -- what is chosen after the step
-  pub record Next (acted : Acted) : Type 0 where
-    pub along : Along at.setting at.state (after_step acted)
-    pub onward : Ground at.setting at.state (after_step acted)
-    pub grows : IsPrefix (chosen_log at.setting at.w) (chosen_log at.setting (after_step acted))
-    pub grown : IsGrown (chosen_state at.setting at.w) (chosen_state at.setting (after_step acted))
-    pub middle : IsMiddle at.setting at.w (after_step acted) onward.records onward.good.visits
-
-  abbrev pub step_of : (acted : Acted) → Serving at.setting at.w at.n at.what acted → Next acted → ServerStep
-  step_of acted serving next = record {
-    at = at;
-    acted = acted;
-    serving = serving;
-    next = next.along;
-    onward = next.onward;
-    grows = next.grows;
-    grown = next.grown;
-    middle = next.middle;
-  }
+  abbrev pub step_of : (acted : Acted) → Serving at.setting at.w at.n at.what acted → Next at acted → ServerStep
+  step_of acted serving next = record { at = at; acted = acted; serving = serving; goes_on = next }
 
   abbrev here : Here
   here = own_place at.setting at.w at.n
@@ -124,7 +100,7 @@ module _ (at : ServesAt) where
         never_dead (record { setting = at.setting; state = at.state; w = at.w; firm = at.along.firm; ground = at.ground }) at.along.steady at.n
 
     abbrev IsSame : Acted → Type 0
-    IsSame acted = chosen_log at.setting (after_step acted) ≡ chosen_log at.setting at.w
+    IsSame acted = chosen_log at.setting (after_step at acted) ≡ chosen_log at.setting at.w
 
     -- a job of the pairs
     -- where nothing is chosen and no chain changes, the contents are as before
@@ -150,8 +126,8 @@ module _ (at : ServesAt) where
     module _ (log : Log) (runs : (at.w.servers at.n).life.running ≡ true) where
       job_looks : (done : Done) (did : Did hears here own done) (queue : List Job)
           (serving : Serving at.setting at.w at.n at.what (served_so at.setting at.w at.n log done queue))
-          (next : Next (served_so at.setting at.w at.n log done queue)) → IsSame (served_so at.setting at.w at.n log done queue)
-          → HasLater (after_step (served_so at.setting at.w at.n log done queue))
+          (next : Next at (served_so at.setting at.w at.n log done queue)) → IsSame (served_so at.setting at.w at.n log done queue)
+          → HasLater (after_step at (served_so at.setting at.w at.n log done queue))
           → LooksTold (step_of (served_so at.setting at.w at.n log done queue) serving next)
       unfolding In
       job_looks _ (By_read _ (Shows client seq cell epoch readable there)) queue serving next same later =
@@ -173,8 +149,8 @@ module _ (at : ServesAt) where
 
       job_told : (done : Done) (seated : IsSeated here own done) (did : Did hears here own done) (queue : List Job)
           (serving : Serving at.setting at.w at.n at.what (served_so at.setting at.w at.n log done queue))
-          (next : Next (served_so at.setting at.w at.n log done queue)) → IsSame (served_so at.setting at.w at.n log done queue)
-          → HasLater (after_step (served_so at.setting at.w at.n log done queue))
+          (next : Next at (served_so at.setting at.w at.n log done queue)) → IsSame (served_so at.setting at.w at.n log done queue)
+          → HasLater (after_step at (served_so at.setting at.w at.n log done queue))
           → ServerTold (step_of (served_so at.setting at.w at.n log done queue) serving next)
       job_told done seated did queue serving next same later =
           let this = step_of _ serving next in
@@ -188,7 +164,7 @@ module _ (at : ServesAt) where
       -- the server stops once its commit is made
       job_stopped : (done : Done) (seated : IsSeated here own done) (did : Did hears here own done)
           (serving : Serving at.setting at.w at.n at.what (stopped_so at.setting at.w at.n log done))
-          (next : Next (stopped_so at.setting at.w at.n log done)) → IsSame (stopped_so at.setting at.w at.n log done)
+          (next : Next at (stopped_so at.setting at.w at.n log done)) → IsSame (stopped_so at.setting at.w at.n log done)
           → ServerTold (step_of (stopped_so at.setting at.w at.n log done) serving next)
       job_stopped done seated did serving next same =
           let this = step_of _ serving next in
@@ -202,7 +178,7 @@ module _ (at : ServesAt) where
     no_posts post i = absurd i
 
     -- a step that changes no chain, and ends no request
-    calm_step : (acted : Acted) (serving : Serving at.setting at.w at.n at.what acted) (next : Next acted) → IsSame acted
+    calm_step : (acted : Acted) (serving : Serving at.setting at.w at.n at.what acted) (next : Next at acted) → IsSame acted
         → acted.server.own.store.chains ≡ own.store.chains
         → ((k : Plain) → Onward at.m k → OwnFollow (step_of acted serving next) k acted.server.own)
         → (who : Sender) (posts : List Post) → acted.letters ≡ letters_of who 0 posts → ((post : Post) → In post posts → IsUnended post)
@@ -218,8 +194,8 @@ module _ (at : ServesAt) where
 
     goes_told : (log : Log) (done : Done) (queue : List Job) (runs : (at.w.servers at.n).life.running ≡ true)
         → Worked at.setting at.w at.n log done → (serving : Serving at.setting at.w at.n at.what (served_so at.setting at.w at.n log done queue))
-        (next : Next (served_so at.setting at.w at.n log done queue)) → IsSame (served_so at.setting at.w at.n log done queue)
-        → HasLater (after_step (served_so at.setting at.w at.n log done queue))
+        (next : Next at (served_so at.setting at.w at.n log done queue)) → IsSame (served_so at.setting at.w at.n log done queue)
+        → HasLater (after_step at (served_so at.setting at.w at.n log done queue))
         → ServerTold (step_of (served_so at.setting at.w at.n log done queue) serving next)
     goes_told _ _ queue runs (By_job log done applied did seat) serving next same later = job_told log runs done seat did queue
         serving next same later
@@ -239,7 +215,7 @@ module _ (at : ServesAt) where
 
     ends_told : (log : Log) (done : Done) (runs : (at.w.servers at.n).life.running ≡ true) → Worked at.setting at.w at.n log done
         → (serving : Serving at.setting at.w at.n at.what (stopped_so at.setting at.w at.n log done))
-        (next : Next (stopped_so at.setting at.w at.n log done)) → IsSame (stopped_so at.setting at.w at.n log done)
+        (next : Next at (stopped_so at.setting at.w at.n log done)) → IsSame (stopped_so at.setting at.w at.n log done)
         → ServerTold (step_of (stopped_so at.setting at.w at.n log done) serving next)
     ends_told _ _ runs (By_job log done applied did seat) serving next same = job_stopped log runs done seat did serving next same
     ends_told _ _ runs (By_ballot log started posts applied starts says) serving next same =
@@ -256,7 +232,8 @@ module _ (at : ServesAt) where
         (λ on. As_before runs (ap (λ (p : Pairs). p.finished) settled.pairs) (ap (λ (p : Pairs). p.pending) settled.pairs)))
         (without_rev here) downs refl downs_end
 
-    rest_told : (acted : Acted) (serving of_it : Serving at.setting at.w at.n at.what acted) (next : Next acted) → IsSame acted → HasLater (after_step acted)
+    rest_told : (acted : Acted) (serving of_it : Serving at.setting at.w at.n at.what acted) (next : Next at acted) → IsSame acted
+        → HasLater (after_step at acted)
         → ServerTold (step_of acted of_it next)
     rest_told _ (Goes log done queue runs worked queued works) of_it next same later = goes_told log done queue runs worked of_it next same later
     rest_told _ (Ends log done runs worked) of_it next same later = ends_told log done runs worked of_it next same
@@ -272,7 +249,7 @@ module _ (at : ServesAt) where
         (without_rev here) [] refl no_posts
 
     -- a server that runs after the step ran before, or has nothing in memory
-    serves_kept : (acted : Acted) (serving of_it : Serving at.setting at.w at.n at.what acted) (next : Next acted)
+    serves_kept : (acted : Acted) (serving of_it : Serving at.setting at.w at.n at.what acted) (next : Next at acted)
         → acted.server.own.pairs ≡ own.pairs
         → Runs (step_of acted of_it next) → AreKept (step_of acted of_it next)
     serves_kept _ (Goes log done queue runs worked queued works) of_it next same on =
@@ -284,8 +261,8 @@ module _ (at : ServesAt) where
     serves_kept _ (Fails booted asleep) of_it next same on = true_false on asleep
 
     -- each kind of step
-    pub step_told : (acted : Acted) (serving : Serving at.setting at.w at.n at.what acted) (next : Next acted) → IsOfKind (at.w.servers at.n) acted
-        → HasLater (after_step acted) → ServerTold (step_of acted serving next)
+    pub step_told : (acted : Acted) (serving : Serving at.setting at.w at.n at.what acted) (next : Next at acted) → IsOfKind (at.w.servers at.n) acted
+        → HasLater (after_step at acted) → ServerTold (step_of acted serving next)
     step_told acted serving next (Of_the_log store pairs quiet) later =
         votes_told (step_of acted serving next) (ap (λ (s : Store). s.chains) store) (serves_kept acted serving serving next pairs)
         (quiet at.stamp)

@@ -7,7 +7,7 @@ use Rattle.global_tables.specs.Disk.{same_name, snapshot_named}
 use Rattle.global_tables.specs.declared.disk.DiskRow.{DiskRow}
 use Rattle.global_tables.specs.declared.disk.Snapshot.{Snapshot}
 use Rattle.petal_machine.specs.declared.event.Event.{Event}
-use Rattle.petal_machine.specs.declared.state.Snapshot as machine
+use Rattle.petal_machine.specs.declared.state.PlainSnapshot.{PlainSnapshot}
 use Rattle.petal_machine.specs.Machine.{Plain, content, disk_of, is_snap_named}
 use Rattle.petal_machine.specs.Run.{Obeys, after, changed, frozen, replay}
 use Rattle.petal_rules.specs.Lists.{In}
@@ -20,7 +20,7 @@ use Rattle.law_run.proofs.Machine.{after_mindful, disks_after, onward_by, onward
 -- ### What they are
 
 -- the same, where fewer blocks have a content, and those at the snapshots' epochs are the same
-pub snapshots_on : (taken : List machine.Snapshot) (snaps : List Snapshot) (has later : (epoch block : ℕ) → Bool) (from to : (epoch block : ℕ) → List ℕ)
+pub snapshots_on : (taken : List PlainSnapshot) (snaps : List Snapshot) (has later : (epoch block : ℕ) → Bool) (from to : (epoch block : ℕ) → List ℕ)
     → ((snap : Snapshot) → In snap snaps → (b : ℕ) → later snap.epoch b ≡ true → (has snap.epoch b ≡ true) × (from snap.epoch b ≡ to snap.epoch b))
     → AreSnapshots taken snaps has from → AreSnapshots taken snaps later to
 unfolding In
@@ -35,10 +35,10 @@ snapshots_on (t ∷ ts) [] has later from to same a = absurd a
 
 module _ (has : (epoch block : ℕ) → Bool) (contents : (epoch block : ℕ) → List ℕ) where
   -- the machine's snapshot is this one
-  abbrev pub IsTaken : machine.Snapshot → Snapshot → Type 0
+  abbrev pub IsTaken : PlainSnapshot → Snapshot → Type 0
   IsTaken taken snap = (taken.name ≡ snap.name) × ((b : ℕ) → has snap.epoch b ≡ true → content taken.blocks b ≡ contents snap.epoch b)
 
-  snapshots_more : (taken : List machine.Snapshot) (snaps : List Snapshot) (t : machine.Snapshot) (s : Snapshot) → AreSnapshots taken snaps has contents
+  snapshots_more : (taken : List PlainSnapshot) (snaps : List Snapshot) (t : PlainSnapshot) (s : Snapshot) → AreSnapshots taken snaps has contents
       → IsTaken t s → AreSnapshots (taken ++ t ∷ []) (snaps ++ s ∷ []) has contents
   snapshots_more [] [] t s a is = (is.0, is.1, tt)
   snapshots_more (x ∷ xs) (y ∷ ys) t s a is = (a.0, a.1, snapshots_more xs ys t s a.2 is)
@@ -46,8 +46,8 @@ module _ (has : (epoch block : ℕ) → Bool) (contents : (epoch block : ℕ) �
   snapshots_more (x ∷ xs) [] t s a is = absurd a
 
   -- the one of a name is found by it in the machine
-  pub snapshot_found : (taken : List machine.Snapshot) (snaps : List Snapshot) (name : List ℕ) (s : Snapshot) → AreSnapshots taken snaps has contents
-      → snapshot_named snaps name ≡ Some s → (t : machine.Snapshot) × (find (is_snap_named name) taken ≡ Some t) × IsTaken t s
+  pub snapshot_found : (taken : List PlainSnapshot) (snaps : List Snapshot) (name : List ℕ) (s : Snapshot) → AreSnapshots taken snaps has contents
+      → snapshot_named snaps name ≡ Some s → (t : PlainSnapshot) × (find (is_snap_named name) taken ≡ Some t) × IsTaken t s
   snapshot_found [] [] name s a e = none_some refl e
   snapshot_found (x ∷ xs) (y ∷ ys) name s a e = by_bool (same_name y.name name)
       (λ on.
@@ -66,7 +66,7 @@ module _ (has : (epoch block : ℕ) → Bool) (contents : (epoch block : ℕ) �
   snapshot_found (x ∷ xs) [] name s a e = absurd a
 
   -- a name that none of them has is unknown to the machine
-  snapshot_unknown : (taken : List machine.Snapshot) (snaps : List Snapshot) (name : List ℕ) → AreSnapshots taken snaps has contents
+  snapshot_unknown : (taken : List PlainSnapshot) (snaps : List Snapshot) (name : List ℕ) → AreSnapshots taken snaps has contents
       → ((s : Snapshot) → In s snaps → s.name ≢ name) → find (is_snap_named name) taken ≡ None
   unfolding In
   snapshot_unknown [] [] name a other = refl
@@ -78,8 +78,8 @@ module _ (has : (epoch block : ℕ) → Bool) (contents : (epoch block : ℕ) �
   snapshot_unknown (x ∷ xs) [] name a other = absurd a
 
   -- the one at a place is there in the machine
-  pub snapshot_at : (taken : List machine.Snapshot) (snaps : List Snapshot) (i : ℕ) (s : Snapshot) → AreSnapshots taken snaps has contents
-      → slice_get snaps i ≡ Some s → (t : machine.Snapshot) × (slice_get taken i ≡ Some t) × IsTaken t s
+  pub snapshot_at : (taken : List PlainSnapshot) (snaps : List Snapshot) (i : ℕ) (s : Snapshot) → AreSnapshots taken snaps has contents
+      → slice_get snaps i ≡ Some s → (t : PlainSnapshot) × (slice_get taken i ≡ Some t) × IsTaken t s
   snapshot_at [] [] i s a e = none_some refl e
   snapshot_at (x ∷ xs) (y ∷ ys) zero s a e = (x, refl, subst (IsTaken x) (same_some e) (a.0, a.1))
   snapshot_at (x ∷ xs) (y ∷ ys) (suc i) s a e = snapshot_at xs ys i s a.2 e

@@ -69,17 +69,25 @@ pub record ServesAt : Type 0 where
   pub unblanked : before_blanks what setting w n ≡ w.before_blank
   pub later : List Record
 
+abbrev pub after_step : ServesAt → Acted → World
+after_step at acted = (acts at.setting at.w at.n at.what at.stamp acted).world
+
+-- what is chosen after its step
+pub record Next (at : ServesAt) (acted : Acted) : Type 0 where
+  pub next : Along at.setting at.state (after_step at acted)
+  pub onward : Ground at.setting at.state (after_step at acted)
+  pub grows : IsPrefix (chosen_log at.setting at.w) (chosen_log at.setting (after_step at acted))
+  pub grown : IsGrown (chosen_state at.setting at.w) (chosen_state at.setting (after_step at acted))
+  pub middle : IsMiddle at.setting at.w (after_step at acted) onward.records onward.good.visits
+
 -- its step, and what is chosen after it
 pub record ServerStep : Type 0 where
   pub at : ServesAt
   pub open at use *
   pub acted : Acted
   pub serving : Serving setting w n what acted
-  pub next : Along setting state (acts setting w n what stamp acted).world
-  pub onward : Ground setting state (acts setting w n what stamp acted).world
-  pub grows : IsPrefix (chosen_log setting w) (chosen_log setting (acts setting w n what stamp acted).world)
-  pub grown : IsGrown (chosen_state setting w) (chosen_state setting (acts setting w n what stamp acted).world)
-  pub middle : IsMiddle setting w (acts setting w n what stamp acted).world onward.records onward.good.visits
+  pub goes_on : Next at acted
+  pub open goes_on use *
 
 abbrev pub grounded : ServerStep → Grounded
 grounded this = record { setting = this.setting; state = this.state; w = this.w; firm = this.along.firm; ground = this.ground }

@@ -4,8 +4,8 @@ use Rattle.std.specs.Prelude.{slice_get}
 use Rattle.global_tables.specs.declared.disk.DiskRow.{DiskRow}
 use Rattle.global_tables.specs.declared.disk.Snapshot.{Snapshot}
 use Rattle.petal_machine.specs.declared.event.Event.{Event}
-use Rattle.petal_machine.specs.declared.state.Disk.{Disk}
-use Rattle.petal_machine.specs.declared.state.Snapshot as machine
+use Rattle.petal_machine.specs.declared.state.PlainDisk.{PlainDisk}
+use Rattle.petal_machine.specs.declared.state.PlainSnapshot.{PlainSnapshot}
 use Rattle.petal_machine.specs.Machine.{Plain, content, disk_of}
 use Rattle.petal_machine.specs.Run.{replay}
 use Rattle.petal_rules.specs.Lists.{In}
@@ -67,12 +67,12 @@ module _ (it : Replayed) where
     last = now.known later.now later.there
 
     -- the machine's one
-    taken : (t : machine.Snapshot) × (slice_get then.disk.snaps epoch ≡ Some t)
+    taken : (t : PlainSnapshot) × (slice_get then.disk.snaps epoch ≡ Some t)
         × IsTaken (has_content_at setting w row.id) (content_at setting w row.id) t snap.0
     taken = snapshot_at (has_content_at setting w row.id) (content_at setting w row.id)
         then.disk.snaps row.snaps epoch snap.0 then.snapshots snap.1
 
-    kept : (t : machine.Snapshot) × (slice_get last.disk.snaps epoch ≡ Some t)
+    kept : (t : PlainSnapshot) × (slice_get last.disk.snaps epoch ≡ Some t)
         × IsTaken (has_content_at setting v later.now.id) (content_at setting v later.now.id) t snap.0
     kept = snapshot_at (has_content_at setting v later.now.id) (content_at setting v later.now.id)
         last.disk.snaps later.now.snaps epoch snap.0 last.snapshots snap_later
@@ -82,7 +82,7 @@ module _ (it : Replayed) where
         let more : HasMore (disk_of (replay m es).disks row.name) then.disk = snaps_stay m es row.name then.disk then.is in
         let disk : more.now ≡ last.disk = same_some (sym more.is ∙ ap (disk_of (replay m es).disks) (sym later.so.name) ∙ last.is) in
         same_some (sym (get_front then.disk.snaps more.more epoch taken.0 taken.1) ∙ ap (λ s. slice_get s epoch) (sym more.snaps)
-        ∙ ap (λ (d : Disk). slice_get d.snaps epoch) disk ∙ kept.1)
+        ∙ ap (λ (d : PlainDisk). slice_get d.snaps epoch) disk ∙ kept.1)
 
     same_content : (block : ℕ) → has_content_at setting w row.id epoch block ≡ true → has_content_at setting v row.id epoch block ≡ true
         → content_at setting v row.id epoch block ≡ content_at setting w row.id epoch block
@@ -91,7 +91,7 @@ module _ (it : Replayed) where
         (λ i. has_content_at setting v (later.so.id i) (snap_epoch i) block) ∙ has_later in
         let here : has_content_at setting w row.id snap.0.epoch block ≡ true = ap (λ e. has_content_at setting w row.id e block) snap_epoch ∙ has in
         (λ i. content_at setting v (sym later.so.id i) (sym snap_epoch i) block)
-        ∙ sym (kept.2.1 block there) ∙ ap (λ (t : machine.Snapshot). content t.blocks block) (sym same_taken) ∙ taken.2.1 block here
+        ∙ sym (kept.2.1 block there) ∙ ap (λ (t : PlainSnapshot). content t.blocks block) (sym same_taken) ∙ taken.2.1 block here
         ∙ ap (λ e. content_at setting w row.id e block) snap_epoch
 
   pub contents_still : IsStill setting w v

@@ -21,7 +21,8 @@ use Rattle.petal_rules.proofs.CellTables.{cell_cmp_same}
 use Rattle.petal_history.specs.Events.{Change, before_step, after_step, had_content, has_content_next, open_write, write_by, write_asked, blocks_of, blocks_in}
 use Rattle.petal_history.specs.Events.{changed_blocks, is_changed, writes_so, taker, taken, takes_on, takes, all_there, with_first}
 use Rattle.petal_rules.proofs.Tests.{by_bool, true_false, both_true, same_numbers, number_itself, nat_lists_same, none_some, same_some}
-use Rattle.law_run.proofs.Members.{all_empty, into_map, of_map, into_flat_map, of_flat_map, into_range, into_filter, of_filter, none_pass}
+use Rattle.law_steps.proofs.Asking.{in_flat_map}
+use Rattle.law_run.proofs.Members.{all_empty, into_map, of_map, into_flat_map, into_range, into_filter, of_filter, none_pass}
 use Rattle.law_run.proofs.Members.{into_filter_map, of_filter_map, found_one, row_at, key_at, put_key}
 
 unlike : (xs ys : List ℕ) → xs ≡ ys → not (same_bytes xs ys) ≡ false
@@ -77,6 +78,14 @@ are_there (x ∷ xs) h =
       on = λ e i. elim i [ inl same ↦ inl (same_some (same ∙ now.1)) | inr j ↦ inr (rest.on e j) ];
     }
 
+-- a client's write has these bytes for the block of the disk
+pub record IsWriteOf (row : DiskRow) (block : ℕ) (bytes : List ℕ) : Type 0 where
+  pub write : Write
+  pub within : write.client < 9
+  pub disk_is : write.disk ≡ row.name
+  pub block_is : write.block ≡ block
+  pub bytes_is : write.bytes ≡ bytes
+
 module _ (change : Change) where
   abbrev rows : List DiskRow
   rows = change.chosen.disks.rows
@@ -109,12 +118,9 @@ module _ (change : Change) where
 
   -- a write under way gives a block its new content, and a server has an entry of the block
   pub record Gives (row : DiskRow) (block : ℕ) : Type 0 where
-    pub write : Write
-    pub within : write.client < 9
+    pub write_is : IsWriteOf row block (after_step change row block)
+    pub open write_is use *
     pub under_way : open_write change.w write.client ≡ Some write
-    pub disk_is : write.disk ≡ row.name
-    pub block_is : write.block ≡ block
-    pub bytes_is : write.bytes ≡ after_step change row block
     pub looked : In block (blocks_in change.setting change.next)
 
   -- the event takes a write under way that gives the block its new content
@@ -182,7 +188,7 @@ module _ (change : Change) where
     -- each that is told of is so
     told_so : (x : Option Event) → In x (flat_map (takes_on change) rows) → (e : Event) × (x ≡ Some e) × TakesOne e
     told_so x h =
-        let of_row = of_flat_map (takes_on change) rows x h in
+        let of_row = in_flat_map (takes_on change) rows x h in
         let row = of_row.0 in
         let of_block = of_map (told_of row) (changed_blocks change row) x of_row.2 in
         let b = of_block.0 in

@@ -7,13 +7,9 @@
 
 ghost use Rattle.std.specs.Prelude.{◌≡◌, ℕ, List, Ok};
 ghost use Rattle.petal_script.specs.Script.{script_of};
-ghost use Rattle.script_lines.specs.declared.script.Script.{Script};
-ghost use Rattle.petal_rules.specs.World.{setting_of, start};
 ghost use Rattle.petal_history.specs.Claims.{AreHeld, Keeps, Law, machine_after};
 ghost use Rattle.petal_history.specs.Events.{IsRunOf, events_of};
-ghost use Rattle.petal_history.specs.Legal.{IsLegal, world_after};
-ghost use Rattle.petal_history.specs.Sound.{IsSound};
-ghost use Rattle.petal_history.specs.declared.record.Record.{Record};
+ghost use Rattle.law_state.specs.Histories.{IsLegal, IsSound, Record, Script, setting_of, start, world_after};
 
 /// What the machine is told of a legal history of a sound script is a run of it: each event is allowed where it is told.
 pub fn events_are_a_run()

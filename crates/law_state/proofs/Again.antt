@@ -270,49 +270,39 @@ module _ (servers : ℕ) where
       let ups = λ (n inc : ℕ). between s t (fold after t rest) n inc (step.grown.ages n) (later.grown.ages n) in
       (ups row.primary one first first_on, ups row.secondary other second second_on)
 
-  gone_quiet : (entries : List Command) (s : State) → IsPlainState servers s → IsPlainLog servers entries → (cell : Cell) (row : LinkRow) (one other : ℕ)
-      → row.map ≡ cell.map → HasDied s cell → is_up_as s row.primary one ≡ true → is_up_as s row.secondary other ≡ true
-      → is_up_as (fold after s entries) row.primary one ≡ true → is_up_as (fold after s entries) row.secondary other ≡ true → places_from s entries row ≡ 0
-  unfolding In
-  gone_quiet [] s p all cell row one other same gone first second first_on second_on = refl
-  gone_quiet (entry ∷ rest) s p all cell row one other same gone first second first_on second_on =
-      let plain = all entry (inl refl) in
-      let more = λ (other : Command) (h : In other rest). all other (inr h) in
-      let t = after s entry in
-      let step = entering servers s entry p plain in
-      let ups = ups_between entry rest s p all row one other first second first_on second_on in
-      let off = gone_untouched s p entry plain cell row one other same gone (in_up s row.primary one first)
-      (in_up s row.secondary other second) ups.0 ups.1 in
-      ap (λ b. if b then places_from t rest row + 1 else places_from t rest row) off
-      ∙ gone_quiet rest t step.plain more cell row one other same
-      (still_dead servers s p (entry ∷ []) (λ c h. elim h [ inl e ↦ subst (IsPlain servers) (sym e) plain | inr none ↦ absurd none ]) cell gone)
-      ups.0 ups.1 first_on second_on
-
-  -- while a link is in Both, and both of its servers stay In, nothing touches it
+  -- while a link is in Both, and both of its servers stay In, nothing touches it; nor where its cell is dead
   both_quiet : (entries : List Command) (s : State) → IsPlainState servers s → IsPlainLog servers entries → (cell : Cell) (row : LinkRow) (one other : ℕ)
-      → cell_link s cell ≡ Some row → row.state ≡ Both → is_up_as s row.primary one ≡ true → is_up_as s row.secondary other ≡ true
+      → row.map ≡ cell.map → row.state ≡ Both → (cell_link s cell ≡ Some row) ⊎ HasDied s cell
+      → is_up_as s row.primary one ≡ true → is_up_as s row.secondary other ≡ true
       → is_up_as (fold after s entries) row.primary one ≡ true → is_up_as (fold after s entries) row.secondary other ≡ true → places_from s entries row ≡ 0
   unfolding In
-  both_quiet [] s p all cell row one other is both first second first_on second_on = refl
-  both_quiet (entry ∷ rest) s p all cell row one other is both first second first_on second_on =
+  both_quiet [] s p all cell row one other same both held first second first_on second_on = refl
+  both_quiet (entry ∷ rest) s p all cell row one other same both held first second first_on second_on =
       let plain = all entry (inl refl) in
       let more = λ (other : Command) (h : In other rest). all other (inr h) in
       let t = after s entry in
       let step = entering servers s entry p plain in
       let ups = ups_between entry rest s p all row one other first second first_on second_on in
-      by_bool (touches s entry row)
-      (λ on. elim (touched servers s p cell row is ((plain_steady servers s p).linked cell row is).served entry plain on) [
-        | By_leave left at seats ↦ true_false
-            (both_up (is_up t) row left.server (in_up t row.primary one ups.0) (in_up t row.secondary other ups.1) left.one_of)
-            (out_by t left.server seats.here)
-        | By_join joined at apart seats ↦ absurd (apart both)
-        | By_caught acts stays ↦ alone_not_both row acts.holder acts.alone both
-      ])
-      (λ off. ap (λ b. if b then places_from t rest row + 1 else places_from t rest row) off
-      ∙ elim (entry_stays servers s p cell row is entry plain off) [
-        | inl stays ↦ both_quiet rest t step.plain more cell row one other stays.same both ups.0 ups.1 first_on second_on
-        | inr gone ↦ gone_quiet rest t step.plain more cell row one other (map_of servers s p cell row is) gone ups.0 ups.1 first_on second_on
-      ])
+      let off : touches s entry row ≡ false = elim held [
+        | inl is ↦ by_bool (touches s entry row)
+            (λ on. elim (touched servers s p cell row is ((plain_steady servers s p).linked cell row is).served entry plain on) [
+              | By_leave left at seats ↦ true_false
+                  (both_up (is_up t) row left.server (in_up t row.primary one ups.0) (in_up t row.secondary other ups.1) left.one_of)
+                  (out_by t left.server seats.here)
+              | By_join joined at apart seats ↦ absurd (apart both)
+              | By_caught acts stays ↦ alone_not_both row acts.holder acts.alone both
+            ])
+            (λ off. off)
+        | inr gone ↦ gone_untouched s p entry plain cell row one other same gone (in_up s row.primary one first)
+            (in_up s row.secondary other second) ups.0 ups.1
+      ] in
+      let on : (cell_link t cell ≡ Some row) ⊎ HasDied t cell = elim held [
+        | inl is ↦ elim (entry_stays servers s p cell row is entry plain off) [ inl stays ↦ inl stays.same | inr gone ↦ inr gone ]
+        | inr gone ↦ inr (still_dead servers s p (entry ∷ [])
+            (λ c h. elim h [ inl e ↦ subst (IsPlain servers) (sym e) plain | inr none ↦ absurd none ]) cell gone)
+      ] in
+      ap (λ b. if b then places_from t rest row + 1 else places_from t rest row) off
+      ∙ both_quiet rest t step.plain more cell row one other same both on ups.0 ups.1 first_on second_on
 
 -- ### Fronts of a log
 
@@ -412,7 +402,7 @@ module _ (servers : ℕ) (front whole : List Command) (all : IsPlainLog servers 
       → is_in (state_after servers whole) row.primary one ≡ true → is_in (state_after servers whole) row.secondary other ≡ true
       → places_from (start servers) whole row ≡ places_from (start servers) front row
   log_both_place cell row one other is both first second first_on second_on =
-      let quiet = both_quiet servers prefix.later s plain more cell row one other is both first second
+      let quiet = both_quiet servers prefix.later s plain more cell row one other (map_of servers s plain cell row is) both (inl is) first second
       (sym (ap (λ (t : State). is_up_as t row.primary one) whole_is) ∙ first_on)
       (sym (ap (λ (t : State). is_up_as t row.secondary other) whole_is) ∙ second_on) in
       let e = places_of_both servers front whole row prefix in

@@ -198,28 +198,29 @@ module _ (state : State) (steady : IsSteady state) (cell : Cell) where
   pub led_by : (n : ℕ) → lead state cell ≡ Some n → ((b : IsInBoth state cell) × (b.row.primary ≡ n)) ⊎ IsHeldBy state cell n
   led_by n e = link_led_by n (led_so state cell n e).leads
 
-  -- a cell with a first server, or a second one, is in Both
-  pub first_by : (n : ℕ) → first state cell ≡ Some n → (b : IsInBoth state cell) × (b.row.primary ≡ n)
-  first_by n e = by_bool (live state cell)
+  -- a cell with a server that only a link in Both has is in Both
+  one_of_both : (o : Option ℕ) (server : LinkRow → ℕ)
+      → ((row : LinkRow) → cell_link state cell ≡ Some row → live state cell ≡ true → row.state ≡ Both → o ≡ Some (server row))
+      → ((row : LinkRow) → cell_link state cell ≡ Some row → live state cell ≡ true → (holder : ℕ) (whole : Bool) → row.state ≡ Only holder whole → o ≡ None)
+      → ((row : LinkRow) → cell_link state cell ≡ Some row → live state cell ≡ true → row.state ≡ Lost → o ≡ None)
+      → (live state cell ≡ false → o ≡ None) → (n : ℕ) → o ≡ Some n → (b : IsInBoth state cell) × (server b.row ≡ n)
+  one_of_both o server both alone lost dead n e = by_bool (live state cell)
       (λ lives. let h = steady.lives cell lives in
       let linked = steady.linked cell h.row h.is in
       elim linked.served [
-        | ByBoth so one other ↦ (record { row = h.row; is = h.is; linked = linked; so = so }, same_some (sym (both_first state cell h.row h.is lives so) ∙ e))
-        | ByOne holder other whole so pair out ↦ none_some (alone_first state cell h.row h.is lives holder whole so) e
-        | ByNone one other so pair out ↦ none_some (lost_first state cell h.row h.is lives so) e
+        | ByBoth so one other ↦ (record { row = h.row; is = h.is; linked = linked; so = so }, same_some (sym (both h.row h.is lives so) ∙ e))
+        | ByOne holder other whole so pair out ↦ none_some (alone h.row h.is lives holder whole so) e
+        | ByNone one other so pair out ↦ none_some (lost h.row h.is lives so) e
       ])
-      (λ dead. none_some (dead_first state cell dead) e)
+      (λ off. none_some (dead off) e)
+
+  pub first_by : (n : ℕ) → first state cell ≡ Some n → (b : IsInBoth state cell) × (b.row.primary ≡ n)
+  first_by n e = one_of_both (first state cell) (λ row. row.primary) (both_first state cell) (alone_first state cell) (lost_first state cell)
+      (dead_first state cell) n e
 
   pub second_by : (n : ℕ) → second state cell ≡ Some n → (b : IsInBoth state cell) × (b.row.secondary ≡ n)
-  second_by n e = by_bool (live state cell)
-      (λ lives. let h = steady.lives cell lives in
-      let linked = steady.linked cell h.row h.is in
-      elim linked.served [
-        | ByBoth so one other ↦ (record { row = h.row; is = h.is; linked = linked; so = so }, same_some (sym (both_second state cell h.row h.is lives so) ∙ e))
-        | ByOne holder other whole so pair out ↦ none_some (alone_second state cell h.row h.is lives holder whole so) e
-        | ByNone one other so pair out ↦ none_some (lost_second state cell h.row h.is lives so) e
-      ])
-      (λ dead. none_some (dead_second state cell dead) e)
+  second_by n e = one_of_both (second state cell) (λ row. row.secondary) (both_second state cell) (alone_second state cell) (lost_second state cell)
+      (dead_second state cell) n e
 
   -- who may read a cell is In, and one of the two of its link in Both, or holds it alone
   pub read_by : (n : ℕ) → readable state n cell ≡ true

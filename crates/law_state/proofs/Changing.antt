@@ -89,10 +89,12 @@ module _ (servers : ℕ) (s : State) (p : IsPlainState servers s) (view : View) 
       links = λ map at row e. inl (record {
         now = f row;
         is = link_changed map at ∙ ap (option_map f) e;
-        so = later row;
-        on = c.on row;
-        held = c.held row (found_itself s map at row e);
-        lost = c.lost row (found_itself s map at row e);
+        goes_on = record {
+          so = later row;
+          on = c.on row;
+          held = c.held row (found_itself s map at row e);
+          lost = c.lost row (found_itself s map at row e);
+        };
       });
       stages = λ cell. no_less (stage_at s cell);
       ages = c.ages;

@@ -9,7 +9,7 @@ use Rattle.global_tables.specs.declared.link.LinkRow.{LinkRow}
 use Rattle.global_tables.specs.declared.link.LinkState.TheVariants.{Both, Only, Lost}
 use Rattle.petal_rules.specs.State.{State}
 use Rattle.law_state.specs.Ages.{age, age_of}
-use Rattle.law_state.specs.Rows.{IsBetween, IsHeldOn, IsLater, IsServedOn}
+use Rattle.law_state.specs.Rows.{GoesOn, IsBetween, IsHeldOn, IsLater, IsServedOn}
 use Rattle.law_state.specs.Homes.{stage_at, stage_of}
 use Rattle.law_state.specs.Tables.{HasLaterDisk, HasLaterRow, IsGone, IsGrown, IsLaterDisk, IsPlainState}
 use Rattle.law_state.proofs.Ages.{between, no_less, out_same}
@@ -59,6 +59,14 @@ module _ (s t u : State) (old : (n : ℕ) → age_of s n ≤ age_of t n) (new : 
       let middle = on n whole alone out here in
       after_on n middle.0 middle.1 (out_same s t n out here) there
 
+  abbrev pub goes_on_on : (one two three : LinkRow) → GoesOn s t one two → GoesOn t u two three → GoesOn s u one three
+  goes_on_on one two three a b = record {
+    so = later_on one two three a.so b.so;
+    on = served_on_on one two three a.so a.on b.on;
+    held = held_on_on one two three a.held b.held;
+    lost = λ gone. b.lost (a.lost gone);
+  }
+
 at_most : (a b c : ℕ) → a ≤ b → b ≤ c → a ≤ c
 at_most a b c one two = omega arith
 
@@ -90,15 +98,17 @@ later_disk_on one two three a b = record {
   snaps = b.snaps ∙ ap (λ snaps. snaps ++ b.more) a.snaps ∙ append_assoc one.snaps a.more b.more;
 }
 
-pub same_row : (s t : State) (of link : ℕ) (row : LinkRow) → link_at t.links of link ≡ Some row → HasLaterRow s t of link row
-same_row s t of link row e = record {
-  now = row;
-  is = e;
+-- a row goes on as it was
+abbrev pub goes_on_itself : (s t : State) (row : LinkRow) → GoesOn s t row row
+goes_on_itself s t row = record {
   so = later_itself row;
   on = λ n inc has serving a b. serving;
   held = λ n whole alone out same. (whole, alone);
   lost = λ gone. gone;
 }
+
+pub same_row : (s t : State) (of link : ℕ) (row : LinkRow) → link_at t.links of link ≡ Some row → HasLaterRow s t of link row
+same_row s t of link row e = record { now = row; is = e; goes_on = goes_on_itself s t row }
 
 -- the tables of links and maps are as they were, and so is who is In
 pub grown_still : (s t : State) → length s.disks.rows ≤ length t.disks.rows
@@ -142,10 +152,7 @@ grown_on s t u one two = record {
       | inl last ↦ inl (record {
         now = last.now;
         is = last.is;
-        so = later_on row middle.now last.now middle.so last.so;
-        on = served_on_on s t u one.ages two.ages row middle.now last.now middle.so middle.on last.on;
-        held = held_on_on s t u one.ages two.ages row middle.now last.now middle.held last.held;
-        lost = λ gone. last.lost (middle.lost gone);
+        goes_on = goes_on_on s t u one.ages two.ages row middle.now last.now middle.goes_on last.goes_on;
       })
     ]
   ];

@@ -31,3 +31,4 @@ pub mod Alone
 pub mod Again
 pub mod BlankJoins
 pub mod Named
+pub mod Moments

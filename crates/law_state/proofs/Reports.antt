@@ -34,7 +34,7 @@ use Rattle.petal_rules.specs.State.{State, held, is_in}
 use Rattle.petal_rules.specs.Writes.{is_writes_held}
 use Rattle.petal_rules.proofs.ListLemmas.{in_later}
 use Rattle.petal_rules.proofs.Tests.{by_bool, by_test, number_itself, same_numbers, same_or_apart, same_some, some_or_none, true_false}
-use Rattle.law_state.specs.Epochs.{HasReported}
+use Rattle.law_state.specs.Epochs.{HasReported, HasReportedBy}
 use Rattle.law_state.specs.Homes.{epoch_at, era_at, new_stage, old_stage, stage_at, stage_of}
 use Rattle.law_state.specs.Plain.{IsPlain, IsPlainLog}
 use Rattle.law_state.specs.Tables.{IsForSnapshot, IsPlainState, Of_disk, Of_region}
@@ -504,20 +504,11 @@ module _ (which : Hold → Bool) (every : which All ≡ true) (nothing : which N
         ]
       ]
 
-  -- such a report stands on the way
-  pub record HasReportedSo (servers : ℕ) (front whole : List Command) (n inc : ℕ) (cell : Cell) : Type 0 where
-    pub until : List Command
-    pub fence : ℕ
-    pub behind : IsPrefix front until
-    pub stands : IsPrefix (until ++ Drained n inc fence ∷ []) whole
-    pub seated : is_in (state_after servers until) n inc ≡ true
-    pub holds : which (held (state_after servers until) cell) ≡ true
-
   module _ (servers : ℕ) (front whole : List Command) (n inc : ℕ) (cell : Cell) (all : IsPlainLog servers whole) (prefix : IsPrefix front whole) where
     whole_is : state_after servers whole ≡ fold after (state_after servers front) prefix.later
     whole_is = ap (state_after servers) prefix.is ∙ fold-append after (start servers) front prefix.later
 
-    reported_by : IsReportAmong (state_after servers front) prefix.later n inc cell → HasReportedSo servers front whole n inc cell
+    reported_by : IsReportAmong (state_after servers front) prefix.later n inc cell → HasReportedBy which servers front whole n inc cell
     reported_by c =
         let until_is : state_after servers (front ++ c.before) ≡ fold after (state_after servers front) c.before =
         fold-append after (start servers) front c.before in
@@ -536,7 +527,7 @@ module _ (which : Hold → Bool) (every : which All ≡ true) (nothing : which N
 
     still_by : is_up_as (state_after servers front) n inc ≡ true → is_up_as (state_after servers whole) n inc ≡ true
         → IsAwaited (state_after servers front) n cell → 1 ≤ stage_at (state_after servers front) cell → stage_at (state_after servers front) cell ≤ 2
-        → IsStill (state_after servers front) n cell (state_after servers whole) ⊎ HasReportedSo servers front whole n inc cell
+        → IsStill (state_after servers front) n cell (state_after servers whole) ⊎ HasReportedBy which servers front whole n inc cell
     still_by is end awaited low high =
         elim (still_or_report servers prefix.later (state_after servers front) (log_plain servers front (front_plain servers front whole all prefix))
         (λ c h. all c (subst (In c) (sym prefix.is) (in_later c front prefix.later h))) n inc cell is
@@ -565,10 +556,9 @@ log_epochs servers front whole cell all prefix = (log_below servers front whole 
 risen : (servers : ℕ) (front whole : List Command) (n inc : ℕ) (cell : Cell) → 1 ≤ stage_at (state_after servers front) cell
     → stage_at (state_after servers front) cell ≤ 2 → era_at (state_after servers front) cell < era_at (state_after servers whole) cell
     → IsStill is_writes_held refl refl (state_after servers front) n cell (state_after servers whole)
-    ⊎ HasReportedSo is_writes_held refl refl servers front whole n inc cell
+    ⊎ HasReported servers front whole n inc cell
     → HasReported servers front whole n inc cell
-risen servers front whole n inc cell low high rises (inr h) =
-    record { until = h.until; fence = h.fence; behind = h.behind; stands = h.stands; seated = h.seated; holds = h.holds }
+risen servers front whole n inc cell low high rises (inr h) = h
 risen servers front whole n inc cell low high rises (inl k) =
     let was = era_low (epoch_at (state_after servers front) cell) (stage_at (state_after servers front) cell) high in
     let now = era_low (epoch_at (state_after servers whole) cell) (stage_at (state_after servers whole) cell) k.high in
@@ -590,7 +580,7 @@ pub log_unread : (servers : ℕ) (front whole : List Command) (n inc : ℕ) (cel
     → is_in (state_after servers front) n inc ≡ true → is_in (state_after servers whole) n inc ≡ true
     → is_all_held (held (state_after servers front) cell) ≡ false → 1 ≤ stage_at (state_after servers front) cell
     → stage_at (state_after servers front) cell ≤ 2
-    → (stage_at (state_after servers whole) cell ≤ 2) ⊎ HasReportedSo is_all_held refl refl servers front whole n inc cell
+    → (stage_at (state_after servers whole) cell ≤ 2) ⊎ HasReportedBy is_all_held servers front whole n inc cell
 log_unread servers front whole n inc cell all prefix is end free low high =
     elim (still_by is_all_held refl refl servers front whole n inc cell all prefix is end
     (unheld_awaited is_all_held refl refl (state_after servers front) n cell free) low high) [

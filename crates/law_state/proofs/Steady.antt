@@ -324,10 +324,7 @@ module _ (servers : ℕ) (s t : State) (p : IsPlainState servers s) (q : IsPlain
         | inl later ↦ inl (record {
           now = later.now;
           is = link_by servers t q cell h.0 (tuple_on cell.map h.0 h.1) ∙ later.is;
-          so = later.so;
-          on = later.on;
-          held = later.held;
-          lost = later.lost;
+          goes_on = later.goes_on;
         })
         | inr gone ↦ inr (died servers t q cell gone)
       ]

@@ -11,16 +11,14 @@ use Rattle.petal_state.specs.State.{is_up}
 use Rattle.petal_rules.specs.State.{State, find, is_in, leads_link, snapshot}
 use Rattle.law_state.specs.Ages.{age_of}
 use Rattle.law_state.specs.Homes.{HasDied, epoch_at, era_at, stage_at}
-use Rattle.law_state.specs.Rows.{IsHeldOn, IsLater, IsLostOn, IsServedOn}
+use Rattle.law_state.specs.Rows.{GoesOn}
 
 -- the later row of a cell's link
 pub record HasLater (earlier later : State) (cell : Cell) (row : LinkRow) : Type 0 where
   pub now : LinkRow
   pub is : cell_link later cell ≡ Some now
-  pub so : IsLater row now
-  pub on : IsServedOn earlier later row now
-  pub held : IsHeldOn earlier later row now
-  pub lost : IsLostOn row now
+  pub goes_on : GoesOn earlier later row now
+  pub open goes_on use *
 
 -- a disk as it is found later: on the same map or a later one, and at the same epoch or a later one
 pub record HasLaterView (later : State) (name : List ℕ) (disk : DiskView) : Type 0 where

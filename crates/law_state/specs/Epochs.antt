@@ -1,20 +1,25 @@
 -- What is chosen before a cell's era rises.
-use Rattle.std.specs.Prelude.{◌≡◌, ◌++◌, ℕ, true, List, [], ◌∷◌}
+use Rattle.std.specs.Prelude.{◌≡◌, ◌++◌, ℕ, Bool, true, List, [], ◌∷◌}
 use Rattle.petal_base.specs.declared.cell.Cell.{Cell}
 use Rattle.petal_command.specs.declared.command.Command.{Command}
 use Rattle.petal_command.specs.declared.command.Command.TheVariants.{Drained}
 use Rattle.petal_history.specs.Claims.{IsPrefix}
 use Rattle.petal_state.specs.Command.{state_after}
+use Rattle.petal_state.specs.declared.answer.Hold.{Hold}
 use Rattle.petal_rules.specs.State.{held, is_in}
 use Rattle.petal_rules.specs.Writes.{is_writes_held}
 pub use Rattle.law_state.specs.Homes.{epoch_at, era_at}
 
--- behind this front of the log stands the server's report to the active fence, by which the cell's writes are held there; and the server
+-- behind this front of the log stands the server's report to the active fence, by which such a hold of the cell is so there; and the server
 -- is In as this incarnation
-pub record HasReported (servers : ℕ) (front whole : List Command) (n inc : ℕ) (cell : Cell) : Type 0 where
+pub record HasReportedBy (which : Hold → Bool) (servers : ℕ) (front whole : List Command) (n inc : ℕ) (cell : Cell) : Type 0 where
   pub until : List Command
   pub fence : ℕ
   pub behind : IsPrefix front until
   pub stands : IsPrefix (until ++ Drained n inc fence ∷ []) whole
   pub seated : is_in (state_after servers until) n inc ≡ true
-  pub holds : is_writes_held (held (state_after servers until) cell) ≡ true
+  pub holds : which (held (state_after servers until) cell) ≡ true
+
+-- by which the cell's writes are held there
+abbrev pub HasReported : (servers : ℕ) → (front whole : List Command) → (n inc : ℕ) → Cell → Type 0
+HasReported servers front whole n inc cell = HasReportedBy is_writes_held servers front whole n inc cell

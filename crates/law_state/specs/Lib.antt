@@ -12,3 +12,5 @@ pub mod Tables
 pub mod Disks
 pub mod Places
 pub mod Joins
+pub mod Moments
+pub mod Histories

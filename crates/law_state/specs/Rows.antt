@@ -42,3 +42,10 @@ IsHeldOn earlier later row now = (n : ℕ) (whole : Bool) → row.state ≡ Only
 -- a link that is Lost stays so
 abbrev pub IsLostOn : (row now : LinkRow) → Type 0
 IsLostOn row now = row.state ≡ Lost → now.state ≡ Lost
+
+-- all of this, of a row and the same link's later one
+pub record GoesOn (earlier later : State) (row now : LinkRow) : Type 0 where
+  pub so : IsLater row now
+  pub on : IsServedOn earlier later row now
+  pub held : IsHeldOn earlier later row now
+  pub lost : IsLostOn row now

@@ -23,7 +23,7 @@ use Rattle.petal_rules.specs.Lists.{In}
 use Rattle.petal_rules.specs.State.{State}
 use Rattle.law_state.specs.Ages.{age_of}
 use Rattle.law_state.specs.Homes.{stage_at, stage_of}
-use Rattle.law_state.specs.Rows.{IsHeldOn, IsLostOn, IsServed, IsServedOn, IsLater}
+use Rattle.law_state.specs.Rows.{GoesOn, IsServed}
 
 -- the regions of a move, of which this one is next: those before it are at the new map, and those behind it at the old one
 pub record IsShape (regions : List RegionState) (next : ℕ) (now : RegionState) : Type 0 where
@@ -135,10 +135,8 @@ pub record IsPlainState (servers : ℕ) (state : State) : Type 0 where
 pub record HasLaterRow (earlier later : State) (of link : ℕ) (row : LinkRow) : Type 0 where
   pub now : LinkRow
   pub is : link_at later.links of link ≡ Some now
-  pub so : IsLater row now
-  pub on : IsServedOn earlier later row now
-  pub held : IsHeldOn earlier later row now
-  pub lost : IsLostOn row now
+  pub goes_on : GoesOn earlier later row now
+  pub open goes_on use *
 
 -- the row of a disk later: with the snapshots that it had and those that were taken since; each cell of a map that it had is as far as it was,
 -- or farther; and a map that it left it left before, in the same move

@@ -1,5 +1,5 @@
 -- What each kind of job says of entries that move, and which operations it opens for them.
-use Rattle.std.proofs.Common.{◌≡◌, ℕ, Bool, true, false, Some, refl, sym, ap, ◌∙◌, subst, inl, inr}
+use Rattle.std.proofs.Common.{◌≡◌, Bool, true, false, Some, refl, sym, ap, ◌∙◌, subst, inl, inr}
 use Rattle.busy_marks.specs.declared.marks.MarkKind.TheVariants.{Stale}
 use Rattle.petal_base.specs.declared.cell.Cell.{Cell}
 use Rattle.petal_base.specs.Cells.{cell_of}
@@ -7,18 +7,15 @@ use Rattle.petal_table.specs.Table.{at, put}
 use Rattle.petal_msg.specs.Kinds.{Filling, Logged, Subject, is_logged, subject_of}
 use Rattle.petal_msg.specs.declared.body.Body.{Body}
 use Rattle.petal_msg.specs.declared.body.Body.TheVariants as body
-use Rattle.petal_msg.specs.declared.operation.Action.{Action}
 use Rattle.petal_msg.specs.declared.operation.Action.TheVariants as action
-use Rattle.petal_msg.specs.declared.operation.Ending.{Ending}
 use Rattle.petal_msg.specs.declared.operation.Ending.TheVariants.{Written, Full}
-use Rattle.petal_msg.specs.declared.operation.OpKind.{OpKind}
 use Rattle.petal_msg.specs.declared.operation.OpKind.TheVariants as kind
 use Rattle.petal_msg.specs.declared.operation.Pending.{Pending}
 use Rattle.petal_rules.specs.Fills.{Moving, fill_operation}
 use Rattle.petal_rules.specs.Lists.{In}
 use Rattle.petal_rules.specs.Server.{Own, Here, Pairs, Post, Done}
 use Rattle.petal_rules.specs.Store.{cell_cmp}
-use Rattle.petal_rules.specs.Writes.{acts, ended, ends, gives_back, moved_as, next_stage, old_lead, operation, with_mark_at, without_pending}
+use Rattle.petal_rules.specs.Writes.{ends, gives_back, next_stage, operation, with_mark_at, without_pending}
 use Rattle.petal_rules.proofs.CellTables.{cell_apart, cell_same}
 use Rattle.petal_rules.proofs.Tests.{by_bool, same_some, true_false}
 use Rattle.law_steps.specs.Did.{Did, Ignores, Refuses, By_read, By_lead, By_second, By_holder, By_other, By_filler, By_sweep}
@@ -28,6 +25,7 @@ use Rattle.law_steps.specs.DidLead.{Opens, Marks, Puts, Gives_up, Unmarks, Close
 use Rattle.law_steps.specs.DidLead.{Opens_fill, Opens_fill_alone, Has_fill, Has_no_room, Goes_on_dead, IsNewFill, IsNextFill}
 use Rattle.law_steps.proofs.CopyFrames.{of_holder, of_other}
 use Rattle.law_steps.proofs.Letters.{one_post, posted}
+use Rattle.law_steps.proofs.Operating.{acts_say, ended_so, ends_say, is_of_operation}
 use Rattle.law_steps.proofs.Restages.{Was, has_put, marked, marked_alone, put_alone, stood, unmarked, unmarked_alone, was_acted, was_same}
 use Rattle.law_steps.proofs.Staged.{put_put, same_cell_or_apart}
 use Rattle.law_steps.proofs.Subjects.{of_ending, of_filler, of_read, of_second, of_sweep}
@@ -60,31 +58,10 @@ pub data SaysFill (here : Here) (own : Own) (done : Done) (post : Post) : Type 0
   Is_other : is_fill post.body ≡ false → SaysFill here own done post
   Is_next : (now : Own) → now.store ≡ own.store → now.filled ≡ done.own.filled → IsNextFill here now post → SaysFill here own done post
 
--- what ends an operation is no such letter
-ended_other : (seq : ℕ) (how : Ending) → is_fill (ended seq how) ≡ false
-ended_other seq Written = refl
-ended_other seq Full = refl
-
-moved_other : (op : Pending) (how : Ending) → is_fill (moved_as op.key how) ≡ false
-moved_other op Written = refl
-moved_other op Full = refl
-
-ends_other : (here : Here) (own : Own) (op : Pending) (of : OpKind) (how : Ending) (post : Post) → In post (ends here own op of how).posts
-    → is_fill post.body ≡ false
-unfolding In
-ends_other here own op kind.Write how post i = ap is_fill (one_post _ _ post i).1 ∙ ended_other op.seq how
-ends_other here own op kind.Fill how post i = ap is_fill (posted (old_lead here.state op.cell) (moved_as op.key how) post i) ∙ moved_other op how
-ends_other here own op kind.Copy how post i = absurd i
-
-acts_other : (here : Here) (own : Own) (op : Pending) (next : Action) (post : Post) → In post (acts here own op next).posts → is_fill post.body ≡ false
-unfolding In
-acts_other here own op action.Reserve post i = ap is_fill (posted _ _ post i)
-acts_other here own op (action.Mark which) post i = absurd i
-acts_other here own op action.Put post i = absurd i
-acts_other here own op action.Replicate post i = ap is_fill (posted _ _ post i)
-acts_other here own op (action.Unmark which) post i = absurd i
-acts_other here own op action.Answer post i = ends_other here (without_pending own op.cell) op op.kind Written post i
-acts_other here own op action.Drop post i = absurd i
+-- what takes an operation on, or ends it, is no such letter
+operation_other : (said : Body) → is_of_operation said ≡ true → is_fill said ≡ false
+operation_other (body.Fill key bytes) e = true_false e refl
+operation_other _ e = refl
 
 asks_fill : (here : Here) (own : Own) (done : Done) → own.filled ≡ done.own.filled → (post : Post) → Asks here own post → SaysFill here own done post
 asks_fill here own done same post (An_entry_to_move _ next) = Is_next own refl same next
@@ -111,16 +88,18 @@ module _ (heard : Body → Type 0) (here : Here) (own : Own) where
   lead_fills : (done : Done) → DidLead heard here own done → (post : Post) → In post done.posts → SaysFill here own done post
   unfolding In
   lead_fills _ (Asks_for posts h) post i = asks_fill here own _ refl post (h post i)
-  lead_fills _ (Repeats want last h lead is e) post i = Is_other (ap is_fill (one_post _ _ post i).1 ∙ ended_other want.seq last.ending)
+  lead_fills _ (Repeats want last h lead is e) post i = Is_other (ap is_fill (one_post _ _ post i).1 ∙ operation_other _ (ended_so want.seq last.ending))
   lead_fills _ (Is_full want new no_room) post i = Is_other (ap is_fill (one_post _ _ post i).1)
-  lead_fills _ (Gives_up op h is reserved put) post i = Is_other (ends_other here (gives_back (without_pending own op.cell)) op op.kind Full post i)
+  lead_fills _ (Gives_up op h is reserved put) post i =
+      Is_other (operation_other post.body (ends_say here (gives_back (without_pending own op.cell)) op op.kind Full post i))
   lead_fills _ (Opens want new both) post i = Is_other (ap is_fill (posted _ _ post i))
-  lead_fills _ (Closes op is both stage) post i = Is_other (ends_other here (without_pending own op.cell) op op.kind Written post i)
-  lead_fills _ (Closes_alone now op taken alone stale put free) post i = Is_other (ends_other here (without_pending now op.cell) op op.kind Written post i)
+  lead_fills _ (Closes op is both stage) post i = Is_other (operation_other post.body (ends_say here (without_pending own op.cell) op op.kind Written post i))
+  lead_fills _ (Closes_alone now op taken alone stale put free) post i =
+      Is_other (operation_other post.body (ends_say here (without_pending now op.cell) op op.kind Written post i))
   lead_fills _ (Opens_fill moving new room both) post i = Is_other (ap is_fill (posted _ _ post i))
   lead_fills _ (Has_fill moving filled) post i = Is_other (ap is_fill (posted _ _ post i))
   lead_fills _ (Has_no_room moving new no_room) post i = Is_other (ap is_fill (posted _ _ post i))
-  lead_fills _ (Goes_on_dead now op taken off) post i = Is_other (acts_other here now op (next_stage here.state here.me op) post i)
+  lead_fills _ (Goes_on_dead now op taken off) post i = Is_other (operation_other post.body (acts_say here now op (next_stage here.state here.me op) post i).0)
   lead_fills _ _ post i = absurd i
 
   pub did_fills : (done : Done) → Did heard here own done → (post : Post) → In post done.posts → SaysFill here own done post

@@ -10,7 +10,7 @@ use Rattle.law_state.specs.Below.{IsBelow}
 use Rattle.law_state.specs.Ages.{age_of}
 use Rattle.law_state.specs.Homes.{epoch_at, era_at, stage_at}
 use Rattle.law_state.proofs.Ages.{no_less}
-use Rattle.law_state.proofs.Grown.{held_on_on, later_itself, later_on, served_on_on}
+use Rattle.law_state.proofs.Grown.{goes_on_itself, goes_on_on}
 
 pub front_itself : (log : List Command) → IsPrefix log log
 front_itself log = record { later = []; is = sym (append-nil log) }
@@ -57,10 +57,7 @@ below_on a b c one two = record {
       | inl last ↦ inl (record {
         now = last.now;
         is = last.is;
-        so = later_on row middle.now last.now middle.so last.so;
-        on = served_on_on a b c one.ages two.ages row middle.now last.now middle.so middle.on last.on;
-        held = held_on_on a b c one.ages two.ages row middle.now last.now middle.held last.held;
-        lost = λ gone. last.lost (middle.lost gone);
+        goes_on = goes_on_on a b c one.ages two.ages row middle.now last.now middle.goes_on last.goes_on;
       })
     ]
   ];
@@ -84,14 +81,7 @@ below_on a b c one two = record {
 
 pub below_itself : (a : State) → IsBelow a a
 below_itself a = record {
-  rows = λ cell row e. inl (record {
-    now = row;
-    is = e;
-    so = later_itself row;
-    on = λ n inc has serving x y. serving;
-    held = λ n whole alone out same. (whole, alone);
-    lost = λ gone. gone;
-  });
+  rows = λ cell row e. inl (record { now = row; is = e; goes_on = goes_on_itself a a row });
   died = λ cell gone. gone;
   ages = λ n. no_less (age_of a n);
   finds = λ name disk e. record { now = disk; is = e; disk_is = refl; map_is = no_less disk.map; onward = no_less disk.epoch };

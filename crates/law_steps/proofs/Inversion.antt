@@ -21,7 +21,6 @@ use Rattle.law_state.specs.Steady.{IsSteady}
 use Rattle.law_steps.specs.Operations.{IsStaged}
 use Rattle.law_steps.specs.Did.{Did, Ignores, Refuses}
 use Rattle.petal_rules.proofs.Tests.{by_test, same_numbers}
-use Rattle.law_steps.proofs.Busy.{not_busy, not_held}
 use Rattle.law_steps.proofs.InvertRead.{did_read}
 use Rattle.law_steps.proofs.InvertLead.{not_false, did_fill, did_next, did_write, did_reserved, did_pair_full, did_replicated}
 use Rattle.law_steps.proofs.InvertFiller.{did_filled, did_fill_full}
@@ -63,8 +62,8 @@ module _ (heard : Body → Type 0) (here : Here) (own : Own) (steady : IsSteady 
   told_rev : (client : ℕ) (o : Option ℕ) → D (wrong_rev own client o)
   told_rev client None = Ignores
   told_rev client (Some seq) = Refuses (actor.Client client) (body.WrongRev seq) (record { refused = refl; other = refl })
-      (λ k g. not_busy (body.WrongRev seq) k g refl)
-      (λ k g. not_held (body.WrongRev seq) k g refl)
+      (λ k g. absurd (let f : body.WrongRev seq ≡ body.BlockBusy k = g in cc))
+      (λ k g. absurd (let f : body.WrongRev seq ≡ body.Held k = g in cc))
 
   other_rev : (letter : Letter) (from : Actor) → D (at_other_rev own letter from)
   other_rev letter (actor.Server n) = Ignores

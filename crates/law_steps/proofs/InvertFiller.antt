@@ -117,21 +117,24 @@ module _ (heard : Body → Type 0) (here : Here) (own : Own) (seated : is_in her
             epoch = same_numbers next.epoch key.epoch same.1;
           }
 
+  -- what is heard of a key is of the old link, where there is one
+  of_old_link : (key : Key) (hears : Option LinkRow → Done) → D (hears None)
+      → ((row : LinkRow) → link_before here.state key ≡ Some row → D (hears (Some row))) → D (hears (link_before here.state key))
+  of_old_link key hears none some = by (link_before here.state key) refl
+    where
+      by : (o : Option LinkRow) → link_before here.state key ≡ o → D (hears o)
+      by None e = none
+      by (Some row) e = some row e
+
   pub did_filled : (key : Key) → heard (body.Filled key) → D (on_filled here own key)
   unfolding on_filled
-  did_filled key h = by (link_before here.state key) refl
-    where
-      by : (o : Option LinkRow) → link_before here.state key ≡ o → D (hears_filled here own key o)
-      by None e = Ignores
-      by (Some row) e = by_test D (is_next (fill_of here.state here.me row own) key) _ _
-          (λ t. By_filler _ (Is_filled key row _ h (next_key key row e t) (row_fills here (filled_to own row key) seated row (linked_in here.state key row e))))
-          (λ t. Ignores)
+  did_filled key h = of_old_link key (hears_filled here own key) Ignores
+      (λ row e. by_test D (is_next (fill_of here.state here.me row own) key) _ _
+      (λ t. By_filler _ (Is_filled key row _ h (next_key key row e t) (row_fills here (filled_to own row key) seated row (linked_in here.state key row e))))
+      (λ t. Ignores))
 
   pub did_fill_full : (key : Key) → heard (body.FillFull key) → D (on_fill_full here own key)
   unfolding on_fill_full
-  did_fill_full key h = by (link_before here.state key) refl
-    where
-      by : (o : Option LinkRow) → link_before here.state key ≡ o → D (hears_fill_full here own key o)
-      by None e = Ignores
-      by (Some row) e = by_test D (is_next (fill_of here.state here.me row own) key) _ _
-          (λ t. By_filler _ (Is_out_of_slots key row h (next_key key row e t))) (λ t. Ignores)
+  did_fill_full key h = of_old_link key (hears_fill_full here own key) Ignores
+      (λ row e. by_test D (is_next (fill_of here.state here.me row own) key) _ _
+      (λ t. By_filler _ (Is_out_of_slots key row h (next_key key row e t))) (λ t. Ignores))

@@ -31,10 +31,10 @@ use Rattle.law_state.proofs.Links.{either_false}
 use Rattle.law_steps.specs.Operations.{IsStaged, AtRest, Waiting, Putting, Copying, Answering, waiting, putting, copying, answering, done_to}
 use Rattle.law_steps.specs.DidLead.{Asks_for, Repeats, Is_full, Opens, Marks, Puts, Gives_up, Unmarks, Closes, Opens_alone, Marks_alone, Puts_alone}
 use Rattle.law_steps.specs.DidLead.{Unmarks_alone, Closes_alone, Opens_fill, Opens_fill_alone, Has_fill, Has_no_room, Goes_on_dead, Asks, A_slot}
-use Rattle.law_steps.specs.DidLead.{A_copy, IsNew, IsNewFill, Taken, As_it_is, As_told}
+use Rattle.law_steps.specs.DidLead.{A_copy, IsNew, IsNewFill, Taken, As_it_is, As_told, IsIdleFill}
 use Rattle.law_steps.specs.Did.{Did, Ignores, Refuses, For_a_write, By_copy_for_a_write, A_write, By_lead}
 use Rattle.petal_rules.proofs.Tests.{by_test, by_bool, both_true, not_true, true_false, same_numbers, only}
-use Rattle.law_steps.proofs.Busy.{not_busy, busy_seq, not_held, held_seq}
+use Rattle.law_steps.proofs.Busy.{busy_not_held, busy_seq, held_not_busy, held_seq}
 use Rattle.law_steps.proofs.Leading.{lead_links, link_alone}
 
 is_waiting : (stage : Stage) → AtRest stage → stage.reserved ≡ false → stage ≡ waiting
@@ -168,16 +168,16 @@ module _ (heard : Body → Type 0) (here : Here) (own : Own) (steady : IsSteady 
       → D (says own (actor.Client want.client) (body.BlockBusy want.seq))
   did_busy want h lead other (Some op) e copy f busy = Refuses (actor.Client want.client) (body.BlockBusy want.seq) (record { refused = refl; other = refl })
       (λ seq g. For_a_write want op h (busy_seq g) lead e (ap (λ o. is_pending_for o want) (sym e) ∙ other))
-      (λ seq g. not_held (body.BlockBusy want.seq) seq g refl)
+      (λ seq g. busy_not_held g)
   did_busy want h lead other None e (Some copy) f busy = Refuses (actor.Client want.client) (body.BlockBusy want.seq) (record { refused = refl; other = refl })
-      (λ seq g. By_copy_for_a_write want copy h (busy_seq g) lead f) (λ seq g. not_held (body.BlockBusy want.seq) seq g refl)
+      (λ seq g. By_copy_for_a_write want copy h (busy_seq g) lead f) (λ seq g. busy_not_held g)
   did_busy want h lead other None e None f busy = true_false busy refl
 
   did_newer : (want : Wanted) → by_write want → is_lead here.state here.me want.cell ≡ true
       → done_to (at nat_cmp own.pairs.finished want.client) ≤ want.seq → (kept busy : Bool) → is_kept_back here.state own want.cell ≡ kept
       → is_under_way own want.cell ≡ busy → is_pending_for (pending_on own want.cell) want ≡ false → D (takes_newer here own want kept busy)
   did_newer want h lead new true busy e f other = Refuses (actor.Client want.client) (body.Held want.seq) (record { refused = refl; other = refl })
-      (λ seq g. not_busy (body.Held want.seq) seq g refl)
+      (λ seq g. held_not_busy g)
       (λ seq g. A_write want h (held_seq g) lead (either_one (is_writes_held (held here.state want.cell)) (has_proposed here.state own want.cell) e))
   did_newer want h lead new false true e f other = did_busy want h lead other (pending_on own want.cell) refl (copying_on own want.cell) refl f
   did_newer want h lead new false false e f other =
@@ -220,6 +220,20 @@ module _ (heard : Body → Type 0) (here : Here) (own : Own) (steady : IsSteady 
   heard_of number op said cell h own same =
       subst (λ k. heard (said k op.cell)) (sym (same_numbers op.op number same)) (subst (λ (c : Cell). heard (said number c)) (sym own) h)
 
+  -- the lead, as the second server told it, goes on
+  goes_on_told : (op : Pending) (stage : Stage) → Taken own (with_pending own (record op { stage = stage })) (record op { stage = stage })
+      → (live here.state op.cell ≡ true → leads_link here.state here.me op.cell ≡ true)
+      → (live here.state op.cell ≡ true → in_both here.state op.cell ≡ true → D (acts here (with_pending own (record op { stage = stage }))
+      (record op { stage = stage }) (next_stage here.state here.me (record op { stage = stage }))))
+      → D (goes_on_with here (with_pending own (record op { stage = stage })) (pending_on (with_pending own (record op { stage = stage })) op.cell))
+  goes_on_told op stage taken leads in_two =
+      let next : Pending = record op { stage = stage } in
+      let now = with_pending own next in
+      subst (λ o. D (goes_on_with here now o)) (sym (cell_same own.pairs.pending op.cell next))
+      (by_bool (live here.state op.cell)
+      (λ on. by_bool (in_both here.state op.cell) (in_two on) (λ apart. did_alone now next taken (leads on) apart))
+      (λ off. By_lead _ (Goes_on_dead now next taken off)))
+
   pub did_reserved : (number : ℕ) (cell : Cell) (o : Option Pending) → heard (body.Reserved number cell) → pending_on own cell ≡ o
       → D (hears_reserved here own number o)
   unfolding goes_on
@@ -229,18 +243,13 @@ module _ (heard : Body → Type 0) (here : Here) (own : Own) (steady : IsSteady 
       let tests = both_true (op.op == number) (not op.stage.reserved) t in
       let is = staged_at cell op e in
       let s = staged op.cell op is in
-      let there : pending_on (with_pending own (with_reserved op)) op.cell ≡ Some (with_reserved op) = cell_same own.pairs.pending op.cell (with_reserved op) in
-      subst (λ o. D (goes_on_with here (with_pending own (with_reserved op)) o)) (sym there)
-      (by_bool (live here.state op.cell)
-      (λ on. by_bool (in_both here.state op.cell)
-      (λ both.
+      goes_on_told op (record op.stage { reserved = true }) (As_told op true op.stage.paired is) s.leads
+      (λ on both.
       let stage = is_waiting op.stage (s.stage on both) (not_true _ tests.1) in
       subst (λ a. D (acts here (with_pending own (with_reserved op)) (with_reserved op) a))
       (sym (both_next (with_reserved op) (with_reserved (record op { stage = waiting })).stage (s.leads on) both
       (ap (λ (x : Stage). (record x { reserved = true })) stage)))
-      (By_lead _ (Marks op (heard_of number op body.Reserved cell h (staged cell op e).own tests.0) is both stage)))
-      (λ apart. did_alone (with_pending own (with_reserved op)) (with_reserved op) (As_told op true op.stage.paired is) (s.leads on) apart))
-      (λ off. By_lead _ (Goes_on_dead (with_pending own (with_reserved op)) (with_reserved op) (As_told op true op.stage.paired is) off))))
+      (By_lead _ (Marks op (heard_of number op body.Reserved cell h (staged cell op e).own tests.0) is both stage))))
       (λ t. Ignores)
 
   pub did_pair_full : (number : ℕ) (cell : Cell) (o : Option Pending) → heard (body.PairFull number cell) → pending_on own cell ≡ o
@@ -264,18 +273,13 @@ module _ (heard : Body → Type 0) (here : Here) (own : Own) (steady : IsSteady 
       let more = both_true (op.op == number) op.stage.put tests.0 in
       let is = staged_at cell op e in
       let s = staged op.cell op is in
-      let there : pending_on (with_pending own (with_paired op)) op.cell ≡ Some (with_paired op) = cell_same own.pairs.pending op.cell (with_paired op) in
-      subst (λ o. D (goes_on_with here (with_pending own (with_paired op)) o)) (sym there)
-      (by_bool (live here.state op.cell)
-      (λ on. by_bool (in_both here.state op.cell)
-      (λ both.
+      goes_on_told op (record op.stage { paired = true }) (As_told op op.stage.reserved true is) s.leads
+      (λ on both.
       let stage = is_copying op.stage (s.stage on both) more.1 (not_true _ tests.1) in
       subst (λ a. D (acts here (with_pending own (with_paired op)) (with_paired op) a))
       (sym (both_next (with_paired op) (with_paired (record op { stage = copying })).stage (s.leads on) both
       (ap (λ (x : Stage). (record x { paired = true })) stage)))
-      (By_lead _ (Unmarks op (heard_of number op body.Replicated cell h (staged cell op e).own more.0) is both stage)))
-      (λ apart. did_alone (with_pending own (with_paired op)) (with_paired op) (As_told op op.stage.reserved true is) (s.leads on) apart))
-      (λ off. By_lead _ (Goes_on_dead (with_pending own (with_paired op)) (with_paired op) (As_told op op.stage.reserved true is) off))))
+      (By_lead _ (Unmarks op (heard_of number op body.Replicated cell h (staged cell op e).own more.0) is both stage))))
       (λ t. Ignores)
 
   -- ### Entries that move
@@ -295,30 +299,32 @@ module _ (heard : Body → Type 0) (here : Here) (own : Own) (steady : IsSteady 
       (λ apart. subst (λ a. D (acts here (with_opened own op) op a)) (sym (alone_next op links apart))
       (By_lead _ (Opens_fill_alone moving new (some_free (free_of own.store) room) (link_alone here.state here.me (cell_of moving.key) links apart)))))
 
+  idle_fill : is_in here.state here.me here.inc ≡ true → (moving : Moving) → heard (body.Fill moving.key moving.bytes)
+      → is_lead here.state here.me (cell_of moving.key) ≡ true → is_under_way own (cell_of moving.key) ≡ false → IsIdleFill heard here own moving
+  idle_fill seated moving h lead e =
+      let idle = either_false (is_some (pending_on own (cell_of moving.key))) (is_some (copying_on own (cell_of moving.key))) e in
+      record {
+        wanted = h;
+        seated = seated;
+        lead = lead;
+        none = is_none (pending_on own (cell_of moving.key)) idle.0;
+        uncopied = is_none (copying_on own (cell_of moving.key)) idle.1;
+      }
+
   did_hears_fill : is_in here.state here.me here.inc ≡ true → (moving : Moving) → heard (body.Fill moving.key moving.bytes)
       → is_lead here.state here.me (cell_of moving.key) ≡ true → (busy has back : Bool)
       → is_under_way own (cell_of moving.key) ≡ busy → has_epoch (chain_in own.store.chains (cell_of moving.key)) moving.key.epoch ≡ has
       → has_proposed here.state own (cell_of moving.key) ≡ back → D (hears_fill here own moving busy has back)
   did_hears_fill seated moving h lead true has back e f g = Ignores
   did_hears_fill seated moving h lead false true back e f g =
-      let idle = either_false (is_some (pending_on own (cell_of moving.key))) (is_some (copying_on own (cell_of moving.key))) e in
       By_lead _ (Has_fill moving (record {
-        wanted = h;
-        seated = seated;
-        lead = lead;
-        none = is_none (pending_on own (cell_of moving.key)) idle.0;
-        uncopied = is_none (copying_on own (cell_of moving.key)) idle.1;
+        idle = idle_fill seated moving h lead e;
         has = f;
       }))
   did_hears_fill seated moving h lead false false true e f g = Ignores
   did_hears_fill seated moving h lead false false false e f g =
-      let idle = either_false (is_some (pending_on own (cell_of moving.key))) (is_some (copying_on own (cell_of moving.key))) e in
       did_opens_fill moving (record {
-        wanted = h;
-        seated = seated;
-        lead = lead;
-        none = is_none (pending_on own (cell_of moving.key)) idle.0;
-        uncopied = is_none (copying_on own (cell_of moving.key)) idle.1;
+        idle = idle_fill seated moving h lead e;
         lacks = is_none (at nat_cmp (chain_in own.store.chains (cell_of moving.key)) moving.key.epoch) f;
         unheld = g;
       }) (nat_lt 0 (free_of own.store)) refl

@@ -17,7 +17,7 @@ use Rattle.petal_rules.specs.Reads.{is_all_held, on_read, reply_of, said}
 use Rattle.law_steps.specs.DidRead.{IsReadable, Not_here, Shows}
 use Rattle.law_steps.specs.Did.{Did, Ignores, Refuses, For_a_read, By_copy_for_a_read, A_read, By_read}
 use Rattle.petal_rules.proofs.Tests.{by_test, none_some, true_false}
-use Rattle.law_steps.proofs.Busy.{not_busy, busy_seq, not_held, held_seq}
+use Rattle.law_steps.proofs.Busy.{busy_not_held, busy_seq, held_not_busy, held_seq}
 
 module _ (heard : Body → Type 0) (here : Here) (own : Own) (seated : is_in here.state here.me here.inc ≡ true) where
   abbrev D : Done → Type 0
@@ -29,10 +29,10 @@ module _ (heard : Body → Type 0) (here : Here) (own : Own) (seated : is_in her
       → D (says own (actor.Client client) (body.BlockBusy seq))
   busy client seq cell epoch h lead (Some op) e copy f t = Refuses (actor.Client client) (body.BlockBusy seq) (record { refused = refl; other = refl })
       (λ k g. For_a_read client cell epoch op (subst (λ i. heard (body.Read client i cell epoch)) (busy_seq g) h) lead e)
-      (λ k g. not_held (body.BlockBusy seq) k g refl)
+      (λ k g. busy_not_held g)
   busy client seq cell epoch h lead None e (Some copy) f t = Refuses (actor.Client client) (body.BlockBusy seq) (record { refused = refl; other = refl })
       (λ k g. By_copy_for_a_read client cell epoch copy (subst (λ i. heard (body.Read client i cell epoch)) (busy_seq g) h) lead f)
-      (λ k g. not_held (body.BlockBusy seq) k g refl)
+      (λ k g. busy_not_held g)
   busy client seq cell epoch h lead None e None f t = true_false t refl
 
   -- the entry is shown where there is one, or else zeros, but not in a region that is on its way
@@ -52,7 +52,7 @@ module _ (heard : Body → Type 0) (here : Here) (own : Own) (seated : is_in her
       → D (says own (actor.Client client) (said seq
       (if all then reply.Held else if lead && some then reply.BlockBusy else reply_of here.state cell (entry_at (chain_in own.store.chains cell) epoch))))
   shown client seq cell epoch h r true lead some all e f = Refuses (actor.Client client) (body.Held seq) (record { refused = refl; other = refl })
-      (λ k g. not_busy (body.Held seq) k g refl)
+      (λ k g. held_not_busy g)
       (λ k g. A_read client cell epoch (subst (λ i. heard (body.Read client i cell epoch)) (held_seq g) h) all)
   shown client seq cell epoch h r false true true all e f = busy client seq cell epoch h e (pending_on own cell) refl (copying_on own cell) refl f
   shown client seq cell epoch h r false true false all e f =

@@ -10,6 +10,7 @@ pub mod InvertHolder
 pub mod InvertOther
 pub mod Inversion
 pub mod Letters
+pub mod Operating
 pub mod Taking
 pub mod CopyFrames
 pub mod Subjects

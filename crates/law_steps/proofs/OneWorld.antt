@@ -266,20 +266,19 @@ chosen_below setting w v firm grows = log_below setting.servers _ _ firm.plain g
 
 -- ### A ballot leaves pairs and copies as they are
 
-link_pairs : (own : Own) (o : Option LinkRow) → (holds_link own o).pairs ≡ own.pairs
-link_pairs own None = refl
-link_pairs own (Some row) = refl
+-- what no ballot changes of a server's own part, whatever it is of it
+pub proposed_as : {X : Type 0} (of : Own → X) → ((own : Own) (row : LinkRow) → of (holds_link own (Some row)) ≡ of own)
+    → (state : State) (own : Own) (o : Option Command) → of (proposed state own o) ≡ of own
+proposed_as of same state own (Some (Caught map link holder inc other other_inc)) = by (link_named state (record { map = map; link = link }))
+  where
+    by : (o : Option LinkRow) → of (holds_link own o) ≡ of own
+    by None = refl
+    by (Some row) = same own row
+proposed_as of same state own (Some _) = refl
+proposed_as of same state own None = refl
 
 pub proposed_pairs : (state : State) (own : Own) (o : Option Command) → (proposed state own o).pairs ≡ own.pairs
-proposed_pairs state own (Some (Caught of link holder inc other other_inc)) = link_pairs own (link_named state (record { map = of; link = link }))
-proposed_pairs state own (Some _) = refl
-proposed_pairs state own None = refl
-
-link_copies : (own : Own) (o : Option LinkRow) → (holds_link own o).copies.pending ≡ own.copies.pending
-link_copies own None = refl
-link_copies own (Some row) = refl
+proposed_pairs state own o = proposed_as (λ (x : Own). x.pairs) (λ own row. refl) state own o
 
 pub proposed_copies : (state : State) (own : Own) (o : Option Command) → (proposed state own o).copies.pending ≡ own.copies.pending
-proposed_copies state own (Some (Caught of link holder inc other other_inc)) = link_copies own (link_named state (record { map = of; link = link }))
-proposed_copies state own (Some _) = refl
-proposed_copies state own None = refl
+proposed_copies state own o = proposed_as (λ (x : Own). x.copies.pending) (λ own row. refl) state own o

@@ -9,7 +9,7 @@ use Rattle.petal_msg.specs.declared.operation.Ending.TheVariants.{Written}
 use Rattle.petal_msg.specs.declared.operation.Pending.{Pending}
 use Rattle.petal_rules.specs.Lists.{In}
 use Rattle.petal_rules.specs.Store.{cell_cmp, chain_in, version_of}
-use Rattle.petal_rules.specs.Server.{Here, Own, Post, Done}
+use Rattle.petal_rules.specs.Server.{Here, Own, Pairs, Post, Done}
 use Rattle.petal_rules.specs.Writes.{acts, gives_back, pending_on, with_pending, without_pending, with_reserved}
 use Rattle.petal_rules.specs.Writes.{with_paired, with_mark_at, marks, puts, unmarks}
 use Rattle.petal_rules.proofs.CellTables.{cell_same, cell_apart, cell_gone, cell_gone_apart}
@@ -86,38 +86,34 @@ module _ (own : Own) (op : Pending) (is : at cell_cmp own.pairs.pending op.cell 
       → (cell : Cell) (o : Pending) → at cell_cmp (put cell_cmp (put cell_cmp own.pairs.pending op.cell one) op.cell now) cell ≡ Some o → Was own cell o
   was_put_twice one now same = was_put (put cell_cmp own.pairs.pending op.cell one) now same (λ q ne. cell_apart own.pairs.pending op.cell one q ne)
 
+  -- of the pairs such a job leaves all else
+  stays_else : (done : Done) (pending : Table Cell Pending) → done.own.pairs ≡ record own.pairs { pending = pending }
+      → ((cell : Cell) (o : Pending) → at cell_cmp pending cell ≡ Some o → Was own cell o) → ((post : Post) → In post done.posts → ⊥) → Restages own done
+  stays_else done pending is was silent = record {
+    was = λ cell o there. was cell o (ap (λ (p : Pairs). at cell_cmp p.pending cell) (sym is) ∙ there);
+    finished = ap (λ (p : Pairs). p.finished) is;
+    last = ap (λ (p : Pairs). p.last) is;
+    next = ap (λ (p : Pairs). p.next) is;
+    silent = silent;
+  }
+
   pub marked : Restages own (marks (with_pending own (with_reserved op)) (with_reserved op) Busy)
   unfolding In
-  marked = record {
-    was = was_put_twice (with_reserved op) (with_mark_at (with_reserved op) Busy true)
-        (record { number = refl; kind = refl; client = refl; seq = refl; rev = refl; key = refl; bytes = refl });
-    finished = refl;
-    last = refl;
-    next = refl;
-    silent = λ post i. i;
-  }
+  marked = stays_else _ _ refl
+      (was_put_twice (with_reserved op) (with_mark_at (with_reserved op) Busy true)
+      (record { number = refl; kind = refl; client = refl; seq = refl; rev = refl; key = refl; bytes = refl })) (λ post i. i)
 
   pub has_put : Restages own (puts own op)
   unfolding In
-  has_put = record {
-    was = was_put own.pairs.pending (record op { version = version_of (chain_in own.store.chains op.cell) + 1; stage = record op.stage { put = true } })
-        (record { number = refl; kind = refl; client = refl; seq = refl; rev = refl; key = refl; bytes = refl }) (λ q ne. refl);
-    finished = refl;
-    last = refl;
-    next = refl;
-    silent = λ post i. i;
-  }
+  has_put = stays_else _ _ refl
+      (was_put own.pairs.pending (record op { version = version_of (chain_in own.store.chains op.cell) + 1; stage = record op.stage { put = true } })
+      (record { number = refl; kind = refl; client = refl; seq = refl; rev = refl; key = refl; bytes = refl }) (λ q ne. refl)) (λ post i. i)
 
   pub unmarked : Restages own (unmarks (with_pending own (with_paired op)) (with_paired op) Busy)
   unfolding In
-  unmarked = record {
-    was = was_put_twice (with_paired op) (with_mark_at (with_paired op) Busy false)
-        (record { number = refl; kind = refl; client = refl; seq = refl; rev = refl; key = refl; bytes = refl });
-    finished = refl;
-    last = refl;
-    next = refl;
-    silent = λ post i. i;
-  }
+  unmarked = stays_else _ _ refl
+      (was_put_twice (with_paired op) (with_mark_at (with_paired op) Busy false)
+      (record { number = refl; kind = refl; client = refl; seq = refl; rev = refl; key = refl; bytes = refl })) (λ post i. i)
 
 -- ### By a holder that is alone, which takes an operation up
 

@@ -64,11 +64,7 @@ resting_same state me own to copies lasts paged r = record {
       let was = copies cell copy is in
       let old = r.copying cell was.0 was.1 in
       record {
-        row = old.row;
-        is = old.is;
-        live = old.live;
-        other = old.other;
-        other_is = old.other_is;
+        may = old.may;
         paged = paged old.row old.paged;
         begun = λ fresh. was.3 fresh ∙ old.begun (was.2 fresh);
       };
@@ -231,7 +227,7 @@ module _ (here : Here) (own : Own) (r : AreResting here.state here.me own) where
   }
     where
       moved : (c : Cell) (other : Copying) → CopyRests here.state here.me own c other → CopyRests here.state here.me (with_copying own cell copy) c other
-      moved c other o = record { row = o.row; is = o.is; live = o.live; other = o.other; other_is = o.other_is; paged = o.paged; begun = o.begun }
+      moved c other o = record { may = o.may; paged = o.paged; begun = o.begun }
 
   copying_gone : (cell : Cell) → AreResting here.state here.me (without_copying own cell)
   copying_gone cell = resting_same here.state here.me own (without_copying own cell)
@@ -261,7 +257,7 @@ module _ (here : Here) (own : Own) (r : AreResting here.state here.me own) where
   last_put : (cell : Cell) (last : LastCopy) (holder : ℕ) → cell_holder here cell ≡ Some holder → AreResting here.state here.me (with_last_copy own cell last)
   last_put cell last holder held = record {
     copying = λ c copy is. let o = r.copying c copy is in
-        record { row = o.row; is = o.is; live = o.live; other = o.other; other_is = o.other_is; paged = o.paged; begun = o.begun };
+        record { may = o.may; paged = o.paged; begun = o.begun };
     lasts = λ c other is. elim (same_cell_or_apart c cell) [
       | inl e ↦ inl (subst (λ (q : Cell). LastRests here.state here.me q) (sym e) (by other (cell_link here.state cell) refl))
       | inr ne ↦ r.lasts c other (sym (cell_apart own.copies.last cell last c ne) ∙ is)
@@ -286,11 +282,11 @@ taken_rests heard here own cell _ copy r (Copy_as_is _ is) = r
 taken_rests heard here own cell _ _ r (Copy_trimmed copy h is fresh) =
     let o = r.copying cell copy is in
     copying_put here own r cell (record copy { trimmed = true })
-    (record { row = o.row; is = o.is; live = o.live; other = o.other; other_is = o.other_is; paged = o.paged; begun = λ f. true_false refl f })
+    (record { may = o.may; paged = o.paged; begun = λ f. true_false refl f })
 taken_rests heard here own cell _ _ r (Copy_synced copy h is trimmed lt) =
     let o = r.copying cell copy is in
     copying_put here own r cell (record copy { index = copy.index + 1 })
-    (record { row = o.row; is = o.is; live = o.live; other = o.other; other_is = o.other_is; paged = o.paged; begun = λ f. true_false trimmed f })
+    (record { may = o.may; paged = o.paged; begun = λ f. true_false trimmed f })
 
 page_rests : (here : Here) (own : Own) (row : LinkRow) (block : Option ℕ) → AreResting here.state here.me own
     → AreResting here.state here.me (with_page own row (progress_on own row) block)
@@ -308,7 +304,7 @@ holder_rests heard here own done r (Begins_copy id row other cell _ held next st
     let numbered : Own = record own { pairs = record own.pairs { next = own.pairs.next + 1 } } in
     step_rests here (begins_copy own cell) cell (first_copy own.pairs.next) done
     (copying_put here numbered (resting_equal here.state here.me own numbered refl r) cell (first_copy own.pairs.next)
-    (record { row = row; is = on.is; live = on.live; other = other; other_is = held.other_is; paged = on.paged; begun = λ f. refl })) step
+    (record { may = record { row = row; is = on.is; live = on.live; other = other; other_is = held.other_is }; paged = on.paged; begun = λ f. refl })) step
 holder_rests heard here own done r (Goes_on_copying cell now copy _ taken step) =
     step_rests here now cell copy done (taken_rests heard here own cell now copy r taken) step
 holder_rests heard here own _ r (Finds_it_full cell copy h is trimmed lt) = full_put here (without_copying own cell) (copying_gone here own r cell) true

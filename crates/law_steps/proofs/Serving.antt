@@ -47,7 +47,8 @@ use Rattle.law_steps.proofs.LogJobs.{LogFrame, letter_frame_of, start_frame_of, 
 use Rattle.law_steps.proofs.Subjects.{no_letters}
 use Rattle.law_steps.proofs.Asking as ticks
 use Rattle.law_steps.proofs.Balloting as ballots
-use Rattle.law_steps.proofs.Idling.{same_letter, no_crossing, no_ticked, logged_apart, leaves_silent, seated_does}
+use Rattle.law_log.proofs.Queues.{stages_only, tick_only}
+use Rattle.law_steps.proofs.Idling.{same_letter, logged_apart, leaves_silent, seated_does}
 
 -- the step makes a stopped server's device blank
 abbrev pub is_blank : Step → Bool
@@ -155,7 +156,8 @@ module _ (it : KnownServer) where
       (sym a.silent)
       (An_entry (applies log).log entry (rest ++ (applies log).jobs ++ stages) a.more a.records
       (queue_more (rest ++ (applies log).jobs) stages
-      (queue_left job.Apply rest (applies log).jobs e (λ letter i. absurd (a.no_letters letter i))) (λ letter i. no_crossing here.state n entry own letter i)))
+      (queue_left job.Apply rest (applies log).jobs e (λ letter i. absurd (a.no_letters letter i)))
+      (λ letter i. stages_only here.state n (Some entry) own letter i)))
 
   job_worked : (what : Job) (rest : List Job) → server.queue ≡ what ∷ rest → IsWorked (job_done here server what rest)
   job_worked (job.Letter letter) rest e = by_test IsWorked (is_log_job (job.Letter letter)) _ _
@@ -234,7 +236,7 @@ module _ (it : KnownServer) where
   queue_started : AreQueued w n (server.queue ++ tick_jobs here server)
   queue_started letter i = elim (in-append (job.Letter letter) server.queue (tick_jobs here server) i) [
     | inl old ↦ rests.queues n letter old
-    | inr new ↦ absurd (no_ticked here server letter new)
+    | inr new ↦ absurd (tick_only here server letter new)
   ]
 
   glances_serve : (line round : ℕ) → S (Glance line round) (glances here line round server)

@@ -92,11 +92,13 @@ crossed_rests servers state plain entry plain_entry grows me own r = record {
       (by_test (λ n. inc_of (after state entry) n ≡ inc_of state n) (o.row.primary == me) o.row.secondary o.row.primary (λ t. so.secondary) (λ t. so.primary))
       other.1 in
       record {
-        row = o.row;
-        is = so.same;
-        live = alive;
-        other = o.other;
-        other_is = ap (λ b. if b then Some (other_of me o.row) else None) (λ i. other.0 i && up i) ∙ ap Some other.2;
+        may = record {
+          row = o.row;
+          is = so.same;
+          live = alive;
+          other = o.other;
+          other_is = ap (λ b. if b then Some (other_of me o.row) else None) (λ i. other.0 i && up i) ∙ ap Some other.2;
+        };
         paged = ap (λ p. (unwrap_or p no_progress).paged) (kept cell o.row o.is off so.same) ∙ o.paged;
         begun = o.begun;
       };

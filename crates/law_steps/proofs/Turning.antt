@@ -30,7 +30,7 @@ use Rattle.petal_rules.specs.State.{State, find, servers_of}
 use Rattle.petal_rules.specs.Server.{Post, post_to}
 use Rattle.petal_rules.specs.Clients.{Client, Asked, Reaction, Learning, rests, posts_for, write_posts, read_posts, read_posts_at, epoch_for, to_propose}
 use Rattle.petal_rules.specs.Clients.{way_now, goes_the_old_way, sends_or_proposes, goes_out, goes_out_where, post_in_turn, asking, asks_and_sends, called}
-use Rattle.petal_rules.specs.Clients.{replies, is_read, is_write, first_round, Sight, with_sight, stays_open, rounds, settles, sees_for, sees, sees_from}
+use Rattle.petal_rules.specs.Clients.{replies, is_read, is_write, Sight, with_sight, stays_open, rounds, settles, sees_for, sees, sees_from}
 use Rattle.petal_rules.specs.Clients.{answers, hears, hears_of, heard, hears_any, command_of, refusal, verdict_for, answered_where, witnessed, is_witness}
 use Rattle.petal_rules.specs.Clients.{judged, judged_by, takes_entry, takes_all, then_goes_out, takes_entries, next_entries, ticked}
 use Rattle.petal_rules.specs.World.{Setting, World, MayClient, client_state, client_step, calls, line_in, next_line}
@@ -38,6 +38,7 @@ use Rattle.petal_rules.specs.declared.step.Step.{Step}
 use Rattle.petal_rules.specs.declared.step.Step.TheVariants.{Call, Deliver, Tick}
 use Rattle.petal_rules.proofs.ListLemmas.{in-append}
 use Rattle.petal_rules.proofs.Tests.{by_bool, by_test, both_true, same_numbers, only}
+use Rattle.law_log.proofs.Clients.{newly_asked}
 use Rattle.law_state.proofs.Steady.{log_rev}
 use Rattle.law_steps.specs.Happens.{Heard}
 use Rattle.law_steps.specs.Turned.{Turned, Says, Of_the_log, A_write, A_read, OnlySays, IsSame, WasSent, As_it_was, Anew, StaysOpen, IsReason}
@@ -258,18 +259,7 @@ module _ (servers : ℕ) (lines : List Line) (w : World) (c : ℕ) where
   called_turns : (line : Line) → next_line lines c client ≡ Some line → client.asked ≡ None → Turning true (called state c client line.number line.request)
   called_turns line is free =
       let before : Client = record client { seq = client.seq + 1 } in
-      let new : Asked = record {
-        line = line.number;
-        seq = client.seq + 1;
-        request = line.request;
-        turn = 0;
-        rev = state.rev;
-        witnesses = 0;
-        told = false;
-        old_way = false;
-        round = first_round line.request;
-        seen = [];
-      } in
+      let new = newly_asked state line (client.seq + 1) in
       let reacted = goes_out state c before new in
       let q = goes_quiet state c before new in
       let still = still_open state.rev new reacted.client.asked q.stays in

@@ -79,24 +79,25 @@ pub record IsNew (heard : Body → Type 0) (here : Here) (own : Own) (want : Wan
   pub unfenced : is_writes_held (held here.state want.cell) ≡ false
   pub unheld : has_proposed here.state own want.cell ≡ false
 
--- an entry that moves is new to the lead, which is In as itself: nothing is under way on its cell, the chain has nothing of its epoch, and the
--- lead wants no Caught of the cell's link
-pub record IsNewFill (heard : Body → Type 0) (here : Here) (own : Own) (moving : Moving) : Type 0 where
+-- the lead, which is In as itself, was asked to take an entry that moves, and nothing is under way on its cell
+pub record IsIdleFill (heard : Body → Type 0) (here : Here) (own : Own) (moving : Moving) : Type 0 where
   pub wanted : heard (body.Fill moving.key moving.bytes)
   pub seated : is_in here.state here.me here.inc ≡ true
   pub lead : is_lead here.state here.me (cell_of moving.key) ≡ true
   pub none : pending_on own (cell_of moving.key) ≡ None
   pub uncopied : copying_on own (cell_of moving.key) ≡ None
+
+-- it is new to the lead: the chain has nothing of its epoch, and the lead wants no Caught of the cell's link
+pub record IsNewFill (heard : Body → Type 0) (here : Here) (own : Own) (moving : Moving) : Type 0 where
+  pub idle : IsIdleFill heard here own moving
+  pub open idle use *
   pub lacks : at nat_cmp (chain_in own.store.chains (cell_of moving.key)) moving.key.epoch ≡ None
   pub unheld : has_proposed here.state own (cell_of moving.key) ≡ false
 
--- an entry that moves is there, at a lead that is In as itself, and nothing is under way on its cell
+-- it is there
 pub record IsFilled (heard : Body → Type 0) (here : Here) (own : Own) (moving : Moving) : Type 0 where
-  pub wanted : heard (body.Fill moving.key moving.bytes)
-  pub seated : is_in here.state here.me here.inc ≡ true
-  pub lead : is_lead here.state here.me (cell_of moving.key) ≡ true
-  pub none : pending_on own (cell_of moving.key) ≡ None
-  pub uncopied : copying_on own (cell_of moving.key) ≡ None
+  pub idle : IsIdleFill heard here own moving
+  pub open idle use *
   pub has : is_some (at nat_cmp (chain_in own.store.chains (cell_of moving.key)) moving.key.epoch) ≡ true
 
 -- the operation, as letters of the second server may have told of it

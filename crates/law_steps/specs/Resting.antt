@@ -10,14 +10,19 @@ use Rattle.petal_rules.specs.Server.{Own}
 use Rattle.petal_rules.specs.State.{State, holder_of, live, other_in}
 use Rattle.law_state.specs.Homes.{stage_at}
 
--- a copy that is under way is of a live cell of a link that the server holds alone, whose other server is In, and whose pages are done; and
--- before the other server has trimmed the cell no entry of it was sent
-pub record CopyRests (state : State) (me : ℕ) (own : Own) (cell : Cell) (copy : Copying) : Type 0 where
+-- the cell is live, and of a link that the server holds alone, whose other server is In
+pub record MayCopy (state : State) (me : ℕ) (cell : Cell) : Type 0 where
   pub row : LinkRow
   pub is : cell_link state cell ≡ Some row
   pub live : live state cell ≡ true
   pub other : ℕ
   pub other_is : other_in state me row ≡ Some other
+
+-- a copy that is under way is of such a cell, and the pages of its link are done; and before the other server has
+-- trimmed the cell no entry of it was sent
+pub record CopyRests (state : State) (me : ℕ) (own : Own) (cell : Cell) (copy : Copying) : Type 0 where
+  pub may : MayCopy state me cell
+  pub open may use *
   pub paged : (progress_on own row).paged ≡ true
   pub begun : copy.trimmed ≡ false → copy.index ≡ 0
 

@@ -13,14 +13,9 @@ ghost use Rattle.global_tables.specs.declared.link.LinkState.TheVariants.{Both, 
 ghost use Rattle.petal_command.specs.declared.command.Command.{Command};
 ghost use Rattle.petal_state.specs.CellState.{cell_link};
 ghost use Rattle.petal_state.specs.Command.{state_after};
-ghost use Rattle.script_lines.specs.declared.script.Script.{Script};
 ghost use Rattle.petal_rules.specs.State.{State, is_in};
 ghost use Rattle.petal_rules.specs.Progress.{has_proposed};
-ghost use Rattle.petal_rules.specs.World.{chosen_log, chosen_state, server_state, setting_of, start};
-ghost use Rattle.petal_history.specs.Claims.{IsPrefix};
-ghost use Rattle.petal_history.specs.Legal.{IsLegal, world_after};
-ghost use Rattle.petal_history.specs.Sound.{IsSound};
-ghost use Rattle.petal_history.specs.declared.record.Record.{Record};
+ghost use Rattle.law_state.specs.Histories.{IsLegal, IsPrefix, IsSound, Record, Script, chosen_log, chosen_state, server_state, setting_of, start, world_after};
 ghost use Rattle.law_state.specs.Below.{IsBelow};
 ghost use Rattle.law_state.specs.Homes.{stage_at};
 ghost use Rattle.law_state.specs.Steady.{IsSteady};

@@ -4,7 +4,6 @@ use Rattle.busy_marks.specs.Marks.{above}
 use Rattle.global_tables.specs.declared.link.LinkRow.{LinkRow}
 use Rattle.petal_base.specs.declared.cell.Cell.{Cell}
 use Rattle.petal_command.specs.declared.command.Command.{Command}
-use Rattle.petal_command.specs.declared.command.Command.TheVariants.{Caught}
 use Rattle.petal_msg.specs.declared.body.Body.{Body}
 use Rattle.petal_msg.specs.declared.copying.Copying.{Copying}
 use Rattle.petal_msg.specs.declared.copying.LastCopy.{LastCopy}
@@ -22,9 +21,9 @@ use Rattle.petal_msg.specs.declared.operation.Pending.{Pending}
 use Rattle.std.specs.Prelude.{ℕ, Bool, Option, Some, None}
 use Rattle.petal_rules.specs.Copies.{with_copied, with_page}
 use Rattle.petal_rules.specs.Progress.{progress_on, with_progress}
-use Rattle.petal_rules.specs.Returns.{holds_link, proposed}
+use Rattle.petal_rules.specs.Returns.{proposed}
 use Rattle.petal_rules.specs.Server.{Own, Here, Done}
-use Rattle.petal_rules.specs.State.{State, link_named}
+use Rattle.petal_rules.specs.State.{State}
 use Rattle.petal_rules.specs.Sweeping.{without_dead}
 use Rattle.petal_rules.specs.Writes.{acts, ends, gives_back, gives_up, next_stage, tells, without_pending}
 use Rattle.petal_rules.proofs.Tests.{by_test}
@@ -39,6 +38,7 @@ use Rattle.law_steps.specs.DidOther.{Goes_on_trimming}
 use Rattle.law_steps.specs.DidRead.{DidRead, Shows, Not_here}
 use Rattle.law_steps.specs.DidSweep.{DidSweep, Sweeps}
 use Rattle.law_steps.specs.DidSecond.{DidSecond, Promises}
+use Rattle.law_steps.proofs.OneWorld.{proposed_as}
 
 -- whether the own part's store waits to be filled
 abbrev pub waits : Own → Bool
@@ -146,11 +146,5 @@ module _ (heard : Body → Type 0) (here : Here) (own : Own) where
   did_waits _ (By_filler done d) = filler_waits done d
   did_waits _ (By_sweep done d) = sweep_waits done d
 
-link_store : (own : Own) (o : Option LinkRow) → (holds_link own o).store ≡ own.store
-link_store own None = refl
-link_store own (Some row) = refl
-
 pub ballot_store : (state : State) (own : Own) (o : Option Command) → (proposed state own o).store ≡ own.store
-ballot_store state own (Some (Caught of link holder holder_inc other other_inc)) = link_store own (link_named state (record { map = of; link = link }))
-ballot_store state own (Some _) = refl
-ballot_store state own None = refl
+ballot_store state own o = proposed_as (λ (x : Own). x.store) (λ own row. refl) state own o

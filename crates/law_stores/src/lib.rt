@@ -6,16 +6,12 @@
 #![tactic(auto)]
 
 ghost use Rattle.std.specs.Prelude.{◌≡◌, ◌≢◌, ◌++◌, ℕ, List, [], ◌∷◌, Some, true, false};
-ghost use Rattle.script_lines.specs.declared.script.Script.{Script};
 ghost use Rattle.petal_command.specs.declared.command.Command.{Command};
 ghost use Rattle.petal_state.specs.Command.{state_after};
 ghost use Rattle.petal_rules.specs.Blanked.{BeforeBlank};
 ghost use Rattle.petal_rules.specs.State.{is_in};
-ghost use Rattle.petal_rules.specs.World.{blank_joins_in, chosen_log, server_state, setting_of, start};
-ghost use Rattle.petal_history.specs.Claims.{IsPrefix};
-ghost use Rattle.petal_history.specs.Legal.{IsLegal, world_after};
-ghost use Rattle.petal_history.specs.Sound.{IsSound};
-ghost use Rattle.petal_history.specs.declared.record.Record.{Record};
+ghost use Rattle.petal_rules.specs.World.{blank_joins_in};
+ghost use Rattle.law_state.specs.Histories.{IsLegal, IsPrefix, IsSound, Record, Script, chosen_log, server_state, setting_of, start, world_after};
 ghost use Rattle.law_stores.specs.Waiting.{AreEmpty, IsEmpty, IsOwn};
 
 /// A store that waits to be filled has neither entries nor marks.

@@ -22,7 +22,7 @@ use Rattle.pair_side.specs.declared.done.Done.{Done}
 use Rattle.pair_side.specs.Side.{Side, HasTicketsAt, needs_own, own_of}
 use Rattle.pair_side.specs.Done.{IsSaid}
 use Rattle.pair_side.proofs.Tickets as tickets
-use Rattle.lead_write.proofs.Ends.{ends_pending, ends_with, own_with}
+use Rattle.lead_stages.proofs.Ending.{ends_pending, ends_with, own_with}
 
 pub reserving : (op : Pending) (number : ℕ) → op.op ≡ number → op.stage.reserved ≡ false → is_reserving op number ≡ true
 reserving op number same waits = grind (arith, nat_tests, same, waits)

@@ -1,5 +1,3 @@
-pub mod Ends
-pub mod Moves
 pub mod Opens
 pub mod Leads
 pub mod Begun

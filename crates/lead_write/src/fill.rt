@@ -9,8 +9,8 @@ ghost use Rattle.pair_side.specs.Done.{HasVersions, IsDone};
 ghost use Rattle.lead_write.specs.Wanted.{moving};
 
 use crate::open::opens;
-use crate::stage::first_stage;
 use kept_chains::has_entry;
+use lead_stages::first_stage;
 use pair_lock::{OpKind, Pending};
 use pair_side::{Done, Here, Side, WorkError, says_to, silent};
 use petal_base::{Key, NoMemory, Op, SharedBlock};

@@ -9,8 +9,7 @@ ghost use Rattle.pair_side.specs.declared.error.WorkError.TheVariants as error;
 ghost use Rattle.pair_side.specs.Side.{own_of, HasTicketsAt};
 ghost use Rattle.pair_side.specs.Done.{HasVersions, IsDone, IsSaid};
 
-use crate::acts::acts;
-use crate::end::ends;
+use lead_stages::{acts, ends};
 use pair_side::{Done, Here, Side, WorkError, give_back, silent};
 use petal_base::{Cell, Op};
 use petal_disk::Disk;

@@ -11,8 +11,7 @@ ghost use Rattle.pair_side.specs.Done.{HasVersions, IsDone};
 ghost use Rattle.pair_side.specs.Slots.{IsOutAt};
 ghost use Rattle.lead_write.specs.Opened.{IsOpened, begun};
 
-use crate::acts::goes_on;
-use crate::end::ends;
+use lead_stages::{ends, goes_on};
 use pair_lock::PairLock;
 use pair_side::{Done, Here, Side, WorkError, give_back, keep};
 use petal_base::{Cell, NoMemory, Op};

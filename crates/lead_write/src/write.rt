@@ -12,8 +12,8 @@ ghost use Rattle.pair_side.specs.Done.{HasVersions, IsDone};
 ghost use Rattle.lead_write.specs.Wanted.{wanted};
 
 use crate::open::opens;
-use crate::stage::first_stage;
 use global_state::Hold;
+use lead_stages::first_stage;
 use pair_lock::{OpKind, Pending, is_clients};
 use pair_side::{Done, Here, Side, WorkError, ended, says, silent};
 use petal_base::{Cell, ClientId, Epoch, Key, NoMemory, Op, Seq, SharedBlock};

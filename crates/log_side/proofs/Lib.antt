@@ -1,7 +1,3 @@
-pub mod States
-pub mod Letters
 pub mod FollowUps
-pub mod Runs
 pub mod Said
 pub mod Starts
-pub mod Wanted

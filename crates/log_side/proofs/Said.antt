@@ -13,9 +13,10 @@ use Rattle.state_store.specs.Errors.{IsCommitError}
 use Rattle.state_store.specs.Device.{Keeping, StandsForEither}
 use Rattle.state_store.specs.declared.error.StateError.{StateError}
 use Rattle.state_store.specs.declared.error.StateError.TheVariants.{Failed, JournalFull, NoMemory}
-use Rattle.log_side.specs.declared.done.LogDone.{LogDone}
-use Rattle.log_side.specs.Part.{Part}
-use Rattle.log_side.specs.Done.{HoldsAt, IsLogSaid, IsLogDone}
+use Rattle.log_memory.specs.declared.done.LogDone.{LogDone}
+use Rattle.log_memory.specs.Part.{Part}
+use Rattle.log_memory.specs.Said.{IsLogSaid}
+use Rattle.log_side.specs.Done.{HoldsAt, IsLogDone}
 
 -- a commit was refused for what the job was refused for
 refusal_is : {T : Type 0} (answer : Result LogDone StateError) (refusal : Result T StateError) (e f : StateError)

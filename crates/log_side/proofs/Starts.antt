@@ -10,7 +10,7 @@ use Rattle.petal_paxos.specs.declared.record.StateRecord.{StateRecord}
 use Rattle.petal_paxos.specs.declared.record.StateRecord.TheVariants as kind
 use Rattle.petal_rules.specs.Ballots.{round_of, starts_for, to_all}
 use Rattle.petal_rules.specs.Server.{Sender, letters_of}
-use Rattle.log_side.specs.Part.{Part, log_of}
+use Rattle.log_memory.specs.Part.{Part, log_of}
 
 -- the place and the round of the ballot
 pub record IsNext (part : Part) (records : List StateRecord) (place round : ℕ) : Type 0 where

@@ -1,204 +1,71 @@
-//! Entries of the log: they are learnt, applied, and told to those who ask.
+//! Entries of the log: they are learnt, and told to those who ask.
 
-ghost use Rattle.std.specs.Prelude.{◌≡◌, ◌<◌, ◌+◌, ◌-◌, ◌++◌, ◌∷◌, ◌==◌, ◌&&◌, [], is_none, None, if◌then◌else◌, option_map, IfOk, IfSome, OnOk, OnErr};
+ghost use Rattle.std.specs.Prelude.{◌≡◌, ◌==◌, ◌&&◌, is_none, None, IfOk};
 ghost use Rattle.petal_paxos.specs.Kept.{known_at};
 ghost use Rattle.petal_rules.specs.Entries as rules;
-ghost use Rattle.petal_rules.specs.Log.{Log, known, next_place};
-ghost use Rattle.petal_state.specs.Command.{after};
-ghost use Rattle.log_side.specs.Done.{IsBy, IsLogDone, IsLogSaid};
-ghost use Rattle.log_side.specs.Entered.{IsNext, entry_of};
-ghost use Rattle.log_side.specs.Part.{log_of, sender_of, state_of};
+ghost use Rattle.petal_rules.specs.Log.{next_place};
+ghost use Rattle.log_memory.specs.Part.{log_of};
+ghost use Rattle.log_memory.specs.Said.{IsLogSaid};
+ghost use Rattle.log_side.specs.Done.{IsLogDone};
 
-use crate::done::{LogDone, only};
-use crate::envelope::room_for;
-use crate::side::LogSide;
-use crate::wants::but;
-use global_state::GlobalState;
+use log_memory::{LogDone, LogSide, known_run, only, room_for};
 use petal_base::{NoMemory, Rev, Sequence};
 use petal_command::Command;
 use petal_disk::Disk;
 use petal_msg::{Actor, Body};
-use petal_paxos::Phase;
 use state_store::{StateError, StateStore};
 use std::alloc::Global;
 
 /// The most entries that one letter tells.
 const MOST: u32 = 64;
 
-/// The next entry, and the state with it.
-#[derive(Drop)]
-pub struct Next {
-    pub entry: Command,
-    pub state: GlobalState,
-}
-
-/// An entry that was applied, and the state before it.
-#[derive(Drop)]
-pub struct Entered {
-    pub entry: Command,
-    pub before: GlobalState,
-}
-
-/// The state with one entry more.
-fn state_with(alloc: Global, state: &GlobalState, entry: &Command) -> Result<GlobalState, NoMemory>
-    ensures { IfOk result (λ next. next ≡ after state.now entry.now) }
-{
-    if state.rev() == Rev::MAX {
-        return Err(NoMemory);
-    }
-    state.next(alloc, entry)
-}
-
-/// One entry more: the state with it, and it among those applied. Gives the state before.
-fn enter(
-    state: &mut GlobalState,
-    applied: &mut Sequence<Command>,
-    entry: &Command,
-    next: GlobalState,
-) -> Result<GlobalState, NoMemory>
-    ensures before { IfOk result (λ before. before ≡ state.old) }
-    ensures state { OnOk result (state.new ≡ next) }
-    ensures applied { OnOk result (applied.new ≡ applied.old ++ entry.now ∷ []) }
-    ensures err { OnErr result ((state.new ≡ state.old) × (applied.new ≡ applied.old)) }
-{
-    applied.push(entry.again())?;
-    Ok(std::mem::replace(state, next))
-}
-
-/// The commands known for this place and those after it, up to the first that is not known, and so many at most.
-pub(crate) fn known_run<D: Disk>(
+/// The command is chosen for the place.
+#[tactic(auto, unfolding(petal_rules::specs::Entries::learns))]
+pub(crate) fn learn<D: Disk>(
     alloc: Global,
-    state: &StateStore<D>,
-    from: u32,
-    most: u32,
-) -> Result<Sequence<Command>, NoMemory>
-    ensures { (log : Log) → log.records ≡ state.now.records → IfOk result (λ run. run ≡ rules.known_run log from most) }
+    log: &LogSide,
+    state: &mut StateStore<D>,
+    place: u32,
+    command: &Command,
+) -> Result<LogDone, StateError>
+    ensures alone { IfOk result (λ done. done.again ≡ None) }
+    ensures done { IsLogDone D.Disk log.now log.now state.old state.new result (rules.learns (log_of log.now state.old.records) place command.now) }
 {
-    let mut run = Sequence::new(alloc);
-    let mut place = from;
-    for _told in 0..most {
-        let Some(command) = state.chosen(place) else {
-            return Ok(run);
-        };
-        run.push(command)?;
-        place = place.checked_add(1).ok_or(NoMemory)?;
+    let apply = is_next(log, state, place);
+    match state.choose(place, command) {
+        Ok(()) => Ok(LogDone {
+            letters: Sequence::new(alloc),
+            apply,
+            again: None,
+        }),
+        Err(error) => Err(error),
     }
-    Ok(run)
 }
 
-impl LogSide {
-    /// The command is chosen for the place.
-    #[tactic(auto, unfolding(petal_rules::specs::Entries::learns))]
-    pub(crate) fn learn<D: Disk>(
-        &self,
-        alloc: Global,
-        state: &mut StateStore<D>,
-        place: u32,
-        command: &Command,
-    ) -> Result<LogDone, StateError>
-        ensures alone { IfOk result (λ done. done.again ≡ None) }
-        ensures done { IsLogDone D.Disk self.now self.now state.old state.new result (rules.learns (log_of self.now state.old.records) place command.now) }
-    {
-        let apply = self.is_next(state, place);
-        match state.choose(place, command) {
-            Ok(()) => Ok(LogDone {
-                letters: Sequence::new(alloc),
-                apply,
-                again: None,
-            }),
-            Err(error) => Err(error),
-        }
-    }
+/// Whether the place is the next one, and not known.
+fn is_next<D: Disk>(log: &LogSide, state: &StateStore<D>, place: u32) -> bool
+    ensures { result ≡ (is_none (known_at state.now.records place) && (place == next_place (log_of log.now state.now.records))) }
+{
+    state.chosen(place).is_none() && u64::from(place) == u64::from(log.rev()) + 1
+}
 
-    /// Whether the place is the next one, and not known.
-    fn is_next<D: Disk>(&self, state: &StateStore<D>, place: u32) -> bool
-        ensures { result ≡ (is_none (known_at state.now.records place) && (place == next_place (log_of self.now state.now.records))) }
-    {
-        state.chosen(place).is_none() && u64::from(place) == u64::from(self.rev()) + 1
-    }
-
-    /// The next entry, where it is known, with the state that it makes.
-    ///
-    /// # Errors
-    /// Out of memory, or where its place has no number.
-    pub fn next_entry<D: Disk>(
-        &self,
-        alloc: Global,
-        state: &StateStore<D>,
-    ) -> Result<Option<Next>, NoMemory>
-        ensures { IfOk result (IsNext self.now state.now.records) }
-    {
-        match state.chosen(self.next_place()?) {
-            Some(entry) => {
-                let state = state_with(alloc, &self.state, &entry)?;
-                Ok(Some(Next { entry, state }))
-            }
-            None => Ok(None),
-        }
-    }
-
-    /// The next entry is applied, as `next_entry` told it. Gives it too, with the state before it.
-    ///
-    /// # Errors
-    /// Out of memory. Nothing changed.
-    #[tactic(auto, using(crate::proofs::FollowUps::later_jobs), unfolding(petal_rules::specs::Entries::applies))]
-    pub fn apply<D: Disk>(
-        &mut self,
-        alloc: Global,
-        state: &StateStore<D>,
-        found: Option<Next>,
-    ) -> Result<(LogDone, Option<Entered>), NoMemory>
-        requires next { IsNext self.old state.now.records found }
-        ensures done { IfOk result (λ out. IsBy (sender_of self.old) (log_of self.new state.now.records) out.0
-            (rules.applies (log_of self.old state.now.records))) }
-        ensures voter { self.new.voter ≡ self.old.voter }
-        ensures entry { IfOk result (λ out. option_map entry_of out.1
-            ≡ known (log_of self.old state.now.records) (next_place (log_of self.old state.now.records))) }
-        ensures before { IfOk result (λ out. IfSome out.1 (λ entered. entered.before ≡ state_of self.old)) }
-        ensures err { OnErr result (self.new ≡ self.old) }
-    {
-        let place = self.next_place()?;
-        let Some(
-            Next {
-                entry,
-                state: with_it,
-            },
-        ) = found
-        else {
-            return Ok((only(Sequence::new(alloc)), None));
-        };
-        let next = place.checked_add(1).ok_or(NoMemory)?;
-        let before = enter(&mut self.state, &mut self.applied, &entry, with_it)?;
-        self.proposer.phase = Phase::Idle;
-        self.refused = 0;
-        let wants = std::mem::replace(&mut self.wants, Sequence::new(alloc));
-        self.wants = but(&entry, wants);
-        let done = LogDone {
-            letters: Sequence::new(alloc),
-            apply: state.chosen(next).is_some(),
-            again: None,
-        };
-        Ok((done, Some(Entered { entry, before })))
-    }
-
-    /// What follows the revision asked is told, perhaps nothing.
-    #[tactic(auto, unfolding(petal_rules::specs::Entries::on_ask))]
-    pub(crate) fn on_ask<D: Disk>(
-        &self,
-        alloc: Global,
-        state: &StateStore<D>,
-        from: Actor,
-        rev: Rev,
-    ) -> Result<LogDone, StateError>
-        ensures { IsLogSaid self.now self.now state.now.records result (rules.on_ask (log_of self.now state.now.records) from rev) }
-    {
-        let first = rev.checked_add(1).ok_or(NoMemory)?;
-        let commands = known_run(alloc, state, first, MOST)?;
-        let room = room_for(alloc, 1)?;
-        let news = Body::News {
-            after: rev,
-            commands,
-        };
-        Ok(only(self.envelope().one(room, from, news)))
-    }
+/// What follows the revision asked is told, perhaps nothing.
+#[tactic(auto, unfolding(petal_rules::specs::Entries::on_ask))]
+pub(crate) fn on_ask<D: Disk>(
+    alloc: Global,
+    log: &LogSide,
+    state: &StateStore<D>,
+    from: Actor,
+    rev: Rev,
+) -> Result<LogDone, StateError>
+    ensures { IsLogSaid log.now log.now state.now.records result (rules.on_ask (log_of log.now state.now.records) from rev) }
+{
+    let first = rev.checked_add(1).ok_or(NoMemory)?;
+    let commands = known_run(alloc, state, first, MOST)?;
+    let room = room_for(alloc, 1)?;
+    let news = Body::News {
+        after: rev,
+        commands,
+    };
+    Ok(only(log.envelope().one(room, from, news)))
 }

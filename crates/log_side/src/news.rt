@@ -4,11 +4,12 @@ ghost use Rattle.std.specs.Prelude.{◌≡◌, IfOk};
 ghost use Rattle.petal_rules.specs.Entries as rules;
 ghost use Rattle.petal_rules.specs.Log.{Log};
 ghost use Rattle.petal_rules.specs.declared.job.Job.TheVariants as job;
+ghost use Rattle.log_memory.specs.Part.{log_of};
 ghost use Rattle.log_side.specs.Done.{IsLogDone};
-ghost use Rattle.log_side.specs.Part.{log_of};
 
-use crate::done::LogDone;
-use crate::side::LogSide;
+use crate::entries::learn;
+use crate::jobs::quiet;
+use log_memory::{LogDone, LogSide};
 use petal_base::{NoMemory, Rev, Sequence};
 use petal_command::Command;
 use petal_disk::Disk;
@@ -36,47 +37,45 @@ fn unknown_from<D: Disk>(
     Ok(unknown)
 }
 
-impl LogSide {
-    /// The command is chosen for the place, and the letter that tells it follows up.
-    fn learn_one<D: Disk>(
-        &self,
-        alloc: Global,
-        state: &mut StateStore<D>,
-        letter: &SharedLetter,
-        place: u32,
-        command: &Command,
-    ) -> Result<LogDone, StateError>
-        ensures { IsLogDone D.Disk self.now self.now state.old state.new result
-            (rules.followed_by (rules.learns (log_of self.now state.old.records) place command.now) (job.Letter letter.now)) }
-    {
-        let letter = letter.share()?;
-        let done = self.learn(alloc, state, place, command)?;
-        Ok(LogDone {
-            letters: done.letters,
-            apply: done.apply,
-            again: Some(letter),
-        })
-    }
+/// The command is chosen for the place, and the letter that tells it follows up.
+fn learn_one<D: Disk>(
+    alloc: Global,
+    log: &LogSide,
+    state: &mut StateStore<D>,
+    letter: &SharedLetter,
+    place: u32,
+    command: &Command,
+) -> Result<LogDone, StateError>
+    ensures { IsLogDone D.Disk log.now log.now state.old state.new result
+        (rules.followed_by (rules.learns (log_of log.now state.old.records) place command.now) (job.Letter letter.now)) }
+{
+    let letter = letter.share()?;
+    let done = learn(alloc, log, state, place, command)?;
+    Ok(LogDone {
+        letters: done.letters,
+        apply: done.apply,
+        again: Some(letter),
+    })
+}
 
-    /// The first of the commands that is not known is learnt, and the letter follows up while one is left.
-    #[tactic(auto, unfolding(petal_rules::specs::Entries::on_news))]
-    pub(crate) fn on_news<D: Disk>(
-        &self,
-        alloc: Global,
-        state: &mut StateStore<D>,
-        letter: &SharedLetter,
-        after: Rev,
-        commands: &[Command],
-    ) -> Result<LogDone, StateError>
-        ensures { IsLogDone D.Disk self.now self.now state.old state.new result
-            (rules.on_news (log_of self.now state.old.records) letter.now after commands.now) }
-    {
-        let first = after.checked_add(1).ok_or(NoMemory)?;
-        let unknown = unknown_from(alloc, state, first, commands)?;
-        match unknown.as_slice() {
-            [] => self.quiet(alloc, state),
-            [(place, command)] => self.learn(alloc, state, *place, command),
-            [(place, command), ..] => { self.learn_one(alloc, state, letter, *place, command) },
-        }
+/// The first of the commands that is not known is learnt, and the letter follows up while one is left.
+#[tactic(auto, unfolding(petal_rules::specs::Entries::on_news))]
+pub(crate) fn on_news<D: Disk>(
+    alloc: Global,
+    log: &LogSide,
+    state: &mut StateStore<D>,
+    letter: &SharedLetter,
+    after: Rev,
+    commands: &[Command],
+) -> Result<LogDone, StateError>
+    ensures { IsLogDone D.Disk log.now log.now state.old state.new result
+        (rules.on_news (log_of log.now state.old.records) letter.now after commands.now) }
+{
+    let first = after.checked_add(1).ok_or(NoMemory)?;
+    let unknown = unknown_from(alloc, state, first, commands)?;
+    match unknown.as_slice() {
+        [] => quiet(alloc, log, state),
+        [(place, command)] => learn(alloc, log, state, *place, command),
+        [(place, command), ..] => { learn_one(alloc, log, state, letter, *place, command) },
     }
 }

@@ -1,9 +1,4 @@
 pub mod Ends
 pub mod Casting
 pub mod Ticking
-pub mod Seen
-pub mod Recovering
-pub mod Faults
-pub mod Booting
-pub mod Working
 pub mod Keeping

@@ -1,5 +1,1 @@
 pub mod Members
-pub mod Server
-pub mod Ends
-pub mod Recovery
-pub mod Booted

@@ -4,12 +4,9 @@
 //! knows nothing of how letters travel.
 #![tactic(auto)]
 
-mod boot;
 mod cast;
-mod recovery;
 mod server;
 mod taken;
-mod work;
 
 pub use cast::members;
 pub use server::MemServer;

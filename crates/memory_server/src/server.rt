@@ -8,16 +8,15 @@ ghost use Rattle.petal_rules.specs.declared.step.Step.TheVariants.{Blank, Boot, 
 ghost use Rattle.world_desks.specs.Desks.{IsFault, acted_at, as_end, boot_end, end_in, ended, job_ended, may_take};
 ghost use Rattle.world_desks.specs.declared.step_end.StepEnd.TheVariants.{Done};
 ghost use Rattle.server_store.specs.Slots.{slot_start};
-ghost use Rattle.memory_server.specs.Server.{HasFailed, left_at, site_of, whole_after, whole_of};
+ghost use Rattle.server_recovery.specs.Server.{HasFailed, left_at, site_of, whole_after, whole_of};
 
-use crate::boot::{boot_again, boot_blank};
-use crate::taken::{Attempt, Stops, done};
-use crate::work::work_first;
+use crate::taken::{Stops, done};
 use petal_base::{Inc, NoMemory, Rev, Sequence, ServerId};
 use petal_disk::{Disk, MemDisk, Plan, Planned, Which};
 use petal_msg::Letter;
 use petal_rules::Step;
 use server_core::{ReadError, ServerCore};
+use server_recovery::{Attempt, boot_again, boot_blank, work_first};
 use server_store::{DATA_START, SLOT_BYTES, Store};
 use state_store::{DEVICE_BYTES, StateStore};
 use std::alloc::Global;
@@ -42,7 +41,7 @@ pub struct MemServer {
 impl Model for MemServer {
     ghost use Rattle.petal_disk.specs.declared.memory_disk.MemDisk.{MemDisk};
     ghost use Rattle.petal_disk.specs.declared.planned.Planned.{Planned};
-    ghost use Rattle.memory_server.specs.Server.{IsKept, Mounted, store_at};
+    ghost use Rattle.server_recovery.specs.Server.{IsKept, Mounted, store_at};
 
     ghost Value = { Mounted (Planned MemDisk) };
 
@@ -309,7 +308,7 @@ impl MemServer {
 impl Host for MemServer {
     ghost use Rattle.petal_disk.specs.declared.memory_disk.MemDisk.{MemDisk};
     ghost use Rattle.petal_disk.specs.declared.planned.Planned.{Planned};
-    ghost use Rattle.memory_server.specs.Server.{faults_of, site_of};
+    ghost use Rattle.server_recovery.specs.Server.{faults_of, site_of};
 
     ghost seen = { site_of };
 

@@ -17,8 +17,8 @@ use Rattle.global_tables.specs.declared.disk.Snapshot.{Snapshot}
 use Rattle.petal_machine.specs.Machine.{Plain, blank, content, disk_of}
 use Rattle.petal_machine.specs.Run.{replay}
 use Rattle.petal_machine.specs.declared.event.Event.{Event}
-use Rattle.petal_machine.specs.declared.state.Disk.{Disk}
-use Rattle.petal_machine.specs.declared.state.Snapshot as machine
+use Rattle.petal_machine.specs.declared.state.PlainDisk.{PlainDisk}
+use Rattle.petal_machine.specs.declared.state.PlainSnapshot.{PlainSnapshot}
 use Rattle.petal_msg.specs.declared.body.Body.TheVariants as body
 use Rattle.petal_msg.specs.declared.letter.Letter.{Letter}
 use Rattle.petal_msg.specs.declared.operation.Finished.{Finished}
@@ -138,7 +138,7 @@ machine_after None = blank
 machine_after (Some events) = replay blank events
 
 -- the machine's snapshots are these, in their order, each with the contents at its epoch, where a block has one
-abbrev pub AreSnapshots : List machine.Snapshot → List Snapshot → (has : (epoch block : ℕ) → Bool) → (contents : (epoch block : ℕ) → List ℕ) → Type 0
+abbrev pub AreSnapshots : List PlainSnapshot → List Snapshot → (has : (epoch block : ℕ) → Bool) → (contents : (epoch block : ℕ) → List ℕ) → Type 0
 AreSnapshots [] [] has contents = Unit {0}
 AreSnapshots (taken ∷ later) (snap ∷ snaps) has contents =
     (taken.name ≡ snap.name) × ((block : ℕ) → has snap.epoch block ≡ true → content taken.blocks block ≡ contents snap.epoch block)
@@ -146,14 +146,14 @@ AreSnapshots (taken ∷ later) (snap ∷ snaps) has contents =
 AreSnapshots _ _ has contents = ⊥
 
 -- the machine has the disk, with these contents at its epoch and at that of each of its snapshots, where a block has one
-pub record Holds (disks : List Disk) (row : DiskRow) (has : (epoch block : ℕ) → Bool) (contents : (epoch block : ℕ) → List ℕ) : Type 0 where
-  pub disk : Disk
+pub record Holds (disks : List PlainDisk) (row : DiskRow) (has : (epoch block : ℕ) → Bool) (contents : (epoch block : ℕ) → List ℕ) : Type 0 where
+  pub disk : PlainDisk
   pub is : disk_of disks row.name ≡ Some disk
   pub same : (block : ℕ) → has row.epoch block ≡ true → content disk.now block ≡ contents row.epoch block
   pub snapshots : AreSnapshots disk.snaps row.snaps has contents
 
 -- the machine has the disks of the chosen state, each with its contents but for links that are Lost, and no other
-pub record AreHeld (setting : Setting) (w : World) (disks : List Disk) : Type 0 where
+pub record AreHeld (setting : Setting) (w : World) (disks : List PlainDisk) : Type 0 where
   pub known : (row : DiskRow) → In row (chosen_state setting w).disks.rows
       → Holds disks row (has_content_at setting w row.id) (content_at setting w row.id)
   pub unknown : (name : List ℕ) → named (chosen_state setting w).disks.rows name ≡ None → disk_of disks name ≡ None

@@ -6,7 +6,7 @@ use Rattle.std.specs.List.{position_or_len}
 use Rattle.std.proofs.lemmas.Bool.{ltb-true}
 use Rattle.std.proofs.lemmas.List.Folds.{find_at}
 use Rattle.std.proofs.lemmas.Option.{slice_get-get_or, slice_get_past, slice_get_cases}
-use Rattle.petal_machine.specs.declared.state.Disk.{Disk}
+use Rattle.petal_machine.specs.declared.state.PlainDisk.{PlainDisk}
 use Rattle.petal_machine.specs.Machine.{is_named, with_disk}
 
 placed : (b : Bool) (n i : ℕ) → Some i ≡ cond b (Some n) None → (b ≡ true) × (i ≡ n)
@@ -38,7 +38,8 @@ not_found p xs e =
     find_at p xs ∙ slice_get_past xs (position_or_len p xs) (omega arith)
 
 -- the disk of this name is changed at its place
-pub with_disk-set : (name : List ℕ) (change : Disk → Disk) (disks : List Disk) (i : ℕ) (d : Disk) → i ≡ position_or_len (is_named name) disks
+pub with_disk-set : (name : List ℕ) (change : PlainDisk → PlainDisk) (disks : List PlainDisk) (i : ℕ) (d : PlainDisk)
+    → i ≡ position_or_len (is_named name) disks
     → i < length disks → with_disk disks name change ≡ slice_set disks i (change (get_or disks i d))
 with_disk-set name change [] i d e h = absurd (omega arith)
 with_disk-set name change (x ∷ xs) zero d e h = by (is_named name x) e
@@ -54,7 +55,7 @@ with_disk-set name change (x ∷ xs) (suc i) d e h = by (is_named name x) e (λ 
     by true e later = absurd (omega arith)
     by false e later = ap (λ more. x ∷ more) (later (omega arith))
 
-pub changed_at : (name : List ℕ) (change : Disk → Disk) (disks : List Disk) (i : ℕ) (d : Disk) → Some i ≡ position (is_named name) disks
+pub changed_at : (name : List ℕ) (change : PlainDisk → PlainDisk) (disks : List PlainDisk) (i : ℕ) (d : PlainDisk) → Some i ≡ position (is_named name) disks
     → with_disk disks name change ≡ slice_set disks i (change (get_or disks i d))
 changed_at name change disks i d e =
     let at = placed (nat_lt (position_or_len (is_named name) disks) (length disks)) (position_or_len (is_named name) disks) i e in

@@ -7,7 +7,7 @@ use Rattle.petal_machine.specs.declared.event.Event.TheVariants.{Make, Freeze, B
 use Rattle.petal_machine.specs.declared.event.Write.{Write}
 use Rattle.petal_machine.specs.declared.event.WriteEnd.{WriteEnd}
 use Rattle.petal_machine.specs.declared.event.WriteEnd.TheVariants as write_end
-use Rattle.petal_machine.specs.declared.state.Disk.{Disk}
+use Rattle.petal_machine.specs.declared.state.PlainDisk.{PlainDisk}
 use Rattle.petal_machine.specs.declared.state.Open.{Open}
 use Rattle.petal_machine.specs.Machine.{Plain, blank, blocks_of, disk_of, snap_of, open_of, content, with_disk, but_of, remembers}
 
@@ -17,17 +17,17 @@ pub record IsOpen (opened : List Open) (w : Write) : Type 0 where
   pub is : open_of opened w.client ≡ Some (record { write = w; held = held })
 
 -- there is a disk of this name
-pub record HasDisk (disks : List Disk) (name : List ℕ) : Type 0 where
-  pub disk : Disk
+pub record HasDisk (disks : List PlainDisk) (name : List ℕ) : Type 0 where
+  pub disk : PlainDisk
   pub is : disk_of disks name ≡ Some disk
 
 -- the disk is known and has no snapshot of this name
-pub record MayFreeze (disks : List Disk) (name snap : List ℕ) : Type 0 where
+pub record MayFreeze (disks : List PlainDisk) (name snap : List ℕ) : Type 0 where
   pub known : HasDisk disks name
   pub fresh : snap_of known.disk snap ≡ None
 
 -- the disk, or its snapshot where one is named, has these bytes as the block's content
-pub record MayLook (disks : List Disk) (name : List ℕ) (snap : Option (List ℕ)) (block : ℕ) (bytes : List ℕ) : Type 0 where
+pub record MayLook (disks : List PlainDisk) (name : List ℕ) (snap : Option (List ℕ)) (block : ℕ) (bytes : List ℕ) : Type 0 where
   pub known : HasDisk disks name
   pub blocks : Table ℕ (List ℕ)
   pub is : blocks_of known.disk snap ≡ Some blocks
@@ -50,11 +50,11 @@ May m (End w answer) = MayEnd m.opened w answer
 May m (Look name snap block bytes) = MayLook m.disks name snap block bytes
 
 -- the disk with these bytes as the content of this block
-abbrev pub written : ℕ → List ℕ → Disk → Disk
+abbrev pub written : ℕ → List ℕ → PlainDisk → PlainDisk
 written block bytes disk = record disk { now = put nat_cmp disk.now block bytes }
 
 -- the disk with a copy of its blocks as one snapshot more
-abbrev pub frozen : List ℕ → Disk → Disk
+abbrev pub frozen : List ℕ → PlainDisk → PlainDisk
 frozen snap disk = record disk { snaps = disk.snaps ++ record { name = snap; blocks = disk.now } ∷ [] }
 
 -- what an event does

@@ -11,4 +11,4 @@ mod state;
 
 pub use event::{Event, Write, WriteEnd};
 pub use machine::{EventError, Machine};
-pub use state::{Disk, Open, Snapshot};
+pub use state::{Open, PlainDisk, PlainSnapshot};

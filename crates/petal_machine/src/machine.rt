@@ -10,7 +10,7 @@ ghost use Rattle.petal_machine.specs.Machine.{blank, blocks_of, but_of, content,
 ghost use Rattle.petal_machine.specs.Machine.{plain, remembers, snap_of, stands, with_disk};
 ghost use Rattle.petal_machine.specs.Run.{after, changed, remembered, frozen, written, HasDisk, IsOpen, May, MayEnd, MayFreeze, MayLook};
 
-use crate::{Disk, Event, Open, Snapshot, Write, WriteEnd};
+use crate::{Event, Open, PlainDisk, PlainSnapshot, Write, WriteEnd};
 use petal_base::{Block, BlockNo, ClientId, Name, NoMemory, Sequence, SharedBlock};
 use petal_table::Table;
 use std::alloc::{AllocError, AllocFailed, Global};
@@ -31,7 +31,7 @@ pub enum EventError {
 /// The plain machine as a program. Contracts see its disks and its writes under way.
 #[derive(Drop)]
 pub struct Machine {
-    disks: Vec<Disk>,
+    disks: Vec<PlainDisk>,
     opened: Vec<Open>,
     zero: SharedBlock,
 }
@@ -77,7 +77,7 @@ impl Machine {
 /// What an event does, before the writes under way remember.
 fn change(
     alloc: Global,
-    disks: &mut Vec<Disk>,
+    disks: &mut Vec<PlainDisk>,
     opened: &mut Vec<Open>,
     event: Event,
     zero: &SharedBlock,
@@ -123,14 +123,14 @@ fn change(
 }
 
 /// The place of the disk of this name.
-fn place_of(disks: &[Disk], name: &Name) -> Option<usize>
+fn place_of(disks: &[PlainDisk], name: &Name) -> Option<usize>
     ensures { result ≡ position (is_named name.now) disks.now }
 {
     disks.iter().position(|disk| disk.name == *name)
 }
 
 /// The place of the snapshot of this name.
-fn snap_place(snaps: &[Snapshot], name: &Name) -> Option<usize>
+fn snap_place(snaps: &[PlainSnapshot], name: &Name) -> Option<usize>
     ensures { result ≡ position (is_snap_named name.now) snaps.now }
 {
     snaps.iter().position(|snap| snap.name == *name)
@@ -160,7 +160,7 @@ fn content<'a>(
 }
 
 /// Whether the block has the write's bytes.
-fn stands(disks: &[Disk], write: &Write, zero: &SharedBlock) -> bool
+fn stands(disks: &[PlainDisk], write: &Write, zero: &SharedBlock) -> bool
     requires { zero.now ≡ zero_block }
     ensures { result ≡ stands disks.now write.now }
 {
@@ -171,7 +171,7 @@ fn stands(disks: &[Disk], write: &Write, zero: &SharedBlock) -> bool
 }
 
 /// A write under way remembers whether its block has its bytes.
-fn remember_one(disks: &[Disk], own: &mut Open, zero: &SharedBlock)
+fn remember_one(disks: &[PlainDisk], own: &mut Open, zero: &SharedBlock)
     requires { zero.now ≡ zero_block }
     ensures { own.new ≡ remembers disks.now own.old }
 {
@@ -180,7 +180,7 @@ fn remember_one(disks: &[Disk], own: &mut Open, zero: &SharedBlock)
 }
 
 /// Each write under way remembers whether its block has its bytes.
-fn remember(disks: &[Disk], opened: &mut [Open], zero: &SharedBlock)
+fn remember(disks: &[PlainDisk], opened: &mut [Open], zero: &SharedBlock)
     requires { zero.now ≡ zero_block }
     ensures { opened.new ≡ map (remembers disks.now) opened.old }
 {
@@ -189,7 +189,7 @@ fn remember(disks: &[Disk], opened: &mut [Open], zero: &SharedBlock)
     }
 }
 
-fn make(alloc: Global, disks: &mut Vec<Disk>, name: Name) -> Result<(), EventError>
+fn make(alloc: Global, disks: &mut Vec<PlainDisk>, name: Name) -> Result<(), EventError>
     ensures ok { OnOk result
         ((disk_of disks.old.items name ≡ None) × (disks.new.items ≡ disks.old.items ++ record { name = name; now = []; snaps = [] } ∷ [])) }
     ensures not_allowed { result ≡ Err EventError.NotAllowed → disk_of disks.old.items name ≢ None }
@@ -198,7 +198,7 @@ fn make(alloc: Global, disks: &mut Vec<Disk>, name: Name) -> Result<(), EventErr
     match place_of(disks, &name) {
         Some(_) => Err(EventError::NotAllowed),
         None => {
-            disks.push(Disk {
+            disks.push(PlainDisk {
                 name,
                 now: Table::new(alloc),
                 snaps: Sequence::new(alloc),
@@ -216,7 +216,7 @@ fn copy(blocks: &Table<BlockNo, SharedBlock>) -> Result<Table<BlockNo, SharedBlo
 }
 
 /// One snapshot more, unless the disk has one of this name.
-fn freeze_disk(disk: &mut Disk, snap: Name) -> Result<(), EventError>
+fn freeze_disk(disk: &mut PlainDisk, snap: Name) -> Result<(), EventError>
     ensures ok { OnOk result ((snap_of disk.old snap ≡ None) × (disk.new ≡ frozen snap disk.old)) }
     ensures not_allowed { result ≡ Err EventError.NotAllowed → snap_of disk.old snap ≢ None }
     ensures err { OnErr result (disk.new ≡ disk.old) }
@@ -225,13 +225,13 @@ fn freeze_disk(disk: &mut Disk, snap: Name) -> Result<(), EventError>
         Some(_) => Err(EventError::NotAllowed),
         None => {
             let blocks = copy(&disk.now)?;
-            disk.snaps.push(Snapshot { name: snap, blocks })?;
+            disk.snaps.push(PlainSnapshot { name: snap, blocks })?;
             Ok(())
         }
     }
 }
 
-fn freeze(disks: &mut [Disk], name: &Name, snap: Name) -> Result<(), EventError>
+fn freeze(disks: &mut [PlainDisk], name: &Name, snap: Name) -> Result<(), EventError>
     ensures ok { OnOk result (MayFreeze disks.old name.now snap × (disks.new ≡ with_disk disks.old name.now (frozen snap))) }
     ensures not_allowed { result ≡ Err EventError.NotAllowed → MayFreeze disks.old name.now snap → ⊥ }
     ensures err { OnErr result (disks.new ≡ disks.old) }
@@ -280,7 +280,7 @@ fn held(opened: &[Open], write: &Write) -> Option<bool>
 }
 
 /// The disk has these bytes as the content of this block.
-fn write_disk(disk: &mut Disk, block: BlockNo, bytes: SharedBlock) -> Result<(), NoMemory>
+fn write_disk(disk: &mut PlainDisk, block: BlockNo, bytes: SharedBlock) -> Result<(), NoMemory>
     ensures ok { OnOk result (disk.new ≡ written block bytes disk.old) }
     ensures err { OnErr result (disk.new ≡ disk.old) }
 {
@@ -298,7 +298,7 @@ fn is_open(opened: &[Open], write: &Write) -> bool
 }
 
 /// The write's bytes become the content of its block, where its disk is known.
-fn take(disks: &mut [Disk], write: &Write) -> Result<(), EventError>
+fn take(disks: &mut [PlainDisk], write: &Write) -> Result<(), EventError>
     ensures ok { OnOk result (HasDisk disks.old write.now.disk × (disks.new ≡ with_disk disks.old write.now.disk (written write.now.block write.now.bytes))) }
     ensures not_allowed { result ≡ Err EventError.NotAllowed → HasDisk disks.old write.now.disk → ⊥ }
     ensures err { OnErr result (disks.new ≡ disks.old) }
@@ -334,7 +334,7 @@ fn close(opened: &mut Vec<Open>, client: ClientId)
 }
 
 /// The blocks of a disk, or of its snapshot of this name.
-fn shown<'a>(disk: &'a Disk, snap: &Option<Name>) -> Option<&'a Table<BlockNo, SharedBlock>>
+fn shown<'a>(disk: &'a PlainDisk, snap: &Option<Name>) -> Option<&'a Table<BlockNo, SharedBlock>>
     ensures { option_copied result ≡ blocks_of disk.entry.now snap.now }
 {
     let Some(snap) = snap else {
@@ -347,7 +347,7 @@ fn shown<'a>(disk: &'a Disk, snap: &Option<Name>) -> Option<&'a Table<BlockNo, S
 }
 
 fn look(
-    disks: &[Disk],
+    disks: &[PlainDisk],
     name: &Name,
     snap: &Option<Name>,
     block: BlockNo,

@@ -6,17 +6,17 @@ use petal_table::Table;
 
 /// What a disk was when its snapshot was taken.
 #[derive(Drop)]
-pub struct Snapshot {
+pub struct PlainSnapshot {
     pub name: Name,
     pub blocks: Table<BlockNo, SharedBlock>,
 }
 
 /// A disk: its blocks now, and its snapshots in the order in which they were taken.
 #[derive(Drop)]
-pub struct Disk {
+pub struct PlainDisk {
     pub name: Name,
     pub now: Table<BlockNo, SharedBlock>,
-    pub snaps: Sequence<Snapshot>,
+    pub snaps: Sequence<PlainSnapshot>,
 }
 
 /// A write under way.

@@ -1,5 +1,5 @@
 -- What the operator's open line asks for, and which steps and which glance it allows.
-use Rattle.std.proofs.Common.{◌≡◌, ◌⊎◌, ◌<◌, inl, inr, ℕ, Bool, true, false, Option, Some, None, refl, sym, ap, subst, ◌∙◌}
+use Rattle.std.proofs.Common.{◌≡◌, ◌≢◌, ◌⊎◌, ◌<◌, inl, inr, ℕ, Bool, true, false, Option, Some, None, refl, sym, ap, subst, ◌∙◌}
 use Rattle.script_lines.specs.declared.request.Request.{Request}
 use Rattle.script_lines.specs.declared.request.Request.TheVariants as request
 use Rattle.petal_rules.specs.Clients.{Asked}
@@ -7,7 +7,65 @@ use Rattle.petal_rules.specs.Server.{Life}
 use Rattle.petal_rules.specs.World.{Setting, Blanks, Blanked, Boots, Deed, IsDue, MayBlank, MayBoot, MayGlance, MayStop, Stopped, Stops, World, greatest_u32}
 use Rattle.world_desks.specs.Desks.{Desk, desk_of}
 use Rattle.world_desks.proofs.Left.{left_life, left_runs}
-use Rattle.petal_world.specs.Lines.{HasBlanked, HasStarted, HasStopped, IsSettling, IsToBlank, IsToStart, IsToStop}
+use Rattle.petal_rules.specs.Jobs.{operator}
+use Rattle.petal_rules.proofs.Tests.{none_some, same_some}
+use Rattle.client_core.specs.Core.{ordered}
+use Rattle.open_request.specs.Orders.{order_in, order_of}
+use Rattle.open_request.specs.declared.order.Order.{Order}
+use Rattle.open_request.specs.declared.order.Order.TheVariants.{Stop, Start, Blank}
+use Rattle.petal_world.specs.Lines.{HasBlanked, HasStarted, HasStopped, IsGiven, IsGivenBy, IsSettling, IsToStop, asking}
+
+-- ### The order of an open line
+
+order_asked : (order : Order) (n : ℕ) → order_of (asking order n) ≡ Some (order, n)
+order_asked Stop n = refl
+order_asked Start n = refl
+order_asked Blank n = refl
+
+asked_order : (asked : Request) (order : Order) (n : ℕ) → order_of asked ≡ Some (order, n) → asked ≡ asking order n
+asked_order (request.Stop server) order n is = ap (λ (o : Order × ℕ). asking o.0 o.1) (same_some is)
+asked_order (request.Start server) order n is = ap (λ (o : Order × ℕ). asking o.0 o.1) (same_some is)
+asked_order (request.Blank server) order n is = ap (λ (o : Order × ℕ). asking o.0 o.1) (same_some is)
+asked_order _ order n is = none_some refl is
+
+-- the order, and the line that gives it
+record IsIn (asked : Asked) (own : Option (Order × ℕ)) (line : ℕ) (order : Order) (n : ℕ) : Type 0 where
+  pub own_is : own ≡ Some (order, n)
+  pub line_is : asked.line ≡ line
+
+order_in_is : (asked : Asked) (own : Option (Order × ℕ)) (line : ℕ) (order : Order) (n : ℕ) → order_in asked own ≡ Some (line, order, n)
+    → IsIn asked own line order n
+order_in_is asked None line order n is = none_some refl is
+order_in_is asked (Some own) line order n is = record {
+  own_is = ap (λ (t : ℕ × Order × ℕ). Some (t.1, t.2)) (same_some is);
+  line_is = ap (λ (t : ℕ × Order × ℕ). t.0) (same_some is);
+}
+
+by_asked : (w : World) (asked : Option Asked) → (w.clients operator).asked ≡ asked → (line : ℕ) (order : Order) (n : ℕ)
+    → ordered asked ≡ Some (line, order, n) → w.control.glanced ≢ Some line → IsGivenBy w order n line
+by_asked w None at line order n so unseen = none_some refl so
+by_asked w (Some asked) at line order n so unseen =
+    let own = order_in_is asked (order_of asked.request) line order n so in
+    record {
+      asked = asked;
+      opened = record { is = at; first = subst (λ (k : ℕ). w.control.glanced ≢ Some k) (sym own.line_is) unseen };
+      line_is = own.line_is;
+      request_is = asked_order asked.request order n own.own_is;
+    }
+
+-- a line that was not glanced at gives what it asks for
+pub given_by : (w : World) (given : Option (ℕ × Order × ℕ)) → given ≡ ordered (w.clients operator).asked → (line : ℕ) (order : Order) (n : ℕ)
+    → given ≡ Some (line, order, n) → w.control.glanced ≢ Some line → IsGivenBy w order n line
+given_by w given is line order n so unseen = by_asked w (w.clients operator).asked refl line order n (sym is ∙ so) unseen
+
+pub given_as : (w : World) (given : Option (ℕ × Order × ℕ)) → given ≡ ordered (w.clients operator).asked → (line : ℕ) (order : Order) (n : ℕ)
+    → IsGivenBy w order n line → given ≡ Some (line, order, n)
+given_as w given is line order n by =
+    is ∙ ap (λ (o : Option Asked). ordered o) by.opened.is
+    ∙ ap (λ (o : Option (Order × ℕ)). order_in by.asked o) (ap (λ (r : Request). order_of r) by.request_is ∙ order_asked order n)
+    ∙ ap (λ (k : ℕ). Some (k, order, n)) by.line_is
+
+-- ### What it allows
 
 stops_is : (asked : Request) (n : ℕ) (hand : Option (ℕ × Deed)) → Stops asked n hand
     → ((asked ≡ request.Stop n) ⊎ (asked ≡ request.Blank n)) × (hand ≡ None)
@@ -58,7 +116,7 @@ module _ (w : World) (n : ℕ) where
   may_stop_by runs empty (inr by) =
       record { runs = runs; asked = by.1.asked; opened = by.1.opened; stops = is_stops by.1.asked.request n w.control.hand (inr by.1.request_is) empty }
 
-  pub blanked_by : MayBlank w n → IsToBlank w n
+  pub blanked_by : MayBlank w n → IsGiven w Blank n
   blanked_by may = (
     may.asked.line,
     record { asked = may.asked; opened = may.opened; line_is = refl; request_is = (blanks_is may.asked.request n w.control.hand may.blanks).0 },
@@ -66,7 +124,7 @@ module _ (w : World) (n : ℕ) where
 
   -- what gives a server its boot: a line that starts it, or one that blanked it
   abbrev pub IsToBoot : Type 0
-  IsToBoot = (IsToStart w n × (w.control.hand ≡ None)) ⊎ (IsToBlank w n × (w.control.hand ≡ Some (n, Blanked)))
+  IsToBoot = (IsGiven w Start n × (w.control.hand ≡ None)) ⊎ (IsGiven w Blank n × (w.control.hand ≡ Some (n, Blanked)))
 
   pub booted_by : MayBoot w n → IsToBoot
   booted_by may = elim (boots_is may.asked.request n w.control.hand may.boots) [

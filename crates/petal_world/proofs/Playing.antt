@@ -1,6 +1,6 @@
 -- A world keeps a legal history.
-use Rattle.std.proofs.Common.{◌≡◌, ℕ, ◌≤◌, ◌<◌, false, List, [], ◌∷◌, ◌++◌, length, Option, Some, None, refl, sym, ap, ◌∙◌, subst, arith, IfSome}
-use Rattle.std.specs.Prelude.{slice_get}
+use Rattle.std.proofs.Common.{◌≡◌, ℕ, ◌≤◌, ◌<◌, Bool, true, false, List, [], ◌∷◌, ◌++◌, length, Option, Some, None, refl, sym, ap, ◌∙◌, subst, arith, IfSome, IsTrue}
+use Rattle.std.specs.Prelude.{◌↔◌, slice_get}
 use Rattle.std.proofs.lemmas.List.FromFn.{length-map-range_with_len}
 use Rattle.petal_msg.specs.declared.letter.Actor.{Actor}
 use Rattle.petal_msg.specs.declared.letter.Actor.TheVariants as actor
@@ -16,6 +16,7 @@ use Rattle.petal_world.specs.declared.stepped.Stepped.{Stepped}
 use Rattle.world_desks.specs.Desks.{desk_of, ended}
 use Rattle.world_desks.specs.declared.step_end.StepEnd.{StepEnd}
 use Rattle.petal_world.specs.Play.{Play, IsKept, LeavesIn, Can, world_of, stamp_of, phase_of, phase_for, record_of, played, told_by}
+use Rattle.world_desks.specs.Playable.{AreOrdered}
 use Rattle.petal_world.specs.Seats.{CanTake, seat_of}
 use Rattle.petal_world.specs.Actors.{Actors, Shows}
 use Rattle.petal_world.proofs.Ending.{may_ended, stamp_ended, phase_ended}
@@ -27,7 +28,7 @@ can_take : (setting : Setting) (w : World) (c : ℕ) (what : Step) → MayClient
 can_take setting w c (Call line) may = may.free
 can_take setting w c _ may = tt
 
-pub can : (setting : Setting) (w : World) (actors : Actors) (who : Actor) (what : Step) → Shows setting w actors
+can : (setting : Setting) (w : World) (actors : Actors) (who : Actor) (what : Step) → Shows setting w actors
     → MayStep setting w who what → Can actors who what
 can setting w actors (actor.Server n) what h may =
     let long : length actors.desks ≡ setting.servers = ap length h.desks ∙ length-map-range_with_len (desk_of setting w) 0 setting.servers in
@@ -111,34 +112,42 @@ module _ (play : Play) (actors new : Actors) (who : Actor) (what : Step) (stamp 
         shows = λ on. shown;
       })
 
--- the step that was allowed, with the end that its job had
-module _ (play : Play) (actors new : Actors) (who : Actor) (what : Step) (end : StepEnd) (stamp phase : ℕ) (told : Stepped)
-    (h : IsKept play actors) (going : play.over ≡ false)
-    (may : MayStep (setting_of play.script) (world_of play) who what)
-    (at : stamp ≡ stamp_of play.floor (world_of play) who what)
-    (during : phase ≡ phase_for what who (setting_of play.script) (world_of play) play.phase)
-    (left : LeavesIn actors who (ended what end) stamp new told) where
-  may_so : MayStep (setting_of play.script) (world_of play) who (ended what end)
-  may_so = may_ended (setting_of play.script) (world_of play) who what end may
+-- a step that is tested in any world of which this is kept, and then stamped and recorded by what is kept
+module _ (play : Play) (actors : Actors) (who : Actor) (what : Step) (h : IsKept play actors) (going : play.over ≡ false) (b : Bool) (passed : b ≡ true)
+    (test : (setting : Setting) (w : World) → AreOrdered setting.lines → Shows setting w actors → IsTrue b ↔ MayStep setting w who what) where
+  pub allowed : MayStep (setting_of play.script) (world_of play) who what
+  allowed = (test (setting_of play.script) (world_of play) h.ordered (h.shows going)).0 passed
 
-  at_so : stamp ≡ stamp_of play.floor (world_of play) who (ended what end)
-  at_so = at ∙ sym (stamp_ended play.floor (world_of play) who what end)
+  pub can_so : Can actors who what
+  can_so = can (setting_of play.script) (world_of play) actors who what (h.shows going) allowed
 
-  during_so : phase ≡ phase_for (ended what end) who (setting_of play.script) (world_of play) play.phase
-  during_so = during ∙ sym (phase_ended what end who (setting_of play.script) (world_of play) play.phase)
+  -- with the end that its job had
+  module _ (new : Actors) (end : StepEnd) (stamp phase : ℕ) (told : Stepped)
+      (at : (setting : Setting) (w : World) → Shows setting w actors → MayStep setting w who what → stamp ≡ stamp_of play.floor w who what)
+      (during : (setting : Setting) (w : World) → Shows setting w actors → MayStep setting w who what → phase ≡ phase_for what who setting w play.phase)
+      (left : LeavesIn actors who (ended what end) stamp new told) where
+    may_so : MayStep (setting_of play.script) (world_of play) who (ended what end)
+    may_so = may_ended (setting_of play.script) (world_of play) who what end allowed
 
-  pub told_ended : told ≡ told_by play who (ended what end)
-  told_ended = told_so play actors new who (ended what end) stamp phase told h going may_so at_so during_so left
+    at_so : stamp ≡ stamp_of play.floor (world_of play) who (ended what end)
+    at_so = at (setting_of play.script) (world_of play) (h.shows going) allowed ∙ sym (stamp_ended play.floor (world_of play) who what end)
 
-  -- the play has that record more
-  pub played_ended : (records : List Record)
-      → records ≡ play.records ++ record { actor = who; stamp = stamp; phase = phase; step = ended what end; sent = told.letters; answer = told.answer } ∷ []
-      → record play { records = records } ≡ played play who (ended what end)
-  played_ended records are =
-      let own = record_so play actors new who (ended what end) stamp phase told h going may_so at_so during_so left in
-      ap (λ (rs : List Record). record play { records = rs }) (are ∙ ap (λ (r : Record). play.records ++ r ∷ []) own)
+    during_so : phase ≡ phase_for (ended what end) who (setting_of play.script) (world_of play) play.phase
+    during_so = during (setting_of play.script) (world_of play) (h.shows going) allowed
+        ∙ sym (phase_ended what end who (setting_of play.script) (world_of play) play.phase)
 
-  pub kept_ended : (records : List Record)
-      → records ≡ play.records ++ record { actor = who; stamp = stamp; phase = phase; step = ended what end; sent = told.letters; answer = told.answer } ∷ []
-      → IsKept (record play { records = records }) new
-  kept_ended records are = kept_next play actors new who (ended what end) stamp phase told h going may_so at_so during_so left records are
+    pub told_ended : told ≡ told_by play who (ended what end)
+    told_ended = told_so play actors new who (ended what end) stamp phase told h going may_so at_so during_so left
+
+    -- the play has that record more
+    pub played_ended : (records : List Record)
+        → records ≡ play.records ++ record { actor = who; stamp = stamp; phase = phase; step = ended what end; sent = told.letters; answer = told.answer } ∷ []
+        → record play { records = records } ≡ played play who (ended what end)
+    played_ended records are =
+        let own = record_so play actors new who (ended what end) stamp phase told h going may_so at_so during_so left in
+        ap (λ (rs : List Record). record play { records = rs }) (are ∙ ap (λ (r : Record). play.records ++ r ∷ []) own)
+
+    pub kept_ended : (records : List Record)
+        → records ≡ play.records ++ record { actor = who; stamp = stamp; phase = phase; step = ended what end; sent = told.letters; answer = told.answer } ∷ []
+        → IsKept (record play { records = records }) new
+    kept_ended records are = kept_next play actors new who (ended what end) stamp phase told h going may_so at_so during_so left records are

@@ -25,7 +25,7 @@ use Rattle.petal_rules.specs.declared.job.Job.TheVariants as job
 use Rattle.petal_rules.specs.declared.step.CommitEnd.{CommitEnd}
 use Rattle.petal_rules.specs.declared.step.CommitEnd.TheVariants.{Before, After}
 use Rattle.petal_rules.specs.declared.step.Step.{Step}
-use Rattle.petal_rules.specs.declared.step.Step.TheVariants.{Call, Deliver, Tick, Work, StopIn, Stop, Blank, Boot, Arm, Glance}
+use Rattle.petal_rules.specs.declared.step.Step.TheVariants.{Tick, Work, StopIn, Stop, Boot, Glance}
 use Rattle.petal_rules.specs.declared.step.WorkEnd.{WorkEnd}
 use Rattle.petal_rules.specs.declared.step.WorkEnd.TheVariants as work_end
 use Rattle.petal_rules.proofs.ListLemmas.{in-append, put_same, put_apart}
@@ -86,6 +86,16 @@ posted_past w later who stamp letters posted sent clock grows past letter m =
       | inr old ↦ let le = past letter old in let more = grows letter.from in omega arith
     ]
 
+-- a clock that is put forward
+put_grows : (clocks : ℕ → ℕ) (n stamp : ℕ) → clocks n < stamp → (k : ℕ) → clocks k ≤ put_at clocks n stamp k
+put_grows clocks n stamp less k = elim (cases_eq k n) [
+  | inl same ↦
+      let new : put_at clocks n stamp k ≡ stamp = ap (λ m. put_at clocks n stamp m) same ∙ put_same clocks n stamp in
+      let old : clocks k ≡ clocks n = ap clocks same in
+      omega arith
+  | inr ne ↦ let e = put_apart clocks n stamp k ne in omega arith
+]
+
 -- ### A client's step
 
 module _ (setting : Setting) (w : World) (actors : Actors) (h : Shows setting w actors) (c : ℕ) (what : Step) (stamp : ℕ) where
@@ -109,13 +119,7 @@ module _ (setting : Setting) (w : World) (actors : Actors) (h : Shows setting w 
   client_grows : clock_of w (actor.Client c) < stamp → (a : Actor) → clock_of w a ≤ clock_of by_client.world a
   unfolding step
   client_grows less (actor.Server n) = omega arith
-  client_grows less (actor.Client d) = elim (cases_eq d c) [
-    | inl same ↦
-        let new : put_at w.client_clocks c stamp d ≡ stamp = ap (λ k. put_at w.client_clocks c stamp k) same ∙ put_same w.client_clocks c stamp in
-        let old : w.client_clocks d ≡ w.client_clocks c = ap w.client_clocks same in
-        omega arith
-    | inr ne ↦ let e = put_apart w.client_clocks c stamp d ne in omega arith
-  ]
+  client_grows less (actor.Client d) = put_grows w.client_clocks c stamp less d
 
   abbrev reacts_so : Reaction
   reacts_so = client_step what (client_state setting w c) c (w.clients c) (next_line setting.lines c (w.clients c))
@@ -280,13 +284,7 @@ module _ (setting : Setting) (w : World) (actors : Actors) (h : Shows setting w 
   server_grows : clock_of w (actor.Server n) < stamp → (a : Actor) → clock_of w a ≤ clock_of by_server.world a
   unfolding step
   server_grows less (actor.Client d) = omega arith
-  server_grows less (actor.Server m) = elim (cases_eq m n) [
-    | inl same ↦
-        let new : put_at w.server_clocks n stamp m ≡ stamp = ap (λ k. put_at w.server_clocks n stamp k) same ∙ put_same w.server_clocks n stamp in
-        let old : w.server_clocks m ≡ w.server_clocks n = ap w.server_clocks same in
-        omega arith
-    | inr ne ↦ let e = put_apart w.server_clocks n stamp m ne in omega arith
-  ]
+  server_grows less (actor.Server m) = put_grows w.server_clocks n stamp less m
 
   own_desk : record { site = site_after desk.site what; clock = stamp } ≡ desk_of setting by_server.world n
   unfolding step

@@ -1,8 +1,9 @@
 //! What was done of the operator's last line.
 
 ghost use Rattle.std.specs.Prelude.{◌≡◌, ◌≢◌, ◌↔◌, Some, None, IsTrue};
-ghost use Rattle.petal_rules.specs.World.{Blanked, Booted, Stopped, controls};
+ghost use Rattle.petal_rules.specs.World.{controls};
 ghost use Rattle.petal_rules.specs.World as rules;
+ghost use Rattle.petal_world.specs.Lines.{deed_of};
 
 use petal_base::ServerId;
 use petal_rules::Step;
@@ -77,33 +78,15 @@ impl Control {
         }
     }
 
-    /// Whether this server is at the operator's hand, and stopped last.
-    pub fn has_stopped(&self, server: ServerId) -> bool
-        ensures { IsTrue result ↔ (self.now.hand ≡ Some (server, Stopped)) }
+    /// Whether this server is at the operator's hand, and took this step last.
+    pub fn has(&self, server: ServerId, given: Given) -> bool
+        ensures { IsTrue result ↔ (self.now.hand ≡ Some (server, deed_of given)) }
     {
-        match self.hand {
-            Some((held, Given::Stop)) => held == server,
-            Some((_, Given::Blank | Given::Boot)) | None => false,
-        }
-    }
-
-    /// Whether this server is at the operator's hand, and was blanked last.
-    pub fn has_blanked(&self, server: ServerId) -> bool
-        ensures { IsTrue result ↔ (self.now.hand ≡ Some (server, Blanked)) }
-    {
-        match self.hand {
-            Some((held, Given::Blank)) => held == server,
-            Some((_, Given::Stop | Given::Boot)) | None => false,
-        }
-    }
-
-    /// Whether this server is at the operator's hand, and booted last.
-    pub fn has_booted(&self, server: ServerId) -> bool
-        ensures { IsTrue result ↔ (self.now.hand ≡ Some (server, Booted)) }
-    {
-        match self.hand {
-            Some((held, Given::Boot)) => held == server,
-            Some((_, Given::Stop | Given::Blank)) | None => false,
+        match (self.hand, given) {
+            (Some((held, Given::Stop)), Given::Stop)
+            | (Some((held, Given::Blank)), Given::Blank)
+            | (Some((held, Given::Boot)), Given::Boot) => held == server,
+            _ => false,
         }
     }
 

@@ -2,21 +2,23 @@
 
 ghost use Rattle.std.specs.Prelude.{◌≡◌, ◌↔◌, ℕ, Some, IsTrue, slice_get};
 ghost use Rattle.petal_msg.specs.declared.letter.Actor.TheVariants as actor;
-ghost use Rattle.client_core.specs.Open.{settle_of};
+ghost use Rattle.client_core.specs.Core.{settle_of};
+ghost use Rattle.open_request.specs.declared.order.Order.{Order};
 ghost use Rattle.petal_rules.specs.Jobs.{operator};
 ghost use Rattle.petal_rules.specs.World.{Setting, World, MayAct, MayBlank, MayBoot, MayCall, MayClient, MayGlance, MayReceive};
 ghost use Rattle.petal_rules.specs.World.{MayServer, MayStep, MayStop, MayWork, received};
 ghost use Rattle.petal_table.specs.Table.{at};
 ghost use Rattle.world_desks.specs.Playable.{AreOrdered};
-ghost use Rattle.petal_world.specs.Lines.{HasBlanked, HasStarted, HasStopped, IsBlankedBy, IsSettling, IsStartedBy};
-ghost use Rattle.petal_world.specs.Lines.{IsStoppedBy, IsToBlank, IsToStart, IsToStop};
+ghost use Rattle.petal_world.specs.Lines.{HasBlanked, HasStarted, HasStopped, IsGiven, IsGivenBy, IsSettling, IsToStop};
 ghost use Rattle.petal_world.specs.Seats.{seat_of};
 ghost use Rattle.world_desks.specs.Desks.{desk_of};
 ghost use Rattle.world_desks.specs.Sent.{name_of, name_cmp};
 ghost use Rattle.petal_world.specs.Actors.{Shows};
 
 use crate::actors::Actors;
+use crate::control::Given;
 use crate::seat::Seat;
+use client_core::Order;
 use petal_base::{ClientId, Inc, OPERATOR, ServerId, Stamp};
 use petal_msg::{Actor, Letter};
 use petal_rules::Step;
@@ -46,6 +48,16 @@ fn is_same_actor(one: Actor, other: Actor) -> bool
     }
 }
 
+fn is_same_order(one: Order, other: Order) -> bool
+    ensures { IsTrue result ↔ (one ≡ other) }
+{
+    match (one, other) {
+        (Order::Stop, Order::Stop) | (Order::Start, Order::Start) | (Order::Blank, Order::Blank) =>
+            true,
+        _ => false,
+    }
+}
+
 impl<H: Host> Actors<H> {
     /// Whether the letter was sent, and to this actor.
     fn may_deliver(&self, to: Actor, letter: &Letter) -> bool
@@ -64,71 +76,56 @@ impl<H: Host> Actors<H> {
         self.may_deliver(Actor::Server(server), letter)
     }
 
-    /// The operator's open line, where it stops this server and was not glanced at.
-    fn open_stop(&self, server: ServerId) -> Option<u32>
-        ensures { (setting : Setting) (w : World) (line : ℕ) → Shows setting w self.now → (result ≡ Some line) ↔ IsStoppedBy w server line }
+    /// The operator's open line that was not glanced at, with the order that it gives, and to which server.
+    fn open_order(&self) -> Option<(u32, Order, ServerId)>
+        ensures { (setting : Setting) (w : World) (line : ℕ) (order : Order) (n : ℕ) → Shows setting w self.now
+            → (result ≡ Some (line, order, n)) ↔ IsGivenBy w order n line }
     {
         let Some(seat) = self.seats.get(OPERATOR) else {
             return None;
         };
-        let Some(line) = seat.core.stops(server) else {
+        let Some((line, order, server)) = seat.core.order() else {
             return None;
         };
         if self.control.has_glanced(line) {
             return None;
         }
-        Some(line)
+        Some((line, order, server))
     }
 
-    /// The operator's open line, where it starts this server and was not glanced at.
-    fn open_start(&self, server: ServerId) -> Option<u32>
-        ensures { (setting : Setting) (w : World) (line : ℕ) → Shows setting w self.now → (result ≡ Some line) ↔ IsStartedBy w server line }
+    /// The operator's open line, where it gives this server this order and was not glanced at.
+    fn open_line(&self, order: Order, server: ServerId) -> Option<u32>
+        ensures { (setting : Setting) (w : World) (line : ℕ) → Shows setting w self.now → (result ≡ Some line) ↔ IsGivenBy w order server line }
     {
-        let Some(seat) = self.seats.get(OPERATOR) else {
+        let Some((line, own, other)) = self.open_order() else {
             return None;
         };
-        let Some(line) = seat.core.starts(server) else {
+        if !is_same_order(own, order) {
             return None;
-        };
-        if self.control.has_glanced(line) {
+        }
+        if other != server {
             return None;
         }
         Some(line)
     }
 
-    /// The operator's open line, where it blanks this server and was not glanced at.
-    fn open_blank(&self, server: ServerId) -> Option<u32>
-        ensures { (setting : Setting) (w : World) (line : ℕ) → Shows setting w self.now → (result ≡ Some line) ↔ IsBlankedBy w server line }
+    /// Whether the operator's open line gives this server this order.
+    fn is_given(&self, order: Order, server: ServerId) -> bool
+        ensures { (setting : Setting) (w : World) → Shows setting w self.now → IsTrue result ↔ IsGiven w order server }
     {
-        let Some(seat) = self.seats.get(OPERATOR) else {
-            return None;
-        };
-        let Some(line) = seat.core.blanks(server) else {
-            return None;
-        };
-        if self.control.has_glanced(line) {
-            return None;
-        }
-        Some(line)
-    }
-
-    /// Whether the operator's open line blanks this server.
-    fn is_to_blank(&self, server: ServerId) -> bool
-        ensures { (setting : Setting) (w : World) → Shows setting w self.now → IsTrue result ↔ IsToBlank w server }
-    {
-        match self.open_blank(server) {
+        match self.open_line(order, server) {
             None => false,
             Some(_line) => true,
         }
     }
 
-    /// Whether it starts this server.
-    fn is_to_start(&self, server: ServerId) -> bool
-        ensures { (setting : Setting) (w : World) → Shows setting w self.now → IsTrue result ↔ IsToStart w server }
+    /// Whether it is this line, and gives this server this order.
+    fn is_given_by(&self, order: Order, server: ServerId, line: u32) -> bool
+        ensures { (setting : Setting) (w : World) → Shows setting w self.now → IsTrue result ↔ IsGivenBy w order server line }
     {
-        match self.open_start(server) {
+        match self.open_line(order, server) {
             None => false,
-            Some(_line) => true,
+            Some(own) => own == line,
         }
     }
 
@@ -136,10 +133,10 @@ impl<H: Host> Actors<H> {
     fn is_to_stop(&self, server: ServerId) -> bool
         ensures { (setting : Setting) (w : World) → Shows setting w self.now → IsTrue result ↔ IsToStop w server }
     {
-        match self.open_stop(server) {
-            None => self.is_to_blank(server),
-            Some(_line) => true,
+        if self.is_given(Order::Stop, server) {
+            return true;
         }
+        self.is_given(Order::Blank, server)
     }
 
     /// Whether the server may take a step by itself.
@@ -186,13 +183,13 @@ impl<H: Host> Actors<H> {
         if desk.host.is_running() {
             return false;
         }
-        if !self.is_to_blank(server) {
+        if !self.is_given(Order::Blank, server) {
             return false;
         }
         if self.control.is_empty() {
             return true;
         }
-        self.control.has_stopped(server)
+        self.control.has(server, Given::Stop)
     }
 
     /// Whether the server may boot.
@@ -206,13 +203,13 @@ impl<H: Host> Actors<H> {
         if desk.host.inc() >= Inc::MAX {
             return false;
         }
-        if self.control.has_blanked(server) {
-            return self.is_to_blank(server);
+        if self.control.has(server, Given::Blank) {
+            return self.is_given(Order::Blank, server);
         }
         if !self.control.is_empty() {
             return false;
         }
-        self.is_to_start(server)
+        self.is_given(Order::Start, server)
     }
 
     /// Whether the open line is this one, and has stopped the server.
@@ -223,10 +220,7 @@ impl<H: Host> Actors<H> {
         if desk.host.is_running() {
             return false;
         }
-        match self.open_stop(server) {
-            None => false,
-            Some(own) => own == line,
-        }
+        self.is_given_by(Order::Stop, server, line)
     }
 
     /// Whether the open line is this one, and has started the server, which runs or has booted.
@@ -234,29 +228,23 @@ impl<H: Host> Actors<H> {
         ensures { (setting : Setting) (w : World) → Shows setting w self.now → desk.now ≡ desk_of setting w server
             → IsTrue result ↔ HasStarted w server line }
     {
-        let Some(own) = self.open_start(server) else {
-            return false;
-        };
-        if own != line {
+        if !self.is_given_by(Order::Start, server, line) {
             return false;
         }
         if desk.host.is_running() {
             return true;
         }
-        self.control.has_booted(server)
+        self.control.has(server, Given::Boot)
     }
 
     /// Whether the open line is this one, and has blanked the server, which has booted since.
     fn has_blanked(&self, server: ServerId, line: u32) -> bool
         ensures { (setting : Setting) (w : World) → Shows setting w self.now → IsTrue result ↔ HasBlanked w server line }
     {
-        let Some(own) = self.open_blank(server) else {
-            return false;
-        };
-        if own != line {
+        if !self.is_given_by(Order::Blank, server, line) {
             return false;
         }
-        self.control.has_booted(server)
+        self.control.has(server, Given::Boot)
     }
 
     /// The operator's open line and its round, where it is a settle.

@@ -1,7 +1,7 @@
 -- What holds of phases that have ended: they answer exactly the first lines.
-use Rattle.std.proofs.Common.{◌≡◌, ◌≤◌, ◌<◌, ℕ, zero, suc, ◌+◌, true, false, cond, List, [], ◌∷◌, ◌++◌, length, take, drop, Some, is_some}
+use Rattle.std.proofs.Common.{◌≡◌, ◌≤◌, ◌<◌, ℕ, zero, suc, ◌+◌, ◌-◌, true, false, cond, List, [], ◌∷◌, ◌++◌, length, take, drop, Some, is_some}
 use Rattle.std.proofs.Common.{refl, sym, ap, ◌∙◌, subst, ◌⊎◌, inl, inr, arith, length-drop}
-use Rattle.std.proofs.lemmas.List.{take-append-drop, map-append, drop_all, drop-drop}
+use Rattle.std.proofs.lemmas.List.{take-append-drop, map-append, drop_all, drop-drop, take_all}
 use Rattle.std.proofs.lemmas.Bool.Decides.{nat_tests}
 use Rattle.std.proofs.Math.Seq.{take-length, take-add}
 use Rattle.std.specs.Prelude.{◌==◌, nat_lt, slice_get}
@@ -22,7 +22,9 @@ use Rattle.petal_rules.proofs.Tests.{by_bool, same_numbers}
 use Rattle.world_desks.specs.Playable.{AreOrdered}
 use Rattle.petal_history.specs.Order.{AreRising, AnsweredComeFirst, AnswersPhases, IsFront, JoinsAnswers, all_answered, is_answered}
 use Rattle.plain_schedule.specs.Phases.{Progress, GoesByPhases, Ends, records_of}
-use Rattle.plain_schedule.specs.Places.{numbers, phase_run, progress_of, KeepsPlaces, GoesOn}
+use Rattle.petal_world.specs.Play.{Play}
+use Rattle.actor_rounds.specs.Going.{GoesOn, WentOn}
+use Rattle.plain_schedule.specs.Places.{numbers, phase_run, progress_of, KeepsPlaces, PlaysOn}
 use Rattle.plain_schedule.proofs.Fronts.{still, goes_front}
 
 -- ### Keys and numbers
@@ -320,47 +322,44 @@ ends script after old new told phases answers le on gave =
       gave = gave;
     }
 
--- ### What a call on the schedule does
+-- ### What a call on the rounds does
 
--- the script is the same, and the records went on and are legal
-pub record WentOn (script after : Script) (old new : List Record) : Type 0 where
-  pub same : after ≡ script
-  pub on : GoesOn old new
-  pub legal : IsLegal after new
+module _ (old new : Play) (told place phases : ℕ) (k : KeepsPlaces old.script old.records told place phases) (w : WentOn old new)
+    (legal : IsLegal new.script new.records) where
+  still_legal : IsLegal old.script new.records
+  still_legal = subst (λ (s : Script). IsLegal s new.records) w.0 legal
 
-pub went_on : (script between after : Script) (old mid new : List Record) → between ≡ script → mid ≡ old → after ≡ between → GoesOn mid new
-    → IsLegal after new → WentOn script after old new
-went_on script between after old mid new same stood kept on legal =
-    record { same = kept ∙ same; on = subst (λ (r : List Record). GoesOn r new) stood on; legal = legal }
+  pub kept : KeepsPlaces new.script new.records told place phases
+  kept = subst (λ (s : Script). KeepsPlaces s new.records told place phases) (sym w.0)
+      (places_still old.script old.records new.records told place phases k w.1 still_legal)
 
-pub stood_still : (script after : Script) (old new : List Record) → after ≡ script → new ≡ old → IsLegal script old → WentOn script after old new
-stood_still script after old new same stood legal = rw (same, stood) (record { same = refl; on = λ front f. f; legal = legal })
+  -- the phase has ended, which answers these lines
+  pub kept_next : (n count : ℕ) (lines : List Line) (answers : Table ℕ Answer) → n ≡ length new.records → phases < 4294967296 → lines ≡ old.script.lines
+      → count ≡ phase_run phases (take (length lines - place) (drop place lines)) → answers ≡ answers_of (drop told new.records)
+      → keys_of answers ≡ numbers (take count (drop place old.script.lines)) → KeepsPlaces new.script new.records n (place + count) (phases + 1)
+  kept_next n count lines answers all room same run gave exactly =
+      let run_is : count ≡ phase_run phases (drop place old.script.lines) = run
+      ∙ ap (phase_run phases) (take_all (length lines - place) (drop place lines) (omega (arith, length-drop place lines)))
+      ∙ ap (λ (ls : List Line). phase_run phases (drop place ls)) same in
+      subst (λ (s : Script). KeepsPlaces s new.records n (place + count) (phases + 1)) (sym w.0)
+      (subst (λ (m : ℕ). KeepsPlaces old.script new.records m (place + count) (phases + 1)) (sym all)
+      (places_more old.script old.records new.records told place phases count k w.1 still_legal room run_is (ap keys_of (sym gave) ∙ exactly)))
 
-module _ (script after : Script) (old new : List Record) (told place phases : ℕ) (k : KeepsPlaces script old told place phases)
-    (w : WentOn script after old new) where
-  still_legal : IsLegal script new
-  still_legal = subst (λ (s : Script). IsLegal s new) w.same w.legal
+  module _ (before : Progress) (view : progress_of old.script old.records told phases ≡ before) where
+    pub plays_on : (n at m : ℕ) → KeepsPlaces new.script new.records n at m → PlaysOn before (progress_of new.script new.records n m)
+    plays_on n at m now = record {
+      script = w.0 ∙ ap (λ (p : Progress). p.script) view;
+      by_phases = goes_by_phases new.script new.records n at m now;
+      grows = subst (λ (p : Progress). IsFront (records_of p) (records_of (progress_of new.script new.records n m))) view
+          (grown old.script new.script old.records new.records told n phases m w.1);
+    }
 
-  pub kept : KeepsPlaces after new told place phases
-  kept = subst (λ (s : Script). KeepsPlaces s new told place phases) (sym w.same) (places_still script old new told place phases k w.on still_legal)
+    pub told_stays : take told new.records ≡ before.ended
+    told_stays = (still told old.records new.records k.told_is w.1).same ∙ ap (λ (p : Progress). p.ended) view
 
-  pub kept_next : (n count : ℕ) → n ≡ length new → phases < 4294967296 → count ≡ phase_run phases (drop place script.lines)
-      → keys_of (answers_of (drop told new)) ≡ numbers (take count (drop place script.lines)) → KeepsPlaces after new n (place + count) (phases + 1)
-  kept_next n count all room run exactly =
-      subst (λ (s : Script). KeepsPlaces s new n (place + count) (phases + 1)) (sym w.same)
-      (subst (λ (m : ℕ). KeepsPlaces script new m (place + count) (phases + 1)) (sym all)
-      (places_more script old new told place phases count k w.on still_legal room run exactly))
-
-  module _ (before : Progress) (view : progress_of script old told phases ≡ before) where
-    pub grows : (n m : ℕ) → IsFront (records_of before) (records_of (progress_of after new n m))
-    grows n m = subst (λ (p : Progress). IsFront (records_of p) (records_of (progress_of after new n m))) view (grown script after old new told n phases m w.on)
-
-    pub told_stays : take told new ≡ before.ended
-    told_stays = (still told old new k.told_is w.on).same ∙ ap (λ (p : Progress). p.ended) view
-
-    pub ends_next : (n : ℕ) (answers : Table ℕ Answer) → n ≡ length new → answers ≡ answers_of (drop told new)
-        → Ends before (progress_of after new n (phases + 1)) answers
+    pub ends_next : (n : ℕ) (answers : Table ℕ Answer) → n ≡ length new.records → answers ≡ answers_of (drop told new.records)
+        → Ends before (progress_of new.script new.records n (phases + 1)) answers
     ends_next n answers all gave =
-        subst (λ (p : Progress). Ends p (progress_of after new n (phases + 1)) answers) view
-        (subst (λ (m : ℕ). Ends (progress_of script old told phases) (progress_of after new m (phases + 1)) answers) (sym all)
-        (ends script after old new told phases answers k.told_is w.on gave))
+        subst (λ (p : Progress). Ends p (progress_of new.script new.records n (phases + 1)) answers) view
+        (subst (λ (m : ℕ). Ends (progress_of old.script old.records told phases) (progress_of new.script new.records m (phases + 1)) answers) (sym all)
+        (ends old.script new.script old.records new.records told phases answers k.told_is w.1 gave))

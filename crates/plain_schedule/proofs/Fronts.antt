@@ -4,7 +4,7 @@ use Rattle.std.proofs.lemmas.List.{take-append-drop, length-take-le}
 use Rattle.std.proofs.Math.Seq.{take-append_seam}
 use Rattle.petal_history.specs.declared.record.Record.{Record}
 use Rattle.petal_history.specs.Order.{IsFront}
-use Rattle.plain_schedule.specs.Places.{GoesOn}
+use Rattle.actor_rounds.specs.Going.{GoesOn}
 
 pub append_nil : (records : List Record) → records ++ [] ≡ records
 append_nil [] = refl

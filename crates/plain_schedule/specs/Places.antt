@@ -9,7 +9,7 @@ use Rattle.petal_history.specs.declared.record.Record.{Record}
 use Rattle.petal_rules.specs.Lists.{In}
 use Rattle.world_desks.specs.Playable.{AreOrdered}
 use Rattle.petal_history.specs.Order.{AreRising, IsFront, JoinsAnswers}
-use Rattle.plain_schedule.specs.Phases.{Progress}
+use Rattle.plain_schedule.specs.Phases.{GoesByPhases, Progress, records_of}
 
 abbrev pub numbers : List Line → List ℕ
 numbers lines = map (λ line. line.number) lines
@@ -37,6 +37,8 @@ pub record KeepsPlaces (script : Script) (records : List Record) (told place pha
   pub to_play : (line : Line) → In line (drop place script.lines) → phases ≤ line.phase
   pub small : phases ≤ 4294967296
 
--- each front of the records stays one
-abbrev pub GoesOn : (old new : List Record) → Type 0
-GoesOn old new = (front : List Record) → IsFront front old → IsFront front new
+-- what holds at each end of a call: the script is the same, the records are by phases, and they only grow
+pub record PlaysOn (old new : Progress) : Type 0 where
+  pub script : new.script ≡ old.script
+  pub by_phases : GoesByPhases new
+  pub grows : IsFront (records_of old) (records_of new)

@@ -6,11 +6,7 @@
 #![tactic(auto)]
 
 mod answers;
-mod caller;
-mod patience;
 mod playing;
-mod post;
-mod schedule;
 
 pub use answers::Answers;
 pub use playing::Playing;

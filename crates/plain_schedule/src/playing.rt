@@ -1,6 +1,7 @@
 //! A script that is played phase by phase.
 
 ghost use Rattle.std.specs.Prelude.{◌≡◌, ◌+◌, ◌≤◌, ◌<◌, [], true, false, length, take, drop, IfOk, OnErr, IfSome, IfNone};
+ghost use Rattle.actor_rounds.specs.Going.{WentOn};
 ghost use Rattle.std.specs.Map.{keys_of};
 ghost use Rattle.petal_history.specs.Legal.{IsLegal};
 ghost use Rattle.petal_history.specs.Order.{AreRising, IsFront, JoinsAnswers, all_answered};
@@ -8,10 +9,11 @@ ghost use Rattle.petal_history.specs.Sound.{IsSound};
 ghost use Rattle.petal_history.specs.Text.{answers_of};
 ghost use Rattle.world_desks.specs.Playable.{AreOrdered};
 ghost use Rattle.plain_schedule.specs.Phases.{Ends, GoesByPhases, records_of};
-ghost use Rattle.plain_schedule.specs.Places.{GoesOn, numbers, phase_run, progress_of, KeepsPlaces};
+ghost use Rattle.plain_schedule.specs.Places.{numbers, phase_run, progress_of, KeepsPlaces, PlaysOn};
 
 use crate::answers::Answers;
-use crate::schedule::Schedule;
+use actor_rounds::Rounds;
+use memory_server::{MemServer, members};
 use petal_base::NoMemory;
 use petal_history::History;
 use script_lines::{Line, Script};
@@ -22,7 +24,7 @@ use std::sync::Wait;
 /// A script in play. Contracts see the script, how many of its phases have ended, their records, and the records since.
 #[derive(Drop)]
 pub struct Playing {
-    schedule: Schedule,
+    rounds: Rounds<MemServer>,
     // How many records are of ended phases, and how many lines these answer.
     told: usize,
     place: usize,
@@ -38,9 +40,9 @@ impl Model for Playing {
 
     ghost Value = { Progress };
 
-    ghost view = { λ p. progress_of p.schedule.world.script p.schedule.world.records p.told p.phase };
+    ghost view = { λ p. progress_of p.rounds.world.script p.rounds.world.records p.told p.phase };
 
-    ghost invariant = { λ p. KeepsPlaces p.schedule.world.script p.schedule.world.records p.told p.place p.phase };
+    ghost invariant = { λ p. KeepsPlaces p.rounds.world.script p.rounds.world.records p.told p.place p.phase };
 }
 
 /// How many of the first of these lines are of the phase.
@@ -69,18 +71,18 @@ fn number_of(phase: u32) -> u64
 /// The answers of the records from this place on, where they are exactly those of the next lines.
 fn phase_answers(
     alloc: Global,
-    schedule: &Schedule,
+    rounds: &Rounds<MemServer>,
     told: usize,
     place: usize,
     count: usize,
 ) -> Result<Option<Answers>, NoMemory>
-    requires told { told ≤ length schedule.now.world.records }
-    requires lines { place + count ≤ length schedule.now.world.script.lines }
-    ensures answers { IfOk result (λ o. IfSome o (λ answers. answers ≡ answers_of (drop told schedule.now.world.records))) }
-    ensures exactly { IfOk result (λ o. IfSome o (λ answers. keys_of answers ≡ numbers (take count (drop place schedule.now.world.script.lines)))) }
+    requires told { told ≤ length rounds.now.world.records }
+    requires lines { place + count ≤ length rounds.now.world.script.lines }
+    ensures answers { IfOk result (λ o. IfSome o (λ answers. answers ≡ answers_of (drop told rounds.now.world.records))) }
+    ensures exactly { IfOk result (λ o. IfSome o (λ answers. keys_of answers ≡ numbers (take count (drop place rounds.now.world.script.lines)))) }
 {
-    let answers = Answers::of_records(alloc, &schedule.world.records()[told..])?;
-    let lines = &schedule.world.script().lines.as_slice()[place..place + count];
+    let answers = Answers::of_records(alloc, &rounds.world.records()[told..])?;
+    let lines = &rounds.world.script().lines.as_slice()[place..place + count];
     if answers.are_of(lines) {
         Ok(Some(answers))
     } else {
@@ -92,29 +94,48 @@ fn phase_answers(
 fn play_lines<R: Wait>(
     rt: &R,
     alloc: Global,
-    schedule: &mut Schedule,
+    rounds: &mut Rounds<MemServer>,
     told: usize,
     place: usize,
     count: usize,
 ) -> Result<Answers, NoMemory>
-    requires told { told ≤ length schedule.old.world.records }
-    requires lines { place + count ≤ length schedule.old.world.script.lines }
-    ensures script { schedule.new.world.script ≡ schedule.old.world.script }
-    ensures goes_on { GoesOn schedule.old.world.records schedule.new.world.records }
-    ensures answers { IfOk result (λ answers. answers ≡ answers_of (drop told schedule.new.world.records)) }
-    ensures exactly { IfOk result (λ answers. keys_of answers ≡ numbers (take count (drop place schedule.old.world.script.lines))) }
+    requires told { told ≤ length rounds.old.world.records }
+    requires lines { place + count ≤ length rounds.old.world.script.lines }
+    ensures went_on { WentOn rounds.old.world rounds.new.world }
+    ensures answers { IfOk result (λ answers. answers ≡ answers_of (drop told rounds.new.world.records)) }
+    ensures exactly { IfOk result (λ answers. keys_of answers ≡ numbers (take count (drop place rounds.old.world.script.lines))) }
 {
     let mut found = Answers::new(alloc);
     for _ in rt.forever() {
-        if schedule.is_through() {
-            if let Some(answers) = phase_answers(alloc, schedule, told, place, count)? {
+        if rounds.is_through() {
+            if let Some(answers) = phase_answers(alloc, rounds, told, place, count)? {
                 found = answers;
                 break;
             }
         }
-        schedule.round(rt, alloc)?;
+        rounds.round(rt, alloc)?;
     }
     Ok(found)
+}
+
+/// A phase begins, and is played until exactly its lines are answered, the next so many.
+fn play_phase_lines<R: Wait>(
+    rt: &R,
+    alloc: Global,
+    rounds: &mut Rounds<MemServer>,
+    phase: u32,
+    told: usize,
+    place: usize,
+    count: usize,
+) -> Result<Answers, NoMemory>
+    requires told { told ≤ length rounds.old.world.records }
+    requires lines { place + count ≤ length rounds.old.world.script.lines }
+    ensures went_on { WentOn rounds.old.world rounds.new.world }
+    ensures answers { IfOk result (λ answers. answers ≡ answers_of (drop told rounds.new.world.records)) }
+    ensures exactly { IfOk result (λ answers. keys_of answers ≡ numbers (take count (drop place rounds.old.world.script.lines))) }
+{
+    rounds.begin(phase, count)?;
+    play_lines(rt, alloc, rounds, told, place, count)
 }
 
 impl Playing {
@@ -127,8 +148,9 @@ impl Playing {
         ensures start { IfOk result (λ playing. playing ≡ record { script = script; phases = 0; ended = []; since = [] }) }
         ensures by_phases { IfOk result (λ playing. GoesByPhases playing) }
     {
+        let members = members(alloc, &script)?;
         Ok(Playing {
-            schedule: Schedule::new(alloc, script)?,
+            rounds: Rounds::new(alloc, script, members)?,
             told: 0,
             place: 0,
             phase: 0,
@@ -136,17 +158,27 @@ impl Playing {
         })
     }
 
+    // The phase of the first line that has no answer.
+    fn next_phase(&self) -> Option<u64>
+        ensures some { IfSome result (λ phase. (self.now.phases ≤ phase) × (phase < 4294967296)) }
+        ensures none { IfNone result (all_answered (answers_of self.now.ended) self.now.script.lines ≡ true) }
+    {
+        match self.rounds.world.script().lines.as_slice().get(self.place) {
+            Some(line) => Some(number_of(line.phase)),
+            None => None,
+        }
+    }
+
     // Whether no phase is left, and no line.
     fn is_over(&self) -> bool
         ensures over { result ≡ true → all_answered (answers_of self.now.ended) self.now.script.lines ≡ true }
         ensures next { result ≡ false → self.now.phases < 4294967296 }
     {
-        let script = self.schedule.world.script();
-        if self.phase < u64::from(script.phases) {
+        if self.phase < u64::from(self.rounds.world.script().phases) {
             return false;
         }
-        match script.lines.as_slice().get(self.place) {
-            Some(line) => self.phase > number_of(line.phase),
+        match self.next_phase() {
+            Some(_) => false,
             None => true,
         }
     }
@@ -154,17 +186,22 @@ impl Playing {
     // The next phase is played.
     fn play_next<R: Wait>(&mut self, rt: &R, alloc: Global) -> Result<Answers, NoMemory>
         requires next { self.old.phases < 4294967296 }
-        ensures script { self.new.script ≡ self.old.script }
-        ensures by_phases { GoesByPhases self.new }
-        ensures grows { IsFront (records_of self.old) (records_of self.new) }
+        ensures plays_on { PlaysOn self.old self.new }
         ensures ends { IfOk result (λ answers. Ends self.old self.new answers) }
         ensures no_memory { OnErr result (self.new.ended ≡ self.old.ended) }
     {
-        let lines = self.schedule.world.script().lines.as_slice();
+        let lines = self.rounds.world.script().lines.as_slice();
         let count = lines_of_phase(&lines[self.place..], self.phase);
-        self.schedule.begin(self.phase as u32, count)?;
-        let played = play_lines(rt, alloc, &mut self.schedule, self.told, self.place, count);
-        let told = self.schedule.world.records().len();
+        let played = play_phase_lines(
+            rt,
+            alloc,
+            &mut self.rounds,
+            self.phase as u32,
+            self.told,
+            self.place,
+            count,
+        );
+        let told = self.rounds.world.records().len();
         match played {
             Ok(answers) => {
                 self.told = told;
@@ -216,6 +253,6 @@ impl Playing {
         ensures value { result ≡ record { records = records_of self } }
         ensures legal { IsLegal self.script (records_of self) }
     {
-        self.schedule.world.into_history()
+        self.rounds.world.into_history()
     }
 }

@@ -16,12 +16,13 @@ use Rattle.busy_marks.specs.declared.marks.MarkKind.{MarkKind}
 use Rattle.busy_marks.specs.declared.marks.MarkKind.TheVariants.{Busy, Stale}
 use Rattle.busy_marks.specs.Marks.{above, has_mark, kind_rank, lesser, mark_cmp, next_marked, next_marked_map, same_kind, same_mark}
 use Rattle.busy_marks.proofs.Orders.{before}
+use Rattle.petal_command.proofs.Equal.{both_left, both_right, number_self}
 use Rattle.petal_msg.specs.declared.dead.Dead.{Dead}
 use Rattle.petal_msg.specs.declared.dead.Dead.TheVariants as dead
 use Rattle.petal_rules.specs.State.{State, live}
 use Rattle.petal_rules.specs.Sweeping.{dead_mark}
 use Rattle.redistribute.specs.Swept.{dead_marks, first_kind, first_marked}
-use Rattle.redistribute.proofs.Marked.{both_first, both_second, fewer, hit_least, hits, least, left, low, Past, walk_hit, walk_none, walk_on}
+use Rattle.redistribute.proofs.Marked.{fewer, hit_least, hits, least, left, low, Past, walk_hit, walk_none, walk_on}
 
 abbrev pub block_of : Mark → ℕ
 block_of m = m.cell.block
@@ -64,6 +65,15 @@ first_on ms map block on_map on_block =
 pub none_on : (ms : List Mark) → next_marked_map None ms ≡ None → first_marked ms ≡ None
 none_on ms none = ap (option_and_then (λ (n : ℕ). option_map (λ (b : ℕ). record { map = n; block = b }) (next_marked n None ms))) none
 
+-- a mark of another block, and one of another map, count for nothing
+later : (a b : Bool) {is : Bool} → b ≡ is → ((a && false) || b) ≡ is
+later true b same = same
+later false b same = same
+
+later_on : (a c b : Bool) {is : Bool} → b ≡ is → (((a && false) && c) || b) ≡ is
+later_on true c b same = same
+later_on false c b same = same
+
 module _ (alive : Cell → Bool) where
   abbrev gone : Mark → Bool
   gone m = not (alive m.cell)
@@ -94,7 +104,7 @@ module _ (alive : Cell → Bool) where
   -- ### From block to block
 
   narrow_on : (map : ℕ) (m : Mark) → dead_on map m ≡ true → on map m ≡ true
-  narrow_on map m is = both_second (gone m) (m.cell.map == map) is
+  narrow_on map m is = both_right (gone m) (m.cell.map == map) is
 
   same_cell : (c : Cell) (map block : ℕ) → (c.map == map) ≡ true → (c.block == block) ≡ true → c ≡ record { map = map; block = block }
   same_cell c map block e f =
@@ -115,14 +125,6 @@ module _ (alive : Cell → Bool) where
     ]
     | inr other ↦ rw other (later_on (gone m) (m.cell.block == block) (hits block_of (dead_on map) block ms) (hit_dead map block ms dies (rw other at hit)))
   ]
-    where
-      later : (a b : Bool) → b ≡ true → ((a && false) || b) ≡ true
-      later true b is = is
-      later false b is = is
-
-      later_on : (a c b : Bool) → b ≡ true → (((a && false) && c) || b) ≡ true
-      later_on true c b is = is
-      later_on false c b is = is
 
   miss_dead : (map block : ℕ) (ms : List Mark) → alive (record { map = map; block = block }) ≡ true → hits block_of (dead_on map) block ms ≡ false
   miss_dead map block [] lives = refl
@@ -135,14 +137,6 @@ module _ (alive : Cell → Bool) where
     ]
     | inr other ↦ rw other (later_on (gone m) (m.cell.block == block) (hits block_of (dead_on map) block ms) (miss_dead map block ms lives))
   ]
-    where
-      later : (a b : Bool) → b ≡ false → ((a && false) || b) ≡ false
-      later true b is = is
-      later false b is = is
-
-      later_on : (a c b : Bool) → b ≡ false → (((a && false) && c) || b) ≡ false
-      later_on true c b is = is
-      later_on false c b is = is
 
   pub block_none : (map : ℕ) (after : Option ℕ) (ms : List Mark) → next_marked map after ms ≡ None → next_marked map after (dying ms) ≡ None
   block_none map after ms is =
@@ -236,19 +230,16 @@ past_map m (k ∷ ms) behind = ((λ _. le_of m.cell.map k.cell.map (before m k b
 past_block : (m : Mark) (ms : List Mark) → Behind m ms → Past block_of (on m.cell.map) None m.cell.block ms
 past_block m [] behind = tt
 past_block m (k ∷ ms) behind =
-    ((λ is. le_of m.cell.block k.cell.block ((before m k behind.0).1 (both_first (k.cell.map == m.cell.map) true is))), past_block m ms behind.1)
+    ((λ is. le_of m.cell.block k.cell.block ((before m k behind.0).1 (both_left (k.cell.map == m.cell.map) true is))), past_block m ms behind.1)
 
 -- the first mark is on the least map that has one
 first_map : (m : Mark) (ms : List Mark) → Behind m ms → next_marked_map None (m ∷ ms) ≡ Some m.cell.map
 first_map m ms behind = map_least None (m ∷ ms) ∙ low map_of any None m.cell.map ms (past_map m ms behind)
 
-itself : (n : ℕ) → (n == n) ≡ true
-itself n = grind (arith, nat_tests)
-
 -- and on the least block of that map
 first_block : (m : Mark) (ms : List Mark) → Behind m ms → next_marked m.cell.map None (m ∷ ms) ≡ Some m.cell.block
 first_block m ms behind =
-    rw (itself m.cell.map)
+    rw (number_self m.cell.map)
     (ap (λ (o : Option ℕ). lesser (Some m.cell.block) o) (block_least m.cell.map None ms)
     ∙ low block_of (on m.cell.map) None m.cell.block ms (past_block m ms behind))
 
@@ -271,8 +262,8 @@ none_busy m (k ∷ ms) behind = rw (not_busy m.cell k.cell m.kind k.kind behind.
 
 -- and is the first of its cell
 kind_is : (m : Mark) (ms : List Mark) → Behind m ms → first_kind (m ∷ ms) m.cell ≡ m.kind
-kind_is m ms behind = kind_by m.kind (m.cell.map == m.cell.map) (m.cell.block == m.cell.block) (has_mark (busy_at m.cell) ms) (itself m.cell.map)
-    (itself m.cell.block) (none_busy m ms behind)
+kind_is m ms behind = kind_by m.kind (m.cell.map == m.cell.map) (m.cell.block == m.cell.block) (has_mark (busy_at m.cell) ms) (number_self m.cell.map)
+    (number_self m.cell.block) (none_busy m ms behind)
   where
     kind_by : (kind : MarkKind) (a b c : Bool) → a ≡ true → b ≡ true → c ≡ false → (if (same_kind kind Busy && a && b) || c then Busy else Stale) ≡ kind
     kind_by Busy a b c e f g = rw (e, f) refl
@@ -281,9 +272,9 @@ kind_is m ms behind = kind_by m.kind (m.cell.map == m.cell.map) (m.cell.block ==
 module _ (alive : Cell → Bool) where
   dead_here : (m : Mark) (cell : Cell) → same_mark m (busy_at cell) ≡ true → alive cell ≡ false → alive m.cell ≡ false
   dead_here m cell is dies =
-      let front = both_first (same_kind m.kind Busy && m.cell.map == cell.map) (m.cell.block == cell.block) is in
-      let own = both_second (same_kind m.kind Busy) (m.cell.map == cell.map) front in
-      let here = both_second (same_kind m.kind Busy && m.cell.map == cell.map) (m.cell.block == cell.block) is in
+      let front = both_left (same_kind m.kind Busy && m.cell.map == cell.map) (m.cell.block == cell.block) is in
+      let own = both_right (same_kind m.kind Busy) (m.cell.map == cell.map) front in
+      let here = both_right (same_kind m.kind Busy && m.cell.map == cell.map) (m.cell.block == cell.block) is in
       ap alive (same_cell alive m.cell cell.map cell.block own here) ∙ dies
 
   -- of a dead cell the marks of dead cells are all marks

@@ -1,5 +1,5 @@
 -- What is left of a link, and what is sent of it.
-use Rattle.std.proofs.Common.{◌≡◌, ℕ, Bool, true, false, cond, List, [], Option, Some, None, option_map, refl, sym, ap, ◌∙◌}
+use Rattle.std.proofs.Common.{◌≡◌, ℕ, cond, List, [], Option, Some, None, option_map, refl, sym, ap, ◌∙◌}
 use Rattle.std.specs.Prelude.{option_and_then}
 use Rattle.std.specs.Ordering.{nat_cmp, is_eq}
 use Rattle.std.specs.Cmp.{tied_itself}
@@ -7,13 +7,13 @@ use Rattle.global_tables.specs.declared.link.LinkRow.{LinkRow}
 use Rattle.petal_base.specs.declared.cell.Cell.{Cell}
 use Rattle.petal_base.specs.declared.cell.Key.{Key}
 use Rattle.petal_base.specs.Cells.{cell_of, key_at}
-use Rattle.petal_table.specs.Table.{Table, at, put}
+use Rattle.petal_table.specs.Table.{at, put}
 use Rattle.petal_table.proofs.Rows.{at-put}
-use Rattle.petal_rules.specs.Fills.{fill_left, fill_of, fills_row, goes_behind, next_fill, region_to_move, sends_key, sends_moving}
+use Rattle.petal_rules.specs.Fills.{fill_left, fill_of, goes_behind, next_fill, region_to_move, sends_key, sends_moving}
 use Rattle.petal_msg.specs.declared.body.Body.TheVariants as body
 use Rattle.petal_rules.specs.Server.{Here, Own, post_to}
 use Rattle.petal_rules.specs.State.{State, id_of, lead, link_cmp}
-use Rattle.petal_rules.specs.Store.{Chain, Stored, chain_in}
+use Rattle.petal_rules.specs.Store.{Stored, chain_in}
 use Rattle.petal_state.specs.CellState.{target}
 use Rattle.pair_side.specs.Letters.{posts_of}
 use Rattle.pair_side.proofs.ByLink.{link_cmp_total}

@@ -3,12 +3,12 @@ use Rattle.std.proofs.Common.{◌≡◌, ◌⊎◌, inl, inr, ℕ, ◌<◌, ◌-
 use Rattle.std.proofs.Common.{option_map, Option, Some, None, refl, sym, subst, ap, ◌∙◌, arith}
 use Rattle.std.proofs.lemmas.Bool.{cases_Bool}
 use Rattle.std.proofs.lemmas.Bool.Decides.{nat_tests}
-use Rattle.std.specs.Prelude.{if◌then◌else◌}
 use Rattle.global_tables.specs.Region.{region_of}
 use Rattle.global_tables.specs.declared.link.LinkRow.{LinkRow}
 use Rattle.petal_base.specs.declared.cell.Cell.{Cell}
 use Rattle.petal_base.specs.declared.cell.Key.{Key}
 use Rattle.petal_base.specs.Cells.{cell_of}
+use Rattle.petal_command.proofs.Equal.{both_left, both_right}
 use Rattle.petal_rules.specs.Fills.{comes_before, comes_next, earlier, first_key}
 use Rattle.petal_rules.specs.State.{State, is_on}
 use Rattle.physical_map.specs.declared.entry.Entry.{Entry}
@@ -20,14 +20,6 @@ use Rattle.kept_chains.proofs.InOrder.{cell_in}
 use Rattle.pair_side.proofs.Linked.{on_map}
 use Rattle.redistribute.specs.Next.{first_left, is_left, is_of, last_left, next_after, none_below, or_key}
 use Rattle.redistribute.proofs.Flat.{keys_are}
-
-both_first : (a b : Bool) → (a && b) ≡ true → a ≡ true
-both_first true b is = refl
-both_first false b is = is
-
-both_second : (a b : Bool) → (a && b) ≡ true → b ≡ true
-both_second true b is = is
-both_second false b is = absurd (cc)
 
 abbrev own : Key → Key
 own key = key
@@ -57,8 +49,8 @@ module _ (state : State) (row : LinkRow) (region : ℕ) (last : Option Key) wher
 
   ruled_yes : (x : Key) (xs : List Key) → left x ≡ true → ruled (x ∷ xs) ≡ Some (earlier x (ruled xs))
   ruled_yes x xs is =
-      let kept : keep (cell_of x) ≡ true = both_first (keep (cell_of x)) (comes_next region last x) is in
-      let next : comes_next region last x ≡ true = both_second (keep (cell_of x)) (comes_next region last x) is in
+      let kept : keep (cell_of x) ≡ true = both_left (keep (cell_of x)) (comes_next region last x) is in
+      let next : comes_next region last x ≡ true = both_right (keep (cell_of x)) (comes_next region last x) is in
       rw (kept, next) refl
 
   ruled_no : (x : Key) (xs : List Key) → left x ≡ false → ruled (x ∷ xs) ≡ ruled xs
@@ -147,9 +139,9 @@ module _ (state : State) (row : LinkRow) (region : ℕ) (last : Option Key) wher
 
   left_map : (cell : Cell) (k : Key) → keep cell ≡ true → left k ≡ true → k.map ≡ cell.map
   left_map cell k kept is =
-      let here = both_first (keep (cell_of k)) (comes_next region last k) is in
-      on_map state row (cell_of k) (both_first (is_on state row (cell_of k)) (region_of k.block == region) here)
-      ∙ sym (on_map state row cell (both_first (is_on state row cell) (region_of cell.block == region) kept))
+      let here = both_left (keep (cell_of k)) (comes_next region last k) is in
+      on_map state row (cell_of k) (both_left (is_on state row (cell_of k)) (region_of k.block == region) here)
+      ∙ sym (on_map state row cell (both_left (is_on state row cell) (region_of cell.block == region) kept))
 
   later_past : (cell : Cell) (k : Key) (ks : List Key) → keep cell ≡ true → key_below k (first_of cell) ≡ false → in_cell cell k ≡ false → IsAbove own k ks
       → AllLeft (λ j. cell.block < j.block) ks
@@ -257,7 +249,7 @@ module _ (state : State) (row : LinkRow) (region : ℕ) (last : Option Key) wher
   more : (x f : Key) (xs : List Key) → left x ≡ false → left f ≡ true → last_in (cell_of f) xs ≡ last_in (cell_of f) (x ∷ xs)
   more x f xs lacks has = elim (cases_Bool (in_cell (cell_of f) x)) [
     | inl here ↦
-        let kept = both_first (keep (cell_of f)) (comes_next region last f) has in
+        let kept = both_left (keep (cell_of f)) (comes_next region last f) has in
         let not : comes_next region last x ≡ false = sym (left_in (cell_of f) x kept here) ∙ lacks in
         sym (last_own (cell_of f) x xs here ∙ ap (λ b. or_key (last_in (cell_of f) xs) b x) not ∙ or_same (last_in (cell_of f) xs) x)
     | inr out ↦ sym (last_other (cell_of f) x xs out)
@@ -270,7 +262,7 @@ module _ (state : State) (row : LinkRow) (region : ℕ) (last : Option Key) wher
   first_split : (x : Key) (xs : List Key) → left x ≡ true → Split (cell_of x) (x ∷ xs) → in_cell (cell_of x) x ≡ true
       → ruled (x ∷ xs) ≡ last_in (cell_of x) (x ∷ xs)
   first_split x xs has parts here =
-      let next = both_second (keep (cell_of x)) (comes_next region last x) has in
+      let next = both_right (keep (cell_of x)) (comes_next region last x) has in
       let lasts : last_in (cell_of x) (x ∷ xs) ≡ or_key (last_in (cell_of x) xs) true x =
       last_own (cell_of x) x xs here ∙ ap (λ b. or_key (last_in (cell_of x) xs) b x) next in
       elim parts [
@@ -285,7 +277,7 @@ module _ (state : State) (row : LinkRow) (region : ℕ) (last : Option Key) wher
   first_is [] order = refl
   first_is (x ∷ xs) order = elim (cases_Bool (left x)) [
     | inl has ↦
-        let kept = both_first (keep (cell_of x)) (comes_next region last x) has in
+        let kept = both_left (keep (cell_of x)) (comes_next region last x) has in
         first_split x xs has (split (cell_of x) kept (x ∷ xs) order (from_own x, all_from x xs order.0)) (in_own x)
         ∙ ap (λ b. found (cond b (Some x) (find left xs)) (x ∷ xs)) (sym has)
     | inr lacks ↦
@@ -332,11 +324,11 @@ module _ (state : State) (row : LinkRow) (region : ℕ) (last : Option Key) wher
 
   left_there : (k : Key) → left k ≡ true → (k.map == row.map && above (none_below region last) k.block) ≡ true
   left_there k is =
-      let kept = both_first (keep (cell_of k)) (comes_next region last k) is in
-      let here = both_second (is_on state row (cell_of k)) (region_of k.block == region) kept in
-      let same : k.map ≡ row.map = on_map state row (cell_of k) (both_first (is_on state row (cell_of k)) (region_of k.block == region) kept) in
+      let kept = both_left (keep (cell_of k)) (comes_next region last k) is in
+      let here = both_right (is_on state row (cell_of k)) (region_of k.block == region) kept in
+      let same : k.map ≡ row.map = on_map state row (cell_of k) (both_left (is_on state row (cell_of k)) (region_of k.block == region) kept) in
       let of_map : (k.map == row.map) ≡ true = grind (arith, nat_tests, same) in
-      rw of_map (left_above last k here (both_second (keep (cell_of k)) (comes_next region last k) is))
+      rw of_map (left_above last k here (both_right (keep (cell_of k)) (comes_next region last k) is))
 
   find_part : (es : List Entry) → find (λ (e : Entry). left e.key) (map_entries row.map (none_below region last) es) ≡ find (λ (e : Entry). left e.key) es
   find_part [] = refl
@@ -355,8 +347,7 @@ module _ (state : State) (row : LinkRow) (region : ℕ) (last : Option Key) wher
     | inr out ↦ rw out (last_is cell es)
   ]
 
-  -- what the rule finds in the chains is what is found among the entries
-  pub next_is : (es : List Held) → IsInOrder key_held es
+  next_is : (es : List Held) → IsInOrder key_held es
       → next_after state row region last (chains_of es)
       ≡ found (first_left state row region last (map_entries row.map (none_below region last) (listed es))) (map key_of (listed es))
   next_is es order =
@@ -365,3 +356,11 @@ module _ (state : State) (row : LinkRow) (region : ℕ) (last : Option Key) wher
       ∙ first_is (map key_held es) (order_keys es order)
       ∙ ap (λ (l : List Key). found (find left l) l) (keys_listed es)
       ∙ ap (λ (o : Option Key). found o ks) (sym (ap (option_map key_of) (find_part (listed es)) ∙ find_keys (listed es)))
+
+  -- what is found from the first one of these entries on is what the rule finds in the chains
+  pub next_found : (es : List Held) → IsInOrder key_held es → (below : Option ℕ) (part : List Entry) (first : Option Key) → below ≡ none_below region last
+      → part ≡ map_entries row.map below (listed es) → first ≡ first_left state row region last part
+      → found first (map key_of (listed es)) ≡ next_after state row region last (chains_of es)
+  next_found es order below part first bound lent is =
+      let whole = is ∙ ap (first_left state row region last) (lent ∙ ap (λ (o : Option ℕ). map_entries row.map o (listed es)) bound) in
+      ap (λ (o : Option Key). found o (map key_of (listed es))) whole ∙ sym (next_is es order)

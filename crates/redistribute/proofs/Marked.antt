@@ -7,14 +7,7 @@ use Rattle.std.specs.Prelude.{if◌then◌else◌}
 use Rattle.std.specs.List.{list_any}
 use Rattle.busy_marks.specs.declared.marks.Mark.{Mark}
 use Rattle.busy_marks.specs.Marks.{above, lesser}
-
-pub both_first : (a b : Bool) → (a && b) ≡ true → a ≡ true
-both_first true b is = refl
-both_first false b is = absurd (cc)
-
-pub both_second : (a b : Bool) → (a && b) ≡ true → b ≡ true
-both_second true b is = is
-both_second false b is = absurd (cc)
+use Rattle.petal_command.proofs.Equal.{both, both_left, both_right}
 
 -- the lesser of two numbers that are not below a third one
 lesser_over : (n k : ℕ) (o : Option ℕ) → ((j : ℕ) → lesser (Some k) o ≡ Some j → n ≤ j) → (n ≤ k) × ((j : ℕ) → o ≡ Some j → n ≤ j)
@@ -71,7 +64,7 @@ module _ (num : Mark → ℕ) where
   least_up : (own : Mark → Bool) (after : Option ℕ) (n : ℕ) (ms : List Mark) → least own after ms ≡ Some n → above after n ≡ true
   least_up own after n [] is = absurd (cc)
   least_up own after n (m ∷ ms) is = elim (cases_Bool (own m && above after (num m))) [
-    | inl counts ↦ up_joined after (num m) n (least own after ms) (both_second (own m) (above after (num m)) counts)
+    | inl counts ↦ up_joined after (num m) n (least own after ms) (both_right (own m) (above after (num m)) counts)
         (λ j some. least_up own after j ms some) (rw counts at is)
     | inr out ↦ least_up own after n ms (rw out at is)
   ]
@@ -101,7 +94,7 @@ module _ (num : Mark → ℕ) where
   hit_least own after n [] is = absurd (cc)
   hit_least own after n (m ∷ ms) is = elim (cases_Bool (own m && above after (num m))) [
     | inl counts ↦
-        hit_joined own n m ms (least own after ms) (both_first (own m) (above after (num m)) counts) (λ j some. hit_least own after j ms some) (rw counts at is)
+        hit_joined own n m ms (least own after ms) (both_left (own m) (above after (num m)) counts) (λ j some. hit_least own after j ms some) (rw counts at is)
     | inr out ↦ or_true (own m && (num m == n)) (hits own n ms) (hit_least own after n ms (rw out at is))
   ]
 
@@ -135,9 +128,9 @@ module _ (num : Mark → ℕ) where
         ]
     | inr later ↦
         let here : (own m && (num m == n)) ≡ true = only_first (own m && (num m == n)) (hits own n ms) hit later in
-        let same : num m ≡ n = (let e = both_second (own m) (num m == n) here in grind (arith, nat_tests, e)) in
+        let same : num m ≡ n = (let e = both_right (own m) (num m == n) here in grind (arith, nat_tests, e)) in
         let counts : (own m && above after (num m)) ≡ true =
-        both (own m) (above after (num m)) (both_first (own m) (num m == n) here) (ap (above after) same ∙ up) in
+        both (own m) (above after (num m)) (both_left (own m) (num m == n) here) (ap (above after) same ∙ up) in
         rw counts (ap (λ k. lesser (Some k) (least own after ms)) same ∙ low own after n ms past.1)
   ]
     where
@@ -145,17 +138,13 @@ module _ (num : Mark → ℕ) where
       only_first true b is out = refl
       only_first false b is out = absurd (let e : true ≡ false = sym is ∙ out in cc)
 
-      both : (a b : Bool) → a ≡ true → b ≡ true → (a && b) ≡ true
-      both true b has is = is
-      both false b has is = absurd (cc)
-
   -- what passes the stricter test passes the other one
   abbrev pub Narrower : (Mark → Bool) → (Mark → Bool) → Type 0
   Narrower few own = (m : Mark) → few m ≡ true → own m ≡ true
 
   narrow : (few own : Mark → Bool) → Narrower few own → (m : Mark) (b : Bool) → (few m && b) ≡ true → (own m && b) ≡ true
-  narrow few own narrower m true is = (let has = narrower m (both_first (few m) true is) in rw has refl)
-  narrow few own narrower m false is = absurd (let no : false ≡ true = both_second (few m) false is in cc)
+  narrow few own narrower m true is = (let has = narrower m (both_left (few m) true is) in rw has refl)
+  narrow few own narrower m false is = absurd (let no : false ≡ true = both_right (few m) false is in cc)
 
   past_few : (few own : Mark → Bool) → Narrower few own → (after : Option ℕ) (n : ℕ) (ms : List Mark) → Past own after n ms → Past few after n ms
   past_few few own narrower after n [] past = tt

@@ -1,28 +1,35 @@
 -- What the second server does.
-use Rattle.std.proofs.Common.{◌≡◌, ℕ, ◌+◌, Bool, true, false, List, Some, None, Ok, refl, sym, ap, ◌∙◌}
+use Rattle.std.proofs.Common.{◌≡◌, ℕ, ◌+◌, Bool, true, false, List, Some, None, Result, Ok, Err, refl, sym, subst, ap, ◌∙◌}
 use Rattle.std.specs.Prelude.{if◌then◌else◌}
 use Rattle.std.specs.List.Sorted.{IsStrictlySortedBy}
 use Rattle.std.specs.Map.{keys_of}
 use Rattle.petal_base.specs.declared.cell.Cell.{Cell}
 use Rattle.petal_base.specs.declared.cell.Key.{Key}
+use Rattle.petal_base.specs.Cells.{cell_of}
+use Rattle.petal_disk.specs.declared.disk.Disk.{Ghosts}
 use Rattle.petal_table.specs.Table.{Table, at, put, without}
 use Rattle.petal_msg.specs.declared.body.Body.TheVariants as body
 use Rattle.petal_msg.specs.declared.letter.Letter.{Letter}
 use Rattle.petal_msg.specs.declared.operation.Far.TheVariants as far
 use Rattle.petal_msg.specs.declared.operation.LastOp.{LastOp}
+use Rattle.petal_msg.specs.declared.operation.Pending.{Pending}
 use Rattle.petal_rules.specs.State.{first, is_second}
 use Rattle.petal_rules.specs.Server.{Own, Here, Done, silent, says_to, sender, letters_of, post_to}
 use Rattle.petal_rules.specs.Store.{Store, cell_cmp, chain_in, version_of, with_entry}
-use Rattle.petal_rules.specs.Writes.{hears_reserve, last_on, on_reserve, reserves, tells, with_last}
+use Rattle.petal_rules.specs.Writes.{follows, hears_reserve, last_on, on_reserve, reserves, tells, with_last}
 use Rattle.petal_rules.proofs.CellTables.{cell_cmp_total}
 use Rattle.server_store.specs.Holdings.{Holdings}
 use Rattle.server_store.specs.Tickets as lists
 use Rattle.kept_chains.specs.Kept.{chains_of, store_of}
 use Rattle.kept_chains.proofs.Puts.{without_new}
 use Rattle.pair_side.specs.declared.done.Done.{Done as Left}
+use Rattle.pair_side.specs.declared.error.WorkError.{WorkError}
+use Rattle.pair_side.specs.declared.error.WorkError.TheVariants.{NoMemory}
 use Rattle.pair_side.specs.Side.{Side, HasTickets, HasTicketsAt, needs_apart, own_of, pairs_of}
-use Rattle.pair_side.specs.Done.{IsBy, IsSaid, only}
+use Rattle.pair_side.specs.Done.{IsBy, IsDone, IsSaid, only}
 use Rattle.pair_side.specs.Slots.{IsKept}
+use Rattle.pair_side.proofs.Said.{all_same}
+use Rattle.pair_side.proofs.Tickets.{kept_followed}
 use Rattle.pair_side.proofs.Tickets as tickets
 
 abbrev pub reserved : ℕ → LastOp
@@ -56,9 +63,6 @@ module _ {D : Type 0} (here : Here) (side : Side) (store : Holdings D) (cell : C
   apart_none : needs_apart (at cell_cmp side.last cell) ≡ false → at cell_cmp side.apart cell ≡ None
   apart_none has = tickets.apart_none side.pending side.last side.own side.apart store.tickets h cell has
 
-  pub apart_slot : needs_apart (at cell_cmp side.last cell) ≡ true → (slot : ℕ) × (at cell_cmp side.apart cell ≡ Some slot)
-  apart_slot has = tickets.apart_slot side.pending side.last side.own side.apart store.tickets h cell has
-
   pub anew_is : (last : Table Cell LastOp) (apart : Table Cell ℕ) (after : Holdings D) (letters : List Letter) (room : Bool)
       → needs_apart (at cell_cmp side.last cell) ≡ false → room ≡ true → IsKept side.apart apart store after cell
       → last ≡ put cell_cmp side.last cell (reserved number)
@@ -82,10 +86,19 @@ module _ {D : Type 0} (here : Here) (side : Side) (store : Holdings D) (cell : C
         store = refl;
       })
 
-  pub apart_back : (apart back : Table Cell ℕ) (slot : ℕ) → needs_apart (at cell_cmp side.last cell) ≡ false
+  apart_back : (apart back : Table Cell ℕ) (slot : ℕ) → needs_apart (at cell_cmp side.last cell) ≡ false
       → apart ≡ put cell_cmp side.apart cell slot → back ≡ without cell_cmp apart cell → back ≡ side.apart
   apart_back apart back slot has is gone =
       gone ∙ ap (λ (t : Table Cell ℕ). without cell_cmp t cell) is ∙ without_new cell_cmp cell_cmp_total side.apart cell slot (apart_none has)
+
+  -- where memory is short the slot is given back
+  pub refused_is : (last : Table Cell LastOp) (apart back : Table Cell ℕ) (after : Holdings D) (slot : ℕ) (rule : Done)
+      → needs_apart (at cell_cmp side.last cell) ≡ false → last ≡ side.last → apart ≡ put cell_cmp side.apart cell slot
+      → back ≡ without cell_cmp apart cell → after ≡ store
+      → IsSaid here side (record side { last = last; apart = back }) store after (Err NoMemory) rule
+  refused_is last apart back after slot rule has same is gone held =
+      let back_is = apart_back apart back slot has is gone in
+      all_same here side (record side { last = last; apart = back }) store after rule (λ i. record side { last = same i; apart = back_is i }) held
 
   pub follows_done : (key : Key) (bytes : List ℕ) (last : Table Cell LastOp) (apart : Table Cell ℕ) (after : Holdings D) (version : ℕ) (done : Left)
       → last ≡ put cell_cmp side.last cell (replicated number)
@@ -106,11 +119,20 @@ module _ {D : Type 0} (here : Here) (side : Side) (store : Holdings D) (cell : C
         jobs = refl;
       })
 
-  pub follows_keeps : (last : Table Cell LastOp) (apart : Table Cell ℕ) (slot : ℕ) (left : List ℕ) → last ≡ put cell_cmp side.last cell (replicated number)
-      → IsStrictlySortedBy cell_cmp (keys_of side.apart) → at cell_cmp side.apart cell ≡ Some slot → apart ≡ without cell_cmp side.apart cell
-      → left ≡ lists.without store.tickets slot → HasTickets side.pending last side.own apart left
-  follows_keeps last apart slot left table sorted has gone less =
-      rw (table, gone, less) (tickets.kept_followed side.pending side.last side.own side.apart store.tickets h cell (replicated number) slot sorted has refl)
+  -- the cell of a key, where it has a name of its own
+  pub at_key : (device : Ghosts D) (new : Side) (after : Holdings D) (answer : Result Left WorkError) (key : Key) (bytes : List ℕ) → cell ≡ cell_of key
+      → IsDone device here side new store after answer (follows_in here (own_of side store) number key bytes cell)
+      → IsDone device here side new store after answer (follows here (own_of side store) number key bytes)
+  at_key device new after answer key bytes is done =
+      subst (λ (c : Cell). IsDone device here side new store after answer (follows_in here (own_of side store) number key bytes c)) is done
+
+-- the tickets once the copy is put in its slot
+pub follows_keeps : (pending : Table Cell Pending) (was last : Table Cell LastOp) (own before apart : Table Cell ℕ) (tickets left : List ℕ) (cell : Cell)
+    (number slot : ℕ) → HasTickets pending was own before tickets → last ≡ put cell_cmp was cell (replicated number)
+    → IsStrictlySortedBy cell_cmp (keys_of before) → at cell_cmp before cell ≡ Some slot → apart ≡ without cell_cmp before cell
+    → left ≡ lists.without tickets slot → HasTickets pending last own apart left
+follows_keeps pending was last own before apart tickets left cell number slot h table sorted has gone less =
+    rw (table, gone, less) (kept_followed pending was own before tickets h cell (replicated number) slot sorted has refl)
 
 pub reserve_is : (here : Here) (own : Own) (number : ℕ) (cell : Cell) (last : LastOp) → is_second here.state here.me cell ≡ true
     → at cell_cmp own.pairs.last cell ≡ Some last → hears_reserve here own cell number (Some last) ≡ on_reserve here own number cell

@@ -2,9 +2,9 @@
 use Rattle.std.proofs.Common.{◌≡◌, ◌⊎◌, ◌≤◌, ◌<◌, ◌==◌, nat_lt, Ok, ℕ, ◌+◌, Bool, false, List, [], ◌∷◌, length, length-append}
 use Rattle.std.proofs.Common.{if◌then◌else◌, inl, inr, refl, sym, ap, subst, ◌∙◌, arith}
 use Rattle.std.proofs.lemmas.Bool.Decides.{nat_tests}
-use Rattle.log_side.proofs.States.{rev_counts}
+use Rattle.log_memory.proofs.States.{rev_counts}
 use Rattle.log_side.specs.Done.{HoldsAt}
-use Rattle.log_side.specs.Part.{sender_of}
+use Rattle.log_memory.specs.Part.{sender_of}
 use Rattle.petal_command.specs.declared.command.Command.{Command}
 use Rattle.petal_disk.specs.Disk.{LeavesOnly}
 use Rattle.petal_disk.specs.declared.disk.Disk.{Ghosts}
@@ -23,9 +23,9 @@ use Rattle.petal_rules.specs.Server.{Here, Sender, Server, letters_of}
 use Rattle.petal_rules.specs.Store.{Store}
 use Rattle.petal_rules.specs.declared.step.WorkEnd.TheVariants.{Done}
 use Rattle.server_core.specs.Boots.{IsBoot, booted, raised_records, shut}
-use Rattle.server_core.specs.Core.{Core, acted, here_in, server_of}
-use Rattle.server_core.proofs.Rooms.{few_records}
-use Rattle.server_core.proofs.Works.{few}
+use Rattle.server_work.specs.Core.{Core, acted, here_in, server_of}
+use Rattle.server_work.proofs.Rooms.{few_records}
+use Rattle.server_work.proofs.Works.{few}
 use Rattle.state_store.specs.Device.{Keeping, StandsForEither, WithOrWithout}
 
 -- a record of a greater incarnation is needed

@@ -1,5 +1,5 @@
 -- Entries that are read after others.
-use Rattle.std.proofs.Common.{◌≡◌, ◌≤◌, ◌<◌, Result, ap, ◌∙◌, arith}
+use Rattle.std.proofs.Common.{◌≤◌, ◌<◌, Result, ap, ◌∙◌, arith}
 use Rattle.petal_disk.specs.declared.disk.Disk.{Ghosts}
 use Rattle.petal_disk.proofs.Keeping.{keeps_on}
 use Rattle.server_store.specs.Holdings.{Holdings}

@@ -1,7 +1,7 @@
 -- What a boot leaves of a server.
 use Rattle.std.specs.Prelude.{◌≡◌, ◌≤◌, ◌+◌, ◌++◌, ◌∷◌, [], List, true, Result, Err, IfOk, OnOk, OnErr}
 use Rattle.log_side.specs.Done as logs
-use Rattle.log_side.specs.Part.{new_part}
+use Rattle.log_memory.specs.Part.{new_part}
 use Rattle.pair_side.specs.Done.{HasFault}
 use Rattle.pair_side.specs.Side.{new_side}
 use Rattle.pair_side.specs.declared.error.WorkError.{WorkError}
@@ -18,7 +18,7 @@ use Rattle.petal_rules.specs.Jobs.{journal_records}
 use Rattle.petal_rules.specs.Log.{Voter}
 use Rattle.petal_rules.specs.Store.{Store}
 use Rattle.petal_rules.specs.declared.step.WorkEnd.TheVariants.{Done}
-use Rattle.server_core.specs.Core.{Core, acted, here_in, server_of}
+use Rattle.server_work.specs.Core.{Core, acted, here_in, server_of}
 use Rattle.state_store.specs.Device.{Keeping, StandsForEither}
 
 -- the same server as its next incarnation

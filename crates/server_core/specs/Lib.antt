@@ -1,5 +1,2 @@
-pub mod Core
-pub mod Kind
-pub mod Noted
-pub mod Steps
+pub mod Farewell
 pub mod Boots

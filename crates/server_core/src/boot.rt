@@ -1,7 +1,7 @@
 //! A stopped server runs again.
 
 ghost use Rattle.std.specs.Prelude.{◌≡◌, ◌<◌, ◌+◌, [], true, false, length, IfOk};
-ghost use Rattle.log_side.specs.Part.{Part, sender_of};
+ghost use Rattle.log_memory.specs.Part.{Part, sender_of};
 ghost use Rattle.petal_paxos.specs.Kept.{inc_of};
 ghost use Rattle.petal_rules.specs.Entries.{known_run};
 ghost use Rattle.petal_rules.specs.Jobs.{down_posts};
@@ -10,18 +10,16 @@ ghost use Rattle.petal_rules.specs.Server.{letters_of};
 ghost use Rattle.petal_rules.specs.World.{greatest_u32};
 ghost use Rattle.server_core.specs.Boots.{IsBoot, booted, next_voter, raised_core};
 
-use crate::recent::RecentBlocks;
 use crate::server::ServerCore;
-use crate::step::of_state;
-use log_side::{LogSide, farewell};
+use log_side::LogSide;
+use pair_side::WorkError;
 use petal_base::{Inc, NoMemory, Sequence, ServerId};
 use petal_command::ServerNumber;
 use petal_disk::Disk;
 use petal_msg::Letter;
+use server_work::of_state;
 use state_store::StateStore;
 use std::alloc::Global;
-use std::collections::VecDeque;
-use write_pair::{Side, WorkError};
 
 /// The incarnation after this one, which has applied what the state device knows to be chosen, and its letters, which tell the
 /// others that the one before has stopped.
@@ -40,15 +38,7 @@ fn next<E: Disk>(
     let inc = before.checked_add(1).ok_or(NoMemory)?;
     let log = LogSide::boot(alloc, me, inc, servers, state)?;
     let letters = log.envelope().down_letters(alloc, number, before, servers)?;
-    let core = ServerCore {
-        running: true,
-        log,
-        side: Side::new(alloc),
-        queue: VecDeque::new(alloc),
-        recent: RecentBlocks::new(alloc),
-        farewell: farewell(alloc, number, inc, servers)?,
-    };
-    Ok((core, letters))
+    Ok((ServerCore::running(alloc, log)?, letters))
 }
 
 impl ServerCore {
@@ -71,7 +61,7 @@ impl ServerCore {
         requires raises { self.old.log.voter.inc < greatest_u32 }
         ensures { IsBoot E.Disk self.old self.new state.old state.new result }
     {
-        let (me, inc, servers) = (self.log.me(), self.log.inc(), self.log.servers());
+        let (me, inc, servers) = (self.me(), self.inc(), self.servers());
         match state.raise_inc() {
             Ok(()) => {
                 let (core, letters) = next(alloc, me, inc, servers, state)?;
@@ -88,6 +78,6 @@ impl ServerCore {
         requires raises { self.old.log.voter.inc < greatest_u32 }
         ensures { self.new ≡ raised_core self.old }
     {
-        self.log.raise();
+        self.parts.log.raise();
     }
 }

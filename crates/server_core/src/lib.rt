@@ -6,13 +6,10 @@
 #![tactic(auto)]
 
 mod boot;
-mod jobs;
-mod queue;
-mod recent;
 mod server;
-mod step;
-mod wants;
+mod ticks;
+mod work;
 
 pub use kept_chains::ReadError;
+pub use pair_side::WorkError;
 pub use server::ServerCore;
-pub use write_pair::WorkError;

@@ -5,7 +5,6 @@ use petal_base::{Block, Cell, Key};
 use petal_disk::{Disk, MemDisk};
 use server_store::{Store, StoreError};
 use std::alloc::Global;
-use std::process::Abort;
 use std::test::Fail;
 
 const TWO_SLOTS: u64 = 4_329_472;
@@ -39,105 +38,113 @@ fn last_byte<D: Disk>(store: &mut Store<D>, alloc: Global, block: u64) -> Result
     Ok(content.last().copied().unwrap_or(9))
 }
 
-fn put_and_read<D: Disk>(rt: &impl Abort, alloc: Global, store: &mut Store<D>) -> Result<(), Fail> {
+fn puts_and_reads<D: Disk>(alloc: Global, store: &mut Store<D>) -> Result<bool, Fail> {
     let sevens = Block::fill(alloc, 7)?;
-    assert_eq!(rt; last_byte(store, alloc, 5)?, 0);
+    let before = last_byte(store, alloc, 5)?;
     put(store, 5, &sevens)?;
-    assert_eq!(rt; last_byte(store, alloc, 5)?, 7);
-    assert_eq!(rt; store.free(), 1);
-    Ok(())
+    Ok(before == 0 && last_byte(store, alloc, 5)? == 7 && store.free() == 1)
 }
 
 #[test]
-fn puts_and_reads(rt: HostRuntime) -> Result<(), Fail> {
+fn a_put_is_read(rt: HostRuntime) -> Result<(), Fail> {
     let mut store = two_slots(rt.alloc(), false)?;
-    put_and_read(&rt, rt.alloc(), &mut store)
+    assert!(rt; puts_and_reads(rt.alloc(), &mut store)?);
+    Ok(())
 }
 
-fn give_back_and_fill<D: Disk>(
-    rt: &impl Abort,
-    alloc: Global,
-    store: &mut Store<D>,
-) -> Result<(), Fail> {
+fn give_back<D: Disk>(store: &mut Store<D>) -> Result<u32, StoreError> {
     let ticket = store.reserve()?;
     store.give_back(ticket);
-    assert_eq!(rt; store.free(), 2);
+    Ok(store.free())
+}
+
+// The third of three puts.
+fn fill<D: Disk>(alloc: Global, store: &mut Store<D>) -> Result<Result<(), StoreError>, Fail> {
     let zeros = Block::zero(alloc)?;
     put(store, 6, &zeros)?;
     put(store, 7, &zeros)?;
-    assert_eq!(rt; put(store, 8, &zeros), Err(StoreError::NoSpace));
-    Ok(())
+    Ok(put(store, 8, &zeros))
 }
 
 #[test]
 fn a_full_store(rt: HostRuntime) -> Result<(), Fail> {
     let mut store = two_slots(rt.alloc(), false)?;
-    give_back_and_fill(&rt, rt.alloc(), &mut store)?;
+    assert!(rt; give_back(&mut store)? == 2);
+    assert!(rt; fill(rt.alloc(), &mut store)? == Err(StoreError::NoSpace));
     let _ = store.into_disk();
     Ok(())
 }
 
-fn look_and_drop<D: Disk>(
-    rt: &impl Abort,
-    alloc: Global,
-    store: &mut Store<D>,
-) -> Result<(), Fail> {
-    put(store, 5, &Block::zero(alloc)?)?;
-    assert_eq!(rt; store.lookup(0, 5, 9).map(|e| e.version), Some(3));
-    assert_eq!(rt; store.chain(alloc, CELL)?.len(), 1);
-    assert_eq!(rt; store.version(CELL), 3);
-    assert_eq!(rt; store.top(), 3);
-    assert_eq!(rt; store.next_block(0, None), Some(5));
+fn finds<D: Disk>(store: &Store<D>) -> bool {
+    let newest = match store.lookup(0, 5, 9) {
+        Some(entry) => entry.version == 3,
+        None => false,
+    };
+    newest && store.version(CELL) == 3 && store.top() == 3 && store.next_block(0, None) == Some(5)
+}
+
+fn drops<D: Disk>(store: &mut Store<D>) -> Result<bool, StoreError> {
     store.drop_key(key(5))?;
-    assert_eq!(rt; store.next_block(0, None), None);
-    assert_eq!(rt; store.free(), 2);
-    Ok(())
+    Ok(store.next_block(0, None) == None && store.free() == 2)
 }
 
 #[test]
 fn entries(rt: HostRuntime) -> Result<(), Fail> {
     let mut store = two_slots(rt.alloc(), false)?;
-    look_and_drop(&rt, rt.alloc(), &mut store)
+    put(&mut store, 5, &Block::zero(rt.alloc())?)?;
+    assert!(rt; finds(&store), "finds");
+    assert!(rt; store.chain(rt.alloc(), CELL)?.len() == 1, "chain");
+    assert!(rt; drops(&mut store)?, "drops");
+    Ok(())
 }
 
-fn drop_and_reopen<D: Disk>(
-    rt: &impl Abort,
-    alloc: Global,
-    store: &mut Store<D>,
-) -> Result<(), Fail> {
+fn put_two<D: Disk>(alloc: Global, store: &mut Store<D>) -> Result<bool, Fail> {
     let zeros = Block::zero(alloc)?;
     put(store, 5, &zeros)?;
     put(store, 6, &zeros)?;
-    assert_eq!(rt; store.nth(CELL, 0).map(|e| e.version), Some(3));
+    match store.nth(CELL, 0) {
+        Some(entry) => Ok(entry.version == 3),
+        None => Ok(false),
+    }
+}
+
+fn drops_and_reopens<D: Disk>(alloc: Global, store: &mut Store<D>) -> Result<bool, StoreError> {
     store.drop_key(key(5))?;
-    assert!(rt; store.reopen(alloc)?);
-    assert!(rt; store.nth(CELL, 0).is_none());
-    assert_eq!(rt; store.next_block(0, None), Some(6));
-    assert_eq!(rt; store.free(), 1);
-    Ok(())
+    Ok(
+        store.reopen(alloc)?
+            && store.nth(CELL, 0).is_none()
+            && store.next_block(0, None) == Some(6)
+            && store.free() == 1,
+    )
 }
 
 #[test]
 fn a_dropped_entry_stays_dropped(rt: HostRuntime) -> Result<(), Fail> {
     let mut store = two_slots(rt.alloc(), false)?;
-    drop_and_reopen(&rt, rt.alloc(), &mut store)
+    assert!(rt; put_two(rt.alloc(), &mut store)?, "puts");
+    assert!(rt; drops_and_reopens(rt.alloc(), &mut store)?, "drops");
+    Ok(())
 }
 
-fn mark_and_unmark<D: Disk>(rt: &impl Abort, store: &mut Store<D>) -> Result<(), Fail> {
+fn marks_and_unmarks<D: Disk>(store: &mut Store<D>) -> Result<bool, StoreError> {
     store.mark(MarkKind::Busy, CELL)?;
-    assert!(rt; store.has(MarkKind::Busy, CELL));
-    assert_eq!(rt; store.next_mark(0, Some(4)), Some(5));
-    assert_eq!(rt; store.next_map(None), Some(0));
+    let marked = store.has(MarkKind::Busy, CELL)
+        && store.next_mark(0, Some(4)) == Some(5)
+        && store.next_map(None) == Some(0);
     store.unmark(MarkKind::Busy, CELL)?;
-    assert_eq!(rt; store.next_map(None), None);
-    assert!(rt; store.fresh());
+    Ok(marked && store.next_map(None) == None)
+}
+
+fn settles<D: Disk>(store: &mut Store<D>) -> Result<bool, StoreError> {
+    let fresh = store.fresh();
     store.settle_fresh()?;
-    assert!(rt; !store.fresh());
-    Ok(())
+    Ok(fresh && !store.fresh())
 }
 
 #[test]
 fn marks(rt: HostRuntime) -> Result<(), Fail> {
     let mut store = two_slots(rt.alloc(), true)?;
-    mark_and_unmark(&rt, &mut store)
+    assert!(rt; marks_and_unmarks(&mut store)?, "marks");
+    assert!(rt; settles(&mut store)?, "is fresh");
+    Ok(())
 }

@@ -6,15 +6,14 @@
 //! definition has it, by the letter that ends the write. Until then nobody reads the block. A put of which no letter tells is told
 //! by a read that shows it.
 
-use crate::choices::Choices;
 use crate::contents::settled;
-use crate::disks::{Disks, Done, Link};
 use crate::late::{Lates, committed_by, is_asked};
-use crate::operations::{
-    Operation, ahead_on, entry_of, is_brought_in, is_replicated_in, replicated_by,
-};
-use crate::reads::{accepted, is_by_old_map, old_data, since_boot};
 use crate::writes::Writers;
+use chosen_disks::{Choices, Disks, Done, Link};
+use letter_traces::{
+    Operation, accepted, ahead_on, entry_of, is_brought_in, is_by_old_map, is_replicated_in,
+    old_data, replicated_by, since_boot,
+};
 use petal_base::{ClientId, Key, NoMemory, OPERATOR, Seq, SharedBlock};
 use petal_history::Record;
 use petal_machine::{Event, Write, WriteEnd};

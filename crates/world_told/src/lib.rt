@@ -5,16 +5,9 @@
 //! nothing of how a run comes about.
 #![tactic(auto)]
 
-mod choices;
 mod contents;
-mod disks;
 mod events;
-mod fences;
 mod late;
-mod members;
-mod moves;
-mod operations;
-mod reads;
 mod writes;
 
 pub use events::{Told, made, old_reads, tells, told_of};

@@ -3,9 +3,8 @@ use Rattle.petal_table.specs.Table.{at}
 use Rattle.petal_rules.specs.Server.{Copies}
 use Rattle.petal_rules.specs.State.{link_cmp}
 use Rattle.pair_side.specs.Copies.{restored}
-use Rattle.pair_side.specs.Side.{Side}
 use Rattle.pair_side.proofs.ByLink.{progress_there, restored_is}
-use Rattle.copy_recovery.proofs.Pages.{refused_done}
+use Rattle.copy_recovery.proofs.Pages.{refused_page}
 use Rattle.copy_recovery.proofs.page.marks_page.Goals as goal
 
 pub restore_progress-requires : goal.restore_progress-requires
@@ -16,20 +15,10 @@ restore_progress-requires g c =
 
 pub returns-in-Err : goal.returns-in-Err
 returns-in-Err g c =
-    let old : Side = record {
-      next = c.side.inside.next;
-      pending = c.side.inside.locks;
-      finished = c.side.inside.finished;
-      last = c.side.inside.last;
-      copies = c.side.inside.copies;
-      filled = c.side.inside.filled;
-      own = c.side.inside.own;
-      apart = c.side.inside.apart;
-    } in
     let back = c.restore_progress.ensures
     ∙ ap (λ (k : Copies). restored k c.link_id-link.result c.found_progress-found.result) c.in_ok-set_progress.ensures.ok
     ∙ restored_is c.side.inside.copies c.link_id-link.result _ c.found_progress-found.result c.found_progress-found.ensures.sorted
     c.found_progress-found.ensures.value in
     rw (← c.side.view_is, c.from.ensures)
-    (refused_done g.D.Disk c.args.here.now old (record old { copies = c.restore_progress.new.self }) c.args.store.now c.mark.new.store c.in-Err.error _
-    (λ i. record old { copies = back i }) (rw (c.cell_at.ensures, c.in-Err.is) at c.mark.ensures))
+    (refused_page g.D.Disk c.args.here.now _ c.restore_progress.new.self c.args.store.now c.mark.new.store c.in-Err.error _ back
+    (rw (c.cell_at.ensures, c.in-Err.is) at c.mark.ensures))

@@ -4,6 +4,7 @@ use Rattle.petal_msg.specs.declared.operation.Pending.{Pending}
 use Rattle.petal_table.specs.Table.{Table, at}
 use Rattle.petal_rules.specs.Store.{cell_cmp}
 use Rattle.pair_side.specs.Side.{Side}
+use Rattle.lead_stages.proofs.Viewed.{left_of}
 use Rattle.pair_side.proofs.Tickets.{own_out}
 use Rattle.lead_write.proofs.Leads.{finished_pending, full_slot, full_is}
 use Rattle.lead_write.proofs.lead.ends_full.Goals as goal
@@ -17,16 +18,7 @@ give_back-requires-clause-out g c = λ _ _ slot is.
 pub returns : goal.returns
 returns g c =
     let op = c.args.op.now in
-    let after : Side = record {
-      next = c.side.inside.next;
-      pending = c.side.inside.locks;
-      finished = c.side.inside.finished;
-      last = c.side.inside.last;
-      copies = c.side.inside.copies;
-      filled = c.side.inside.filled;
-      own = c.side.inside.own;
-      apart = c.side.inside.apart;
-    } in
+    let after : Side = left_of c.side.view_is in
     let said = rw (← c.side.view_is) at c.in_ok-done.ensures in
     let same = finished_pending c.args.here.now c.args.side.now after c.args.store.now op c.in_ok-done.done said in
     let there = ap (λ (t : Table Cell Pending). at cell_cmp t op.cell) same ∙ c.requires.there in

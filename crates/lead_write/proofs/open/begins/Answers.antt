@@ -1,5 +1,6 @@
 use Rattle.std.proofs.Common.{refl, ◌∙◌}
 use Rattle.pair_side.specs.Side.{Side}
+use Rattle.lead_stages.proofs.Viewed.{left_of}
 use Rattle.pair_side.proofs.Kept.{kept_there, kept_some, kept_out}
 use Rattle.pair_side.proofs.Tickets.{undone}
 use Rattle.lead_write.proofs.Opens.{own_back}
@@ -17,16 +18,7 @@ pub returns-in-Err-clause-err : goal.returns-in-Err-clause-err
 returns-in-Err-clause-err g c =
     let h = rw (← c.side.view_is) at c.requires.tickets in
     let none = rw (← c.side.view_is) at c.requires.none in
-    let side : Side = record {
-      next = c.side.inside.next;
-      pending = c.side.inside.locks;
-      finished = c.side.inside.finished;
-      last = c.side.inside.last;
-      copies = c.side.inside.copies;
-      filled = c.side.inside.filled;
-      own = c.side.inside.own;
-      apart = c.side.inside.apart;
-    } in
+    let side : Side = left_of c.side.view_is in
     let kept = c.in_ok-keep.ensures.yes c.if-not-branch.false in
     let there = kept_there side.own c.keep.new.table c.args.store.now c.keep.new.store c.args.op.now.cell kept in
     let back = own_back c.args.op.now side c.args.store.now h none c.keep.new.table c.give_back.new.table kept.slot kept.table c.give_back.ensures.table in

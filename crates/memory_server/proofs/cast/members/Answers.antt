@@ -1,5 +1,5 @@
 use Rattle.std.proofs.Common.{map}
-use Rattle.memory_server.specs.Server.{site_of}
+use Rattle.server_recovery.specs.Server.{site_of}
 use Rattle.memory_server.proofs.Casting.{cast_is}
 use Rattle.memory_server.proofs.cast.members.Goals as goal
 

@@ -1,9 +1,9 @@
-use Rattle.std.proofs.Common.{◌≡◌, ℕ, [], length}
+use Rattle.std.proofs.Common.{◌≡◌, ℕ, []}
 use Rattle.std.proofs.lemmas.List.Elements.{All-append, All-cons, All-nil}
 use Rattle.petal_disk.specs.declared.memory_disk.MemDisk.{MemDisk}
 use Rattle.petal_disk.specs.declared.planned.Planned.{Planned}
 use Rattle.server_store.specs.Slots.{slot_start}
-use Rattle.memory_server.specs.Server.{Mounted, site_of}
+use Rattle.server_recovery.specs.Server.{Mounted, site_of}
 use Rattle.memory_server.proofs.Casting.{cast_more}
 use Rattle.memory_server.proofs.cast.started.Goals as goal
 

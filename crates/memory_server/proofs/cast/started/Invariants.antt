@@ -1,8 +1,8 @@
-use Rattle.std.proofs.Common.{◌≡◌, map, length}
+use Rattle.std.proofs.Common.{◌≡◌, map}
 use Rattle.std.specs.Prelude.{All}
 use Rattle.std.specs.List.{range_with_len}
 use Rattle.server_store.specs.Slots.{slot_start}
-use Rattle.memory_server.specs.Server.{site_of}
+use Rattle.server_recovery.specs.Server.{site_of}
 use Rattle.memory_server.specs.Members.{first_site}
 use Rattle.memory_server.proofs.cast.started.Given as goal
 

@@ -1,6 +1,6 @@
 -- The disk stands at its place.
 use Rattle.std.proofs.Common.{sym, ap, ◌∙◌, slice_set}
-use Rattle.petal_machine.specs.declared.state.Disk.{Disk}
+use Rattle.petal_machine.specs.declared.state.PlainDisk.{PlainDisk}
 use Rattle.petal_machine.specs.Machine.{is_named, snap_of}
 use Rattle.petal_machine.specs.Run.{frozen}
 use Rattle.petal_machine.proofs.Places.{found, not_found, changed_at, same_some, on_ok_map}
@@ -22,4 +22,4 @@ returns-clause-ok c =
 pub returns-clause-not_allowed : goal.returns-clause-not_allowed
 returns-clause-not_allowed c e h =
     let at = found (is_named c.args.name.now) c.args.disks.now c.in-Some.place c.index-disks-place.result (sym c.in-Some.is ∙ c.place_of.ensures) in
-    c.freeze_disk.ensures.not_allowed e (ap (λ (d : Disk). snap_of d c.args.snap) (same_some (sym at ∙ h.known.is)) ∙ h.fresh)
+    c.freeze_disk.ensures.not_allowed e (ap (λ (d : PlainDisk). snap_of d c.args.snap) (same_some (sym at ∙ h.known.is)) ∙ h.fresh)

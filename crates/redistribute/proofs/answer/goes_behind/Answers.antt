@@ -1,7 +1,7 @@
-use Rattle.std.proofs.Common.{Option, List, sym, ap, ◌∙◌}
+use Rattle.std.proofs.Common.{Option, List, ap, ◌∙◌}
 use Rattle.petal_base.specs.declared.cell.Key.{Key}
 use Rattle.petal_rules.specs.Fills.{sends_key}
-use Rattle.petal_rules.specs.Server.{Own, Post}
+use Rattle.petal_rules.specs.Server.{Post}
 use Rattle.server_store.specs.Holdings.{Holdings}
 use Rattle.pair_side.specs.Letters.{posts_of}
 use Rattle.pair_side.specs.Side.{own_of}

@@ -1,4 +1,4 @@
-use Rattle.std.proofs.Common.{Some, Option, sym, ap, ◌∙◌}
+use Rattle.std.proofs.Common.{Some, sym, ap, ◌∙◌}
 use Rattle.petal_msg.specs.declared.body.Body.{Body}
 use Rattle.redistribute.specs.Sending.{letter_with}
 use Rattle.redistribute.proofs.letters.letter_to.Goals as goal

@@ -1,13 +1,12 @@
-use Rattle.std.proofs.Common.{ℕ, Option, Ok, refl, sym, ap, subst, ◌∙◌}
-use Rattle.petal_base.specs.declared.cell.Cell.{Cell}
+use Rattle.std.proofs.Common.{ℕ, Option, sym, ap, ◌∙◌}
 use Rattle.petal_msg.specs.declared.body.Body.TheVariants as body
 use Rattle.petal_table.specs.Table.{at}
 use Rattle.petal_rules.specs.Server.{letters_of, post_to, sender}
 use Rattle.petal_rules.specs.Store.{cell_cmp}
-use Rattle.pair_side.specs.Side.{Side, own_of}
-use Rattle.pair_side.specs.Done.{IsDone, only}
-use Rattle.pair_side.proofs.Tickets.{apart_out}
-use Rattle.second_write.proofs.Follows.{apart_slot, follows_in, follows_done, follows_keeps}
+use Rattle.pair_side.specs.Side.{Side}
+use Rattle.pair_side.specs.Done.{only}
+use Rattle.pair_side.proofs.Tickets.{apart_out, apart_slot}
+use Rattle.second_write.proofs.Follows.{at_key, follows_done, follows_keeps}
 use Rattle.second_write.proofs.second.follows.Goals as goal
 
 pub spend-requires-clause-out : goal.spend-requires-clause-out
@@ -21,30 +20,19 @@ returns-clause-job g c =
     let here = c.args.here.now in
     let h = rw (← c.side.view_is) at c.requires.tickets in
     let has = rw (← c.side.view_is) at (rw (← c.cell-cell.ensures) at c.requires.has) in
-    let side : Side = record {
-      next = c.side.inside.next;
-      pending = c.side.inside.locks;
-      finished = c.side.inside.finished;
-      last = c.side.inside.last;
-      copies = c.side.inside.copies;
-      filled = c.side.inside.filled;
-      own = c.side.inside.own;
-      apart = c.side.inside.apart;
-    } in
-    let new : Side = record side { last = c.replace.new.self; apart = c.spend.new.table } in
-    let slot = apart_slot here side c.args.store.now c.cell-cell.result c.args.op h has in
+    let slot = apart_slot c.side.inside.locks c.side.inside.last c.side.inside.own c.side.inside.apart c.args.store.now.tickets h c.cell-cell.result has in
     let said = ap (λ (to : Option ℕ). letters_of (sender here) 0 (post_to to (body.Replicated c.args.op c.cell-cell.result))) c.first.ensures in
     rw (← c.side.view_is)
-    (subst (λ (cell : Cell). IsDone g.D.Disk here side new c.args.store.now c.spend.new.store (Ok c.only.result)
-    (follows_in here (own_of side c.args.store.now) c.args.op c.args.key c.args.bytes.now cell)) c.cell-cell.ensures
+    (at_key here _ c.args.store.now c.cell-cell.result c.args.op h g.D.Disk _ c.spend.new.store _ c.args.key c.args.bytes.now c.cell-cell.ensures
     (record {
       done = λ told.
-          follows_done here side c.args.store.now c.cell-cell.result c.args.op h c.args.key c.args.bytes.now c.replace.new.self
+          follows_done here _ c.args.store.now c.cell-cell.result c.args.op h c.args.key c.args.bytes.now c.replace.new.self
           c.spend.new.table c.spend.new.store
           c.next_version-version.result c.only.result c.replace.ensures c.next_version-version.ensures (c.in_ok-spend.ensures.ok told)
           (c.only.ensures ∙ ap only (c.in_ok-letters.ensures ∙ said));
       keeps =
-          follows_keeps here side c.args.store.now c.cell-cell.result c.args.op h c.replace.new.self c.spend.new.table slot.0 c.spend.new.store.tickets
+          follows_keeps c.side.inside.locks c.side.inside.last c.replace.new.self c.side.inside.own c.side.inside.apart c.spend.new.table
+          c.args.store.now.tickets c.spend.new.store.tickets c.cell-cell.result c.args.op slot.0 h
           c.replace.ensures c.in_ok-spend.ensures.sorted slot.1 c.in_ok-spend.ensures.table (c.in_ok-spend.ensures.tickets slot.0 slot.1);
       holds = c.in_ok-spend.ensures.holds;
       moments = rw c.next_version-version.ensures at c.in_ok-spend.ensures.moments;

@@ -1,9 +1,7 @@
 use Rattle.std.proofs.Common.{refl, sym, ◌∙◌}
-use Rattle.pair_side.specs.Side.{Side}
 use Rattle.pair_side.proofs.Kept.{kept_there, kept_some, kept_out}
-use Rattle.pair_side.proofs.Said.{all_same}
 use Rattle.pair_side.proofs.Tickets.{undone}
-use Rattle.second_write.proofs.Follows.{anew_is, apart_back}
+use Rattle.second_write.proofs.Follows.{anew_is, refused_is}
 use Rattle.second_write.proofs.second.reserves_anew.Goals as goal
 
 pub give_back-requires-clause-some : goal.give_back-requires-clause-some
@@ -25,21 +23,9 @@ returns-in-Ok g c =
 pub returns-in-Err : goal.returns-in-Err
 returns-in-Err g c =
     let h = rw (← c.side.view_is) at c.requires.tickets in
-    let side : Side = record {
-      next = c.side.inside.next;
-      pending = c.side.inside.locks;
-      finished = c.side.inside.finished;
-      last = c.side.inside.last;
-      copies = c.side.inside.copies;
-      filled = c.side.inside.filled;
-      own = c.side.inside.own;
-      apart = c.side.inside.apart;
-    } in
     let kept = c.in_ok-keep.ensures.yes c.if-not-branch.false in
-    let there = kept_there side.apart c.keep.new.table c.args.store.now c.keep.new.store c.args.cell kept in
-    let has = rw (← c.side.view_is) at c.requires.has in
-    let back = apart_back c.args.here.now side c.args.store.now c.args.cell c.args.op h c.keep.new.table c.give_back.new.table kept.slot has
-    kept.table c.give_back.ensures.table in
+    let there = kept_there c.side.inside.apart c.keep.new.table c.args.store.now c.keep.new.store c.args.cell kept in
     let held = c.give_back.ensures.store kept.slot there ∙ undone c.args.store.now c.keep.new.store kept.slot kept.slot kept.store refl kept.other in
     rw (← c.side.view_is)
-    (all_same c.args.here.now side _ c.args.store.now c.give_back.new.store _ (λ i. record side { last = c.in-Err.ensures.err i; apart = back i }) held)
+    (refused_is c.args.here.now _ c.args.store.now c.args.cell c.args.op h c.promises.new.last c.keep.new.table c.give_back.new.table
+    c.give_back.new.store kept.slot _ (rw (← c.side.view_is) at c.requires.has) c.in-Err.ensures.err kept.table c.give_back.ensures.table held)

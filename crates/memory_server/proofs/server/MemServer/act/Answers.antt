@@ -2,7 +2,7 @@ use Rattle.std.proofs.Common.{ap, ◌∙◌}
 use Rattle.std.proofs.lemmas.Result.{on_ok_weaker}
 use Rattle.kept_chains.specs.Kept.{store_of}
 use Rattle.petal_rules.specs.Jobs.{Acted}
-use Rattle.memory_server.specs.Server.{left_at}
+use Rattle.server_recovery.specs.Server.{left_at}
 use Rattle.world_desks.specs.Desks.{Site}
 use Rattle.world_desks.specs.declared.host.Taken.{Taken}
 use Rattle.memory_server.proofs.server.MemServer.act.Goals as goal

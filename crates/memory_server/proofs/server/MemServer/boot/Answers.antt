@@ -3,7 +3,7 @@ use Rattle.std.proofs.Common.{ap, ◌∙◌}
 use Rattle.petal_rules.specs.declared.step.Step.TheVariants.{Boot}
 use Rattle.world_desks.specs.Desks.{acted_at}
 use Rattle.memory_server.proofs.Ends.{boot_left, boot_told}
-use Rattle.memory_server.specs.Server.{left_at, whole_after, whole_of}
+use Rattle.server_recovery.specs.Server.{left_at, whole_after, whole_of}
 use Rattle.memory_server.proofs.server.MemServer.boot.Goals as goal
 
 pub returns-clause-site : goal.returns-clause-site

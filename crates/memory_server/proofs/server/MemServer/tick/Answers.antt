@@ -1,5 +1,5 @@
 use Rattle.std.proofs.Common.{ap, ◌∙◌}
-use Rattle.memory_server.specs.Server.{whole_after}
+use Rattle.server_recovery.specs.Server.{whole_after}
 use Rattle.petal_rules.specs.declared.step.Step.TheVariants.{Tick}
 use Rattle.world_desks.specs.Desks.{Site}
 use Rattle.memory_server.proofs.server.MemServer.tick.Goals as goal

@@ -1,7 +1,7 @@
 -- The first job, whose step is called by what the devices tell.
 use Rattle.std.proofs.Common.{◌∙◌}
 use Rattle.memory_server.proofs.Ends.{job_fault, job_left, job_sends, job_told}
-use Rattle.memory_server.specs.Server.{whole_of}
+use Rattle.server_recovery.specs.Server.{whole_of}
 use Rattle.memory_server.proofs.server.MemServer.work.Goals as goal
 
 pub returns-clause-site : goal.returns-clause-site

@@ -1,11 +1,7 @@
 -- The open line starts the server, or none does.
-use Rattle.std.proofs.Common.{refl}
-use Rattle.petal_rules.proofs.Tests.{none_some, same_some}
+use Rattle.petal_rules.proofs.Tests.{true_false}
 use Rattle.petal_world.proofs.Allowed.{hindered}
 use Rattle.petal_world.proofs.actors.Actors.has_started.Goals as goal
 
-pub returns-in_default : goal.returns-in_default
-returns-in_default g c = λ setting w h is. hindered (λ done. none_some refl ((c.in_default.ensures setting w c.args.line h).1 done.by))
-
-pub returns-then-own-line : goal.returns-then-own-line
-returns-then-own-line g c = λ setting w h is. hindered (λ done. c.if-own-line.true (same_some ((c.in-Some.ensures setting w c.args.line h).1 done.by)))
+pub returns-then-not-is_given_by : goal.returns-then-not-is_given_by
+returns-then-not-is_given_by g c = λ setting w h is. hindered (λ done. true_false ((c.is_given_by.ensures setting w h).1 done.by) c.if-not-is_given_by.true)

@@ -4,6 +4,6 @@ use Rattle.petal_world.proofs.Allowed.{hindered}
 use Rattle.petal_world.proofs.Lines.{blanked_by}
 use Rattle.petal_world.proofs.actors.Actors.may_blank.Goals as goal
 
-pub returns-then-not-is_to_blank : goal.returns-then-not-is_to_blank
-returns-then-not-is_to_blank g c = λ setting w h is.
-    hindered (λ may. true_false ((c.is_to_blank.ensures setting w h).1 (blanked_by w c.args.server may)) c.if-not-is_to_blank.true)
+pub returns-then-not-is_given : goal.returns-then-not-is_given
+returns-then-not-is_given g c = λ setting w h is.
+    hindered (λ may. true_false ((c.is_given.ensures setting w h).1 (blanked_by w c.args.server may)) c.if-not-is_given.true)

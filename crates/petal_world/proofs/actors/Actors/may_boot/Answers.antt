@@ -7,18 +7,18 @@ use Rattle.petal_world.specs.Actors.{Actors}
 use Rattle.petal_world.proofs.Lines.{booted_by, inc_as, may_boot_by, runs_as}
 use Rattle.petal_world.proofs.actors.Actors.may_boot.Goals as goal
 
-pub returns-then-has_blanked : goal.returns-then-has_blanked
-returns-then-has_blanked g c = λ setting w h is.
+pub returns-then-has : goal.returns-then-has
+returns-then-has g c = λ setting w h is.
     let rests = runs_as setting w c.args.server c.args.desk.now c.is_running.result is
     (c.is_running.ensures ∙ ap (λ (d : Desk). d.site.server.life.running) c.desk.view_is) ∙ c.if-is_running.false in
     let inc = inc_as setting w c.args.server c.args.desk.now c.inc.result is (c.inc.ensures ∙ ap (λ (d : Desk). d.site.server.life.inc) c.desk.view_is) in
     let raises : (w.servers c.args.server).life.inc < greatest_u32 = subst (λ k. k < greatest_u32) (sym inc) c.if-inc-ge4294967295.false in
     let blanked : w.control.hand ≡ Some (c.args.server, Blanked) =
-    sym (ap (λ (k : Actors). k.control.hand) c.self.view_is ∙ ap (λ (k : Control). k.hand) h.control) ∙ c.has_blanked.ensures.0 c.if-has_blanked.true in (
-      (λ t. may_boot_by w c.args.server rests raises (inr ((c.is_to_blank.ensures setting w h).0 t, blanked))),
+    sym (ap (λ (k : Actors). k.control.hand) c.self.view_is ∙ ap (λ (k : Control). k.hand) h.control) ∙ c.has.ensures.0 c.if-has.true in (
+      (λ t. may_boot_by w c.args.server rests raises (inr ((c.is_given.ensures setting w h).0 t, blanked))),
       (λ may. elim (booted_by w c.args.server may) [
         | inl (starts, empty) ↦ none_some empty blanked
-        | inr (blanks, after) ↦ (c.is_to_blank.ensures setting w h).1 blanks
+        | inr (blanks, after) ↦ (c.is_given.ensures setting w h).1 blanks
       ]),
     )
 
@@ -30,9 +30,9 @@ returns g c = λ setting w h is.
     let raises : (w.servers c.args.server).life.inc < greatest_u32 = subst (λ k. k < greatest_u32) (sym inc) c.if-inc-ge4294967295.false in
     let empty : w.control.hand ≡ None =
     sym (ap (λ (k : Actors). k.control.hand) c.self.view_is ∙ ap (λ (k : Control). k.hand) h.control) ∙ c.is_empty.ensures.0 c.if-not-is_empty.false in (
-      (λ t. may_boot_by w c.args.server rests raises (inl ((c.is_to_start.ensures setting w h).0 t, empty))),
+      (λ t. may_boot_by w c.args.server rests raises (inl ((c.is_given-2.ensures setting w h).0 t, empty))),
       (λ may. elim (booted_by w c.args.server may) [
-        | inl (starts, none) ↦ (c.is_to_start.ensures setting w h).1 starts
+        | inl (starts, none) ↦ (c.is_given-2.ensures setting w h).1 starts
         | inr (blanks, after) ↦ none_some empty after
       ]),
     )

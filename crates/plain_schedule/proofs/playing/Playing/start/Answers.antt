@@ -8,6 +8,4 @@ invariant_of-result c =
 
 pub returns-clause-by_phases : goal.returns-clause-by_phases
 returns-clause-by_phases c =
-    let world = c.in_ok-new.field-0.world in
-    goes_by_phases world.script world.records 0 0 0
-    (start_places c.args.script world.script world.records c.in_ok-new.ensures.script c.in_ok-new.ensures.records c.requires.rising c.requires.ordered c.requires.joins)
+    goes_by_phases c.in_ok-new.field-0.world.script c.in_ok-new.field-0.world.records 0 0 0 (invariant_of-result c)

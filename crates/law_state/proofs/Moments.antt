@@ -1,0 +1,23 @@
+-- A moment of a history is one of each longer history.
+use Rattle.std.proofs.Common.{◌++◌, List, [], ◌∷◌, refl, ap, ◌∙◌, append_assoc}
+use Rattle.petal_history.specs.declared.record.Record.{Record}
+use Rattle.law_state.specs.Moments.{IsMoment}
+
+abbrev pub last_moment : (records : List Record) (own : Record) → IsMoment (records ++ own ∷ [])
+last_moment records own = record { front = records; own = own; behind = []; is = refl }
+
+abbrev pub first_moment : (own : Record) (later : List Record) → IsMoment (own ∷ later)
+first_moment own later = record { front = []; own = own; behind = later; is = refl }
+
+-- with one record more behind
+abbrev pub moment_more : (records : List Record) (next : Record) → IsMoment records → IsMoment (records ++ next ∷ [])
+moment_more records next m = record {
+  front = m.front;
+  own = m.own;
+  behind = m.behind ++ next ∷ [];
+  is = ap (λ xs. xs ++ next ∷ []) m.is ∙ append_assoc m.front (m.own ∷ m.behind) (next ∷ []);
+}
+
+-- with one record more before
+abbrev pub moment_later : (first : Record) (records : List Record) → IsMoment records → IsMoment (first ∷ records)
+moment_later first records m = record { front = first ∷ m.front; own = m.own; behind = m.behind; is = ap (λ xs. first ∷ xs) m.is }

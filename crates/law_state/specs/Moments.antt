@@ -1,0 +1,9 @@
+-- A moment of a history: one of its records, with those before it and those behind it.
+use Rattle.std.specs.Prelude.{◌≡◌, ◌++◌, List, ◌∷◌}
+use Rattle.petal_history.specs.declared.record.Record.{Record}
+
+pub record IsMoment (records : List Record) : Type 0 where
+  pub front : List Record
+  pub own : Record
+  pub behind : List Record
+  pub is : records ≡ front ++ own ∷ behind

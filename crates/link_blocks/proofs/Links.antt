@@ -1,0 +1,88 @@
+-- The blocks of a link among those of its map.
+use Rattle.std.proofs.Common.{◌≡◌, inl, inr, ℕ, ◌==◌, ◌++◌, not, Bool, true, false, List, [], ◌∷◌, Option, None, refl, sym, ap, ◌∙◌, arith}
+use Rattle.std.proofs.lemmas.Bool.{cases_Bool}
+use Rattle.std.proofs.lemmas.Bool.Decides.{nat_tests}
+use Rattle.std.proofs.lemmas.List.{append-nil}
+use Rattle.std.specs.Prelude.{filter, if◌then◌else◌}
+use Rattle.busy_marks.specs.declared.marks.Mark.{Mark}
+use Rattle.busy_marks.specs.Marks.{above, lesser}
+use Rattle.global_tables.specs.declared.link.LinkRow.{LinkRow}
+use Rattle.petal_base.specs.declared.cell.Cell.{Cell}
+use Rattle.petal_table.specs.Table.{Table}
+use Rattle.petal_rules.specs.Copies.{cell_at, idle_mark, is_kept_on, least}
+use Rattle.petal_rules.specs.Server.{Own}
+use Rattle.petal_rules.specs.State.{State, is_on, is_whole}
+use Rattle.petal_rules.specs.Store.{Chain}
+use Rattle.petal_rules.specs.Writes.{is_under_way}
+use Rattle.kept_chains.specs.Walking.{marked_in, stored_in}
+use Rattle.pair_side.proofs.Linked.{on_map}
+use Rattle.link_blocks.specs.Walks.{idle_on, left_on, marked_on, on_link, stored_on}
+use Rattle.link_blocks.proofs.Least.{filter_both, from_start, least_both}
+
+same_cell : (cell : Cell) (row : LinkRow) → (cell.map == row.map) ≡ true → cell_at row cell.block ≡ cell
+same_cell cell row is = λ i. record { map = sym map_is i; block = cell.block }
+  where
+    map_is : cell.map ≡ row.map
+    map_is = grind (arith, nat_tests, is)
+
+off_map : (state : State) (row : LinkRow) (cell : Cell) → (cell.map == row.map) ≡ false → is_on state row cell ≡ false
+off_map state row cell other = elim (cases_Bool (is_on state row cell)) [
+  | inl has ↦ absurd (let same = on_map state row cell has in
+      (let e : (cell.map == row.map) ≡ true = grind (arith, nat_tests, same) in let no : true ≡ false = sym e ∙ other in cc))
+  | inr has ↦ has
+]
+
+off_link : (state : State) (row : LinkRow) (cell : Cell) → (cell.map == row.map) ≡ false → is_kept_on state row cell ≡ false
+off_link state row cell other = rw (off_map state row cell other) refl
+
+pub marked_is : (state : State) (row : LinkRow) (marks : List Mark) → marked_on state row marks ≡ filter (on_link state row) (marked_in row.map marks)
+marked_is state row [] = refl
+marked_is state row (m ∷ ms) =
+    let rest = marked_is state row ms in
+    elim (cases_Bool (m.cell.map == row.map)) [
+      | inl own ↦
+          let here : on_link state row m.cell.block ≡ is_kept_on state row m.cell = ap (is_kept_on state row) (same_cell m.cell row own) in
+          elim (cases_Bool (is_kept_on state row m.cell)) [
+            | inl has ↦ rw (own, has) (rw (here ∙ has) (ap (λ (l : List ℕ). m.cell.block ∷ l) rest))
+            | inr has ↦ rw (own, has) (rw (here ∙ has) rest)
+          ]
+      | inr own ↦ rw (own, off_link state row m.cell own) rest
+    ]
+
+pub stored_is : (state : State) (row : LinkRow) (chains : Table Cell Chain) → stored_on state row chains ≡ filter (on_link state row) (stored_in row.map chains)
+stored_is state row [] = refl
+stored_is state row (r ∷ rs) =
+    let rest = stored_is state row rs in
+    elim (cases_Bool (r.0.map == row.map)) [
+      | inl own ↦
+          let here : on_link state row r.0.block ≡ is_kept_on state row r.0 = ap (is_kept_on state row) (same_cell r.0 row own) in
+          elim (cases_Bool (is_kept_on state row r.0)) [
+            | inl has ↦ rw (own, has) (rw (here ∙ has) (ap (λ (l : List ℕ). r.0.block ∷ l) rest))
+            | inr has ↦ rw (own, has) (rw (here ∙ has) rest)
+          ]
+      | inr own ↦ rw (own, off_link state row r.0 own) rest
+    ]
+
+-- the least mark on which nothing is under way
+pub idle_is : (state : State) (row : LinkRow) (own : Own)
+    → least (filter (above None) (filter (idle_on state row own) (marked_in row.map own.store.marks))) ≡ idle_mark state row own
+idle_is state row own =
+    ap least (
+    from_start (filter (idle_on state row own) (marked_in row.map own.store.marks))
+    ∙ sym (filter_both (on_link state row) (λ block. not (is_under_way own (cell_at row block))) (marked_in row.map own.store.marks))
+    ∙ ap (filter (λ block. not (is_under_way own (cell_at row block)))) (sym (marked_is state row own.store.marks))
+    )
+
+module _ (state : State) (row : LinkRow) (marks : List Mark) (chains : Table Cell Chain) (copied : Option ℕ) where
+  pub left_plain : is_whole row.state ≡ false → least (filter (above None) (marked_on state row marks)) ≡ least (left_on state row marks chains copied)
+  left_plain is =
+      ap least (from_start (marked_on state row marks) ∙ sym (append-nil (marked_on state row marks)))
+      ∙ ap (λ (b : Bool). least (marked_on state row marks ++ (if b then filter (above copied) (stored_on state row chains) else []))) (sym is)
+
+  pub left_whole : is_whole row.state ≡ true
+      → lesser (least (filter (above None) (marked_on state row marks))) (least (filter (above copied) (stored_on state row chains)))
+      ≡ least (left_on state row marks chains copied)
+  left_whole is =
+      ap (λ (l : List ℕ). lesser (least l) (least (filter (above copied) (stored_on state row chains)))) (from_start (marked_on state row marks))
+      ∙ sym (least_both (marked_on state row marks) (filter (above copied) (stored_on state row chains)))
+      ∙ ap (λ (b : Bool). least (marked_on state row marks ++ (if b then filter (above copied) (stored_on state row chains) else []))) (sym is)

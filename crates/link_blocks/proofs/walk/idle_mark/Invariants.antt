@@ -1,0 +1,17 @@
+-- What is least above the block so far is what is asked for.
+use Rattle.std.proofs.Common.{◌≡◌, None}
+use Rattle.std.specs.Prelude.{filter}
+use Rattle.busy_marks.specs.Marks.{above}
+use Rattle.petal_rules.specs.Copies.{least}
+use Rattle.kept_chains.specs.Walking.{marked_in}
+use Rattle.pair_side.specs.Side.{own_of}
+use Rattle.link_blocks.specs.Walks.{idle_on, room_above}
+use Rattle.link_blocks.proofs.walk.idle_mark.Given as goal
+
+abbrev pub invariant-loop-block : goal.invariant-loop-block
+invariant-loop-block g l =
+    least (filter (above l.after) (filter (idle_on l.here.state l.row (own_of l.side l.store)) (marked_in l.row.map l.store.marks)))
+    ≡ least (filter (above None) (filter (idle_on l.here.state l.row (own_of l.side l.store)) (marked_in l.row.map l.store.marks)))
+
+abbrev pub decreases-loop-block : goal.decreases-loop-block
+decreases-loop-block g l = room_above l.after

@@ -1,0 +1,14 @@
+-- What is least above the block so far is what is asked for.
+use Rattle.std.proofs.Common.{◌≡◌}
+use Rattle.std.specs.Prelude.{filter}
+use Rattle.busy_marks.specs.Marks.{above}
+use Rattle.petal_rules.specs.Copies.{least}
+use Rattle.link_blocks.specs.Walks.{marked_on, room_above}
+use Rattle.link_blocks.proofs.walk.marked_above.Given as goal
+
+abbrev pub invariant-loop-block : goal.invariant-loop-block
+invariant-loop-block g l = least (filter (above l.after) (marked_on l.here.state l.row l.store.marks))
+    ≡ least (filter (above l.fn.after) (marked_on l.here.state l.row l.store.marks))
+
+abbrev pub decreases-loop-block : goal.decreases-loop-block
+decreases-loop-block g l = room_above l.after

@@ -1,0 +1,5 @@
+pub mod States
+pub mod Letters
+pub mod FollowUps
+pub mod Runs
+pub mod Wanted

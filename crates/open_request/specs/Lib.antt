@@ -1,0 +1,4 @@
+pub mod Judging
+pub mod Open
+pub mod Orders
+pub mod Posting

@@ -1,0 +1,42 @@
+//! A letter that asks for a read.
+
+ghost use Rattle.std.specs.Prelude.{◌≡◌};
+ghost use Rattle.petal_rules.specs.Reads.{on_read};
+ghost use Rattle.pair_side.specs.Done.{IsDone};
+ghost use Rattle.pair_side.specs.Side.{HasTicketsAt, own_of};
+
+use crate::answer::{answer_read, said};
+use kept_chains::ReadError;
+use pair_side::{Done, Here, Side, WorkError, says, silent};
+use petal_base::{Cell, ClientId, Epoch, Seq};
+use petal_disk::Disk;
+use petal_msg::Actor;
+use server_store::Store;
+
+/// A read is answered at a server that may read the cell.
+///
+/// # Errors
+/// `Failed` where the device failed, and out of memory.
+#[tactic(auto, unfolding(petal_rules::specs::Reads::on_read))]
+pub fn on_read<D: Disk>(
+    here: &Here,
+    side: &Side,
+    store: &mut Store<D>,
+    client: ClientId,
+    seq: Seq,
+    cell: Cell,
+    epoch: Epoch,
+) -> Result<Done, WorkError>
+    requires { HasTicketsAt side.now store.old }
+    ensures { IsDone D.Disk here.now side.now side.now store.old store.new result
+        (on_read here.now (own_of side.now store.old) client seq cell epoch) }
+{
+    if !here.readable(cell) {
+        return silent(here, side, store);
+    }
+    match answer_read(here, side, store, cell, epoch) {
+        Ok(reply) => says(here, side, store, Actor::Client(client), said(seq, reply)),
+        Err(ReadError::Failed) => Err(WorkError::Failed),
+        Err(ReadError::NoMemory) => Err(WorkError::NoMemory),
+    }
+}

@@ -1,0 +1,16 @@
+-- A boot, from before both stores were opened again.
+use Rattle.std.proofs.Common.{◌<◌, arith}
+use Rattle.server_recovery.proofs.Booting.{from_before}
+use Rattle.server_recovery.specs.Server.{Mounted}
+use Rattle.server_recovery.proofs.boot.boot_again.Goals as goal
+
+pub returns : goal.returns
+returns g c = λ told holds kept.
+    let old : Mounted _ = record { core = c.args.core.now; store = c.args.store.now; state = c.args.state.now } in
+    let bound = c.slots-slots.type_inv in
+    let slots = c.slots-slots.ensures in
+    let small : old.store.slots < 4294967296 = omega (arith, bound, slots) in
+    let again = c.in_ok-reread.ensures.again told small holds kept in
+    let later = c.reread.ensures.later in
+    from_before old c.reread.new.store c.reread.new.state c.requires.stopped again (omega (arith, later))
+    (c.in_ok-attempt.ensures told again.holds again.state_holds again.tickets)

@@ -1,0 +1,23 @@
+-- A store is made on a blank device, or the device fails.
+use Rattle.std.proofs.Common.{◌≤◌, sym, ap, subst, ◌∙◌}
+use Rattle.kept_chains.specs.Kept.{store_of}
+use Rattle.petal_rules.specs.Store.{blank_store}
+use Rattle.server_store.specs.Slots.{slot_start}
+use Rattle.server_recovery.proofs.Booting.{booted_on, failed_on}
+use Rattle.server_recovery.proofs.boot.boot_blank.Goals as goal
+
+pub returns-in_ok-attempt-in-Ok : goal.returns-in_ok-attempt-in-Ok
+returns-in_ok-attempt-in-Ok g c = λ told kept.
+    let made = c.in-Ok.made in
+    booted_on g.D.Disk c.args.core.now c.args.store.now c.args.state.now c.args.disk kept made
+    _ _ _ (ap store_of c.in-Ok.ensures.ok ∙ ap blank_store c.slots.ensures)
+    c.in-Ok.ensures.later
+    (c.in_ok-attempt-in-Ok.ensures told (c.in-Ok.ensures.holds told) kept)
+
+pub returns-in-Err-default-Failed : goal.returns-in-Err-default-Failed
+returns-in-Err-default-Failed g c = λ told kept.
+    let failed = c.in-Err-default-Failed in
+    let room = subst (λ size. slot_start c.args.store.now.slots ≤ size) (sym failed.ensures.err_size) c.requires.room in
+    rw (c.failed-attempt.ensures, c.new.ensures)
+    (failed_on g.D.Disk c.args.core.now c.args.store.now c.args.state.now c.args.disk kept failed.disk c.requires.stopped room
+    (failed.ensures.failed failed.field-0-1-is))

@@ -1,0 +1,4 @@
+pub mod Server
+pub mod Ends
+pub mod Recovery
+pub mod Booted

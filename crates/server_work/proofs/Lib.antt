@@ -1,0 +1,6 @@
+pub mod Steps
+pub mod Rooms
+pub mod Works
+pub mod Refused
+pub mod Pairing
+pub mod Entering
