@@ -69,8 +69,9 @@ regroup : (at : ℕ) (bytes now : List ℕ) → written now at bytes ≡ take at
 regroup at bytes now = append_assoc (take at now) bytes (drop (at + length bytes) now)
     ∙ ap (λ (l : List ℕ). take at now ++ (bytes ++ l)) (sym (drop-drop (length bytes) at now))
 
-length-regrouped : (at : ℕ) (bytes now : List ℕ) → at + length bytes ≤ length now → length (written now at bytes) ≡ length now
-length-regrouped at bytes now l = omega (
+-- a write among the bytes leaves as many
+pub length-written : (at : ℕ) (bytes now : List ℕ) → at + length bytes ≤ length now → length (written now at bytes) ≡ length now
+length-written at bytes now l = omega (
   arith,
   length-append (take at now ++ bytes) (drop (at + length bytes) now),
   length-append (take at now) bytes,
@@ -86,5 +87,5 @@ written_follows at bytes now kept after c l is m =
       undone now at (length bytes) c,
       over_at at bytes now kept c l (subst (λ (x : List ℕ). Mixes x kept c) (regroup at bytes now) m'),
       torn_undone
-          at (length bytes) now c l (length-Mixes (written now at bytes) kept c m' ∙ length-regrouped at bytes now l),
+          at (length bytes) now c l (length-Mixes (written now at bytes) kept c m' ∙ length-written at bytes now l),
     )

@@ -1,8 +1,10 @@
 -- What is read and written where a file is bytes with zeros after them.
-use Rattle.std.proofs.Common.{◌≡◌, ℕ, ◌+◌, ◌-◌, ◌≤◌, List, [], ◌∷◌, ◌++◌, zero, suc, length, take, drop, replicate, sym, ◌∙◌, ap, arith, append_assoc, length-append, length-drop}
-use Rattle.std.proofs.lemmas.List.{length-replicate, length-take-le, take-append-le, drop-append-le, replicate-append-replicate}
+use Rattle.std.proofs.Common.{◌≡◌, ℕ, ◌+◌, ◌-◌, ◌≤◌, List, [], ◌∷◌, ◌++◌, zero, suc, length, take, drop, replicate, sym}
+use Rattle.std.proofs.Common.{◌∙◌, ap, arith, append_assoc, length-append}
+use Rattle.std.proofs.lemmas.List.{length-replicate, take-append-le, drop-append-le, replicate-append-replicate}
 use Rattle.petal_disk.specs.Disk.{written}
 use Rattle.petal_disk.specs.Padded.{padded}
+use Rattle.petal_disk.proofs.Mixed.{length-written}
 
 -- files of the same size
 pub same_padded : (now kept : List ℕ) (n : ℕ) → length kept ≡ length now → length (padded kept n) ≡ length (padded now n)
@@ -29,15 +31,6 @@ padded_grown bytes more end n l l' is =
     ∙ append_assoc bytes (replicate (end - length bytes) 0) (replicate (n - length more) 0)
     ∙ ap (λ (l : List ℕ). bytes ++ l) (replicate-append-replicate (end - length bytes) (n - length more) 0)
     ∙ ap (λ (k : ℕ). bytes ++ replicate k 0) (let e : (end - length bytes) + (n - length more) ≡ n - length bytes = omega (arith, long) in e)
-
-length-written : (at : ℕ) (new bytes : List ℕ) → at + length new ≤ length bytes → length (written bytes at new) ≡ length bytes
-length-written at new bytes l = omega (
-  arith,
-  length-append (take at bytes ++ new) (drop (at + length new) bytes),
-  length-append (take at bytes) new,
-  length-take-le at bytes (omega arith),
-  length-drop (at + length new) bytes,
-)
 
 -- a write among the bytes is one of the file
 pub padded_written : (at : ℕ) (new bytes after : List ℕ) (n : ℕ) → at + length new ≤ length bytes → after ≡ written bytes at new

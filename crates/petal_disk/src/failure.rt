@@ -1,12 +1,7 @@
 //! Why a call of the outside may not do what it is asked.
 
-use std::alloc::{AllocError, AllocFailed};
+use petal_base::NoMemory;
 use thiserror::Error;
-
-/// There was no memory for this call, which left its object as before.
-#[derive(Clone, Copy, Debug, PartialEq, Eq, Error)]
-#[error("out of memory")]
-pub struct NoMemory;
 
 /// What lies outside failed in this call, and its count of faults rose.
 #[derive(Clone, Copy, Debug, PartialEq, Eq, Error)]
@@ -22,18 +17,6 @@ pub enum ShelfError {
     /// There was no memory for the device.
     #[error("out of memory")]
     NoMemory,
-}
-
-impl From<AllocError> for NoMemory {
-    fn from(_error: AllocError) -> NoMemory {
-        NoMemory
-    }
-}
-
-impl<T: Drop> From<AllocFailed<T>> for NoMemory {
-    fn from(_error: AllocFailed<T>) -> NoMemory {
-        NoMemory
-    }
 }
 
 impl From<NoMemory> for ShelfError {

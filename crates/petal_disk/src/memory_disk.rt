@@ -6,7 +6,8 @@ ghost use Rattle.petal_disk.specs.Disk.{written, Only};
 ghost use Rattle.petal_disk.specs.Mixes.{Mixes};
 ghost use Rattle.petal_disk.specs.Padded.{padded, length-padded, length-left};
 
-use crate::{Disk, Failed, NoMemory};
+use crate::{Disk, Failed};
+use petal_base::NoMemory;
 use std::alloc::Global;
 
 /// A disk in memory of a fixed length, which never fails. Room for twice its length is set apart at the start, so that no write

@@ -6,8 +6,7 @@ use petal_base::{
 };
 use petal_command::{Command, Pax, ServerNumber};
 
-/// The content of a letter, in the order of the format. Those about entries that move to a new map are sent and handled by no
-/// rule yet.
+/// The content of a letter, in the order of the format.
 #[derive(Clone, PartialEq, Eq, Drop)]
 pub enum Body {
     /// This incarnation of a server has stopped.
