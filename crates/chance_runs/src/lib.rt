@@ -13,8 +13,5 @@ mod struck;
 
 pub use chance::Chance;
 pub use count::Count;
-pub use scripts::{
-    script_by, script_with_blanks, script_with_cuts, script_with_moves,
-    script_with_moves_and_starts, script_with_snaps, script_with_starts, script_with_stops,
-};
+pub use scripts::{Tale, script_by};
 pub use simulation::{Habit, simulate};

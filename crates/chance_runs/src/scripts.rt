@@ -3,6 +3,37 @@
 use crate::chance::Chance;
 use std::alloc::{AllocError, Global};
 
+/// What a script tells of beside writes and reads.
+#[derive(Clone, Copy)]
+pub enum Tale {
+    /// Nothing, over three servers.
+    Plain,
+    /// The operator stops two of five servers.
+    Stops,
+    /// It again and again stops two of them and starts them, and at last waits until they are settled.
+    Starts,
+    /// It blanks both of the two, one of them while it is stopped.
+    Blanks,
+    /// It stops both of the two twice.
+    Cuts,
+    /// A client takes snapshots.
+    Snaps,
+    /// A disk moves that has a snapshot.
+    Moves,
+    /// So it does, and the operator again and again stops one of the servers and starts it.
+    MovesAndStarts,
+}
+
+impl Tale {
+    // Whether the operator waits at last until all servers are settled.
+    fn settles(self) -> bool {
+        match self {
+            Tale::Starts | Tale::Blanks => true,
+            _ => false,
+        }
+    }
+}
+
 /// How many lines a script has after those that make its disks. The writes among them have fills of their own.
 const LINES: u8 = 240;
 
@@ -34,8 +65,8 @@ fn add_lines(alloc: Global, chance: &mut Chance, text: &mut String) -> Result<()
     Ok(())
 }
 
-/// A script of three servers and three clients. Each write takes a slot more while it is under way, so that some find none.
-pub fn script_by(alloc: Global, chance: &mut Chance) -> Result<String, AllocError> {
+// A script of three servers and three clients. Each write takes a slot more while it is under way, so that some find none.
+fn plain_script(alloc: Global, chance: &mut Chance) -> Result<String, AllocError> {
     let slots = 3 + chance.below(3);
     let mut text = format!(in alloc;
         "servers 3 slots {slots}\na disk vol on 0 1 2\nb disk log on 1 2\n"
@@ -51,68 +82,48 @@ fn two_by(chance: &mut Chance) -> (usize, usize) {
     (first, second)
 }
 
-/// The same over five servers, two of which the operator stops.
-pub fn script_with_stops(alloc: Global, chance: &mut Chance) -> Result<String, AllocError> {
-    let slots = 3 + chance.below(3);
+// A server stops and starts, twice.
+fn stops_twice(alloc: Global, server: usize) -> Result<String, AllocError> {
+    format!(in alloc; "op stop {server}\nop start {server}\nop stop {server}\nop start {server}\n")
+}
+
+// What the operator orders of two of five servers.
+fn orders_by(alloc: Global, chance: &mut Chance, tale: Tale) -> Result<String, AllocError> {
     let (first, second) = two_by(chance);
-    let mut text = format!(in alloc;
-        "servers 5 slots {slots}\na disk vol on 0 1 2\nb disk log on 3 4\nop stop {first}\nop stop {second}\n"
-    )?;
-    add_lines(alloc, chance, &mut text)?;
-    Ok(text)
-}
-
-/// The same over five servers, of which the operator again and again stops two and starts them, and at last waits until they are
-/// settled.
-pub fn script_with_starts(alloc: Global, chance: &mut Chance) -> Result<String, AllocError> {
-    let slots = 3 + chance.below(3);
-    let mut text = format!(in alloc;
-        "servers 5 slots {slots}\na disk vol on 0 1 2\nb disk log on 3 4\n"
-    )?;
-    for _ in 0..4 {
-        let (first, second) = two_by(chance);
-        let orders = format!(in alloc;
+    match tale {
+        Tale::Stops => format!(in alloc; "op stop {first}\nop stop {second}\n"),
+        Tale::Starts => format!(in alloc;
             "op stop {first}\nop start {first}\nop stop {second}\nop stop {first}\nop start {first}\nop start {second}\n"
-        )?;
-        text.push_str(orders.as_str())?;
-    }
-    text.push_str("op settle\n")?;
-    add_lines(alloc, chance, &mut text)?;
-    Ok(text)
-}
-
-/// The same, where the operator blanks both of the two, one of them while it is stopped.
-pub fn script_with_blanks(alloc: Global, chance: &mut Chance) -> Result<String, AllocError> {
-    let slots = 3 + chance.below(3);
-    let mut text = format!(in alloc;
-        "servers 5 slots {slots}\na disk vol on 0 1 2\nb disk log on 3 4\n"
-    )?;
-    for _ in 0..4 {
-        let (first, second) = two_by(chance);
-        let orders = format!(in alloc;
+        ),
+        Tale::Blanks => format!(in alloc;
             "op blank {first}\nop stop {second}\nop stop {first}\nop start {first}\nop blank {second}\n"
-        )?;
-        text.push_str(orders.as_str())?;
+        ),
+        Tale::Cuts => {
+            let mut orders = stops_twice(alloc, first)?;
+            orders.push_str(stops_twice(alloc, second)?.as_str())?;
+            Ok(orders)
+        }
+        Tale::Plain | Tale::Snaps | Tale::Moves | Tale::MovesAndStarts => Ok(String::new(alloc)),
     }
-    text.push_str("op settle\n")?;
-    add_lines(alloc, chance, &mut text)?;
-    Ok(text)
 }
 
-/// The same over five servers, of which the operator again and again stops two, each twice, and starts them.
-pub fn script_with_cuts(alloc: Global, chance: &mut Chance) -> Result<String, AllocError> {
+// A script of five servers, of which the operator so often orders this of two.
+fn ordered_script(
+    alloc: Global,
+    chance: &mut Chance,
+    tale: Tale,
+    times: u32,
+) -> Result<String, AllocError> {
     let slots = 3 + chance.below(3);
     let mut text = format!(in alloc;
         "servers 5 slots {slots}\na disk vol on 0 1 2\nb disk log on 3 4\n"
     )?;
-    for _ in 0..4 {
-        let (first, second) = two_by(chance);
-        for server in [first, second] {
-            let orders = format!(in alloc;
-                "op stop {server}\nop start {server}\nop stop {server}\nop start {server}\n"
-            )?;
-            text.push_str(orders.as_str())?;
-        }
+    for _ in 0..times {
+        let orders = orders_by(alloc, chance, tale)?;
+        text.push_str(orders.as_str())?;
+    }
+    if tale.settles() {
+        text.push_str("op settle\n")?;
     }
     add_lines(alloc, chance, &mut text)?;
     Ok(text)
@@ -174,9 +185,9 @@ fn add_snap_lines(
     Ok(())
 }
 
-/// A script of three servers and three clients, of which `a` takes snapshots of the disk that is made in a first phase, and mostly
-/// reads them.
-pub fn script_with_snaps(alloc: Global, chance: &mut Chance) -> Result<String, AllocError> {
+// A script of three servers and three clients, of which `a` takes snapshots of the disk that is made in a first phase, and mostly
+// reads them.
+fn snap_script(alloc: Global, chance: &mut Chance) -> Result<String, AllocError> {
     let mut text = format!(in alloc; "servers 3 slots 64\na disk vol on 0 1 2\nwait\n")?;
     add_snap_lines(alloc, chance, [0, 1, 2], 0, &mut text)?;
     Ok(text)
@@ -203,24 +214,27 @@ fn moving_head(alloc: Global, chance: &mut Chance) -> Result<String, AllocError>
     Ok(text)
 }
 
-/// The same, where the disk is written in the first phase and is to move from then on.
-pub fn script_with_moves(alloc: Global, chance: &mut Chance) -> Result<String, AllocError> {
+// The same, where the disk is written in the first phase and is to move from then on, and the operator so often stops one of the servers
+// and starts it.
+fn moving_script(alloc: Global, chance: &mut Chance, starts: u32) -> Result<String, AllocError> {
     let mut text = moving_head(alloc, chance)?;
-    add_snap_lines(alloc, chance, [0, 1, 9], 1, &mut text)?;
-    Ok(text)
-}
-
-/// The same, where the operator again and again stops one of the servers and starts it.
-pub fn script_with_moves_and_starts(
-    alloc: Global,
-    chance: &mut Chance,
-) -> Result<String, AllocError> {
-    let mut text = moving_head(alloc, chance)?;
-    for _ in 0..8 {
+    for _ in 0..starts {
         let server = chance.below(3);
         let orders = format!(in alloc; "op stop {server}\nop start {server}\n")?;
         text.push_str(orders.as_str())?;
     }
     add_snap_lines(alloc, chance, [0, 1, 9], 1, &mut text)?;
     Ok(text)
+}
+
+/// A script by chance that tells such a tale.
+pub fn script_by(alloc: Global, chance: &mut Chance, tale: Tale) -> Result<String, AllocError> {
+    match tale {
+        Tale::Plain => plain_script(alloc, chance),
+        Tale::Stops => ordered_script(alloc, chance, tale, 1),
+        Tale::Starts | Tale::Blanks | Tale::Cuts => ordered_script(alloc, chance, tale, 4),
+        Tale::Snaps => snap_script(alloc, chance),
+        Tale::Moves => moving_script(alloc, chance, 0),
+        Tale::MovesAndStarts => moving_script(alloc, chance, 8),
+    }
 }

@@ -288,6 +288,32 @@ impl Choice {
     }
 }
 
+// Takes the steps of a run that begins. Gives what was counted, or which seed takes too few steps, or which step the plain machine refuses.
+fn simulate_by<H: Host>(
+    alloc: Global,
+    seed: u32,
+    choice: &mut Choice,
+    run: &mut Run<H>,
+) -> Result<Count, Fail> {
+    if choice.habit.is_brisk() && !begin(alloc, run)? {
+        return Err(Fail::new(format_args!("seed {seed}: the first phase doesn't end")));
+    }
+    choice.seen = run.sent.len();
+    if !choice.go_on(alloc, run)? {
+        return Err(Fail::new(format_args!("seed {seed} takes too few steps")));
+    }
+    match run.first_refused(alloc)? {
+        None => Ok(Count {
+            cut_jobs: choice.cut_jobs,
+            cut_boots: choice.cut_boots,
+            ..counted(run)
+        }),
+        Some(step) => Err(Fail::new(format_args!(
+            "seed {seed}: the plain machine refuses step {step}"
+        ))),
+    }
+}
+
 /// Takes the steps of a run that begins, chosen by chance, all of which the plain machine takes. Gives what was counted.
 ///
 /// # Errors
@@ -300,28 +326,13 @@ pub fn simulate<H: Host>(
     run: Run<H>,
 ) -> Result<Count, Fail> {
     let mut run = run;
-    if habit.is_brisk() && !begin(alloc, &mut run)? {
-        return Err(Fail::new(format_args!("seed {seed}: the first phase doesn't end")));
-    }
     let mut choice = Choice {
         chance,
         habit,
         fresh: Vec::new(alloc),
-        seen: run.sent.len(),
+        seen: 0,
         cut_jobs: 0,
         cut_boots: 0,
     };
-    if !choice.go_on(alloc, &mut run)? {
-        return Err(Fail::new(format_args!("seed {seed} takes too few steps")));
-    }
-    match run.first_refused(alloc)? {
-        None => Ok(Count {
-            cut_jobs: choice.cut_jobs,
-            cut_boots: choice.cut_boots,
-            ..counted(&run)
-        }),
-        Some(step) => Err(Fail::new(format_args!(
-            "seed {seed}: the plain machine refuses step {step}"
-        ))),
-    }
+    simulate_by(alloc, seed, &mut choice, &mut run)
 }

@@ -4,14 +4,15 @@
 #![tactic(auto)]
 
 ghost use Rattle.std.specs.Prelude.{◌≡◌, map};
-ghost use Rattle.memory_server.specs.Server.{site_of};
+ghost use Rattle.server_recovery.specs.Server.{site_of};
 ghost use Rattle.petal_world.specs.Desks.{first_sites};
 
+use chance_runs::{Chance, Count, Habit, Tale, script_by, simulate};
 use memory_server::{MemServer, members};
 use petal_base::{NoMemory, Sequence, ServerId};
 use petal_script::{Script, read_script};
 use petal_world::{World, are_in_order};
-use row_runs::{Cast, Row, play_row};
+use row_runs::{FirstHosts, Row, play_row};
 use std::alloc::Global;
 use std::test::Fail;
 use world_runs::Run;
@@ -19,7 +20,7 @@ use world_runs::Run;
 /// Servers with disks in memory.
 struct Memory;
 
-impl Cast<MemServer> for Memory {
+impl FirstHosts<MemServer> for Memory {
     fn first(
         &self,
         alloc: Global,
@@ -54,4 +55,41 @@ pub fn start(alloc: Global, text: &str) -> Result<Run<MemServer>, Fail> {
 /// Plays a row.
 pub fn play(alloc: Global, row: &Row) -> Result<(), Fail> {
     play_row(alloc, &Memory, row, start(alloc, row.script)?)
+}
+
+/// Plays these rows, one after the other.
+pub fn play_all(alloc: Global, rows: &[Row]) -> Result<(), Fail> {
+    for row in rows {
+        play(alloc, row)?;
+    }
+    Ok(())
+}
+
+/// Plays a row that has these parts.
+pub fn play_steps(alloc: Global, shows: &str, script: &str, steps: &str) -> Result<(), Fail> {
+    let row = Row {
+        shows,
+        script,
+        steps,
+    };
+    play(alloc, &row)
+}
+
+/// Worlds are stepped by chance from so many seeds, counted from 1.
+pub const SEEDS: u32 = 20;
+
+fn simulate_seed(alloc: Global, tale: Tale, habit: Habit, seed: u32) -> Result<Count, Fail> {
+    let mut chance = Chance::new(seed);
+    let text = script_by(alloc, &mut chance, tale)?;
+    let run = start(alloc, text.as_str())?;
+    simulate(alloc, seed, habit, chance, run)
+}
+
+/// Steps by chance, from each seed, a world whose script tells such a tale. Gives what was counted in all of them.
+pub fn simulate_all(alloc: Global, tale: Tale, habit: Habit) -> Result<Count, Fail> {
+    let mut all = Count::new();
+    for seed in 1..=SEEDS {
+        all = all.and(simulate_seed(alloc, tale, habit, seed)?);
+    }
+    Ok(all)
 }

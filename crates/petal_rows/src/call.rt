@@ -3,9 +3,10 @@
 use crate::letters::letters;
 use petal_disk::{MemShelf, MemSink, MemSource};
 use petal_history::Record;
-use petal_run::petal;
+use petal_run::{Outcome, petal};
 use std::alloc::{AllocError, Global};
 use std::sync::Wait;
+use std::test::Fail;
 
 /// Where the outside fails: the number of the call, from 1.
 #[derive(Clone, Copy)]
@@ -87,7 +88,7 @@ fn is_lost_and_twice([lost, _once, twice]: [usize; 3]) -> bool {
     lost > 0 && twice > 0
 }
 
-fn are_so(records: &[Record], wanted: Letters) -> bool {
+fn are_handed_so(records: &[Record], wanted: Letters) -> bool {
     match wanted {
         Letters::Any => true,
         Letters::Once => is_once(letters(records)),
@@ -102,16 +103,27 @@ fn is_written(sink: MemSink, row: &Row) -> bool {
         .any(|text| bytes.as_slice() == text.as_bytes())
 }
 
+fn ends_so(outcome: &Outcome, row: &Row) -> bool {
+    outcome.status == row.status && are_handed_so(outcome.history.records.as_slice(), row.letters)
+}
+
 /// Whether the call ends as the row says.
-pub fn is_so<R: Wait>(rt: &R, alloc: Global, row: &Row) -> Result<bool, AllocError> {
+fn is_so<R: Wait>(rt: &R, alloc: Global, row: &Row) -> Result<bool, AllocError> {
     let words = word_list(alloc, row.words)?;
     let mut source = source_of(alloc, row)?;
     let mut sink = MemSink::new(alloc, sink_faults(alloc, row.fault)?);
     let mut shelf = MemShelf::refusing(1);
     let outcome = petal(rt, alloc, &words, &mut source, &mut sink, &mut shelf);
-    Ok(
-        outcome.status == row.status
-            && are_so(outcome.history.records.as_slice(), row.letters)
-            && is_written(sink, row),
-    )
+    let ends = ends_so(&outcome, row);
+    Ok(is_written(sink, row) && ends)
+}
+
+/// Calls the program by these rows, each of which has to end as it says.
+pub fn are_so<R: Wait>(rt: &R, alloc: Global, rows: &[Row]) -> Result<(), Fail> {
+    for row in rows {
+        if !is_so(rt, alloc, row)? {
+            return Err(Fail::new(row.shows));
+        }
+    }
+    Ok(())
 }

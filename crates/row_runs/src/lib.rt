@@ -9,5 +9,5 @@ mod player;
 mod schedule;
 mod wants;
 
-pub use held::Cast;
+pub use held::FirstHosts;
 pub use schedule::{Row, play_row};

@@ -1,6 +1,6 @@
 //! A run that a row steps.
 
-use crate::held::{Cast, is_held};
+use crate::held::{FirstHosts, is_held};
 use crate::wants::is_so;
 use petal_base::{NoMemory, ServerId, SharedBlock};
 use petal_msg::{Actor, Body, SharedLetter};
@@ -322,10 +322,10 @@ impl<H: Host> Player<H> {
     }
 
     /// Takes a step, or looks whether what is expected is so. Gives whether it was taken, or is so.
-    pub fn take<C: Cast<H>>(
+    pub fn take<C: FirstHosts<H>>(
         &mut self,
         alloc: Global,
-        cast: &C,
+        hosts: &C,
         act: &Act,
     ) -> Result<bool, NoMemory> {
         match act {
@@ -355,7 +355,7 @@ impl<H: Host> Player<H> {
             Act::Sent(count, mail) => Ok(self.count(mail) >= *count as usize),
             Act::Owners(count, mail) => Ok(self.owners(mail) >= *count as usize),
             Act::Told(words) => self.tells(alloc, words),
-            Act::Holds(server, held) => is_held(alloc, cast, &self.run, *server, held),
+            Act::Holds(server, held) => is_held(alloc, hosts, &self.run, *server, held),
         }
     }
 

@@ -54,7 +54,7 @@
 //! At the end of each row the plain machine takes all that it is told. A row that fails names itself, the step and, where a
 //! word is none of these, the word and its place in the step.
 
-use crate::held::Cast;
+use crate::held::FirstHosts;
 use crate::player::Player;
 use petal_base::NoMemory;
 use petal_world::Host;
@@ -99,16 +99,16 @@ fn step_of<'a>(words: &'a [&'a str]) -> Result<(bool, Act<'a>), usize> {
     }
 }
 
-fn fault_of<H: Host, C: Cast<H>>(
+fn fault_of<H: Host, C: FirstHosts<H>>(
     alloc: Global,
-    cast: &C,
+    hosts: &C,
     player: &mut Player<H>,
     words: &[&str],
 ) -> Result<Option<Fault>, NoMemory> {
     match step_of(words) {
         Err(place) => Ok(Some(Fault::BadWord(place))),
         Ok((wanted, act)) => {
-            if player.take(alloc, cast, &act)? == wanted {
+            if player.take(alloc, hosts, &act)? == wanted {
                 Ok(None)
             } else {
                 Ok(Some(Fault::NotSo))
@@ -137,9 +137,9 @@ fn fail(row: &Row, at: usize, words: &[&str], fault: Fault) -> Fail {
     }
 }
 
-fn walk<H: Host, C: Cast<H>>(
+fn walk<H: Host, C: FirstHosts<H>>(
     alloc: Global,
-    cast: &C,
+    hosts: &C,
     row: &Row,
     player: &mut Player<H>,
 ) -> Result<(), Fail> {
@@ -147,7 +147,7 @@ fn walk<H: Host, C: Cast<H>>(
     for step in row.steps.split(';') {
         at = at.saturating_add(1);
         let words: Vec<&str> = step.split_whitespace().collect(alloc)?;
-        if let Some(fault) = fault_of(alloc, cast, player, &words)? {
+        if let Some(fault) = fault_of(alloc, hosts, player, &words)? {
             return Err(fail(row, at, &words, fault));
         }
     }
@@ -164,12 +164,12 @@ fn walk<H: Host, C: Cast<H>>(
 ///
 /// # Errors
 /// What is wrong: the row, its step, and where a word is none of the form that word; or what the plain machine refuses.
-pub fn play_row<H: Host, C: Cast<H>>(
+pub fn play_row<H: Host, C: FirstHosts<H>>(
     alloc: Global,
-    cast: &C,
+    hosts: &C,
     row: &Row,
     run: Run<H>,
 ) -> Result<(), Fail> {
     let mut player = Player::new(alloc, run);
-    walk(alloc, cast, row, &mut player)
+    walk(alloc, hosts, row, &mut player)
 }

@@ -29,7 +29,7 @@ pub enum Want {
 
 /// What a server is to have.
 #[derive(Clone, Copy)]
-pub enum Held<'a> {
+pub enum Holding<'a> {
     /// As the latest content of this cell a block of this byte.
     Fill(Cell, u8),
     /// Marks on these blocks of this map and on no other, each a number.
@@ -71,7 +71,7 @@ pub enum Act<'a> {
     Owners(u32, Mail<'a>),
     Told(&'a [&'a str]),
     /// The server has what is said.
-    Holds(ServerId, Held<'a>),
+    Holds(ServerId, Holding<'a>),
     /// So many disks were made.
     Made(u32),
     /// So many jobs and boots ended since a device failed.
@@ -192,19 +192,19 @@ fn marks<'a>(who: &str, map: &str, blocks: &'a [&'a str]) -> Result<Act<'a>, usi
     for (at, block) in blocks.iter().enumerate() {
         number(block, at.saturating_add(4))?;
     }
-    Ok(Act::Holds(server(who, 1)?, Held::Marks(number(map, 3)?, blocks)))
+    Ok(Act::Holds(server(who, 1)?, Holding::Marks(number(map, 3)?, blocks)))
 }
 
 // A step of one actor, or what a server has: what follows its name.
 fn step_of<'a>(who: &str, words: &'a [&'a str]) -> Result<Act<'a>, usize> {
     match *words {
         ["has", word, "fill", fill] => {
-            let held = Held::Fill(cell(word, 3)?, byte(fill, 5)?);
+            let held = Holding::Fill(cell(word, 3)?, byte(fill, 5)?);
             Ok(Act::Holds(server(who, 1)?, held))
         }
         ["has", entries, "entries"] => Ok(Act::Holds(
             server(who, 1)?,
-            Held::Entries(number(entries, 3)?),
+            Holding::Entries(number(entries, 3)?),
         )),
         ["marks", map, ..] => marks(who, map, &words[2..]),
         ["calls", line] => Ok(Act::Call(client(who, 1)?, number(line, 3)?)),

@@ -6,5 +6,5 @@
 mod act;
 mod words;
 
-pub use act::{Act, Held, Want, act_of};
+pub use act::{Act, Holding, Want, act_of};
 pub use words::Mail;

@@ -3,32 +3,4 @@
 #![tactic(auto)]
 
 #[cfg(test)]
-mod blank_faults;
-#[cfg(test)]
-mod blanks;
-#[cfg(test)]
-mod boots;
-#[cfg(test)]
-mod catch_ups;
-#[cfg(test)]
-mod chances;
-#[cfg(test)]
-mod faults;
-#[cfg(test)]
-mod late_faults;
-#[cfg(test)]
-mod moves;
-#[cfg(test)]
-mod plans;
-#[cfg(test)]
-mod returns;
-#[cfg(test)]
-mod rows;
-#[cfg(test)]
-mod settles;
-#[cfg(test)]
-mod snapshots;
-#[cfg(test)]
-mod stops;
-#[cfg(test)]
-mod takeovers;
+mod tests;

@@ -1,25 +1,69 @@
-//! A device of a server fails, or stops it, that comes back with nothing.
+//! A device of a server fails, or stops it, in a boot or behind the boot of a blanked server.
 
-use memory_runs::play;
-use row_runs::Row;
+use memory_runs::play_steps;
 use std::alloc::Global;
 use std::test::Fail;
 
+/// The state device of server 0, which is armed while the server is stopped, fails in such a call of the boot, which has raised the
+/// incarnation or not. It does so no less where the plan stops the server.
+fn failing_boot(alloc: Global, plan: &str, committed: u32) -> Result<(), Fail> {
+    let steps = format!(in alloc;
+        "op calls 2; 0 stops; 0 shows 2; seen 0>op; wait; op calls 4; 0 arms state {plan}; 0 boots; failed 1; stopped 0; committed {committed};
+        not 0 ticks; not 0 boots; not sent 2 down 0>1; 0 shows 4; seen 0>op; line 4 failed; op calls 5; 0 boots; failed 1; sent 2 down 0>1; 0 shows 5; seen 0>op; line 5 ok;
+        play out; line 7 ok; line 9 ok; line 11 fill 7"
+    )?;
+    play_steps(
+        alloc,
+        "a device fails in a boot: the server stays stopped, tells nobody, and boots for the next line",
+        "servers 3 slots 4\nop stop 0\nwait\nop start 0\nop start 0\nwait\na disk vol on 0 1 2\nwait\na write vol 0 fill 7\nwait
+b read vol 0\n",
+        steps.as_str(),
+    )
+}
+
+#[test]
+fn boots_that_fail(rt: HostRuntime) -> Result<(), Fail> {
+    // its device is read again first, which syncs it twice
+    for plan in [
+        "write 1",
+        "write 2",
+        "write 1 stop",
+        "write 2 stop",
+        "sync 3",
+        "sync 4",
+        "sync 3 stop",
+        "sync 4 stop",
+    ] {
+        failing_boot(rt.alloc(), plan, 0)?;
+    }
+    Ok(())
+}
+
+#[test]
+fn boots_that_fail_late(rt: HostRuntime) -> Result<(), Fail> {
+    // what is written and not synced is lost, and the last sync is that of the commit
+    failing_boot(rt.alloc(), "write 1 late", 0)?;
+    failing_boot(rt.alloc(), "write 2 late stop", 0)?;
+    failing_boot(rt.alloc(), "sync 3 late", 0)?;
+    failing_boot(rt.alloc(), "sync 4 late", 1)?;
+    failing_boot(rt.alloc(), "sync 4 late stop", 1)
+}
+
 /// A device fails in the boot of server 1 behind its blank, which has raised the incarnation or not. It does so no less where the plan
 /// stops the server.
-fn failing_boot(alloc: Global, plan: &str, committed: u32) -> Result<(), Fail> {
+fn failing_boot_of_blank(alloc: Global, plan: &str, committed: u32) -> Result<(), Fail> {
     let steps = format!(in alloc;
         "op calls 2; 1 stops; 1 blanks; 1 arms {plan}; failed 0; 1 boots; failed 1; stopped 0; committed {committed};
         not 1 ticks; not 1 boots; not 1 blanks; not sent 2 down 1>0; 1 shows 2; seen 1>op; line 2 failed; op calls 3; 1 boots; failed 1; sent 2 down 1>0; 1 shows 3; seen 1>op; line 3 ok;
         play out; line 5 ok; line 7 ok; line 9 ok; line 10 ok; line 12 fill 7"
     )?;
-    let row = Row {
-        shows: "a device fails in the boot behind a blank: the server stays stopped and tells nobody, and boots for the next line to be filled",
-        script: "servers 3 slots 4\nop blank 1\nop start 1\nwait\na disk vol on 0 1 2\nwait\na write vol 0 fill 7\nwait\nop settle\nop stop 0\nwait
+    play_steps(
+        alloc,
+        "a device fails in the boot behind a blank: the server stays stopped and tells nobody, and boots for the next line to be filled",
+        "servers 3 slots 4\nop blank 1\nop start 1\nwait\na disk vol on 0 1 2\nwait\na write vol 0 fill 7\nwait\nop settle\nop stop 0\nwait
 b read vol 0\n",
-        steps: steps.as_str(),
-    };
-    play(alloc, &row)
+        steps.as_str(),
+    )
 }
 
 #[test]
@@ -36,7 +80,7 @@ fn a_blank_device_fails_in_the_boot(rt: HostRuntime) -> Result<(), Fail> {
         // the store is whole then, and is made anew
         "data sync 4 late",
     ] {
-        failing_boot(rt.alloc(), plan, 0)?;
+        failing_boot_of_blank(rt.alloc(), plan, 0)?;
     }
     Ok(())
 }
@@ -50,9 +94,9 @@ fn a_state_device_fails_in_the_boot_behind_a_blank(rt: HostRuntime) -> Result<()
         "state sync 3 stop",
         "state sync 4",
     ] {
-        failing_boot(rt.alloc(), plan, 0)?;
+        failing_boot_of_blank(rt.alloc(), plan, 0)?;
     }
-    failing_boot(rt.alloc(), "state sync 4 late", 1)
+    failing_boot_of_blank(rt.alloc(), "state sync 4 late", 1)
 }
 
 // Line 6 is the blank. Behind it the server is started twice, should it have stopped, and each time it is waited until it is filled.
@@ -66,12 +110,12 @@ fn met_behind_the_boot(alloc: Global, plan: &str, told: &str) -> Result<(), Fail
         "a calls 2; agree; wait; a calls 4; agree; wait; op calls 6; 1 stops; 1 blanks; 1 arms data {plan}; 1 boots; 1 shows 6; seen 1>op; line 6 ok;
         play out; {told}; line 7 ok; line 8 ok; line 9 ok; line 10 ok; line 11 ok; line 13 fill 7"
     )?;
-    let row = Row {
-        shows: "the server that is to be filled stops in a call of its new device, and is filled once it starts again",
-        script: FILLED,
-        steps: steps.as_str(),
-    };
-    play(alloc, &row)
+    play_steps(
+        alloc,
+        "the server that is to be filled stops in a call of its new device, and is filled once it starts again",
+        FILLED,
+        steps.as_str(),
+    )
 }
 
 fn fails(alloc: Global, plan: &str) -> Result<(), Fail> {

@@ -1,8 +1,7 @@
 //! A server of a link returns, and the other one, which holds the link alone, brings it up to date: schedules in which a rule that
 //! is left out would be seen in what is answered.
 
-use memory_runs::play;
-use row_runs::Row;
+use crate::tests::parts::{Parts, play_parts};
 use std::test::Fail;
 
 // Of three servers, servers 0 and 1 have block 0, and server 0 leads it.
@@ -63,22 +62,6 @@ const SHOWN: &str =
     "read b>0; 0 works off; data 0>b; line 8 fill 0; line 4 open; told begin look; agree; line 4 ok; told begin look take end; wait; c calls 10; agree;
     line 10 fill 7";
 
-#[test]
-fn a_put_that_was_not_sent(rt: HostRuntime) -> Result<(), Fail> {
-    for put in [PUT, PUT_LATE] {
-        let steps = format!(in rt.alloc();
-            "{put}; {LEAVE}; {STARTS}; {JOIN}; {BALLOT_OF_0}; {COPIED}; {BALLOT_OF_1}; {ALONE}; {ASKED}; {SHOWN}"
-        )?;
-        let row = Row {
-            shows: "the other server hears of the mark of the one that returns, and its put, which never counted, is taken away",
-            script: PRIMARY_RETURNS,
-            steps: steps.as_str(),
-        };
-        play(rt.alloc(), &row)?;
-    }
-    Ok(())
-}
-
 const UNHEARD: &str = "drop down 0>1; drop down 0>2";
 
 // It runs before anyone wants its Leave: it leads the link by its own state, but takes no part in it.
@@ -86,19 +69,6 @@ const EARLY: &str =
     "a ticks; write a>0; 0 works off; not sent 2 reserve 0>1; b calls 8; read b>0; 0 works off; not sent 1 data 0>b; told begin";
 
 const ASKED_ELSEWHERE: &str = "b ticks; ask b>2; 2 works off; news 2>b";
-
-#[test]
-fn a_boot_before_the_leave(rt: HostRuntime) -> Result<(), Fail> {
-    let steps = format!(in rt.alloc();
-        "{PUT}; {UNHEARD}; {STARTS}; {UNHEARD}; {EARLY}; {BALLOT_OF_0}; {BALLOT_OF_0}; {COPIED}; {BALLOT_OF_1}; {ALONE}; {ASKED_ELSEWHERE}; {SHOWN}"
-    )?;
-    let row = Row {
-        shows: "a server that runs before its Leave is chosen answers no client, and its put is taken away as well",
-        script: PRIMARY_RETURNS,
-        steps: steps.as_str(),
-    };
-    play(rt.alloc(), &row)
-}
 
 // Server 0 wrote block 0 alone while server 1 had stopped.
 const SECONDARY_RETURNS: &str =
@@ -123,15 +93,72 @@ const READ_AT_THE_OTHER: &str =
     "op calls 12; 0 stops; 0 shows 12; seen 0>op; line 12 ok; agree; wait; c calls 14; agree; line 14 fill 9;
     told begin take end begin take end begin take end look";
 
-#[test]
-fn an_entry_of_an_earlier_trim(rt: HostRuntime) -> Result<(), Fail> {
-    let steps = format!(in rt.alloc();
-        "{RETURNED}; {BALLOT_OF_1}; {COPIED_ONCE}; {COPIED_AGAIN}; {BALLOT_OF_0}; {READ_AT_THE_OTHER}"
-    )?;
-    let row = Row {
+const RETURNS: &[Parts] = &[
+    Parts {
+        shows: "the other server hears of the mark of the one that returns, and its put, which never counted, is taken away",
+        script: PRIMARY_RETURNS,
+        steps: &[
+            PUT,
+            LEAVE,
+            STARTS,
+            JOIN,
+            BALLOT_OF_0,
+            COPIED,
+            BALLOT_OF_1,
+            ALONE,
+            ASKED,
+            SHOWN,
+        ],
+    },
+    Parts {
+        shows: "so it is where the one that returns has failed right after its put",
+        script: PRIMARY_RETURNS,
+        steps: &[
+            PUT_LATE,
+            LEAVE,
+            STARTS,
+            JOIN,
+            BALLOT_OF_0,
+            COPIED,
+            BALLOT_OF_1,
+            ALONE,
+            ASKED,
+            SHOWN,
+        ],
+    },
+    Parts {
+        shows: "a server that runs before its Leave is chosen answers no client, and its put is taken away as well",
+        script: PRIMARY_RETURNS,
+        steps: &[
+            PUT,
+            UNHEARD,
+            STARTS,
+            UNHEARD,
+            EARLY,
+            BALLOT_OF_0,
+            BALLOT_OF_0,
+            COPIED,
+            BALLOT_OF_1,
+            ALONE,
+            ASKED_ELSEWHERE,
+            SHOWN,
+        ],
+    },
+    Parts {
         shows: "an entry that comes late, when another copy of its block has trimmed, is dropped, and the later content is copied",
         script: SECONDARY_RETURNS,
-        steps: steps.as_str(),
-    };
-    play(rt.alloc(), &row)
+        steps: &[
+            RETURNED,
+            BALLOT_OF_1,
+            COPIED_ONCE,
+            COPIED_AGAIN,
+            BALLOT_OF_0,
+            READ_AT_THE_OTHER,
+        ],
+    },
+];
+
+#[test]
+fn servers_return(rt: HostRuntime) -> Result<(), Fail> {
+    play_parts(rt.alloc(), RETURNS)
 }

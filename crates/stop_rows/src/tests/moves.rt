@@ -1,6 +1,6 @@
 //! Servers of a disk that moves stop.
 
-use memory_runs::play;
+use memory_runs::{play_all, play_steps};
 use row_runs::Row;
 use std::alloc::Global;
 use std::test::Fail;
@@ -11,15 +11,16 @@ const WITHOUT_A_LEAD: &str =
 a move vol on 2 3\nop settle\nwait\nb move vol on 3 4\nc read vol 0\nd write vol 1 fill 5\ne read vol 8\nop settle\nwait
 a read vol 1\nop start 1\nop settle\nwait\na read vol 0\nb read vol 1\nc move vol on 3 4\n";
 
+const WITHOUT_LEADS: &[Row] = &[Row {
+    shows: "a move waits while nobody has an old link, a second one is refused, and blocks on their way are written, though not read",
+    script: WITHOUT_A_LEAD,
+    steps: "play out; line 12 ok; line 13 ok; line 15 moving; line 16 unavailable; line 17 ok; line 18 unavailable; line 19 ok; line 21 fill 5;
+            line 22 ok; line 23 ok; line 25 fill 1; line 26 fill 5; line 27 ok",
+}];
+
 #[test]
 fn an_old_link_without_a_lead(rt: HostRuntime) -> Result<(), Fail> {
-    let row = Row {
-        shows: "a move waits while nobody has an old link, a second one is refused, and blocks on their way are written, though not read",
-        script: WITHOUT_A_LEAD,
-        steps: "play out; line 12 ok; line 13 ok; line 15 moving; line 16 unavailable; line 17 ok; line 18 unavailable; line 19 ok; line 21 fill 5;
-            line 22 ok; line 23 ok; line 25 fill 1; line 26 fill 5; line 27 ok",
-    };
-    play(rt.alloc(), &row)
+    play_all(rt.alloc(), WITHOUT_LEADS)
 }
 
 // Servers 4 and 3 have block 0 under the old map, servers 0 and 1 under the new one. Line 12 waits until the region is on its way.
@@ -44,12 +45,12 @@ fn stops_after(alloc: Global, server: u8, after: u32) -> Result<(), Fail> {
         "{STEPS_BEFORE}; go on {after}; op calls 16; {server} stops; {server} shows 16; seen {server}>op; line 16 ok; play out;
         line 14 fill 1; line 15 fill 2; line 17 ok; line 19 fill 1; line 20 fill 2; line 21 ok; line 23 fill 4; line 24 fill 1"
     )?;
-    let row = Row {
-        shows: "a server stops while a region is on its way, and its block is read right by both names",
-        script: script.as_str(),
-        steps: steps.as_str(),
-    };
-    play(alloc, &row)
+    play_steps(
+        alloc,
+        "a server stops while a region is on its way, and its block is read right by both names",
+        script.as_str(),
+        steps.as_str(),
+    )
 }
 
 fn stops(alloc: Global, server: u8) -> Result<(), Fail> {
@@ -77,12 +78,12 @@ fn the_new_second_server_stops(rt: HostRuntime) -> Result<(), Fail> {
 /// Nobody stops.
 fn filled_after(alloc: Global, after: u32, filled: &str) -> Result<(), Fail> {
     let steps = format!(in alloc; "{STEPS_BEFORE}; go on {after}; {filled}")?;
-    let row = Row {
-        shows: "the new map has both entries after so many steps",
-        script: BEFORE,
-        steps: steps.as_str(),
-    };
-    play(alloc, &row)
+    play_steps(
+        alloc,
+        "the new map has both entries after so many steps",
+        BEFORE,
+        steps.as_str(),
+    )
 }
 
 #[test]

@@ -1,6 +1,6 @@
 //! Snapshots beside servers that stop, start and are brought up to date.
 
-use memory_runs::play;
+use memory_runs::play_all;
 use row_runs::Row;
 use std::test::Fail;
 
@@ -25,41 +25,30 @@ op start 1\nop settle\na write one 0 fill 10\nwait\nop stop 2\nwait
 a read one@monday 0\na read one@monday 1\na read one@tuesday 0\na read one@tuesday 1\na read one 0\na read one 1
 b read two@monday 1\nb read two@monday 0\nb read two 0\nb read two 1\n";
 
-#[test]
-fn snapshots_while_servers_stop_and_return(rt: HostRuntime) -> Result<(), Fail> {
-    let rows: [Row; 3] = [
-        Row {
-            shows: "a snapshot is taken while a server of its disk is stopped, and is copied to it when it returns",
-            script: WITHOUT_ONE,
-            steps: "play out; line 10 ok; line 12 ok; line 13 ok; line 16 ok; line 20 fill 1; line 21 fill 2; line 22 fill 4; line 23 fill 5;
-                line 30 fill 2; line 31 fill 3; line 32 fill 5; line 33 fill 3",
-        },
-        Row {
-            shows: "snapshots are taken while a server is brought up to date",
-            script: DURING_A_CATCH_UP,
-            steps: "play out; line 13 ok; line 14 ok; line 15 ok; line 16 ok; line 17 ok; line 18 ok;
-                line 22 fill 4|6; line 23 fill 5|7; line 24 fill 6; line 25 fill 7",
-        },
-        Row {
-            shows: "the day's use of two disks",
-            script: TWO_DISKS,
-            steps: "play out; line 10 ok; line 17 ok; line 18 ok; line 19 ok; line 20 fill 1; line 22 ok; line 26 ok; line 31 fill 1; line 32 fill 2;
-                line 33 fill 5; line 34 fill 7; line 35 fill 10; line 36 fill 7; line 37 fill 4|8; line 38 fill 6; line 39 fill 9; line 40 fill 8",
-        },
-    ];
-    for row in rows {
-        play(rt.alloc(), &row)?;
-    }
-    Ok(())
-}
-
 // Server 0 leads block 0, and server 1 is second.
 const ONE_LEAVES: &str =
     "servers 3 slots 8\na disk vol on 0 1 2\nwait\na write vol 0 fill 5\nb snap vol one\nop stop 0\nwait\nc read vol@one 0\nd read vol 0\n";
 
-#[test]
-fn a_server_leaves_while_a_fence_waits(rt: HostRuntime) -> Result<(), Fail> {
-    let row = Row {
+const SNAPSHOTS: &[Row] = &[
+    Row {
+        shows: "a snapshot is taken while a server of its disk is stopped, and is copied to it when it returns",
+        script: WITHOUT_ONE,
+        steps: "play out; line 10 ok; line 12 ok; line 13 ok; line 16 ok; line 20 fill 1; line 21 fill 2; line 22 fill 4; line 23 fill 5;
+            line 30 fill 2; line 31 fill 3; line 32 fill 5; line 33 fill 3",
+    },
+    Row {
+        shows: "snapshots are taken while a server is brought up to date",
+        script: DURING_A_CATCH_UP,
+        steps: "play out; line 13 ok; line 14 ok; line 15 ok; line 16 ok; line 17 ok; line 18 ok;
+            line 22 fill 4|6; line 23 fill 5|7; line 24 fill 6; line 25 fill 7",
+    },
+    Row {
+        shows: "the day's use of two disks",
+        script: TWO_DISKS,
+        steps: "play out; line 10 ok; line 17 ok; line 18 ok; line 19 ok; line 20 fill 1; line 22 ok; line 26 ok; line 31 fill 1; line 32 fill 2;
+            line 33 fill 5; line 34 fill 7; line 35 fill 10; line 36 fill 7; line 37 fill 4|8; line 38 fill 6; line 39 fill 9; line 40 fill 8",
+    },
+    Row {
         // Server 1 reports while the lead's copy is on its way to it, does not hear that its report is chosen, and takes the copy after
         // the lead's leave is chosen: were that report to count still, the fence would have taken effect with the leave.
         shows: "a report that was made before a leave does not count, so the copy that is on its way is taken in the old epoch",
@@ -74,6 +63,10 @@ fn a_server_leaves_while_a_fence_waits(rt: HostRuntime) -> Result<(), Fail> {
             accept 2>1; accept 2>2; 1 works off; 2 works off; accepted 1>2; accepted 2>2; 2 works off; chosen 2>2; 2 works off;
             line 5 open; told begin; replicate 0>1; replicate 0>1; replicate 0>1; replicate 0>1; replicate 0>1; 1 works off; told begin take;
             agree; line 4 ok; line 5 ok; told begin take freeze end; wait; c calls 8; d calls 9; agree; line 8 fill 5; line 9 fill 5",
-    };
-    play(rt.alloc(), &row)
+    },
+];
+
+#[test]
+fn snapshots_while_servers_stop_and_return(rt: HostRuntime) -> Result<(), Fail> {
+    play_all(rt.alloc(), SNAPSHOTS)
 }

@@ -1,7 +1,6 @@
 //! A server of a link stops at each step of a catch-up in turn.
 
-use memory_runs::play;
-use row_runs::Row;
+use memory_runs::play_steps;
 use std::alloc::Global;
 use std::test::Fail;
 
@@ -26,12 +25,12 @@ fn holder_stops(alloc: Global, after: u32) -> Result<(), Fail> {
         "{STEPS_BEFORE}; go on {after}; op calls 13; 0 stops; 0 shows 13; seen 0>op; line 13 ok; play out; line 14 ok; line 15 ok; line 16 ok;
         line 18 fill 3; line 19 fill 4"
     )?;
-    let row = Row {
-        shows: "the holder stops in the middle of a catch-up, and goes on with it once it starts again",
-        script: script.as_str(),
-        steps: steps.as_str(),
-    };
-    play(alloc, &row)
+    play_steps(
+        alloc,
+        "the holder stops in the middle of a catch-up, and goes on with it once it starts again",
+        script.as_str(),
+        steps.as_str(),
+    )
 }
 
 /// Server 1, which is brought up to date, stops after so many steps, and starts again. A write is under way.
@@ -43,12 +42,12 @@ fn other_stops(alloc: Global, after: u32) -> Result<(), Fail> {
         "{STEPS_BEFORE}; c calls 13; go on {after}; op calls 14; 1 stops; 1 shows 14; seen 1>op; line 14 ok; play out; line 13 ok; line 15 ok; line 16 ok;
         line 17 ok; line 19 fill 5; line 20 fill 4"
     )?;
-    let row = Row {
-        shows: "the server that is brought up to date stops in the middle of it, and is so once it starts again",
-        script: script.as_str(),
-        steps: steps.as_str(),
-    };
-    play(alloc, &row)
+    play_steps(
+        alloc,
+        "the server that is brought up to date stops in the middle of it, and is so once it starts again",
+        script.as_str(),
+        steps.as_str(),
+    )
 }
 
 /// Server 1, which was blanked and is filled with two blocks, is blanked again after so many steps.
@@ -57,13 +56,13 @@ fn blanked_again(alloc: Global, after: u32) -> Result<(), Fail> {
         "a calls 2; agree; wait; a calls 4; b calls 5; agree; wait; op calls 7; 1 stops; 1 blanks; 1 boots; 1 shows 7; seen 1>op; line 7 ok;
         go on {after}; op calls 8; 1 stops; 1 blanks; 1 boots; 1 shows 8; seen 1>op; line 8 ok; play out; line 9 ok; line 10 ok; line 12 fill 7; line 13 fill 8"
     )?;
-    let row = Row {
-        shows: "a server that is filled is blanked in the middle of it, and is filled once more",
-        script: "servers 3 slots 4\na disk vol on 0 1 2\nwait\na write vol 0 fill 7\nb write vol 3 fill 8\nwait\nop blank 1\nop blank 1\nop settle
+    play_steps(
+        alloc,
+        "a server that is filled is blanked in the middle of it, and is filled once more",
+        "servers 3 slots 4\na disk vol on 0 1 2\nwait\na write vol 0 fill 7\nb write vol 3 fill 8\nwait\nop blank 1\nop blank 1\nop settle
 op stop 0\nwait\na read vol 0\nb read vol 3\n",
-        steps: steps.as_str(),
-    };
-    play(alloc, &row)
+        steps.as_str(),
+    )
 }
 
 #[test]
@@ -96,12 +95,12 @@ fn read_alone(alloc: Global, after: u32, expected: &str) -> Result<(), Fail> {
     let steps = format!(in alloc;
         "{STEPS_BEFORE}; go on {after}; op calls 13; 0 stops; 0 shows 13; seen 0>op; line 13 ok; play out; {expected}"
     )?;
-    let row = Row {
-        shows: "the other server serves the blocks alone exactly where it was brought up to date",
-        script: script.as_str(),
-        steps: steps.as_str(),
-    };
-    play(alloc, &row)
+    play_steps(
+        alloc,
+        "the other server serves the blocks alone exactly where it was brought up to date",
+        script.as_str(),
+        steps.as_str(),
+    )
 }
 
 #[test]

@@ -1,0 +1,33 @@
+//! Rows whose steps stand in several parts.
+
+use memory_runs::play_steps;
+use std::alloc::{AllocError, Global};
+use std::test::Fail;
+
+/// What a run shows, its script, and the parts of its steps.
+#[derive(Clone, Copy)]
+pub struct Parts {
+    pub shows: &'static str,
+    pub script: &'static str,
+    pub steps: &'static [&'static str],
+}
+
+fn joined(alloc: Global, parts: &[&str]) -> Result<String, AllocError> {
+    let mut steps = String::new(alloc);
+    for (at, part) in parts.iter().enumerate() {
+        if at > 0 {
+            steps.push_str("; ")?;
+        }
+        steps.push_str(part)?;
+    }
+    Ok(steps)
+}
+
+/// Plays these rows.
+pub fn play_parts(alloc: Global, rows: &[Parts]) -> Result<(), Fail> {
+    for row in rows {
+        let steps = joined(alloc, row.steps)?;
+        play_steps(alloc, row.shows, row.script, steps.as_str())?;
+    }
+    Ok(())
+}
