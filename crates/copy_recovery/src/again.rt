@@ -16,11 +16,11 @@ ghost use Rattle.copy_recovery.specs.Again.{other_of_cell};
 use crate::page::page_wanted;
 use copy_sender::{copy_stage, sync_body, trim_body};
 use global_state::LinkRow;
-use kept_chains::{ReadError, read_nth};
+use kept_chains::read_nth;
 use link_blocks::{next_copy, other_in, other_on};
 use pair_side::{Here, Side, with_letter};
 use petal_base::{Cell, NoMemory, Sequence, ServerId};
-use petal_disk::Disk;
+use petal_disk::{DeviceError, Disk};
 use petal_msg::{Body, CopyAction, Copying, Letter, NextCopy};
 use server_store::Store;
 
@@ -31,7 +31,7 @@ fn entry_awaited<D: Disk>(
     to: ServerId,
     cell: Cell,
     copy: Copying,
-) -> Result<Option<(ServerId, Body)>, ReadError>
+) -> Result<Option<(ServerId, Body)>, DeviceError>
     ensures letter { IfOk result (λ found. D.told → (side : Sides) → other_of_cell here.now cell ≡ Some to
         → posts_of found ≡ (copies.copy_acts here.now (own_of side store.old) cell copy copy_action.Sync).posts) }
     ensures look { IsLook D.Disk store.old store.new result }
@@ -48,7 +48,7 @@ fn awaited<D: Disk>(
     store: &mut Store<D>,
     cell: Cell,
     copy: Copying,
-) -> Result<Option<(ServerId, Body)>, ReadError>
+) -> Result<Option<(ServerId, Body)>, DeviceError>
     ensures letter { IfOk result (λ found. D.told → (side : Sides)
         → posts_of found ≡ copies.copy_awaited here.now (own_of side store.old) cell copy (copies.copy_stage (store_of store.old) cell copy)) }
     ensures look { IsLook D.Disk store.old store.new result }
@@ -108,13 +108,13 @@ fn copies_after<D: Disk>(
     side: &Side,
     store: &mut Store<D>,
     before: Sequence<Letter>,
-) -> Result<Sequence<Letter>, ReadError>
+) -> Result<Sequence<Letter>, DeviceError>
     ensures letters { IfOk result (λ letters. D.told → letters
         ≡ before ++ letters_of (sender here.now) (length before) (copies.copy_posts here.now (own_of side.now store.old))) }
     ensures look { IsLook D.Disk store.old store.new result }
 {
     let Ok(mut nth) = u32::try_from(before.len()) else {
-        return Err(ReadError::NoMemory);
+        return Err(DeviceError::NoMemory);
     };
     let mut letters = before;
     for (cell, copy) in side.copies.iter() {
@@ -136,7 +136,7 @@ pub fn letters_after<D: Disk>(
     side: &Side,
     store: &mut Store<D>,
     before: Sequence<Letter>,
-) -> Result<Sequence<Letter>, ReadError>
+) -> Result<Sequence<Letter>, DeviceError>
     ensures letters { IfOk result (λ letters. D.told → letters
         ≡ before ++ letters_of (sender here.now) (length before)
         (copies.copy_posts here.now (own_of side.now store.old) ++ copies.page_posts here.now (own_of side.now store.old))) }

@@ -19,11 +19,11 @@ ghost use Rattle.pair_side.specs.Done.{IsDone, IsSaid};
 ghost use Rattle.copy_sender.specs.Stages.{copied_in};
 
 use busy_marks::MarkKind;
-use kept_chains::{Found, ReadError, epochs, mark_left, nth, read_nth, unmark};
+use kept_chains::{Found, epochs, mark_left, nth, read_nth, unmark};
 use link_blocks::{followed, other_on};
 use pair_side::{Copies, Done, FollowUp, Here, Side, WorkError, link_id, says_to, silent};
 use petal_base::{BlockNo, Cell, Key, NoMemory};
-use petal_disk::Disk;
+use petal_disk::{DeviceError, Disk};
 use petal_msg::{Body, CopyAction, Copying, Progress};
 use server_store::Store;
 
@@ -145,8 +145,8 @@ fn syncs<D: Disk>(
 {
     match read_nth(here.alloc(), store, cell, copy.index as usize) {
         Ok(found) => sends(here, side, store, cell, copy, found),
-        Err(ReadError::Failed) => Err(WorkError::Failed),
-        Err(ReadError::NoMemory) => Err(WorkError::NoMemory),
+        Err(DeviceError::Failed) => Err(WorkError::Failed),
+        Err(DeviceError::NoMemory) => Err(WorkError::NoMemory),
     }
 }
 

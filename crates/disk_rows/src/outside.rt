@@ -4,7 +4,7 @@ ghost use Rattle.std.specs.Prelude.{◌≡◌, ◌≤◌};
 
 use petal_disk::{
     CallKind, Disk, Failed, MemDisk, MemShelf, MemSink, MemSource, Plan, Planned, Shelf,
-    ShelfError, Sink, Source, Which, read_full, write_all, write_kept,
+    DeviceError, Sink, Source, Which, read_full, write_all, write_kept,
 };
 use std::alloc::Global;
 use std::test::Fail;
@@ -138,7 +138,7 @@ fn a_shelf_refuses_the_stated_call(rt: HostRuntime) -> Result<(), Fail> {
     for answer in answers.iter_mut() {
         *answer = match shelf.device(rt.alloc(), 0, Which::Data, 4) {
             Ok(disk) => disk.len() == 4,
-            Err(error) => error != ShelfError::Failed,
+            Err(error) => error != DeviceError::Failed,
         };
     }
     assert_eq!(rt; answers, [true, false, true]);

@@ -1,9 +1,9 @@
 -- Why a read may fail.
 use Rattle.std.specs.Prelude.{◌≤◌, ◌<◌, ◌≡◌, ℕ, Result, Err}
-use Rattle.kept_chains.specs.declared.error.ReadError.{ReadError}
-use Rattle.kept_chains.specs.declared.error.ReadError.TheVariants.{Failed}
+use Rattle.petal_disk.specs.declared.failure.DeviceError.{DeviceError}
+use Rattle.petal_disk.specs.declared.failure.DeviceError.TheVariants.{Failed}
 
 -- the count of faults does not fall, and `Failed` comes only where it has risen
-pub record IsReadFault {T : Type 0} (before now : ℕ) (result : Result T ReadError) : Type 0 where
+pub record IsReadFault {T : Type 0} (before now : ℕ) (result : Result T DeviceError) : Type 0 where
   pub later : before ≤ now
   pub failed : result ≡ Err Failed → before < now

@@ -4,12 +4,10 @@
 //! own calls do to the chains what the rules say. It knows nothing of letters, operations or the agreed log.
 #![tactic(auto)]
 
-mod error;
 mod laws;
 mod store;
 mod walk;
 
-pub use error::ReadError;
 pub use laws::{a_put_is_an_entry_more, a_read_finds_the_chains_entry, versions_and_counts_agree};
 pub use store::{drop_entry, mark, next_version, read_at, set_apart, settle, unmark};
 pub use walk::{

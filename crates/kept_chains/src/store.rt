@@ -16,10 +16,9 @@ ghost use Rattle.kept_chains.specs.Kept.{chains_of, store_of};
 ghost use Rattle.kept_chains.specs.Marking.{IsChange, IsCommit};
 ghost use Rattle.kept_chains.specs.Reading.{IsReadFault};
 
-use crate::ReadError;
 use busy_marks::MarkKind;
 use petal_base::{BLOCK_BYTES, Block, Cell, Epoch, Key, NoMemory, SharedBlock, Version};
-use petal_disk::{Disk, Failed};
+use petal_disk::{DeviceError, Disk, Failed};
 use server_store::{Store, StoreError, Ticket};
 use std::alloc::{AllocError, Global};
 
@@ -69,7 +68,7 @@ pub fn read_at<D: Disk>(
     store: &mut Store<D>,
     cell: Cell,
     epoch: Epoch,
-) -> Result<SharedBlock, ReadError>
+) -> Result<SharedBlock, DeviceError>
     ensures bytes { IfOk result (λ bytes. D.told → bytes ≡ bytes_of (entry_at (chain_in (chains_of store.old.entries) cell) epoch)) }
     ensures same { store.new ≡ record store.old { disk = store.new.disk } }
     ensures device { KeepsDevice D.size D.seen D.may_leave D.moment D.left_since store.old.disk store.new.disk }

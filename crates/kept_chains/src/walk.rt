@@ -15,10 +15,10 @@ ghost use Rattle.kept_chains.specs.Kept.{chains_of, store_of};
 ghost use Rattle.kept_chains.specs.Reading.{IsReadFault};
 ghost use Rattle.kept_chains.specs.Walking.{marked_in, place_of, row_of, stored_in};
 
-use crate::{ReadError, read_at};
+use crate::read_at;
 use busy_marks::MarkKind;
 use petal_base::{BlockNo, Cell, Epoch, Key, MapId, NoMemory, Sequence, SharedBlock, Version};
-use petal_disk::Disk;
+use petal_disk::{DeviceError, Disk};
 use server_store::{Entry, Store};
 use std::alloc::{AllocError, Global};
 
@@ -67,7 +67,7 @@ pub fn read_key<D: Disk>(
     alloc: Global,
     store: &mut Store<D>,
     key: Key,
-) -> Result<Option<SharedBlock>, ReadError>
+) -> Result<Option<SharedBlock>, DeviceError>
     ensures entry { IfOk result (λ found. D.told → found
         ≡ option_map (λ entry. entry.bytes) (at nat_cmp (chain_in (chains_of store.old.entries) (cell_of key)) key.epoch)) }
     ensures same { store.new ≡ record store.old { disk = store.new.disk } }
@@ -148,7 +148,7 @@ pub fn read_nth<D: Disk>(
     store: &mut Store<D>,
     cell: Cell,
     place: usize,
-) -> Result<Option<Found>, ReadError>
+) -> Result<Option<Found>, DeviceError>
     ensures entry { IfOk result (λ found. D.told → option_map row_of found ≡ slice_get (chain_in (chains_of store.old.entries) cell) place) }
     ensures same { store.new ≡ record store.old { disk = store.new.disk } }
     ensures device { KeepsDevice D.size D.seen D.may_leave D.moment D.left_since store.old.disk store.new.disk }

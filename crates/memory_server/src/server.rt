@@ -12,10 +12,10 @@ ghost use Rattle.server_recovery.specs.Server.{HasFailed, left_at, site_of, whol
 
 use crate::taken::{Stops, done};
 use petal_base::{Inc, NoMemory, Rev, Sequence, ServerId};
-use petal_disk::{Disk, MemDisk, Plan, Planned, Which};
+use petal_disk::{DeviceError, Disk, MemDisk, Plan, Planned, Which};
 use petal_msg::Letter;
 use petal_rules::Step;
-use server_core::{ReadError, ServerCore};
+use server_core::ServerCore;
 use server_recovery::{Attempt, boot_again, boot_blank, work_first};
 use server_store::{DATA_START, SLOT_BYTES, Store};
 use state_store::{DEVICE_BYTES, StateStore};
@@ -178,13 +178,13 @@ impl MemServer {
     }
 
     /// A tick, in which the data device may fail; then all is as before.
-    fn tick_once(&mut self, alloc: Global) -> Result<Taken, ReadError>
+    fn tick_once(&mut self, alloc: Global) -> Result<Taken, DeviceError>
         ensures site { OnOk result (whole_of self.new ≡ whole_after (whole_of self.old) Tick) }
         ensures taken { IfOk result (λ taken. taken ≡ record { letters = (acted_at (whole_of self.old) Tick).letters; end = Done }) }
         ensures err { OnErr result (whole_of self.new ≡ whole_of self.old) }
     {
         if self.blank.is_some() {
-            return Err(ReadError::NoMemory);
+            return Err(DeviceError::NoMemory);
         }
         let letters = self.core.tick(alloc, &mut self.store)?;
         Ok(done(letters))
@@ -197,8 +197,8 @@ impl MemServer {
     {
         match self.tick_once(alloc) {
             Ok(taken) => return Ok(taken),
-            Err(ReadError::NoMemory) => return Err(NoMemory),
-            Err(ReadError::Failed) => {}
+            Err(DeviceError::NoMemory) => return Err(NoMemory),
+            Err(DeviceError::Failed) => {}
         }
         match self.tick_once(alloc) {
             Ok(taken) => Ok(taken),

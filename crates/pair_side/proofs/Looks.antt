@@ -13,7 +13,7 @@ use Rattle.petal_disk.specs.Keeping.{KeepsDevice}
 use Rattle.petal_disk.specs.declared.disk.Disk.{Ghosts}
 use Rattle.petal_disk.proofs.Keeping.{keeps_all, keeps_on}
 use Rattle.server_store.specs.Holdings.{Holdings}
-use Rattle.kept_chains.specs.declared.error.ReadError.{ReadError}
+use Rattle.petal_disk.specs.declared.failure.DeviceError.{DeviceError}
 use Rattle.pair_side.specs.Done.{HoldsAt}
 use Rattle.pair_side.specs.Letters.{IsLook}
 
@@ -36,7 +36,7 @@ module _ {D : Type 0} (device : Ghosts D) (stays : (d : D) → device.came_to d 
     run = stays store.disk;
   }
 
-  module _ {T : Type 0} (before mid after : Holdings D) (result : Result T ReadError) (seen : IsSeen device before mid)
+  module _ {T : Type 0} (before mid after : Holdings D) (result : Result T DeviceError) (seen : IsSeen device before mid)
       (look : IsLook device mid after result) where
     pub seen_then : IsSeen device before after
     seen_then = record {

@@ -6,7 +6,7 @@ use Rattle.petal_msg.specs.declared.body.Body.{Body}
 use Rattle.petal_rules.specs.Server.{Post, post_to}
 use Rattle.server_store.specs.Holdings.{Holdings}
 use Rattle.kept_chains.specs.Reading.{IsReadFault}
-use Rattle.kept_chains.specs.declared.error.ReadError.{ReadError}
+use Rattle.petal_disk.specs.declared.failure.DeviceError.{DeviceError}
 use Rattle.pair_side.specs.Done.{HoldsAt}
 
 -- one letter to a server, if any
@@ -15,7 +15,7 @@ posts_of None = []
 posts_of (Some one) = post_to (Some one.0) one.1
 
 -- entries were read: nothing of the store changed, and the device keeps it as before
-pub record IsLook {D T : Type 0} (device : Ghosts D) (before after : Holdings D) (result : Result T ReadError) : Type 0 where
+pub record IsLook {D T : Type 0} (device : Ghosts D) (before after : Holdings D) (result : Result T DeviceError) : Type 0 where
   pub same : after ≡ record before { disk = after.disk }
   pub kept : KeepsDevice device.size device.seen device.may_leave device.moment device.left_since before.disk after.disk
   pub holds : device.told → HoldsAt device before → HoldsAt device after

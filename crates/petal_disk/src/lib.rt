@@ -18,7 +18,7 @@ mod stream;
 mod write;
 
 pub use disk::Disk;
-pub use failure::{Failed, ShelfError};
+pub use failure::{DeviceError, Failed};
 pub use memory_disk::MemDisk;
 pub use memory_shelf::MemShelf;
 pub use memory_stream::{MemSink, MemSource};

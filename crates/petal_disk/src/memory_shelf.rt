@@ -3,7 +3,7 @@
 ghost use Rattle.std.specs.Prelude.{◌≡◌, ◌+◌, ℕ, true, false, None, refl};
 ghost use Rattle.petal_disk.specs.Plans.{as_count, calls_before};
 
-use crate::{MemDisk, Shelf, ShelfError, Which};
+use crate::{DeviceError, MemDisk, Shelf, Which};
 use std::alloc::Global;
 
 /// A shelf of disks in memory, which never fail. It can be made to refuse one call.
@@ -53,13 +53,13 @@ impl Shelf for MemShelf {
         _server: u8,
         _which: Which,
         size: u64,
-    ) -> Result<MemDisk, ShelfError> {
+    ) -> Result<MemDisk, DeviceError> {
         if let Some(left) = self.refuses_after
             && !self.has_refused
         {
             if left == 0 {
                 self.has_refused = true;
-                return Err(ShelfError::Failed);
+                return Err(DeviceError::Failed);
             }
             self.refuses_after = Some(left - 1);
         }

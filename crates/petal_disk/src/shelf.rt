@@ -2,9 +2,9 @@
 
 ghost use Rattle.std.specs.Prelude.{◌≡◌, ◌<◌, ◌≤◌, ℕ, replicate, IfOk, IsErrOf};
 ghost use Rattle.petal_disk.specs.Disk.{Only};
-ghost use Rattle.petal_disk.specs.declared.failure.ShelfError.TheVariants as error;
+ghost use Rattle.petal_disk.specs.declared.failure.DeviceError.TheVariants as error;
 
-use crate::{Disk, ShelfError};
+use crate::{DeviceError, Disk};
 use std::alloc::Global;
 
 /// Which of a server's two devices.
@@ -34,7 +34,7 @@ pub trait Shelf: Send {
         server: u8,
         which: Which,
         size: u64,
-    ) -> Result<Self::Disk, ShelfError>
+    ) -> Result<Self::Disk, DeviceError>
         ensures size { IfOk result (λ disk. Self.Disk.size disk ≡ size) }
         ensures bytes { IfOk result (λ disk. Self.Disk.told → Self.Disk.seen disk ≡ replicate size 0) }
         ensures crash { IfOk result (λ disk. Self.Disk.told → Only (replicate size 0) (Self.Disk.may_leave disk)) }

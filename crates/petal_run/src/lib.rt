@@ -7,7 +7,6 @@
 
 mod buffer;
 mod built;
-mod error;
 mod laws;
 mod outcome;
 mod reading;

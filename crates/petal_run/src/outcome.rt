@@ -6,12 +6,11 @@ ghost use Rattle.petal_run.specs.Asked.{asked};
 ghost use Rattle.petal_run.specs.Said.{Done, DoneInPart, EndsWithPhase, WrittenByPhases, WrittenInPhase};
 ghost use Rattle.petal_run.specs.Words.{is_run};
 
-use crate::error::RunError;
 use crate::laws::nothing_is_a_part;
 use crate::reading::read_text;
 use crate::script::{run_text, say, without_history};
 use crate::words::is_run;
-use petal_disk::{Shelf, Sink, Source};
+use petal_disk::{DeviceError, Shelf, Sink, Source};
 use petal_history::History;
 use std::alloc::Global;
 use std::sync::Wait;
@@ -90,8 +89,8 @@ pub fn petal<T: Wait, R: Source, W: Sink, S: Shelf>(
     nothing_is_a_part();
     let text = match read_text(alloc, source) {
         Ok(text) => text,
-        Err(RunError::Failed) => return without_history(alloc, SOURCE_FAILED),
-        Err(RunError::NoMemory) => return without_history(alloc, NO_MEMORY),
+        Err(DeviceError::Failed) => return without_history(alloc, SOURCE_FAILED),
+        Err(DeviceError::NoMemory) => return without_history(alloc, NO_MEMORY),
     };
     run_text(rt, alloc, &text, sink)
 }

@@ -13,10 +13,9 @@ ghost use Rattle.petal_run.specs.Built.{first_not_built};
 ghost use Rattle.world_desks.specs.Playable.{AreOrdered};
 ghost use Rattle.petal_run.specs.Said.{Done, DoneInPart, EndsWithPhase, WrittenByPhases, WrittenInPhase, WroteInPhase, WrotePhases};
 ghost use Rattle.petal_run.specs.Written.{Wrote, text_of_answers};
-ghost use Rattle.petal_run.specs.declared.error.RunError.TheVariants as error;
+ghost use Rattle.petal_disk.specs.declared.failure.DeviceError.TheVariants as error;
 
 use crate::built::not_built;
-use crate::error::RunError;
 use crate::laws::{lines_rise, nothing_is_a_part, phases_rise};
 use crate::outcome::{ENDED, NO_MEMORY, Outcome, REFUSED, SINK_FAILED};
 use crate::text::{answers_text, refusal_text};
@@ -24,7 +23,7 @@ use law_answers::phases_come_one_after_the_other;
 use law_run::{every_history_keeps_the_law, read_scripts_are_sound};
 use law_script::lines_are_the_text;
 use petal_base::{NoMemory, Sequence};
-use petal_disk::{Sink, write_all};
+use petal_disk::{DeviceError, Sink, write_all};
 use petal_history::History;
 use petal_script::{Script, ScriptError, read_script};
 use plain_schedule::{Answers, Playing};
@@ -83,7 +82,7 @@ fn refuse<W: Sink>(alloc: Global, sink: &mut W, line: u32, cause: &str) -> Outco
 }
 
 /// Writes the answers of a phase.
-fn tell<W: Sink>(alloc: Global, sink: &mut W, answers: Answers) -> Result<(), RunError>
+fn tell<W: Sink>(alloc: Global, sink: &mut W, answers: Answers) -> Result<(), DeviceError>
     ensures all { OnOk result (W.told → W.taken sink.new ≡ W.taken sink.old ++ text_of_answers answers) }
     ensures front { IsErrOf result error.Failed → W.told → Adds (W.taken sink.old) (text_of_answers answers) (W.taken sink.new) }
     ensures nothing { IsErrOf result error.NoMemory → sink.new ≡ sink.old }
@@ -127,8 +126,8 @@ fn play_and_tell<R: Wait, W: Sink>(
         Ok(None) => Some(ENDED),
         Ok(Some(answers)) => match tell(alloc, sink, answers) {
             Ok(()) => None,
-            Err(RunError::Failed) => Some(SINK_FAILED),
-            Err(RunError::NoMemory) => Some(NO_MEMORY),
+            Err(DeviceError::Failed) => Some(SINK_FAILED),
+            Err(DeviceError::NoMemory) => Some(NO_MEMORY),
         },
         Err(NoMemory) => Some(NO_MEMORY),
     }

@@ -11,10 +11,10 @@ ghost use Rattle.pair_side.specs.Side.{own_of};
 ghost use Rattle.pair_side.specs.Done.{HoldsAt};
 
 use global_state::Hold;
-use kept_chains::{ReadError, has_below, read_at};
+use kept_chains::{has_below, read_at};
 use pair_side::{Here, Side};
 use petal_base::{Cell, Epoch, Seq};
-use petal_disk::Disk;
+use petal_disk::{DeviceError, Disk};
 use petal_msg::{Body, Reply};
 use server_store::Store;
 
@@ -47,7 +47,7 @@ pub fn answer_read<D: Disk>(
     store: &mut Store<D>,
     cell: Cell,
     epoch: Epoch,
-) -> Result<Reply, ReadError>
+) -> Result<Reply, DeviceError>
     requires { readable here.now.state here.now.me cell ≡ true }
     ensures reply { IfOk result (λ reply. D.told → reply ≡ reads.reply_to here.now (own_of side.now store.old) cell epoch) }
     ensures same { store.new ≡ record store.old { disk = store.new.disk } }

@@ -8,6 +8,5 @@ mod answer;
 mod read;
 
 pub use answer::{answer_read, said};
-pub use kept_chains::ReadError;
 pub use petal_msg::Reply;
 pub use read::on_read;

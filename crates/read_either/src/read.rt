@@ -6,10 +6,9 @@ ghost use Rattle.pair_side.specs.Done.{IsDone};
 ghost use Rattle.pair_side.specs.Side.{HasTicketsAt, own_of};
 
 use crate::answer::{answer_read, said};
-use kept_chains::ReadError;
 use pair_side::{Done, Here, Side, WorkError, says, silent};
 use petal_base::{Cell, ClientId, Epoch, Seq};
-use petal_disk::Disk;
+use petal_disk::{DeviceError, Disk};
 use petal_msg::Actor;
 use server_store::Store;
 
@@ -36,7 +35,7 @@ pub fn on_read<D: Disk>(
     }
     match answer_read(here, side, store, cell, epoch) {
         Ok(reply) => says(here, side, store, Actor::Client(client), said(seq, reply)),
-        Err(ReadError::Failed) => Err(WorkError::Failed),
-        Err(ReadError::NoMemory) => Err(WorkError::NoMemory),
+        Err(DeviceError::Failed) => Err(WorkError::Failed),
+        Err(DeviceError::NoMemory) => Err(WorkError::NoMemory),
     }
 }

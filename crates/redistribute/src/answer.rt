@@ -13,10 +13,9 @@ use crate::letters::fill_letter;
 use crate::next::{fill_of, left_after};
 use crate::region::link_before;
 use global_state::LinkRow;
-use kept_chains::ReadError;
 use pair_side::{Done, Here, Side, WorkError, link_id, only, silent, with_letter};
 use petal_base::{Key, Sequence, ServerId};
-use petal_disk::Disk;
+use petal_disk::{DeviceError, Disk};
 use petal_msg::Body;
 use server_store::Store;
 
@@ -76,8 +75,8 @@ fn goes_behind<D: Disk>(
     let next = left_after(here, store, row, &Some(key));
     match fill_letter(here, store, next) {
         Ok(found) => fills(here, side, store, row, key, found),
-        Err(ReadError::Failed) => Err(WorkError::Failed),
-        Err(ReadError::NoMemory) => Err(WorkError::NoMemory),
+        Err(DeviceError::Failed) => Err(WorkError::Failed),
+        Err(DeviceError::NoMemory) => Err(WorkError::NoMemory),
     }
 }
 

@@ -14,10 +14,10 @@ ghost use Rattle.pair_side.specs.Side.{Side as Sides, own_of};
 ghost use Rattle.redistribute.specs.Sending.{destination, letter_with};
 
 use crate::next::fill_of;
-use kept_chains::{ReadError, read_key};
+use kept_chains::read_key;
 use pair_side::{Here, Side, with_letter};
 use petal_base::{Cell, Key, Sequence, ServerId, SharedBlock};
-use petal_disk::Disk;
+use petal_disk::{DeviceError, Disk};
 use petal_msg::{Body, Letter};
 use server_store::Store;
 
@@ -54,7 +54,7 @@ fn letter_to<D: Disk>(
     key: Key,
     to: ServerId,
     cell: Cell,
-) -> Result<Option<(ServerId, Body)>, ReadError>
+) -> Result<Option<(ServerId, Body)>, DeviceError>
     ensures letter { IfOk result (λ found. D.told → found
         ≡ letter_with key (Some (to, cell)) (option_map (λ entry. entry.bytes) (at nat_cmp (chain_in (chains_of store.old.entries) (cell_of key)) key.epoch))) }
     ensures look { IsLook D.Disk store.old store.new result }
@@ -70,7 +70,7 @@ fn letter_of<D: Disk>(
     here: &Here,
     store: &mut Store<D>,
     key: Key,
-) -> Result<Option<(ServerId, Body)>, ReadError>
+) -> Result<Option<(ServerId, Body)>, DeviceError>
     ensures letter { IfOk result (λ found. D.told → (side : Sides) → posts_of found ≡ fills.sends_key here.now.state (own_of side store.old) (Some key)) }
     ensures look { IsLook D.Disk store.old store.new result }
 {
@@ -85,7 +85,7 @@ pub fn fill_letter<D: Disk>(
     here: &Here,
     store: &mut Store<D>,
     key: Option<Key>,
-) -> Result<Option<(ServerId, Body)>, ReadError>
+) -> Result<Option<(ServerId, Body)>, DeviceError>
     ensures letter { IfOk result (λ found. D.told → (side : Sides) → posts_of found ≡ fills.sends_key here.now.state (own_of side store.old) key) }
     ensures look { IsLook D.Disk store.old store.new result }
 {
@@ -105,13 +105,13 @@ pub fn fills_after<D: Disk>(
     side: &Side,
     store: &mut Store<D>,
     before: Sequence<Letter>,
-) -> Result<Sequence<Letter>, ReadError>
+) -> Result<Sequence<Letter>, DeviceError>
     ensures letters { IfOk result (λ letters. D.told → letters
         ≡ before ++ letters_of (sender here.now) (length before) (fills.fill_posts here.now (own_of side.now store.old))) }
     ensures look { IsLook D.Disk store.old store.new result }
 {
     let Ok(mut nth) = u32::try_from(before.len()) else {
-        return Err(ReadError::NoMemory);
+        return Err(DeviceError::NoMemory);
     };
     let mut letters = before;
     for row in here.state().links() {

@@ -3,11 +3,11 @@ use Rattle.std.proofs.Common.{◌≤◌, ◌<◌, Result, ap, ◌∙◌, arith}
 use Rattle.petal_disk.specs.declared.disk.Disk.{Ghosts}
 use Rattle.petal_disk.proofs.Keeping.{keeps_on}
 use Rattle.server_store.specs.Holdings.{Holdings}
-use Rattle.kept_chains.specs.declared.error.ReadError.{ReadError}
+use Rattle.petal_disk.specs.declared.failure.DeviceError.{DeviceError}
 use Rattle.pair_side.specs.Letters.{IsLook}
 
 module _ {D T U : Type 0} (device : Ghosts D) (onward : (a b c : D) → device.came_to a b → device.came_to b c → device.came_to a c)
-    (before mid after : Holdings D) (first : Result U ReadError) (result : Result T ReadError) where
+    (before mid after : Holdings D) (first : Result U DeviceError) (result : Result T DeviceError) where
   pub look_then : IsLook device before mid first → IsLook device mid after result → IsLook device before after result
   look_then seen look =
       let later : device.faults before.disk ≤ device.faults mid.disk = seen.cause.later in

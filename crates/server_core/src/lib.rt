@@ -10,6 +10,5 @@ mod server;
 mod ticks;
 mod work;
 
-pub use kept_chains::ReadError;
 pub use pair_side::WorkError;
 pub use server::ServerCore;

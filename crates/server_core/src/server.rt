@@ -15,11 +15,10 @@ ghost use Rattle.server_work.specs.Core.{acted, here_in, is_spent, server_of};
 
 use crate::ticks::{moves_on, tick_jobs, tick_letters};
 use global_state::GlobalState;
-use kept_chains::ReadError;
 use log_side::{Envelope, LogSide, farewell};
 use petal_base::{Inc, NoMemory, OPERATOR, Rev, Sequence, ServerId};
 use petal_command::ServerNumber;
-use petal_disk::Disk;
+use petal_disk::{DeviceError, Disk};
 use petal_msg::{Actor, Body, Letter, SharedLetter};
 use petal_rules::Job;
 use server_store::Store;
@@ -190,7 +189,7 @@ impl ServerCore {
         &mut self,
         alloc: Global,
         store: &mut Store<D>,
-    ) -> Result<Sequence<Letter>, ReadError>
+    ) -> Result<Sequence<Letter>, DeviceError>
         ensures ok { IfOk result (λ letters. D.told → (records : List StateRecord) → acted self.new (store_of store.new) records letters
             ≡ jobs.ticks (here_in self.old) (server_of self.old (store_of store.old) records)) }
         ensures life { (self.new.running ≡ self.old.running) × (self.new.log.voter ≡ self.old.log.voter) × (self.new.side ≡ self.old.side) }

@@ -18,12 +18,11 @@ ghost use Rattle.petal_rules.specs.Sweeping.{sweep_jobs};
 ghost use Rattle.server_work.specs.Core.{here_in, server_of};
 
 use copy_recovery::mend_jobs;
-use kept_chains::ReadError;
 use lead_write::letters_after;
 use log_jobs::{is_in, own_wants};
 use pair_side::Here;
 use petal_base::{NoMemory, Sequence};
-use petal_disk::Disk;
+use petal_disk::{DeviceError, Disk};
 use petal_msg::Letter;
 use petal_rules::Job;
 use redistribute::{fills_after, has_dead};
@@ -38,7 +37,7 @@ fn copies_after<D: Disk>(
     parts: &Parts,
     store: &mut Store<D>,
     before: Sequence<Letter>,
-) -> Result<Sequence<Letter>, ReadError>
+) -> Result<Sequence<Letter>, DeviceError>
     ensures letters { IfOk result (λ letters. D.told → letters ≡ before ++ letters_of (sender (here_in parts.now)) (length before)
         (copies_anew (here_in parts.now) (own_in parts.now.side (store_of store.old)))) }
     ensures look { IsLook D.Disk store.old store.new result }
@@ -59,7 +58,7 @@ pub fn tick_letters<D: Disk>(
     alloc: Global,
     parts: &Parts,
     store: &mut Store<D>,
-) -> Result<Sequence<Letter>, ReadError>
+) -> Result<Sequence<Letter>, DeviceError>
     ensures letters { IfOk result (λ letters. D.told → (records : List StateRecord) → letters
         ≡ letters_of (sender (here_in parts.now)) 0 (tick_posts (here_in parts.now) (server_of parts.now (store_of store.old) records))) }
     ensures same { store.new ≡ record store.old { disk = store.new.disk } }
