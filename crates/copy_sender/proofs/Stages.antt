@@ -26,7 +26,7 @@ use Rattle.kept_chains.specs.Kept.{store_of}
 use Rattle.kept_chains.proofs.Puts.{put_same, without_put}
 use Rattle.pair_side.specs.declared.done.Done.{Done}
 use Rattle.pair_side.specs.declared.done.FollowUp.TheVariants as follow
-use Rattle.pair_side.specs.Copies as side
+use Rattle.copy_memory.specs.Copies as side
 use Rattle.pair_side.specs.Done.{IsSaid, follow_up, only}
 use Rattle.pair_side.specs.Side.{Side, HasTicketsAt, own_of}
 use Rattle.copy_sender.specs.Stages.{copied_in}

@@ -7,7 +7,7 @@ use Rattle.petal_msg.specs.declared.copying.Progress.{Progress}
 use Rattle.petal_rules.specs.Progress.{no_progress}
 use Rattle.petal_rules.specs.Server.{Copies}
 use Rattle.petal_rules.specs.State.{id_of, link_cmp}
-use Rattle.pair_side.specs.Copies.{with_progress}
+use Rattle.copy_memory.specs.Copies.{with_progress}
 
 -- the greatest block that was copied of the link, with this one
 abbrev pub copied_in : Option LinkRow → Copies → ℕ → Copies

@@ -7,7 +7,7 @@ ghost use Rattle.petal_rules.specs.Store.{cell_cmp};
 ghost use Rattle.petal_rules.specs.Writes as writes;
 ghost use Rattle.pair_side.specs.declared.error.WorkError.TheVariants as error;
 ghost use Rattle.pair_side.specs.Side.{own_of, HasTicketsAt};
-ghost use Rattle.pair_side.specs.Copies.{has_proposed_in};
+ghost use Rattle.copy_memory.specs.Copies.{has_proposed_in};
 ghost use Rattle.pair_side.specs.Done.{HasVersions, IsDone};
 ghost use Rattle.lead_write.specs.Wanted.{wanted};
 

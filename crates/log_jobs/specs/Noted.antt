@@ -1,7 +1,7 @@
 -- That a ballot was started for a link's Caught, as it is noted of the link.
 use Rattle.std.specs.Prelude.{true, unwrap_or, Option, None, Some}
 use Rattle.global_tables.specs.declared.link.LinkRow.{LinkRow}
-use Rattle.pair_side.specs.Copies.{with_progress}
+use Rattle.copy_memory.specs.Copies.{with_progress}
 use Rattle.petal_command.specs.declared.command.Command.{Command}
 use Rattle.petal_command.specs.declared.command.Command.TheVariants.{Caught}
 use Rattle.petal_msg.specs.declared.copying.LinkId.{LinkId}

@@ -27,7 +27,8 @@ use Rattle.petal_rules.proofs.CellTables.{cell_cmp_same, cell_cmp_total}
 use Rattle.server_store.specs.Holdings.{Holdings}
 use Rattle.server_store.specs.Tickets as store
 use Rattle.kept_chains.proofs.Puts.{tied}
-use Rattle.pair_side.specs.Crossed.{AreFreed, IsCrossed, cell_ends, copies_left}
+use Rattle.copy_memory.specs.Ended.{cell_ends, copies_left}
+use Rattle.pair_side.specs.Crossed.{AreFreed, IsCrossed}
 use Rattle.pair_side.specs.Side.{Side, HasTicketsAt, needs_apart, pairs_of, times}
 use Rattle.pair_side.specs.Slots.{IsOutAt}
 use Rattle.kept_chains.specs.Kept.{store_of}

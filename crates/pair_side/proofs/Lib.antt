@@ -4,9 +4,10 @@ pub mod Kept
 pub mod Puts
 pub mod Blank
 pub mod Crossings
-pub mod ByLink
 pub mod Letters
 pub mod Entering
 pub mod Looks
 pub mod Linked
 pub mod Reading
+pub mod Restored
+pub mod Viewed

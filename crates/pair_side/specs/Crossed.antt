@@ -1,15 +1,14 @@
 -- What an entry of the log leaves of a side and its store.
-use Rattle.std.specs.Prelude.{◌≡◌, ℕ, ◌+◌, ◌&&◌, ◌||◌, ◌==◌, Bool, false, not, filter, length, Option, None, Some, is_none, Result, Err, IfErr, OnOk}
+use Rattle.std.specs.Prelude.{◌≡◌, ℕ, ◌+◌, ◌&&◌, ◌==◌, Bool, false, not, filter, length, Option, None, Some, Result, Err, IfErr, OnOk}
 use Rattle.std.specs.Map.{values_of}
 use Rattle.petal_base.specs.declared.cell.Cell.{Cell}
 use Rattle.petal_command.specs.declared.command.Command.{Command}
 use Rattle.petal_disk.specs.Disk.{LeavesOnly}
 use Rattle.petal_disk.specs.declared.disk.Disk.{Ghosts}
 use Rattle.petal_table.specs.Table.{Table}
-use Rattle.petal_msg.specs.declared.copying.LinkId.{LinkId}
-use Rattle.petal_rules.specs.Crossing.{crossed, crossed_by, is_blank_join, touches_cell, touches_link}
-use Rattle.petal_rules.specs.Server.{Copies, Here}
-use Rattle.petal_rules.specs.State.{State, link_named, live}
+use Rattle.petal_rules.specs.Crossing.{crossed, crossed_by, is_blank_join}
+use Rattle.petal_rules.specs.Server.{Here}
+use Rattle.petal_rules.specs.State.{State}
 use Rattle.server_store.specs.Holdings.{Holdings}
 use Rattle.kept_chains.specs.Kept.{store_of}
 use Rattle.kept_chains.specs.Standing.{StandsAsEither}
@@ -17,22 +16,6 @@ use Rattle.pair_side.specs.declared.error.WorkError.{WorkError}
 use Rattle.pair_side.specs.declared.error.WorkError.TheVariants.{Failed}
 use Rattle.pair_side.specs.Done.{HasFault, HoldsAt}
 use Rattle.pair_side.specs.Side.{Side, HasTicketsAt, own_of, times}
-
--- of the rule's words, with the state that the entry makes by its side: what is kept of the cell for others ends
-abbrev pub cell_ends : State → (next : State) → Command → Cell → Bool
-cell_ends state next entry cell = touches_cell state entry cell || (live state cell && not (live next cell))
-
--- what is kept of the link ends
-abbrev pub link_ends : State → (next : State) → Command → LinkId → Bool
-link_ends state next entry id = touches_link state entry id || is_none (link_named next id)
-
--- nothing is left of the copies there
-abbrev pub copies_left : State → (next : State) → Command → Copies → Copies
-copies_left state next entry copies = record copies {
-  progress = filter (λ row. not (link_ends state next entry row.0)) copies.progress;
-  pending = filter (λ row. not (cell_ends state next entry row.0)) copies.pending;
-  last = filter (λ row. not (cell_ends state next entry row.0)) copies.last;
-}
 
 -- the tickets on the cells that a test takes were given back, and no other
 pub record AreFreed {D : Type 0} (test : Cell → Bool) (apart left : Table Cell ℕ) (before after : Holdings D) : Type 0 where

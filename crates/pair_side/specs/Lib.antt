@@ -1,4 +1,3 @@
-pub mod Copies
 pub mod Side
 pub mod Done
 pub mod Refusals

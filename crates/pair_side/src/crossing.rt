@@ -1,6 +1,6 @@
 //! What an entry of the log does to a server's part in its pairs.
 
-ghost use Rattle.std.specs.Prelude.{◌≡◌, ◌≤◌, ◌+◌, ◌&&◌, ℕ, false, not, map, filter, find, length, IfOk, Some};
+ghost use Rattle.std.specs.Prelude.{◌≡◌, ◌≤◌, ◌+◌, ◌&&◌, ℕ, false, map, filter, find, length, IfOk, Some};
 ghost use Rattle.std.specs.List.Sorted.{IsStrictlySortedBy};
 ghost use Rattle.std.specs.Map.{keys_of, values_of};
 ghost use Rattle.petal_state.specs.Command.{after};
@@ -10,10 +10,12 @@ ghost use Rattle.petal_rules.specs.Crossing.{touches_cell};
 ghost use Rattle.petal_rules.specs.State.{id_of};
 ghost use Rattle.petal_rules.specs.Store.{Store as Stored, cell_cmp};
 ghost use Rattle.petal_rules.specs.declared.job.Job.TheVariants as job;
-ghost use Rattle.pair_side.specs.Crossed.{AreFreed, IsCrossed, IsEntered, cell_ends, lacks_room};
+ghost use Rattle.copy_memory.specs.Ended.{cell_ends};
+ghost use Rattle.pair_side.specs.Crossed.{AreFreed, IsCrossed, IsEntered, lacks_room};
 ghost use Rattle.pair_side.specs.Side.{HasTicketsAt, pairs_of, times};
 
-use crate::{Here, Side, WorkError, give_back, link_id};
+use crate::{Side, WorkError, give_back};
+use copy_memory::{Here, drops_cells, ends_cell, link_id};
 use global_state::{GlobalState, LinkRow, LinkState};
 use kept_chains::settle;
 use link_table::has_server;
@@ -25,14 +27,6 @@ use petal_rules::Job;
 use petal_table::Table;
 use server_store::{Store, Ticket};
 use std::alloc::{AllocError, Global};
-
-/// Whether what is kept of the cell for others ends with the entry, which makes this next state: the entry touches the cell's
-/// link, or the cell is live no longer.
-pub fn ends_cell(here: &Here, entry: &Command, next: &GlobalState, cell: Cell) -> bool
-    ensures { result ≡ cell_ends here.now.state next.now entry.now cell }
-{
-    here.touches(entry, cell) || (here.state().live(cell) && !next.live(cell))
-}
 
 fn first_ended(
     here: &Here,
@@ -66,19 +60,6 @@ fn frees<D: Disk>(
     while let Some(cell) = first_ended(here, entry, next, apart) {
         give_back(apart, store, cell);
     }
-}
-
-/// The rows go on the cells that end with the entry.
-pub fn drops_cells<X: Drop>(
-    here: &Here,
-    entry: &Command,
-    next: &GlobalState,
-    table: &mut Table<Cell, X>,
-)
-    ensures rows { table.new ≡ filter (λ row. not (cell_ends here.now.state next.now entry.now row.0)) table.old }
-    ensures sorted { IsStrictlySortedBy cell_cmp (keys_of table.old) }
-{
-    table.retain(|cell, _| !ends_cell(here, entry, next, *cell));
 }
 
 /// What others asked of this server on the cells that end with the entry is dropped with all that is remembered of copies there,

@@ -4,23 +4,18 @@
 //! what a job has to keep (`IsDone`). It knows nothing of the stages of an operation, of queues, or of how letters travel.
 #![tactic(auto)]
 
-mod copies;
 mod crossing;
 mod done;
 mod error;
-mod here;
-mod links;
 mod replies;
 mod sending;
 mod side;
 mod slots;
 
-pub use copies::Copies;
+pub use copy_memory::{Copies, Here, LinkTable, link_id};
 pub use crossing::{enters, entry_jobs, lacks_room};
 pub use done::{Done, FollowUp, only};
 pub use error::WorkError;
-pub use here::Here;
-pub use links::{LinkTable, link_id};
 pub use replies::{ended, finishes, says, says_to, silent};
 pub use sending::with_letter;
 pub use side::Side;

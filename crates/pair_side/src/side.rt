@@ -8,8 +8,7 @@ ghost use Rattle.petal_table.specs.Table.{at};
 ghost use Rattle.petal_rules.specs.Store.{cell_cmp};
 ghost use Rattle.pair_side.specs.Side.{new_side};
 
-use crate::Copies;
-use crate::links::LinkTable;
+use copy_memory::{Copies, LinkTable};
 use pair_lock::PairLock;
 use petal_base::{Cell, ClientId, Key, NoMemory, Op};
 use petal_msg::{Finished, LastOp, Pending};

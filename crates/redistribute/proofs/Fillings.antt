@@ -16,7 +16,7 @@ use Rattle.petal_rules.specs.State.{State, id_of, lead, link_cmp}
 use Rattle.petal_rules.specs.Store.{Stored, chain_in}
 use Rattle.petal_state.specs.CellState.{target}
 use Rattle.pair_side.specs.Letters.{posts_of}
-use Rattle.pair_side.proofs.ByLink.{link_cmp_total}
+use Rattle.copy_memory.proofs.ByLink.{link_cmp_total}
 use Rattle.redistribute.specs.Behind.{behind, filled_with, posts_behind}
 use Rattle.redistribute.specs.Next.{left_after}
 use Rattle.redistribute.specs.Sending.{destination, letter_with, with_lead}

@@ -2,8 +2,8 @@ use Rattle.std.proofs.Common.{ap, ◌∙◌, arith}
 use Rattle.petal_table.specs.Table.{at}
 use Rattle.petal_rules.specs.Server.{Copies}
 use Rattle.petal_rules.specs.State.{link_cmp}
-use Rattle.pair_side.specs.Copies.{restored}
-use Rattle.pair_side.proofs.ByLink.{progress_there, restored_is}
+use Rattle.copy_memory.specs.Copies.{restored}
+use Rattle.pair_side.proofs.Restored.{progress_there, restored_is}
 use Rattle.copy_recovery.proofs.Pages.{refused_page}
 use Rattle.copy_recovery.proofs.page.marks_page.Goals as goal
 

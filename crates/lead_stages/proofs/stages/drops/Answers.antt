@@ -2,7 +2,7 @@ use Rattle.std.proofs.Common.{ap, sym, ◌∙◌}
 use Rattle.petal_table.specs.Table.{at}
 use Rattle.petal_rules.specs.Store.{cell_cmp}
 use Rattle.pair_side.specs.Side.{Side}
-use Rattle.lead_stages.proofs.Viewed.{left_of}
+use Rattle.pair_side.proofs.Viewed.{left_of}
 use Rattle.pair_side.specs.Done.{only}
 use Rattle.pair_side.proofs.Tickets.{own_out}
 use Rattle.lead_stages.proofs.Moves.{own_slot, ends_used, ends_unused}

@@ -1,6 +1,6 @@
 use Rattle.std.proofs.Common.{sym, ap, ◌∙◌}
 use Rattle.petal_rules.specs.Fills.{fill_operation}
-use Rattle.pair_side.specs.Copies.{has_proposed_in}
+use Rattle.copy_memory.specs.Copies.{has_proposed_in}
 use Rattle.pair_side.specs.Side.{Side, own_of}
 use Rattle.lead_write.specs.Wanted.{moving}
 use Rattle.lead_write.proofs.Begun.{fill_is}

@@ -4,7 +4,7 @@ use Rattle.petal_msg.specs.declared.operation.Pending.{Pending}
 use Rattle.petal_table.specs.Table.{Table, at}
 use Rattle.petal_rules.specs.Store.{cell_cmp}
 use Rattle.pair_side.specs.Side.{Side}
-use Rattle.lead_stages.proofs.Viewed.{left_of}
+use Rattle.pair_side.proofs.Viewed.{left_of}
 use Rattle.pair_side.proofs.Tickets.{own_out}
 use Rattle.lead_write.proofs.Leads.{finished_pending, full_slot, full_is}
 use Rattle.lead_write.proofs.lead.ends_full.Goals as goal

@@ -1,6 +1,6 @@
 use Rattle.std.proofs.Common.{refl, ◌∙◌}
 use Rattle.pair_side.specs.Side.{Side}
-use Rattle.lead_stages.proofs.Viewed.{left_of}
+use Rattle.pair_side.proofs.Viewed.{left_of}
 use Rattle.pair_side.proofs.Kept.{kept_there, kept_some, kept_out}
 use Rattle.pair_side.proofs.Tickets.{undone}
 use Rattle.lead_write.proofs.Opens.{own_back}

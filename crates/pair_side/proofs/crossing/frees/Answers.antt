@@ -1,5 +1,5 @@
 use Rattle.std.proofs.Common.{sym, ◌∙◌}
-use Rattle.pair_side.specs.Crossed.{cell_ends}
+use Rattle.copy_memory.specs.Ended.{cell_ends}
 use Rattle.pair_side.proofs.Crossings.{below_still, freed_more, freed_none, freed_out, freed_some, less_rows}
 use Rattle.pair_side.proofs.crossing.frees.Goals as goal
 

@@ -4,7 +4,8 @@ use Rattle.std.specs.Map.{values_of}
 use Rattle.petal_base.specs.declared.cell.Cell.{Cell}
 use Rattle.petal_table.specs.Table.{Table}
 use Rattle.server_store.specs.Holdings.{Holdings}
-use Rattle.pair_side.specs.Crossed.{AreFreed, cell_ends}
+use Rattle.copy_memory.specs.Ended.{cell_ends}
+use Rattle.pair_side.specs.Crossed.{AreFreed}
 use Rattle.pair_side.specs.Side.{times}
 use Rattle.pair_side.proofs.crossing.frees.Given as goal
 

@@ -1,9 +1,9 @@
 use Rattle.std.proofs.Common.{not, rules, ap, ◌∙◌}
 use Rattle.std.proofs.lemmas.Map.Made.{filter_same_pairs}
-use Rattle.pair_side.specs.Copies.{by_link, id_of_key}
-use Rattle.pair_side.specs.Crossed.{link_ends}
-use Rattle.pair_side.proofs.ByLink.{left_links}
-use Rattle.pair_side.proofs.links.LinkTable.drop_ended.Goals as goal
+use Rattle.copy_memory.specs.Copies.{by_link, id_of_key}
+use Rattle.copy_memory.specs.Ended.{link_ends}
+use Rattle.copy_memory.proofs.ByLink.{left_links}
+use Rattle.copy_memory.proofs.links.LinkTable.drop_ended.Goals as goal
 
 pub returns : goal.returns
 returns g c =

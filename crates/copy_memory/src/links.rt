@@ -5,8 +5,8 @@ ghost use Rattle.std.specs.List.Sorted.{IsStrictlySortedBy};
 ghost use Rattle.std.specs.Map.{keys_of};
 ghost use Rattle.petal_table.specs.Table.{at, put, without};
 ghost use Rattle.petal_rules.specs.State.{id_of, link_cmp, link_named};
-ghost use Rattle.pair_side.specs.Copies.{id_of_key, key_of};
-ghost use Rattle.pair_side.specs.Crossed.{link_ends};
+ghost use Rattle.copy_memory.specs.Copies.{id_of_key, key_of};
+ghost use Rattle.copy_memory.specs.Ended.{link_ends};
 
 use crate::Here;
 use global_state::{GlobalState, LinkRow};
@@ -33,7 +33,7 @@ pub struct LinkTable<X> {
 impl<X> Model for LinkTable<X> {
     ghost use Rattle.std.specs.Prelude.{List};
     ghost use Rattle.petal_msg.specs.declared.copying.LinkId.{LinkId};
-    ghost use Rattle.pair_side.specs.Copies.{by_link};
+    ghost use Rattle.copy_memory.specs.Copies.{by_link};
 
     ghost Value = { List (LinkId × X) };
 

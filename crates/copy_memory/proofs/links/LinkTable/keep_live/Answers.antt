@@ -1,9 +1,9 @@
 use Rattle.std.proofs.Common.{is_some, rules, ap, ◌∙◌}
 use Rattle.std.proofs.lemmas.Map.Made.{filter_same_pairs}
 use Rattle.petal_rules.specs.State.{link_named}
-use Rattle.pair_side.specs.Copies.{by_link, id_of_key}
-use Rattle.pair_side.proofs.ByLink.{left_links}
-use Rattle.pair_side.proofs.links.LinkTable.keep_live.Goals as goal
+use Rattle.copy_memory.specs.Copies.{by_link, id_of_key}
+use Rattle.copy_memory.proofs.ByLink.{left_links}
+use Rattle.copy_memory.proofs.links.LinkTable.keep_live.Goals as goal
 
 pub returns : goal.returns
 returns g c =

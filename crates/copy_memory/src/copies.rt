@@ -8,12 +8,10 @@ ghost use Rattle.petal_rules.specs.Progress.{no_progress};
 ghost use Rattle.petal_rules.specs.Server.{no_copies};
 ghost use Rattle.petal_rules.specs.State.{link_cmp};
 ghost use Rattle.petal_rules.specs.Store.{cell_cmp};
-ghost use Rattle.pair_side.specs.Copies as copies;
-ghost use Rattle.pair_side.specs.Crossed.{cell_ends, copies_left};
+ghost use Rattle.copy_memory.specs.Copies as copies;
+ghost use Rattle.copy_memory.specs.Ended.{cell_ends, copies_left};
 
-use crate::crossing::{drops_cells, ends_cell};
-use crate::links::LinkTable;
-use crate::{Here, link_id};
+use crate::{Here, LinkTable, drops_cells, ends_cell, link_id};
 use global_state::GlobalState;
 use petal_base::{Cell, NoMemory};
 use petal_command::Command;
@@ -233,7 +231,7 @@ impl Copies {
     }
 
     /// Nothing is left of the copies of which nothing is kept behind the entry, which makes this next state. It takes no memory.
-    pub(crate) fn crosses(&mut self, here: &Here, entry: &Command, next: &GlobalState)
+    pub fn crosses(&mut self, here: &Here, entry: &Command, next: &GlobalState)
         ensures { self.new ≡ copies_left here.now.state next.now entry.now self.old }
     {
         self.progress.drop_ended(here, entry, next);

@@ -1,8 +1,8 @@
 use Rattle.std.proofs.Common.{ap, ◌∙◌}
 use Rattle.std.proofs.lemmas.Result.{on_ok_weaker}
-use Rattle.pair_side.specs.Copies.{by_link}
-use Rattle.pair_side.proofs.ByLink.{put_link}
-use Rattle.pair_side.proofs.links.LinkTable.put.Goals as goal
+use Rattle.copy_memory.specs.Copies.{by_link}
+use Rattle.copy_memory.proofs.ByLink.{put_link}
+use Rattle.copy_memory.proofs.links.LinkTable.put.Goals as goal
 
 pub returns-clause-ok : goal.returns-clause-ok
 returns-clause-ok g c =

@@ -1,23 +1,19 @@
 -- Tables of links, whose keys a server keeps as a type of its own.
-use Rattle.std.proofs.Common.{◌≡◌, Bool, true, false, not, cond, [], ◌∷◌, filter, Option, Some, None, refl, sym, ap, ◌∙◌}
+use Rattle.std.proofs.Common.{◌≡◌, Bool, true, false, not, cond, [], ◌∷◌, filter, Some, refl, ap}
 use Rattle.std.specs.declared.cmp.Ordering.{Ordering}
 use Rattle.std.specs.declared.cmp.Ordering.TheVariants.{Less, Equal, Greater}
 use Rattle.std.specs.Ordering.{nat_cmp, is_eq, match_ordering, ordering_then}
 use Rattle.std.specs.BTreeMap.{insert_entry}
 use Rattle.std.specs.Map.{keys_of}
-use Rattle.std.specs.Cmp.{IsTotalOrder, nat_cmp_total, tied_itself}
+use Rattle.std.specs.Cmp.{IsTotalOrder, nat_cmp_total}
 use Rattle.std.specs.List.{AllByRecursion}
 use Rattle.std.specs.List.Sorted.{IsStrictlySortedBy}
 use Rattle.std.proofs.lemmas.Cmp.{on_total, then_total}
 use Rattle.petal_msg.specs.declared.copying.LinkId.{LinkId}
-use Rattle.petal_msg.specs.declared.copying.Progress.{Progress}
 use Rattle.petal_table.specs.Table.{Table, at, put, without}
-use Rattle.petal_table.proofs.Rows.{at-put}
-use Rattle.petal_rules.specs.Server.{Copies}
 use Rattle.petal_rules.specs.State.{link_cmp}
-use Rattle.kept_chains.proofs.Puts.{put_over, put_same, without_new}
-use Rattle.pair_side.specs.declared.links.LinkKey.{LinkKey}
-use Rattle.pair_side.specs.Copies.{by_link, id_of_key, key_of, restored, with_progress}
+use Rattle.copy_memory.specs.declared.links.LinkKey.{LinkKey}
+use Rattle.copy_memory.specs.Copies.{by_link, id_of_key, key_of}
 
 abbrev pub key_cmp : LinkKey → LinkKey → Ordering
 key_cmp a b = ordering_then (nat_cmp a.map b.map) (nat_cmp a.link b.link)
@@ -70,18 +66,3 @@ sorted_links (row ∷ rows) h = (above_links row.0 rows h.0, sorted_links rows h
 
 pub link_cmp_total : IsTotalOrder link_cmp
 link_cmp_total = then_total (on_total (λ (id : LinkId). id.map) nat_cmp_total) (on_total (λ (id : LinkId). id.link) nat_cmp_total)
-
--- a link's progress that was set and put back as it was
-pub restored_is : (copies : Copies) (id : LinkId) (progress : Progress) (before : Option Progress) → IsStrictlySortedBy link_cmp (keys_of copies.progress)
-    → before ≡ at link_cmp copies.progress id → restored (with_progress copies id progress) id before ≡ copies
-restored_is copies id progress None sorted is =
-    ap (λ (t : Table LinkId Progress). record copies { progress = t }) (without_new link_cmp link_cmp_total copies.progress id progress (sym is))
-restored_is copies id progress (Some before) sorted is =
-    ap (λ (t : Table LinkId Progress). record copies { progress = t })
-    (put_over link_cmp link_cmp_total copies.progress id progress before ∙ put_same link_cmp link_cmp_total copies.progress id before sorted (sym is))
-
--- and it stands there in between
-pub progress_there : (copies : Copies) (id : LinkId) (progress : Progress) → at link_cmp (with_progress copies id progress).progress id ≡ Some progress
-progress_there copies id progress =
-    at-put link_cmp_total copies.progress id progress id
-    ∙ ap (λ r. cond (is_eq r) (Some progress) (at link_cmp copies.progress id)) (tied_itself link_cmp_total id)

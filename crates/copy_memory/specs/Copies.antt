@@ -12,7 +12,7 @@ use Rattle.petal_rules.specs.Progress.{no_progress}
 use Rattle.petal_rules.specs.Server.{Copies}
 use Rattle.petal_rules.specs.State.{State, id_of, link_cmp}
 use Rattle.petal_rules.specs.Store.{cell_cmp}
-use Rattle.pair_side.specs.declared.links.LinkKey.{LinkKey}
+use Rattle.copy_memory.specs.declared.links.LinkKey.{LinkKey}
 
 -- ### Links as keys
 

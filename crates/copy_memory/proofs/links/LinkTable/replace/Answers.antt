@@ -1,7 +1,7 @@
 use Rattle.std.proofs.Common.{ap, ◌∙◌}
-use Rattle.pair_side.specs.Copies.{by_link}
-use Rattle.pair_side.proofs.ByLink.{put_link}
-use Rattle.pair_side.proofs.links.LinkTable.replace.Goals as goal
+use Rattle.copy_memory.specs.Copies.{by_link}
+use Rattle.copy_memory.proofs.ByLink.{put_link}
+use Rattle.copy_memory.proofs.links.LinkTable.replace.Goals as goal
 
 pub returns : goal.returns
 returns g c =
