@@ -8,6 +8,7 @@ ghost use Rattle.pair_side.specs.Done.{HasVersions, IsDone};
 
 use crate::letters::{at_other_rev, handles};
 use copy_recovery::{copies_on, mends, trims_on};
+use dead_cells::sweeps;
 use global_state::GlobalState;
 use lead_write::goes_on;
 use pair_side::{Done, Here, Side, WorkError, silent};
@@ -15,7 +16,6 @@ use petal_base::{Cell, Inc, ServerId};
 use petal_disk::Disk;
 use petal_msg::{Actor, Letter};
 use petal_rules::Job;
-use redistribute::sweeps;
 use server_store::Store;
 
 /// Whether the server is In with this incarnation.

@@ -1,6 +1,6 @@
--- The keys of chains, and the first that is dead, as those of the entries in their order.
-use Rattle.std.proofs.Common.{◌≡◌, ℕ, Bool, true, false, not, cond, List, [], ◌∷◌, ◌++◌, filter, map, find, Option, Some}
-use Rattle.std.proofs.Common.{None, refl, sym, ap, ◌∙◌, inl, inr}
+-- The keys of chains as those of the entries in their order.
+use Rattle.std.proofs.Common.{◌≡◌, ℕ, Bool, true, false, cond, List, [], ◌∷◌, ◌++◌, filter, map}
+use Rattle.std.proofs.Common.{refl, sym, ap, ◌∙◌, inl, inr}
 use Rattle.std.proofs.lemmas.Bool.{cases_Bool}
 use Rattle.std.proofs.lemmas.List.Concat.{flat_map-cons}
 use Rattle.std.specs.Prelude.{if◌then◌else◌}
@@ -11,12 +11,8 @@ use Rattle.petal_base.specs.declared.cell.Cell.{Cell}
 use Rattle.petal_base.specs.declared.cell.Key.{Key}
 use Rattle.petal_base.specs.Cells.{cell_of, key_at}
 use Rattle.petal_table.specs.Table.{Table}
-use Rattle.petal_msg.specs.declared.dead.Dead.{Dead}
-use Rattle.petal_msg.specs.declared.dead.Dead.TheVariants as dead
 use Rattle.petal_rules.specs.Fills.{keys_of}
-use Rattle.petal_rules.specs.State.{State, live}
 use Rattle.petal_rules.specs.Store.{Chain, Stored, cell_cmp}
-use Rattle.petal_rules.specs.Sweeping.{dead_in, dead_key}
 use Rattle.petal_rules.proofs.CellTables.{cell_cmp_same}
 use Rattle.physical_map.specs.Keys.{IsInOrder}
 use Rattle.kept_chains.specs.Chains.{chains_by}
@@ -64,41 +60,3 @@ module _ (keep : Cell → Bool) where
   pub keys_are : {A : Type 0} (key : A → Key) (stored : A → Stored) (xs : List A) → IsInOrder key xs
       → flat_map keys_of (filter (λ held. keep held.0) (chains_by key stored xs)) ≡ filter (λ k. keep (cell_of k)) (map key xs)
   keys_are key stored xs order = flat_is (chains_by key stored xs) ∙ flat_by key stored xs order
-
-module _ (state : State) (other : Option Dead) where
-  -- the first key that is dead, or else the other thing
-  abbrev pub dead_by : Option Key → Option Dead
-  dead_by None = other
-  dead_by (Some k) = Some (dead.Key k)
-
-  dead_if : (b : Bool) (k : Key) (o p : Option Dead) → cond b o (Some (dead.Key k)) ≡ cond b (cond b o p) (Some (dead.Key k))
-  dead_if true k o p = refl
-  dead_if false k o p = refl
-
-  dead_front : (t : Table Cell Chain) (c : Cell) (row : ℕ × Stored)
-      → dead_in state (in_front t c row) other ≡ (if live state c then dead_in state t other else Some (dead.Key (key_at c row.0)))
-  dead_front [] c row = refl
-  dead_front (r ∷ rs) c row =
-      elim (cell_cmp c r.0) as (λ o. cell_cmp c r.0 ≡ o
-      → dead_in state (match_ordering o ((c, row ∷ []) ∷ r ∷ rs) ((r.0, row ∷ r.1) ∷ rs) ((c, row ∷ []) ∷ r ∷ rs)) other
-      ≡ (if live state c then dead_in state (r ∷ rs) other else Some (dead.Key (key_at c row.0)))) [
-        | Less ↦ λ _. refl
-        | Equal ↦ λ tie.
-            dead_if (live state r.0) (key_at r.0 row.0) (dead_in state rs other) (dead_key r.0 r.1 (dead_in state rs other))
-            ∙ ap (λ (d : Cell). if live state d then dead_in state (r ∷ rs) other else Some (dead.Key (key_at d row.0))) (sym (cell_cmp_same c r.0 tie))
-        | Greater ↦ λ _. refl
-      ] refl
-
-  found_if : (b : Bool) (k : Key) (o : Option Key) → cond b (dead_by o) (Some (dead.Key k)) ≡ dead_by (cond (not b) (Some k) o)
-  found_if true k o = refl
-  found_if false k o = refl
-
-  -- the first entry of a cell that is live no longer is the first such entry
-  pub dead_is : {A : Type 0} (key : A → Key) (stored : A → Stored) (xs : List A) → IsInOrder key xs
-      → dead_in state (chains_by key stored xs) other ≡ dead_by (find (λ k. not (live state (cell_of k))) (map key xs))
-  dead_is key stored [] order = refl
-  dead_is key stored (x ∷ xs) order =
-      ap (λ (t : Table Cell Chain). dead_in state t other) (front_is key stored x xs order)
-      ∙ dead_front (chains_by key stored xs) (cell_of (key x)) ((key x).epoch, stored x)
-      ∙ ap (λ (o : Option Dead). if live state (cell_of (key x)) then o else Some (dead.Key (key x))) (dead_is key stored xs order.1)
-      ∙ found_if (live state (cell_of (key x))) (key x) (find (λ k. not (live state (cell_of k))) (map key xs))

@@ -1,5 +1,4 @@
 pub mod Next
 pub mod Sending
 pub mod Behind
-pub mod Swept
 pub mod Wants

@@ -1,4 +1,4 @@
-//! Moves at the servers of the old map: which entries go to the new one, and what is dropped of cells that are live no longer.
+//! Moves at the servers of the old map: which entries go to the new one.
 //!
 //! To the layer above it promises that each job is the rule's of `petal_rules`: what it leaves, the letters that it sends, and
 //! the job that follows it up. It knows nothing of how the new map's servers put an entry, of queues, or of how letters travel.
@@ -8,11 +8,8 @@ mod answer;
 mod letters;
 mod next;
 mod region;
-mod search;
-mod sweep;
 mod want;
 
 pub use answer::{on_fill_full, on_filled};
 pub use letters::fills_after;
-pub use sweep::{has_dead, next_dead, sweeps};
 pub use want::moving;

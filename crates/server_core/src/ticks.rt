@@ -18,6 +18,7 @@ ghost use Rattle.petal_rules.specs.Sweeping.{sweep_jobs};
 ghost use Rattle.server_work.specs.Core.{here_in, server_of};
 
 use copy_recovery::mend_jobs;
+use dead_cells::has_dead;
 use lead_write::letters_after;
 use log_jobs::{is_in, own_wants};
 use pair_side::Here;
@@ -25,7 +26,7 @@ use petal_base::{NoMemory, Sequence};
 use petal_disk::{DeviceError, Disk};
 use petal_msg::Letter;
 use petal_rules::Job;
-use redistribute::{fills_after, has_dead};
+use redistribute::fills_after;
 use server_store::Store;
 use server_work::Parts;
 use std::alloc::Global;

@@ -12,7 +12,7 @@ use Rattle.physical_map.specs.Entries.{key_of}
 use Rattle.physical_map.specs.Keys.{key_below, IsAbove, IsInOrder}
 use Rattle.physical_map.proofs.Orders.{order-at}
 use Rattle.server_store.specs.Holdings.{Held, key_held, listed}
-use Rattle.redistribute.specs.Swept.{first_dead}
+use Rattle.dead_cells.specs.Swept.{first_dead}
 
 above_listed : (k : Key) (es : List Held) → IsAbove key_held k es → IsAbove key_of k (listed es)
 above_listed k [] above = tt

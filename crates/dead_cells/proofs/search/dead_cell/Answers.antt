@@ -1,8 +1,8 @@
 use Rattle.std.proofs.Common.{sym, ◌∙◌}
 use Rattle.petal_rules.specs.State.{live}
-use Rattle.redistribute.specs.Swept.{dead_marks}
-use Rattle.redistribute.proofs.DeadMarks.{fewer_maps, first_on, map_hit, map_none, map_on, none_on}
-use Rattle.redistribute.proofs.search.dead_cell.Goals as goal
+use Rattle.dead_cells.specs.Swept.{dead_marks}
+use Rattle.dead_cells.proofs.DeadMarks.{fewer_maps, first_on, map_hit, map_none, map_on, none_on}
+use Rattle.dead_cells.proofs.search.dead_cell.Goals as goal
 
 pub returns-in-Some-dead_block : goal.returns-in-Some-dead_block
 returns-in-Some-dead_block g c =

@@ -2,8 +2,8 @@
 use Rattle.std.proofs.Common.{◌≡◌, length}
 use Rattle.physical_map.specs.Entries.{key_of}
 use Rattle.physical_map.specs.Keys.{IsInOrder}
-use Rattle.redistribute.specs.Swept.{first_dead}
-use Rattle.redistribute.proofs.search.dead_entry.Given as goal
+use Rattle.dead_cells.specs.Swept.{first_dead}
+use Rattle.dead_cells.proofs.search.dead_entry.Given as goal
 
 abbrev pub invariant-loop-entry : goal.invariant-loop-entry
 invariant-loop-entry l = record {

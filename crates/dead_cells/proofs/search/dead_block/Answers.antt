@@ -1,7 +1,7 @@
 use Rattle.std.proofs.Common.{None, sym, ◌∙◌}
 use Rattle.petal_rules.specs.State.{live}
-use Rattle.redistribute.proofs.DeadMarks.{block_hit, block_none, block_on, fewer_blocks, none_dead}
-use Rattle.redistribute.proofs.search.dead_block.Goals as goal
+use Rattle.dead_cells.proofs.DeadMarks.{block_hit, block_none, block_on, fewer_blocks, none_dead}
+use Rattle.dead_cells.proofs.search.dead_block.Goals as goal
 
 pub returns-then-is_live_map : goal.returns-then-is_live_map
 returns-then-is_live_map g c =

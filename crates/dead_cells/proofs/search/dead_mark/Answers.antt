@@ -1,8 +1,8 @@
 use Rattle.std.proofs.Common.{Some, sym, ap, ◌∙◌}
 use Rattle.busy_marks.specs.declared.marks.MarkKind.{MarkKind}
 use Rattle.petal_msg.specs.declared.dead.Dead.TheVariants as dead
-use Rattle.redistribute.proofs.DeadMarks.{found, found_of}
-use Rattle.redistribute.proofs.search.dead_mark.Goals as goal
+use Rattle.dead_cells.proofs.DeadMarks.{found, found_of}
+use Rattle.dead_cells.proofs.search.dead_mark.Goals as goal
 
 pub returns-in-Some : goal.returns-in-Some
 returns-in-Some g c =

@@ -3,8 +3,8 @@ use Rattle.std.proofs.lemmas.Fn.{always_returns_same}
 use Rattle.std.proofs.lemmas.List.{take_rest}
 use Rattle.std.proofs.lemmas.List.Sums.{prefix_len_is}
 use Rattle.physical_map.specs.declared.entry.Entry.{Entry}
-use Rattle.redistribute.proofs.Rests.{partitioned_maps}
-use Rattle.redistribute.proofs.search.above_map.Goals as goal
+use Rattle.dead_cells.proofs.Rests.{partitioned_maps}
+use Rattle.dead_cells.proofs.search.above_map.Goals as goal
 
 abbrev first : Entry
 first = record { key = record { map = 0; block = 0; epoch = 0 }; slot = 0; version = 0 }

@@ -18,8 +18,8 @@ use Rattle.physical_map.specs.Keys.{IsInOrder}
 use Rattle.server_store.specs.Holdings.{Held, Holdings, key_held, listed}
 use Rattle.kept_chains.specs.Kept.{chains_of, store_of, stored_of}
 use Rattle.kept_chains.proofs.Walks.{epochs_is}
-use Rattle.redistribute.specs.Swept.{first_dead}
-use Rattle.redistribute.proofs.Flat.{dead_by, dead_is}
+use Rattle.dead_cells.specs.Swept.{first_dead}
+use Rattle.dead_cells.proofs.FirstDead.{dead_by, dead_is}
 
 module _ (state : State) where
   abbrev is_dead : Key → Bool

@@ -21,8 +21,8 @@ use Rattle.petal_msg.specs.declared.dead.Dead.{Dead}
 use Rattle.petal_msg.specs.declared.dead.Dead.TheVariants as dead
 use Rattle.petal_rules.specs.State.{State, live}
 use Rattle.petal_rules.specs.Sweeping.{dead_mark}
-use Rattle.redistribute.specs.Swept.{dead_marks, first_kind, first_marked}
-use Rattle.redistribute.proofs.Marked.{fewer, hit_least, hits, least, left, low, Past, walk_hit, walk_none, walk_on}
+use Rattle.dead_cells.specs.Swept.{dead_marks, first_kind, first_marked}
+use Rattle.dead_cells.proofs.Marked.{fewer, hit_least, hits, least, left, low, Past, walk_hit, walk_none, walk_on}
 
 abbrev pub block_of : Mark → ℕ
 block_of m = m.cell.block

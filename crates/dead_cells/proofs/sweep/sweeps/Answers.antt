@@ -3,8 +3,8 @@ use Rattle.petal_msg.specs.declared.dead.Dead.{Dead}
 use Rattle.petal_rules.specs.State.{State}
 use Rattle.petal_rules.specs.Sweeping.{next_dead}
 use Rattle.kept_chains.specs.Kept.{store_of}
-use Rattle.redistribute.proofs.Dead.{dead_there}
-use Rattle.redistribute.proofs.sweep.sweeps.Goals as goal
+use Rattle.dead_cells.proofs.Dead.{dead_there}
+use Rattle.dead_cells.proofs.sweep.sweeps.Goals as goal
 
 pub drops-requires-clause-there : goal.drops-requires-clause-there
 drops-requires-clause-there g c = λ _ _.

@@ -3,11 +3,11 @@ use Rattle.physical_map.specs.declared.entry.Entry.{Entry}
 use Rattle.physical_map.specs.Entries.{key_of}
 use Rattle.physical_map.specs.Keys.{IsInOrder}
 use Rattle.petal_rules.specs.Sweeping.{dead_mark}
-use Rattle.redistribute.specs.Swept.{first_dead}
-use Rattle.redistribute.proofs.Dead.{dead_found}
-use Rattle.redistribute.proofs.Flat.{dead_by}
-use Rattle.redistribute.proofs.Rests.{order_listed}
-use Rattle.redistribute.proofs.sweep.next_dead.Goals as goal
+use Rattle.dead_cells.specs.Swept.{first_dead}
+use Rattle.dead_cells.proofs.Dead.{dead_found}
+use Rattle.dead_cells.proofs.FirstDead.{dead_by}
+use Rattle.dead_cells.proofs.Rests.{order_listed}
+use Rattle.dead_cells.proofs.sweep.next_dead.Goals as goal
 
 pub dead_entry-requires : goal.dead_entry-requires
 dead_entry-requires g c = subst (λ (es : List Entry). IsInOrder key_of es) (sym c.entries.ensures) (order_listed c.args.store.now.entries c.free.ensures.order)

@@ -6,7 +6,7 @@ ghost use Rattle.busy_marks.specs.Marks.{next_marked};
 ghost use Rattle.petal_rules.specs.Sweeping.{dead_mark};
 ghost use Rattle.physical_map.specs.Entries.{key_of};
 ghost use Rattle.physical_map.specs.Keys.{IsInOrder};
-ghost use Rattle.redistribute.specs.Swept.{dead_marks, first_dead, first_kind, first_marked};
+ghost use Rattle.dead_cells.specs.Swept.{dead_marks, first_dead, first_kind, first_marked};
 
 use busy_marks::MarkKind;
 use global_state::GlobalState;

@@ -1,0 +1,5 @@
+pub mod FirstDead
+pub mod Dead
+pub mod Rests
+pub mod Marked
+pub mod DeadMarks
