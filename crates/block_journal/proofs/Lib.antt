@@ -1,5 +1,4 @@
 mod Append
 pub mod Counting
 pub mod Frame
-pub mod Gates
 mod Slots

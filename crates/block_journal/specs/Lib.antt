@@ -1,4 +1,3 @@
-pub mod Gate
 pub mod Pieces
 pub mod Records
 pub mod Region

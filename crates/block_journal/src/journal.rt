@@ -3,19 +3,16 @@
 ghost use Rattle.std.specs.Prelude.{◌≡◌, ◌⊎◌, ◌≤◌, ◌<◌, ◌+◌, ◌-◌, ◌*◌, ◌^◌, ◌++◌, ◌↔◌, [], ◌∷◌, ℕ, List, length, replicate, OnOk, IfOk, IsErrOf};
 ghost use Rattle.petal_disk.specs.Disk.{LeavesOnly, LeftByWrite, Only, Torn, Within};
 ghost use Rattle.petal_disk.specs.Faults.{HasCause};
-ghost use Rattle.block_journal.specs.Gate.{IsShut};
+ghost use Rattle.device_gate.specs.Gate.{IsShut};
 ghost use Rattle.block_journal.specs.Records.{contents, Counts, Stands, Stored, LeftByAppend, WithOrWithout};
 ghost use Rattle.block_journal.specs.declared.error.JournalError.TheVariants as error;
 
 use crate::JournalError;
-use crate::gate::close_gate;
 use crate::reading::read_bodies;
+use device_gate::{OPEN, close_gate};
 use petal_disk::{Disk, Failed, write_kept};
 use std::alloc::Global;
 use std::marker::Model;
-
-// The gate byte of a record that counts.
-pub(crate) const OPEN: u8 = 0xa5;
 
 /// A journal of records of `R` bytes: where its region stands on the disk, and how many records count. What the records say
 /// is on the disk alone.

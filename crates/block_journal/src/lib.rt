@@ -6,10 +6,8 @@
 #![tactic(auto)]
 
 mod error;
-mod gate;
 mod journal;
 mod reading;
 
 pub use error::JournalError;
-pub use gate::{close_gate, write_header};
 pub use journal::Journal;

@@ -7,7 +7,7 @@ ghost use Rattle.block_journal.specs.Pieces.{Took};
 ghost use Rattle.block_journal.specs.declared.error.JournalError.TheVariants as error;
 
 use crate::JournalError;
-use crate::journal::OPEN;
+use device_gate::OPEN;
 use petal_disk::Disk;
 use std::alloc::{AllocError, Global};
 

@@ -4,7 +4,7 @@ ghost use Rattle.std.specs.Prelude.{◌≡◌, ◌⊎◌, ◌≤◌, ◌<◌, �
 ghost use Rattle.petal_disk.specs.Plans.{beneath, plan_state};
 ghost use Rattle.petal_disk.specs.Disk.{LeavesOnly, Only};
 ghost use Rattle.petal_disk.specs.Keeping.{KeepsDevice};
-ghost use Rattle.block_journal.specs.Gate.{IsShut};
+ghost use Rattle.device_gate.specs.Gate.{IsShut};
 ghost use Rattle.block_journal.specs.Records.{Counts, Stands};
 ghost use Rattle.state_store.specs.Device.{header, bodies_of, AreSpelled, Holds, WithOrWithout, StandsFor, LeftByFormat, IsBadOn};
 ghost use Rattle.state_store.specs.Errors.{IsAppendError};
@@ -16,7 +16,8 @@ ghost use Rattle.state_store.specs.declared.error.StateError.TheVariants as erro
 
 use crate::error::StateError;
 use crate::register::{Register, read_records};
-use block_journal::{Journal, JournalError, write_header};
+use block_journal::{Journal, JournalError};
+use device_gate::write_header;
 use ghost_list::GhostList;
 use petal_base::Inc;
 use petal_disk::{Disk, Plan, Planned};

@@ -1,5 +1,5 @@
 use Rattle.std.proofs.Common.{inr}
-use Rattle.block_journal.proofs.Gates.{shut_still, clearing}
+use Rattle.device_gate.proofs.Gates.{shut_still, clearing}
 use Rattle.block_journal.proofs.journal.Journal.format_behind_gate.Goals as goal
 
 pub returns-in_err-format_over-clause-any_moment : goal.returns-in_err-format_over-clause-any_moment

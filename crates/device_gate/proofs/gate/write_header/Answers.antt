@@ -1,6 +1,6 @@
 use Rattle.std.proofs.Common.{arith}
-use Rattle.block_journal.proofs.Gates.{all_behind, torn_shut, heading}
-use Rattle.block_journal.proofs.gate.write_header.Goals as goal
+use Rattle.device_gate.proofs.Gates.{all_behind, torn_shut, heading}
+use Rattle.device_gate.proofs.gate.write_header.Goals as goal
 
 pub returns-clause-any_moment : goal.returns-clause-any_moment
 returns-clause-any_moment g c told only shut =

@@ -1,14 +1,16 @@
-//! The gate of a device: its first byte. What stands on the device counts only while it is open.
+//! Closing a gate, and writing a header with its gate last.
 
 ghost use Rattle.std.specs.Prelude.{◌≡◌, ◌⊎◌, ◌≤◌, ◌<◌, length, IfOk, OnOk};
 ghost use Rattle.std.specs.Bool.{OnFalse, OnTrue};
 ghost use Rattle.petal_disk.specs.Disk.{written, Only, LeavesOnly};
 ghost use Rattle.petal_disk.specs.Faults.{HasCause};
 ghost use Rattle.petal_disk.specs.Keeping.{KeepsDevice};
-ghost use Rattle.block_journal.specs.Gate.{IsShut, BeginsOpen};
+ghost use Rattle.device_gate.specs.Gate.{IsShut, BeginsOpen};
 
-use crate::journal::OPEN;
 use petal_disk::{Disk, Failed, write_kept};
+
+/// A gate byte that is open, of a device or of a record.
+pub const OPEN: u8 = 0xa5;
 
 // Whether the gate is open; then a crash leaves what a read gives.
 fn is_open<D: Disk>(disk: &mut D) -> Result<bool, Failed>

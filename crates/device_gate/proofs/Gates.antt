@@ -5,7 +5,7 @@ use Rattle.std.proofs.lemmas.List.{take_all, length-drop}
 use Rattle.petal_disk.specs.Disk.{Torn, Only, LeavesOnly, LeftByWrite, written}
 use Rattle.petal_disk.proofs.Moments.{joined, weaker}
 use Rattle.petal_disk.proofs.Tearing.{torn_front}
-use Rattle.block_journal.specs.Gate.{IsShut, BeginsOpen}
+use Rattle.device_gate.specs.Gate.{IsShut, BeginsOpen}
 
 -- the bytes of a closed gate stay those of one where it is not written
 pub shut_still : (at n : ℕ) (x y : List ℕ) → 1 ≤ at → Torn at n x y → IsShut x → IsShut y
