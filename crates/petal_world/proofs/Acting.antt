@@ -6,13 +6,13 @@ use Rattle.petal_msg.specs.declared.letter.Actor.{Actor}
 use Rattle.petal_msg.specs.declared.letter.Actor.TheVariants as actor
 use Rattle.petal_rules.specs.World.{Setting, World, MayStep, step, clock_of}
 use Rattle.petal_rules.specs.declared.step.Step.{Step}
-use Rattle.petal_world.specs.declared.seat.Seat.{Seat}
+use Rattle.client_seats.specs.declared.seat.Seat.{Seat}
 use Rattle.petal_world.specs.declared.stepped.Stepped.{Stepped}
 use Rattle.world_desks.specs.Desks.{Desk, desk_of, end_in, ended}
 use Rattle.world_desks.specs.declared.step_end.StepEnd.{StepEnd}
 use Rattle.world_desks.specs.declared.step_end.StepEnd.TheVariants.{Done}
 use Rattle.petal_world.specs.Play.{Leaves, LeavesIn}
-use Rattle.petal_world.specs.Seats.{seat_of, reacted_at}
+use Rattle.client_seats.specs.Seats.{seat_of, reacted_at}
 use Rattle.petal_world.specs.Actors.{Actors, Shows, client_letters, server_letters, with_client, with_server}
 use Rattle.petal_world.proofs.Allowed.{no_client, no_server, seat_is, desk_is}
 use Rattle.world_desks.proofs.Ranges.{get_range}

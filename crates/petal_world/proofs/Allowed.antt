@@ -7,11 +7,11 @@ use Rattle.script_lines.specs.declared.request.Line.{Line}
 use Rattle.petal_rules.specs.World.{Setting, World, MayCall, MayClient, MayServer, MayStep, received, greatest_u64}
 use Rattle.petal_rules.specs.declared.step.Step.{Step}
 use Rattle.client_core.specs.Core as client
-use Rattle.petal_world.specs.declared.seat.Seat.{Seat}
+use Rattle.client_seats.specs.declared.seat.Seat.{Seat}
 use Rattle.world_desks.specs.Desks.{Desk, desk_of}
 use Rattle.world_desks.specs.Desks as server
 use Rattle.world_desks.specs.Playable.{AreOrdered}
-use Rattle.petal_world.specs.Seats.{seat_of}
+use Rattle.client_seats.specs.Seats.{seat_of}
 use Rattle.world_desks.specs.Waiting.{AreBehind, AreRising}
 use Rattle.petal_world.specs.Actors.{Actors, Shows}
 use Rattle.world_desks.proofs.Awaiting.{waiting_rise, before_from_behind, behind_from_before}

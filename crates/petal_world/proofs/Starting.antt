@@ -12,11 +12,11 @@ use Rattle.script_lines.specs.declared.script.Script.{Script}
 use Rattle.petal_rules.specs.Lists.{In}
 use Rattle.petal_rules.specs.Log.{rev_of as rev_in}
 use Rattle.petal_rules.specs.World.{Setting, World, start, setting_of, clock_of}
-use Rattle.petal_world.specs.declared.seat.Seat.{Seat}
+use Rattle.client_seats.specs.declared.seat.Seat.{Seat}
 use Rattle.world_desks.specs.Desks.{Site, Desk, desk_of, desks_of, first_desk, first_sites}
 use Rattle.petal_world.specs.Play.{IsKept, rev_of}
 use Rattle.world_desks.specs.Playable.{AreOrdered}
-use Rattle.petal_world.specs.Seats.{seat_of, seats_of}
+use Rattle.client_seats.specs.Seats.{seat_of, seats_of}
 use Rattle.world_desks.specs.Sent.{Lists}
 use Rattle.petal_world.specs.Actors.{Actors, Shows}
 use Rattle.world_desks.specs.Waiting.{Await}

@@ -30,9 +30,9 @@ use Rattle.petal_rules.specs.declared.step.WorkEnd.{WorkEnd}
 use Rattle.petal_rules.specs.declared.step.WorkEnd.TheVariants as work_end
 use Rattle.petal_rules.proofs.ListLemmas.{in-append, put_same, put_apart}
 use Rattle.world_desks.specs.declared.name.LetterName.{LetterName}
-use Rattle.petal_world.specs.declared.seat.Seat.{Seat}
+use Rattle.client_seats.specs.declared.seat.Seat.{Seat}
 use Rattle.world_desks.specs.Desks.{Desk, desk_of, left_of, site_after}
-use Rattle.petal_world.specs.Seats.{seat_of, reacted_at}
+use Rattle.client_seats.specs.Seats.{seat_of, reacted_at}
 use Rattle.world_desks.specs.Sent.{Lists, with_letters}
 use Rattle.world_desks.specs.Waiting.{Await}
 use Rattle.petal_world.specs.Actors.{Actors, Shows, without_answered, client_letters, with_client, server_letters, with_server}

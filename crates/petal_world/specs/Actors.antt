@@ -8,9 +8,9 @@ use Rattle.petal_rules.specs.Lists.{In}
 use Rattle.petal_rules.specs.World.{Setting, World, Control, clock_of, controls, stamped}
 use Rattle.petal_rules.specs.declared.step.Step.{Step}
 use Rattle.world_desks.specs.declared.name.LetterName.{LetterName}
-use Rattle.petal_world.specs.declared.seat.Seat.{Seat}
+use Rattle.client_seats.specs.declared.seat.Seat.{Seat}
 use Rattle.world_desks.specs.Desks.{Desk, desks_of, acted_at, site_after}
-use Rattle.petal_world.specs.Seats.{seats_of, reacted_at}
+use Rattle.client_seats.specs.Seats.{seats_of, reacted_at}
 use Rattle.world_desks.specs.Sent.{Lists, with_letters}
 use Rattle.world_desks.specs.Waiting.{Await}
 

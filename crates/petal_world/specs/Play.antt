@@ -17,7 +17,7 @@ use Rattle.client_core.specs.Core.{is_spent}
 use Rattle.petal_world.specs.declared.stepped.Stepped.{Stepped}
 use Rattle.world_desks.specs.Desks.{end_in}
 use Rattle.world_desks.specs.Playable.{AreOrdered}
-use Rattle.petal_world.specs.Seats.{CanTake}
+use Rattle.client_seats.specs.Seats.{CanTake}
 use Rattle.petal_world.specs.Actors.{Actors, Shows}
 
 -- its script, the records of all steps, the phase, the least stamp of a client's next step, and whether memory was wanting,

@@ -4,13 +4,13 @@ ghost use Rattle.std.specs.Prelude.{◌≡◌, ◌<◌, false, None, Some, lengt
 ghost use Rattle.client_core.specs.Core.{is_spent};
 ghost use Rattle.world_desks.specs.Desks.{Desk, end_in, ended};
 ghost use Rattle.world_desks.specs.declared.step_end.StepEnd.TheVariants.{Done};
-ghost use Rattle.petal_world.specs.Seats.{CanTake, reacted_at};
+ghost use Rattle.client_seats.specs.Seats.{CanTake, reacted_at};
 ghost use Rattle.petal_world.specs.Actors.{client_letters, server_letters, with_client, with_server};
-ghost use Rattle.petal_world.specs.declared.seat.Seat.{Seat};
+ghost use Rattle.client_seats.specs.declared.seat.Seat.{Seat};
 
 use crate::control::Control;
-use crate::seats::Seats;
 use crate::stepped::Stepped;
+use client_seats::Seats;
 use petal_base::{ClientId, NoMemory, ServerId, Stamp};
 use petal_rules::Step;
 use std::alloc::Global;

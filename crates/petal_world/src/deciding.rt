@@ -10,15 +10,15 @@ ghost use Rattle.petal_rules.specs.World.{MayServer, MayStep, MayStop, MayWork, 
 ghost use Rattle.petal_table.specs.Table.{at};
 ghost use Rattle.world_desks.specs.Playable.{AreOrdered};
 ghost use Rattle.petal_world.specs.Lines.{HasBlanked, HasStarted, HasStopped, IsGiven, IsGivenBy, IsSettling, IsToStop};
-ghost use Rattle.petal_world.specs.Seats.{seat_of};
+ghost use Rattle.client_seats.specs.Seats.{seat_of};
 ghost use Rattle.world_desks.specs.Desks.{desk_of};
 ghost use Rattle.world_desks.specs.Sent.{name_of, name_cmp};
 ghost use Rattle.petal_world.specs.Actors.{Shows};
 
 use crate::actors::Actors;
 use crate::control::Given;
-use crate::seat::Seat;
 use client_core::Order;
+use client_seats::Seat;
 use petal_base::{ClientId, Inc, OPERATOR, ServerId, Stamp};
 use petal_msg::{Actor, Letter};
 use petal_rules::Step;

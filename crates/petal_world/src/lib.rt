@@ -9,8 +9,6 @@ mod actors;
 mod control;
 mod deciding;
 mod error;
-mod seat;
-mod seats;
 mod stepped;
 mod taking;
 mod world;

@@ -12,8 +12,8 @@ ghost use Rattle.petal_world.specs.declared.error.WorldError.TheVariants as erro
 
 use crate::actors::Actors;
 use crate::control::Control;
-use crate::seats::Seats;
 use crate::{Stepped, WorldError};
+use client_seats::Seats;
 use petal_base::{NoMemory, Rev, Sequence, Stamp};
 use petal_history::{History, Record};
 use petal_msg::{Actor, SharedLetter};

@@ -3,7 +3,7 @@ use Rattle.std.proofs.Common.{sym, ap, ◌∙◌, Option}
 use Rattle.std.specs.Prelude.{slice_get}
 use Rattle.script_lines.specs.declared.request.Line.{Line}
 use Rattle.petal_rules.specs.declared.step.Step.TheVariants.{Tick}
-use Rattle.petal_world.specs.declared.seat.Seat.{Seat}
+use Rattle.client_seats.specs.declared.seat.Seat.{Seat}
 use Rattle.petal_world.specs.Play.{phase_of}
 use Rattle.petal_world.specs.Actors.{Actors}
 use Rattle.petal_world.proofs.Allowed.{seat_is}

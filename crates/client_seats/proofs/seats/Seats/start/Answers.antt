@@ -2,8 +2,8 @@
 use Rattle.std.proofs.Common.{◌++◌, ◌∷◌, [], sym, ◌∙◌, arith}
 use Rattle.std.proofs.lemmas.List.FromFn.{map-range_with_len_more}
 use Rattle.petal_rules.specs.World.{setting_of, start}
-use Rattle.petal_world.specs.Seats.{seat_of}
-use Rattle.petal_world.proofs.seats.Seats.start.Goals as goal
+use Rattle.client_seats.specs.Seats.{seat_of}
+use Rattle.client_seats.proofs.seats.Seats.start.Goals as goal
 
 pub loop-client-preserved : goal.loop-client-preserved
 loop-client-preserved c =

@@ -3,7 +3,7 @@
 ghost use Rattle.std.specs.Prelude.{◌≡◌, ◌∷◌, [], None, false, slice_get, option_copied, IfOk, OnErr};
 ghost use Rattle.client_core.specs.Core.{at_core, is_spent, state_of};
 ghost use Rattle.petal_rules.specs.World.{calls};
-ghost use Rattle.petal_world.specs.Seats.{CanTake, reacted_at};
+ghost use Rattle.client_seats.specs.Seats.{CanTake, reacted_at};
 
 use client_core::{ClientCore, Reaction};
 use petal_base::{NoMemory, Sequence, Stamp};

@@ -7,7 +7,7 @@ use Rattle.petal_rules.specs.declared.step.Step.{Step}
 use Rattle.petal_rules.specs.declared.step.Step.TheVariants.{Call}
 use Rattle.client_core.specs.Core.{Core, at_core, state_of}
 use Rattle.client_core.specs.declared.reaction.Reaction.{Reaction}
-use Rattle.petal_world.specs.declared.seat.Seat.{Seat}
+use Rattle.client_seats.specs.declared.seat.Seat.{Seat}
 
 -- the client can take the step: it calls a line only where it has nothing open
 abbrev pub CanTake : Step → Client → Type 0

@@ -4,8 +4,8 @@ ghost use Rattle.std.specs.Prelude.{◌≡◌, ◌<◌, false, max, map, Some, l
 ghost use Rattle.std.specs.List.{fold};
 ghost use Rattle.client_core.specs.Core.{is_spent};
 ghost use Rattle.petal_rules.specs.World.{lines_of, setting_of, start};
-ghost use Rattle.petal_world.specs.Seats.{CanTake, reacted_at, seat_of, seats_of};
-ghost use Rattle.petal_world.specs.declared.seat.Seat.{Seat};
+ghost use Rattle.client_seats.specs.Seats.{CanTake, reacted_at, seat_of, seats_of};
+ghost use Rattle.client_seats.specs.declared.seat.Seat.{Seat};
 
 use crate::seat::Seat;
 use client_core::{ClientCore, Reaction};
@@ -24,7 +24,7 @@ pub struct Seats {
 
 impl Model for Seats {
     ghost use Rattle.std.specs.Prelude.{List};
-    ghost use Rattle.petal_world.specs.declared.seat.Seat.{Seat};
+    ghost use Rattle.client_seats.specs.declared.seat.Seat.{Seat};
 
     ghost Value = { List Seat };
 
