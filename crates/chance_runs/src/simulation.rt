@@ -1,9 +1,9 @@
 //! Worlds stepped by chance.
 
-use crate::chance::Chance;
 use crate::count::{Count, counted};
 use crate::cuts::{boot_cut_off, stop_cut_off};
 use crate::struck::{arm_running, arm_stopped};
+use chance_scripts::Chance;
 use petal_base::{NoMemory, OPERATOR, ServerId};
 use petal_msg::{Actor, SharedLetter};
 use petal_world::Host;

@@ -1,6 +1,6 @@
 //! Plans by chance, by which a sync of a server's device fails only after it has synced.
 
-use crate::chance::Chance;
+use chance_scripts::Chance;
 use petal_base::{NoMemory, ServerId};
 use petal_disk::{CallKind, Plan, Which};
 use petal_world::Host;

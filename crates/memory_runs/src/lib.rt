@@ -7,7 +7,8 @@ ghost use Rattle.std.specs.Prelude.{◌≡◌, map};
 ghost use Rattle.server_recovery.specs.Server.{site_of};
 ghost use Rattle.petal_world.specs.Desks.{first_sites};
 
-use chance_runs::{Chance, Count, Habit, Tale, script_by, simulate};
+use chance_runs::{Count, Habit, simulate};
+use chance_scripts::{Chance, Tale, script_by};
 use memory_server::{MemServer, members};
 use petal_base::{NoMemory, Sequence, ServerId};
 use petal_script::{Script, read_script};

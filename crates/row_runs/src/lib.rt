@@ -4,10 +4,8 @@
 //! blocks.
 #![tactic(auto)]
 
-mod held;
 mod player;
 mod schedule;
-mod wants;
 
-pub use held::FirstHosts;
+pub use row_wants::FirstHosts;
 pub use schedule::{Row, play_row};

@@ -1,10 +1,9 @@
 //! A run that a row steps.
 
-use crate::held::{FirstHosts, is_held};
-use crate::wants::is_so;
 use petal_base::{NoMemory, ServerId, SharedBlock};
 use petal_msg::{Actor, Body, SharedLetter};
 use petal_world::Host;
+use row_wants::{FirstHosts, is_held, is_so};
 use row_words::{Act, Mail};
 use std::alloc::Global;
 use world_runs::{Run, play};

@@ -1,6 +1,7 @@
 //! Worlds stepped by chance.
 
-use chance_runs::{Habit, Tale};
+use chance_runs::Habit;
+use chance_scripts::Tale;
 use memory_runs::simulate_all;
 use std::test::Fail;
 

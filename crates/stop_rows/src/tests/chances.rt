@@ -1,7 +1,8 @@
 //! Worlds stepped by chance, in which servers stop: two of five by the operator's lines, which may start again, also with blank
 //! data devices, or one since a device fails or stops it.
 
-use chance_runs::{Chance, Count, Habit, Tale, script_by, simulate};
+use chance_runs::{Count, Habit, simulate};
+use chance_scripts::{Chance, Tale, script_by};
 use memory_runs::{SEEDS, simulate_all, start};
 use petal_base::ServerId;
 use petal_disk::{CallKind, Plan, Which};
