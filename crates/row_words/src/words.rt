@@ -5,7 +5,7 @@ use petal_command::Pax;
 use petal_disk::{CallKind, Which};
 use petal_msg::{Actor, Body, Letter};
 
-/// Does something with the list of all kinds of letters, in the order of the format: each with the word of it. A kind is added here.
+/// Does something with the list of the kinds of letters that rows name, in the order of the format: each with the word of it.
 macro_rules! with_kinds {
     ($does:ident $given:expr) => {
         $does! {
@@ -29,7 +29,6 @@ macro_rules! with_kinds {
             Body::Held { .. } => "held",
             Body::WrongRev { .. } => "wrongrev",
             Body::Written { .. } => "written",
-            Body::Full { .. } => "full",
             Body::Reserve { .. } => "reserve",
             Body::Reserved { .. } => "reserved",
             Body::PairFull { .. } => "pairfull",
@@ -41,7 +40,6 @@ macro_rules! with_kinds {
             Body::Trimmed { .. } => "trimmed",
             Body::Sync { .. } => "sync",
             Body::Synced { .. } => "synced",
-            Body::SyncFull { .. } => "syncfull",
             Body::Fill { .. } => "fill",
             Body::Filled { .. } => "filled",
             Body::FillFull { .. } => "fillfull",
@@ -49,11 +47,12 @@ macro_rules! with_kinds {
     };
 }
 
-/// The word of a letter's kind: the list has each kind.
+/// The word of a letter's kind, or one that no row can name.
 macro_rules! word_of {
     ($body:expr; $($kind:pat => $word:literal,)*) => {
         match $body {
             $($kind => $word,)*
+            _ => "",
         }
     };
 }
@@ -65,7 +64,7 @@ macro_rules! is_word {
     };
 }
 
-/// The word of a letter's kind.
+/// The word of a letter's kind, empty where rows name it not.
 fn kind_of(body: &Body) -> &'static str {
     with_kinds!(word_of body)
 }
