@@ -1,8 +1,5 @@
-//! Tests of a server's store: happy paths, and what is there after a stop at each call of a put. The crate itself has
-//! no code.
+//! Tests of a server's store: happy paths. The crate itself has no code.
 #![tactic(auto)]
 
 #[cfg(test)]
 mod puts;
-#[cfg(test)]
-mod stops;
