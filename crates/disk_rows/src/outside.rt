@@ -3,8 +3,8 @@
 ghost use Rattle.std.specs.Prelude.{◌≡◌, ◌≤◌};
 
 use petal_disk::{
-    CallKind, Disk, Failed, MemDisk, MemShelf, MemSink, MemSource, Plan, Planned, Shelf,
-    DeviceError, Sink, Source, Which, read_full, write_all, write_kept,
+    CallKind, DeviceError, Disk, Failed, MemDisk, MemShelf, MemSink, MemSource, Plan, Planned,
+    Shelf, Sink, Source, Which, read_full, write_all, write_kept,
 };
 use std::alloc::Global;
 use std::test::Fail;
