@@ -11,8 +11,8 @@ pub enum Actor {
     Client(ClientId),
 }
 
-/// One letter. `(from, stamp, nth)` names it.
-#[derive(Clone, PartialEq, Eq, Drop)]
+/// One letter. `(from, stamp, nth)` names it. It is shared and never copied.
+#[derive(PartialEq, Eq, Drop)]
 pub struct Letter {
     pub from: Actor,
     /// The sender's incarnation, 0 for a client.

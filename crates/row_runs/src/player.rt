@@ -1,7 +1,7 @@
 //! A run that a row steps.
 
-use petal_base::{NoMemory, ServerId, SharedBlock};
-use petal_msg::{Actor, Body, SharedLetter};
+use petal_base::{NoMemory, ServerId, SharedBlock, Stamp};
+use petal_msg::{Actor, Body, Letter, SharedLetter};
 use petal_world::Host;
 use row_wants::{FirstHosts, is_held, is_so};
 use row_words::{Act, Mail};
@@ -27,18 +27,53 @@ const TICK_EVERY: u32 = 8;
 /// A server with so many jobs is taken to hang.
 const MOST_JOBS: u32 = 10_000;
 
-/// The letter under another name.
-fn renamed(alloc: Global, letter: &SharedLetter) -> Result<SharedLetter, NoMemory> {
-    let mut other = letter.get().clone()?;
-    other.stamp = other.stamp.saturating_add(1);
+/// A letter of the same way, with this stamp and this content.
+fn like(
+    alloc: Global,
+    letter: &Letter,
+    stamp: Stamp,
+    body: Body,
+) -> Result<SharedLetter, NoMemory> {
+    let other = Letter {
+        from: letter.from,
+        inc: letter.inc,
+        to: letter.to,
+        rev: letter.rev,
+        stamp,
+        nth: letter.nth,
+        body,
+    };
     SharedLetter::new(alloc, other)
+}
+
+/// The write under another name. Any other letter stays as it is, so that a row that expects a refusal of it fails.
+fn renamed(alloc: Global, letter: &SharedLetter) -> Result<SharedLetter, NoMemory> {
+    let sent = letter.get();
+    match &sent.body {
+        Body::Write {
+            client,
+            seq,
+            cell,
+            epoch,
+            bytes,
+        } => {
+            let body = Body::Write {
+                client: *client,
+                seq: *seq,
+                cell: *cell,
+                epoch: *epoch,
+                bytes: bytes.share()?,
+            };
+            like(alloc, sent, sent.stamp.saturating_add(1), body)
+        }
+        _ => Ok(letter.share()?),
+    }
 }
 
 /// The letter with another content.
 fn changed(alloc: Global, letter: &SharedLetter) -> Result<SharedLetter, NoMemory> {
-    let mut other = letter.get().clone()?;
-    other.body = Body::Written { seq: 1 };
-    SharedLetter::new(alloc, other)
+    let sent = letter.get();
+    like(alloc, sent, sent.stamp, Body::Written { seq: 1 })
 }
 
 /// The block that a letter brings.

@@ -25,7 +25,7 @@
 //! | `go on 20` | so many steps, one after the other, in which the operator takes no part: the first server that has a job does it; or else the oldest letter on its way is handed over; or else the next in turn ticks |
 //! | `wait` | the next phase begins; each line before it is answered |
 //! | `play out` | rounds, until each line is answered: each letter is handed over twice, the last one first, servers work off their queues, clients and the operator call, servers stop, are blanked, boot and are glanced at as it says, and in every eighth round clients and a server tick |
-//! | `renamed write a>1` | the letter that is next to be handed over comes with a later stamp |
+//! | `renamed write a>1` | the write that is next to be handed over comes with a later stamp |
 //! | `changed write a>1` | it comes with another content |
 //!
 //! | expectation | what is so at this place |
