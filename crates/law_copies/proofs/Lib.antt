@@ -70,6 +70,7 @@ pub mod Keeping
 pub mod AtWork
 pub mod Known
 pub mod Starting
+pub mod Woken
 pub mod ServerSteps
 pub mod Histories
 pub mod Rules

@@ -1,13 +1,11 @@
 -- Each step of a server that is allowed keeps what is kept of two copies, by the stores that count.
 use Rattle.std.proofs.Common.{◌≡◌, ◌≤◌, ◌++◌, ◌==◌, ℕ, true, false, if◌then◌else◌, List, [], ◌∷◌, Option, Some, None, refl, sym}
-use Rattle.std.proofs.Common.{ap, ◌∙◌, subst, ◌⊎◌, inl, inr, arith}
-use Rattle.std.specs.Prelude.{map, unwrap_or}
+use Rattle.std.proofs.Common.{ap, ◌∙◌, subst, ◌⊎◌, inl, inr}
+use Rattle.std.specs.Prelude.{map}
 use Rattle.std.specs.Ordering.{nat_cmp}
 use Rattle.busy_marks.specs.Marks.{has_mark}
 use Rattle.petal_command.specs.declared.command.Command.{Command}
 use Rattle.petal_command.specs.declared.command.Command.TheVariants.{Caught}
-use Rattle.petal_table.specs.Table.{at}
-use Rattle.petal_table.proofs.Rows.{at-empty}
 use Rattle.petal_msg.specs.Kinds.{subject_of}
 use Rattle.petal_msg.specs.declared.body.Body.TheVariants as body
 use Rattle.petal_msg.specs.declared.letter.Letter.{Letter}
@@ -21,19 +19,18 @@ use Rattle.petal_rules.specs.Crossing.{crossed, settled_by}
 use Rattle.petal_rules.specs.Jobs.{Acted}
 use Rattle.petal_rules.specs.Lists.{In}
 use Rattle.petal_rules.specs.Log.{state_in}
-use Rattle.petal_rules.specs.Progress.{last_copy, no_progress}
+use Rattle.petal_rules.specs.Progress.{last_copy}
 use Rattle.petal_rules.specs.Returns.{proposed}
-use Rattle.petal_rules.specs.Server.{Own, Copies, Pairs, Server, Post, Sender, Done, no_copies, no_pairs, silent, sender, letters_of}
-use Rattle.petal_rules.specs.State.{State, id_of, is_in, link_cmp, live}
-use Rattle.petal_rules.specs.Store.{Store, cell_cmp, chain_in, mark_on}
+use Rattle.petal_rules.specs.Server.{Own, Server, Post, Sender, Done, silent, sender, letters_of}
+use Rattle.petal_rules.specs.State.{State, is_in, live}
+use Rattle.petal_rules.specs.Store.{Store, chain_in, mark_on}
 use Rattle.petal_rules.specs.World.{Setting, World, acts, before_blanks, blank_joins_in, counted_by, kept}
 use Rattle.petal_rules.specs.World.{server_state, stamped, start, with_store}
 use Rattle.petal_rules.specs.declared.step.Step.{Step}
 use Rattle.petal_rules.proofs.ListLemmas.{in-append, put_apart, put_same}
 use Rattle.petal_rules.proofs.Settled.{settling}
-use Rattle.petal_rules.proofs.Tests.{by_bool, none_some, true_false}
+use Rattle.petal_rules.proofs.Tests.{by_bool, true_false}
 use Rattle.law_state.specs.Homes.{stage_at}
-use Rattle.law_state.proofs.Steady.{front_plain, log_below}
 use Rattle.law_steps.specs.Happens.{Serving, Goes, Ends, Stays, Wakes, Fails, By_job, By_ballot, By_entry, Starts}
 use Rattle.law_steps.specs.Happens.{served_so, stopped_so, shown_so, is_between, own_place, without_rev}
 use Rattle.law_steps.specs.Ready.{IsRising}
@@ -57,6 +54,7 @@ use Rattle.law_copies.proofs.AtSeat.{AtSeat, IsAtWork}
 use Rattle.law_copies.proofs.Stepping.{GoesOn, IsSoundOwn, IsTrue}
 use Rattle.law_copies.proofs.Visited.{IsThen, counted as reached_then, later, stored}
 use Rattle.law_copies.proofs.AtJob.{AtJob, at_job, IsKeeping}
+use Rattle.law_copies.proofs.Woken.{woken_sound}
 
 -- what a server that stops tells the others
 all_down : (me inc : ℕ) (others : List ℕ) (post : Post) → In post (map (post_of (body.Down me inc)) others) → is_between (subject_of post.body) ≡ false
@@ -276,31 +274,6 @@ module _ (it : OneMore) where
           }))
           own (then_so then_world then_is) (mute_letters entry_step who posts is mute)
 
-  -- what a server's own part is that has nothing in memory
-  woken_sound : (v : World) (k : ℕ) (server : Server) → IsStep setting top before v k server → server.own.pairs ≡ no_pairs → server.own.copies ≡ no_copies
-      → server.own.store.chains ≡ (before.servers k).own.store.chains → server.own.store.marks ≡ (before.servers k).own.store.marks
-      → IsSoundOwn setting top v k server
-  woken_sound v k server step pairs copies chains marks = record {
-    unheard = λ cell none.
-        let le = (log_below setting.servers (w.servers k).log.applied server.log.applied
-        (front_plain setting.servers server.log.applied top known.firm.plain step.within) step.onward).stages cell in
-        let bare = (good.unheard k cell (omega arith)).bare in
-        record {
-          bare = record {
-            chain = ap (λ t. chain_in t cell) chains ∙ bare.chain;
-            marks = λ kind. ap (has_mark (mark_on kind cell)) marks ∙ bare.marks kind;
-          };
-          last = ap (λ (p : Pairs). at cell_cmp p.last cell) pairs ∙ at-empty cell_cmp cell;
-          pages = λ unlinked row same. ap (λ (c : Copies). unwrap_or (at link_cmp c.progress (id_of row)) no_progress) copies
-              ∙ ap (λ o. unwrap_or o no_progress) (at-empty link_cmp (id_of row));
-        };
-    copied = λ cell last there. none_some (ap (λ (c : Copies). at cell_cmp c.last cell) copies ∙ at-empty cell_cmp cell) there;
-    rising = λ cell. subst (λ t. IsRising nat_cmp (chain_in t cell)) (sym chains) (good.rising k cell);
-    counts = subst (λ (p : Pairs). 1 ≤ p.next) (sym pairs) (omega arith);
-    filled = subst AreFilled (sym chains) (good.filled k);
-    marks = λ when cell op on there. none_some (at-empty cell_cmp cell) (ap (λ (p : Pairs). at cell_cmp p.pending cell) (sym pairs) ∙ there);
-  }
-
   no_posts : (post : Post) → In post [] → is_between (subject_of post.body) ≡ false
   unfolding In
   no_posts post i = absurd i
@@ -357,7 +330,7 @@ module _ (it : OneMore) where
       let acted = wakes (own_place setting w k) woken in
       let wake = known.wake k in
       out_goes k stamp what acted unblanked wake.out (step_of k stamp what acted unblanked wake.onward wake.chosen) refl refl
-      (woken_sound (v k stamp what acted unblanked) k (server k stamp what acted unblanked)
+      (woken_sound it (v k stamp what acted unblanked) k (server k stamp what acted unblanked)
       (step_of k stamp what acted unblanked wake.onward wake.chosen) refl refl
       (kept_alike (λ (s : Store). s.chains) (blank_joins_in setting top k) (w.before_blank k) woken.own.store (w.servers k).own.store refl)
       (kept_alike (λ (s : Store). s.marks) (blank_joins_in setting top k) (w.before_blank k) woken.own.store (w.servers k).own.store refl)) _ _ refl

@@ -23,7 +23,8 @@ use Rattle.petal_rules.specs.declared.job.Job.{Job}
 use Rattle.petal_rules.specs.declared.job.Job.TheVariants as job
 use Rattle.petal_rules.proofs.ListLemmas.{in-append}
 use Rattle.petal_rules.proofs.Tests.{by_test, only}
-use Rattle.law_log.proofs.Copying.{IsCalm, IsKept, kept_itself, calm_silent, calm_copies, calm_mends, calm_hello_ask, calm_hello, calm_trims, calm_trim, calm_sync}
+use Rattle.law_log.proofs.Copying.{IsCalm, IsKept, kept_itself, calm_silent, calm_copies, calm_mends, calm_hello_ask}
+use Rattle.law_log.proofs.Copying.{calm_hello, calm_trims, calm_trim, calm_sync}
 use Rattle.law_log.proofs.Copying.{calm_trimmed, calm_synced, calm_sync_full, dated_copy_posts, dated_page_posts}
 use Rattle.law_log.proofs.Filling.{calm_fill_full, calm_filled, calm_sweeps, dated_fill_posts, pair_fill}
 use Rattle.law_log.proofs.Pairs.{IsDated, IsOther, Leaves, no_letter, other_dated, pair_goes, pair_read, pair_write, pair_reserve, pair_reserved}

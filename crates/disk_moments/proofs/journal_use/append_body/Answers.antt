@@ -17,7 +17,8 @@ returns-clause-past c bodies stored =
     on_ok c.append.result _ _
     (λ appended. was_left (λ (d : MemDisk) (f : List ℕ). Mixes (padded d.now.items d.len) (padded d.kept.items d.len) f) old.past.items new.past.items
     old.disk new.disk 8 c.args.journal.now c.append.new.self _ _ bodies c.args.body.now c.append.ensures.place.0 c.append.ensures.place.1
-    (mixes_now _ _ (same_padded old.disk.now.items old.disk.kept.items old.disk.len old.disk.same_size)) c.append.ensures.run stored (appended tt bodies stored))
+    (mixes_now _ _ (same_padded old.disk.now.items old.disk.kept.items old.disk.len old.disk.same_size)) c.append.ensures.run stored
+    (appended tt bodies stored))
     c.append.ensures.appended
 
 pub append-requires-send-D : goal.append-requires-send-D

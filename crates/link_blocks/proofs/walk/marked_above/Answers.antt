@@ -13,7 +13,8 @@ returns-then-is_kept g c =
 
 pub loop-block-smaller : goal.loop-block-smaller
 loop-block-smaller g c =
-    walk_less c.loop-block.after _ (marked_in c.args.row.now.map c.args.store.now.marks) c.next_marked.ensures c.in-Some.block c.in-Some.is c.is_kept.ensures.fits
+    walk_less c.loop-block.after _ (marked_in c.args.row.now.map c.args.store.now.marks) c.next_marked.ensures c.in-Some.block
+    c.in-Some.is c.is_kept.ensures.fits
 
 pub loop-block-preserved : goal.loop-block-preserved
 loop-block-preserved g c =
