@@ -1,4 +1,4 @@
--- What is left of a link, and what is sent of it.
+-- What is sent of a link.
 use Rattle.std.proofs.Common.{◌≡◌, ℕ, cond, List, [], Option, Some, None, option_map, refl, sym, ap, ◌∙◌}
 use Rattle.std.specs.Prelude.{option_and_then}
 use Rattle.std.specs.Ordering.{nat_cmp, is_eq}
@@ -9,7 +9,7 @@ use Rattle.petal_base.specs.declared.cell.Key.{Key}
 use Rattle.petal_base.specs.Cells.{cell_of, key_at}
 use Rattle.petal_table.specs.Table.{at, put}
 use Rattle.petal_table.proofs.Rows.{at-put}
-use Rattle.petal_rules.specs.Fills.{fill_left, fill_of, goes_behind, next_fill, region_to_move, sends_key, sends_moving}
+use Rattle.petal_rules.specs.Fills.{goes_behind, region_to_move, sends_key, sends_moving}
 use Rattle.petal_msg.specs.declared.body.Body.TheVariants as body
 use Rattle.petal_rules.specs.Server.{Here, Own, post_to}
 use Rattle.petal_rules.specs.State.{State, id_of, lead, link_cmp}
@@ -18,19 +18,9 @@ use Rattle.petal_state.specs.CellState.{target}
 use Rattle.pair_side.specs.Letters.{posts_of}
 use Rattle.copy_memory.proofs.ByLink.{link_cmp_total}
 use Rattle.redistribute.specs.Behind.{behind, filled_with, posts_behind}
-use Rattle.redistribute.specs.Next.{left_after}
+use Rattle.next_fill.specs.Next.{left_after}
 use Rattle.redistribute.specs.Sending.{destination, letter_with, with_lead}
-
-left_is : (state : State) (row : LinkRow) (region : Option ℕ) (me : ℕ) (own : Own)
-    → left_after state row region (at link_cmp own.filled (id_of row)) own.store.chains ≡ fill_left state me row own region
-unfolding next_fill
-left_is state row None me own = refl
-left_is state row (Some region) me own = refl
-
--- what is left behind the last key that is remembered
-pub fill_is : (state : State) (me : ℕ) (row : LinkRow) (own : Own)
-    → left_after state row (region_to_move state me row) (at link_cmp own.filled (id_of row)) own.store.chains ≡ fill_of state me row own
-fill_is state me row own = left_is state row (region_to_move state me row) me own
+use Rattle.next_fill.proofs.FillOf.{fill_is}
 
 last_there : (own : Own) (row : LinkRow) (key : Key) → at link_cmp (put link_cmp own.filled (id_of row) key) (id_of row) ≡ Some key
 last_there own row key =

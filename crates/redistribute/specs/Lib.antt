@@ -1,4 +1,3 @@
-pub mod Next
 pub mod Sending
 pub mod Behind
 pub mod Wants

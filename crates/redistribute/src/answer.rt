@@ -10,9 +10,8 @@ ghost use Rattle.pair_side.specs.Side.{own_of, HasTicketsAt};
 ghost use Rattle.redistribute.specs.Behind.{behind, filled_with};
 
 use crate::letters::fill_letter;
-use crate::next::{fill_of, left_after};
-use crate::region::link_before;
 use global_state::LinkRow;
+use next_fill::{fill_of, left_after, link_before};
 use pair_side::{Done, Here, Side, WorkError, link_id, only, silent, with_letter};
 use petal_base::{Key, Sequence, ServerId};
 use petal_disk::{DeviceError, Disk};

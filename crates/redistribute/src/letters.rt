@@ -13,8 +13,8 @@ ghost use Rattle.pair_side.specs.Letters.{IsLook, posts_of};
 ghost use Rattle.pair_side.specs.Side.{Side as Sides, own_of};
 ghost use Rattle.redistribute.specs.Sending.{destination, letter_with};
 
-use crate::next::fill_of;
 use kept_chains::read_key;
+use next_fill::fill_of;
 use pair_side::{Here, Side, with_letter};
 use petal_base::{Cell, Key, Sequence, ServerId, SharedBlock};
 use petal_disk::{DeviceError, Disk};

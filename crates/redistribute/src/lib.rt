@@ -1,4 +1,4 @@
-//! Moves at the servers of the old map: which entries go to the new one.
+//! Moves at the servers of the old map: the letters with which entries go to the new one, and what their answers mean.
 //!
 //! To the layer above it promises that each job is the rule's of `petal_rules`: what it leaves, the letters that it sends, and
 //! the job that follows it up. It knows nothing of how the new map's servers put an entry, of queues, or of how letters travel.
@@ -6,8 +6,6 @@
 
 mod answer;
 mod letters;
-mod next;
-mod region;
 mod want;
 
 pub use answer::{on_fill_full, on_filled};

@@ -18,8 +18,8 @@ use Rattle.server_store.specs.Holdings.{Held, key_held, listed}
 use Rattle.kept_chains.specs.Kept.{chains_of, stored_of}
 use Rattle.kept_chains.proofs.InOrder.{cell_in}
 use Rattle.pair_side.proofs.Linked.{on_map}
-use Rattle.redistribute.specs.Next.{first_left, is_left, is_of, last_left, next_after, none_below, or_key}
-use Rattle.redistribute.proofs.Flat.{keys_are}
+use Rattle.next_fill.specs.Next.{first_left, is_left, is_of, last_left, next_after, none_below, or_key}
+use Rattle.next_fill.proofs.Flat.{keys_are}
 
 abbrev own : Key → Key
 own key = key

@@ -3,9 +3,9 @@ use Rattle.petal_base.specs.declared.cell.Key.{Key}
 use Rattle.kept_chains.specs.Kept.{store_of}
 use Rattle.pair_side.specs.Side.{own_of}
 use Rattle.petal_rules.specs.Fills.{region_to_move}
-use Rattle.redistribute.specs.Next.{left_after}
-use Rattle.redistribute.proofs.Fillings.{fill_is}
-use Rattle.redistribute.proofs.next.fill_of.Goals as goal
+use Rattle.next_fill.specs.Next.{left_after}
+use Rattle.next_fill.proofs.FillOf.{fill_is}
+use Rattle.next_fill.proofs.next.fill_of.Goals as goal
 
 pub returns : goal.returns
 returns g c =

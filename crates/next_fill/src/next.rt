@@ -5,7 +5,7 @@ ghost use Rattle.petal_rules.specs.Fills as fills;
 ghost use Rattle.petal_rules.specs.Fills.{region_to_move};
 ghost use Rattle.kept_chains.specs.Kept.{store_of};
 ghost use Rattle.pair_side.specs.Side.{own_of};
-ghost use Rattle.redistribute.specs.Next.{first_left, is_left, last_left, left_after, next_after, none_below};
+ghost use Rattle.next_fill.specs.Next.{first_left, is_left, last_left, left_after, next_after, none_below};
 
 use crate::region::{last_filled, region_to_move};
 use chain_place::region;
@@ -89,7 +89,7 @@ fn last_left(moved: u8, last: &Option<Key>, chain: &[Entry]) -> Option<Key>
 }
 
 /// The next key of the link in the region behind the last one that the new map is known to have.
-pub fn next_after<D: Disk>(
+fn next_after<D: Disk>(
     here: &Here,
     store: &Store<D>,
     row: &LinkRow,

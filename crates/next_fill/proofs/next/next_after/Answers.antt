@@ -4,9 +4,9 @@ use Rattle.petal_base.specs.Cells.{cell_of}
 use Rattle.physical_map.specs.declared.entry.Entry.{Entry}
 use Rattle.physical_map.specs.Entries.{chain_of}
 use Rattle.server_store.specs.Holdings.{listed}
-use Rattle.redistribute.specs.Next.{last_left}
-use Rattle.redistribute.proofs.Firsts.{last_is, next_found}
-use Rattle.redistribute.proofs.next.next_after.Goals as goal
+use Rattle.next_fill.specs.Next.{last_left}
+use Rattle.next_fill.proofs.Firsts.{last_is, next_found}
+use Rattle.next_fill.proofs.next.next_after.Goals as goal
 
 pub returns-in-Some : goal.returns-in-Some
 returns-in-Some g c =
