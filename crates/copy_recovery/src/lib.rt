@@ -1,5 +1,5 @@
-//! Copies: how the server that holds a link alone brings the other one up to date, which came back: pages of marks, the job of
-//! each link, and what is sent again.
+//! Copies: how the server that holds a link alone brings the other one up to date, which came back: the job of each link, and what
+//! is sent again.
 //!
 //! To the layer above it promises that each job is the rule's of `petal_rules`: what it leaves, the letters that it sends, and
 //! the job that follows it up. It knows nothing of clients' operations, of queues, or of how letters travel.
@@ -7,11 +7,10 @@
 
 mod again;
 mod link;
-mod page;
 
 pub use again::letters_after;
 pub use copy_receiver::{CopiedEntry, on_sync, on_trim, trims_on};
 pub use copy_sender::{copies_on, on_sync_full, on_synced, on_trimmed};
 pub use link::{mend_jobs, mends};
 pub use link_blocks::caught_links;
-pub use page::{on_hello, on_hello_ask};
+pub use link_pages::{on_hello, on_hello_ask};

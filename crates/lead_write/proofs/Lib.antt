@@ -1,3 +1,2 @@
 pub mod Opens
-pub mod Leads
 pub mod Begun

@@ -6,9 +6,6 @@
 //! definition has it, by the letter that ends the write. Until then nobody reads the block. A put of which no letter tells is told
 //! by a read that shows it.
 
-use crate::contents::settled;
-use crate::late::{Lates, committed_by, is_asked};
-use crate::writes::Writers;
 use chosen_disks::{Choices, Disks, Done, Link};
 use letter_traces::{
     Operation, accepted, ahead_on, entry_of, is_brought_in, is_by_old_map, is_replicated_in,
@@ -21,14 +18,7 @@ use petal_msg::{Actor, Body, Letter};
 use petal_rules::Step;
 use script_lines::{Answer, Request, Script};
 use std::alloc::Global;
-
-/// An event, and the number of the record that tells it, from 1. There is no event where a copy counts that no write under way
-/// has asked for.
-#[derive(Drop)]
-pub struct Told {
-    pub step: usize,
-    pub event: Option<Event>,
-}
+use told_writes::{Lates, Told, Writers, committed_by, is_asked, settled};
 
 /// A record, its number, the records before and after it, and all of them.
 #[derive(Drop)]

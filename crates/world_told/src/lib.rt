@@ -5,9 +5,7 @@
 //! nothing of how a run comes about.
 #![tactic(auto)]
 
-mod contents;
 mod events;
-mod late;
-mod writes;
 
-pub use events::{Told, made, old_reads, tells, told_of};
+pub use events::{made, old_reads, tells, told_of};
+pub use told_writes::Told;

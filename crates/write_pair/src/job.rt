@@ -7,7 +7,8 @@ ghost use Rattle.pair_side.specs.declared.error.WorkError.TheVariants as error;
 ghost use Rattle.pair_side.specs.Side.{own_of, HasTicketsAt};
 ghost use Rattle.pair_side.specs.Done.{HasVersions, IsDone};
 
-use lead_write::{Wanted, on_pair_full, on_replicated, on_reserved, on_write};
+use lead_replies::{on_pair_full, on_replicated, on_reserved};
+use lead_write::{Wanted, on_write};
 use pair_side::{Done, Here, Side, WorkError, silent};
 use petal_disk::Disk;
 use petal_msg::{Body, Letter};

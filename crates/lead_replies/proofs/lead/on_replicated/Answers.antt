@@ -1,7 +1,7 @@
 use Rattle.std.proofs.Common.{sym, ◌∙◌}
 use Rattle.pair_side.specs.Side.{own_of}
-use Rattle.lead_write.proofs.Leads.{replicating, replicated_is}
-use Rattle.lead_write.proofs.lead.on_replicated.Goals as goal
+use Rattle.lead_replies.proofs.Leads.{replicating, replicated_is}
+use Rattle.lead_replies.proofs.lead.on_replicated.Goals as goal
 
 pub returns-in-Some-clause-job : goal.returns-in-Some-clause-job
 returns-in-Some-clause-job g c =

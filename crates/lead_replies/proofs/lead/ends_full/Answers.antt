@@ -6,8 +6,8 @@ use Rattle.petal_rules.specs.Store.{cell_cmp}
 use Rattle.pair_side.specs.Side.{Side}
 use Rattle.pair_side.proofs.Viewed.{left_of}
 use Rattle.pair_side.proofs.Tickets.{own_out}
-use Rattle.lead_write.proofs.Leads.{finished_pending, full_slot, full_is}
-use Rattle.lead_write.proofs.lead.ends_full.Goals as goal
+use Rattle.lead_replies.proofs.Leads.{finished_pending, full_slot, full_is}
+use Rattle.lead_replies.proofs.lead.ends_full.Goals as goal
 
 pub give_back-requires-clause-out : goal.give_back-requires-clause-out
 give_back-requires-clause-out g c = λ _ _ slot is.

@@ -1,7 +1,7 @@
 //! What stands in the blocks of disks, as it is told: a put is told where it changes that.
 
-use crate::events::Told;
 use crate::late::Lates;
+use crate::told::Told;
 use petal_base::{BlockNo, Name, NoMemory, SharedBlock};
 use petal_machine::{Event, Write};
 use std::alloc::Global;

@@ -4,8 +4,8 @@ use Rattle.petal_rules.specs.Server.{Copies}
 use Rattle.petal_rules.specs.State.{link_cmp}
 use Rattle.copy_memory.specs.Copies.{restored}
 use Rattle.pair_side.proofs.Restored.{progress_there, restored_is}
-use Rattle.copy_recovery.proofs.Pages.{refused_page}
-use Rattle.copy_recovery.proofs.page.marks_page.Goals as goal
+use Rattle.link_pages.proofs.Pages.{refused_page}
+use Rattle.link_pages.proofs.page.marks_page.Goals as goal
 
 pub restore_progress-requires : goal.restore_progress-requires
 restore_progress-requires g c =

@@ -33,7 +33,7 @@ fn with_paired(mut op: Pending) -> Pending
 /// The second server has set its slot apart: the block is marked next.
 ///
 /// # Errors
-/// As of [`goes_on`](crate::goes_on).
+/// As of [`goes_on`](lead_stages::goes_on).
 #[tactic(auto, unfolding(petal_rules::specs::Writes::on_reserved))]
 pub fn on_reserved<D: Disk>(
     here: &Here,
@@ -100,7 +100,7 @@ pub fn on_pair_full<D: Disk>(
 /// The second server has put its copy: the block's mark is taken away next.
 ///
 /// # Errors
-/// As of [`goes_on`](crate::goes_on).
+/// As of [`goes_on`](lead_stages::goes_on).
 #[tactic(auto, unfolding(petal_rules::specs::Writes::on_replicated))]
 pub fn on_replicated<D: Disk>(
     here: &Here,

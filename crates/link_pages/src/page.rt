@@ -168,7 +168,8 @@ fn hears_page<D: Disk>(
 /// The holder makes the mark that a page tells its own; with the page that has none the pages are done.
 ///
 /// # Errors
-/// As of [`copies_on`](crate::copies_on).
+/// `NoMemory`, and then nothing changed; `Failed` where the device failed, and `JournalFull` only where the store's journal had
+/// all its records: the entries are as they were, and the server is to be stopped.
 #[tactic(auto, unfolding(petal_rules::specs::Copies::on_hello))]
 pub fn on_hello<D: Disk>(
     here: &Here,

@@ -5,7 +5,7 @@
 //! by reads alone: where one shows bytes that no other event accounts for, the last chance before it was the put.
 
 use crate::contents::is_zero;
-use crate::events::Told;
+use crate::told::Told;
 use crate::writes::again;
 use petal_base::{BlockNo, Name, NoMemory, ServerId, SharedBlock};
 use petal_history::Record;
