@@ -1,7 +1,7 @@
 //! A store of two slots: happy paths.
 
 use busy_marks::MarkKind;
-use petal_base::{Block, Cell, Key};
+use petal_base::{Block, Cell, Key, Version};
 use petal_disk::{Disk, MemDisk};
 use server_store::{Store, StoreError};
 use std::alloc::Global;
@@ -75,12 +75,18 @@ fn a_full_store(rt: HostRuntime) -> Result<(), Fail> {
     Ok(())
 }
 
+fn newest_version<D: Disk>(store: &Store<D>) -> Option<Version> {
+    match store.lookup(0, 5, 9) {
+        Some(entry) => Some(entry.version),
+        None => None,
+    }
+}
+
 fn finds<D: Disk>(store: &Store<D>) -> bool {
-    let newest = match store.lookup(0, 5, 9) {
-        Some(entry) => entry.version == 3,
-        None => false,
-    };
-    newest && store.version(CELL) == 3 && store.top() == 3 && store.next_block(0, None) == Some(5)
+    newest_version(store) == Some(3)
+        && store.version(CELL) == 3
+        && store.top() == 3
+        && store.next_block(0, None) == Some(5)
 }
 
 fn drops<D: Disk>(store: &mut Store<D>) -> Result<bool, StoreError> {

@@ -1,6 +1,6 @@
 //! A read of a block that was put, and of one that was not.
 
-use crate::tests::stores::with_sevens;
+use crate::stores::with_sevens;
 use global_state::GlobalState;
 use pair_side::{Here, Side};
 use petal_base::{Cell, Key, Name, Tuple};

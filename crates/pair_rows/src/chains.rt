@@ -1,6 +1,6 @@
 //! A cell of a store with two slots is read, counted on and put.
 
-use crate::tests::stores::with_sevens;
+use crate::stores::with_sevens;
 use kept_chains::{next_version, read_at, set_apart};
 use petal_base::{Cell, Key, NoMemory};
 use petal_disk::{Disk, MemDisk};
