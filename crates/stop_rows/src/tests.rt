@@ -1,9 +1,6 @@
 //! Rows by what stops servers, and what they do meanwhile.
 
-mod boot_faults;
 mod catch_ups;
-mod chances;
-mod faults;
 mod moves;
 mod orders;
 mod parts;
