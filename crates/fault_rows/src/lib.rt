@@ -1,10 +1,8 @@
-//! Whole-world tests with devices that fail, call by call, and with servers that stop by chance: worlds of servers over disks in
-//! memory, their histories fed to the plain machine. The crate itself has no code.
+//! Whole-world tests with devices that fail, call by call: worlds of servers over disks in memory, their histories fed to the plain
+//! machine. The crate itself has no code.
 #![tactic(auto)]
 
 #[cfg(test)]
 mod boot_faults;
-#[cfg(test)]
-mod chances;
 #[cfg(test)]
 mod faults;

@@ -3,8 +3,6 @@
 #![tactic(auto)]
 
 #[cfg(test)]
-mod chances;
-#[cfg(test)]
 mod moves;
 #[cfg(test)]
 mod rows;
