@@ -3,8 +3,9 @@
 use petal_base::{NoMemory, ServerId, SharedBlock, Stamp};
 use petal_msg::{Actor, Body, Letter, SharedLetter};
 use petal_world::Host;
+use row_acts::Act;
 use row_wants::{FirstHosts, is_held, is_so};
-use row_words::{Act, Mail};
+use row_words::Mail;
 use std::alloc::Global;
 use world_runs::{Run, play};
 use world_told::{made, tells};

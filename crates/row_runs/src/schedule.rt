@@ -57,8 +57,8 @@
 use crate::player::Player;
 use petal_base::NoMemory;
 use petal_world::Host;
+use row_acts::{Act, act_of};
 use row_wants::FirstHosts;
-use row_words::{Act, act_of};
 use std::alloc::Global;
 use std::test::Fail;
 use world_runs::Run;

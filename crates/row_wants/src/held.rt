@@ -2,7 +2,7 @@
 
 use petal_base::{BlockNo, NoMemory, ServerId};
 use petal_world::Host;
-use row_words::Holding;
+use row_acts::Holding;
 use script_lines::Script;
 use server_copy::{Copy, holds, is_marked_so, stores};
 use std::alloc::Global;

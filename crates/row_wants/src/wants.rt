@@ -2,7 +2,7 @@
 
 use petal_base::SharedBlock;
 use petal_world::Host;
-use row_words::Want;
+use row_acts::Want;
 use script_lines::Answer;
 use world_runs::Run;
 

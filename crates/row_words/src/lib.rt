@@ -1,10 +1,8 @@
-//! The words of schedules: what one step of a row asks for, and letters as rows name them.
+//! The words of schedules: actors, numbers, devices, and letters as rows name them.
 //!
-//! To the layer above it promises no more than safety; tests show what it reads. It knows nothing of runs.
+//! To the layer above it promises no more than safety; tests show what it reads. It knows nothing of what a step asks for.
 #![tactic(auto)]
 
-mod act;
 mod words;
 
-pub use act::{Act, Holding, Want, act_of};
-pub use words::Mail;
+pub use words::{Mail, actor, byte, calls, cell, client, device, mail_of, number, server};

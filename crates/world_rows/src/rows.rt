@@ -1,8 +1,8 @@
 //! Rows: runs in orders that the plain schedule never takes.
 
 use memory_runs::play_all;
+use row_acts::act_of;
 use row_runs::Row;
-use row_words::act_of;
 use std::alloc::Global;
 use std::test::Fail;
 

@@ -1,9 +1,9 @@
 //! One step of a row: what its words ask for.
 
-use crate::words::{Mail, actor, byte, calls, cell, client, device, mail_of, number, server};
 use petal_base::{Cell, ClientId, MapId, ServerId};
 use petal_disk::{Plan, Which};
 use petal_msg::Actor;
+use row_words::{Mail, actor, byte, calls, cell, client, device, mail_of, number, server};
 
 /// What is expected of a line's answer.
 #[derive(Clone, Copy)]
