@@ -53,7 +53,8 @@ sorted_after kept (Unmark kind cell) sorted =
     IsStrictlySortedBy-filter mark_cmp (λ m. not (same_mark m (record { kind = kind; cell = cell }))) kept.marks sorted
 sorted_after kept _ sorted = sorted
 
-sorted_all : (kept : Kept) (records : List StoreRecord) → IsStrictlySortedBy mark_cmp kept.marks → IsStrictlySortedBy mark_cmp (fold kept_after kept records).marks
+sorted_all : (kept : Kept) (records : List StoreRecord) → IsStrictlySortedBy mark_cmp kept.marks
+    → IsStrictlySortedBy mark_cmp (fold kept_after kept records).marks
 sorted_all kept [] sorted = sorted
 sorted_all kept (r ∷ records) sorted = sorted_all (kept_after kept r) records (sorted_after kept r sorted)
 

@@ -9,7 +9,8 @@ pub returns-clause-left : goal.returns-clause-left
 returns-clause-left c _ =
     let old = c.args.self.now in
     let same : padded c.bring_over.new.to.items old.len ≡ padded old.kept.items old.len = ap (λ (l : List ℕ). padded l old.len) c.bring_over.ensures.items in
-    subst (Mixes (padded old.now.items old.len) (padded old.kept.items old.len)) (sym same) (mixes_kept _ _ (same_padded old.now.items old.kept.items old.len old.same_size))
+    subst (Mixes (padded old.now.items old.len) (padded old.kept.items old.len)) (sym same)
+    (mixes_kept _ _ (same_padded old.now.items old.kept.items old.len old.same_size))
 
 pub returns-clause-kept : goal.returns-clause-kept
 returns-clause-kept c _ left m =
@@ -22,4 +23,5 @@ returns-clause-crash c left m =
     let old = c.args.self.now in
     let same : padded c.bring_over.new.to.items old.len ≡ padded old.kept.items old.len = ap (λ (l : List ℕ). padded l old.len) c.bring_over.ensures.items in
     let all = mixes_same _ left (subst (λ (k : List ℕ). Mixes k (padded old.kept.items old.len) left) same m) in
-    subst (Mixes (padded old.now.items old.len) (padded old.kept.items old.len)) (sym all) (mixes_kept _ _ (same_padded old.now.items old.kept.items old.len old.same_size))
+    subst (Mixes (padded old.now.items old.len) (padded old.kept.items old.len)) (sym all)
+    (mixes_kept _ _ (same_padded old.now.items old.kept.items old.len old.same_size))

@@ -16,4 +16,5 @@ returns-clause-crash c left m =
     let old = c.args.self.now in
     let same : padded c.bring_over.new.to.items old.len ≡ padded old.now.items old.len = ap (λ (l : List ℕ). padded l old.len) c.bring_over.ensures.items in
     let all = mixes_same _ left (subst (λ (k : List ℕ). Mixes (padded old.now.items old.len) k left) same m) in
-    subst (Mixes (padded old.now.items old.len) (padded old.kept.items old.len)) (sym all) (mixes_now _ _ (same_padded old.now.items old.kept.items old.len old.same_size))
+    subst (Mixes (padded old.now.items old.len) (padded old.kept.items old.len)) (sym all)
+    (mixes_now _ _ (same_padded old.now.items old.kept.items old.len old.same_size))

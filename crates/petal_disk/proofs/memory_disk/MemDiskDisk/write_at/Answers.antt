@@ -20,7 +20,8 @@ returns-clause-torn c told =
     let whole : length (padded old.now.items old.len) ≡ old.len = length-padded old.now.items old.len old.within in
     subst (Torn c.args.at (length c.args.bytes.now) (padded old.now.items old.len)) (sym (returns-clause-written c told))
     (torn_written (padded old.now.items old.len) c.args.at c.args.bytes.now
-    (let fits : c.args.at + length c.args.bytes.now ≤ length (padded old.now.items old.len) = subst (λ (k : ℕ). c.args.at + length c.args.bytes.now ≤ k) (sym whole) c.requires in fits))
+    (let fits : c.args.at + length c.args.bytes.now ≤ length (padded old.now.items old.len) =
+    subst (λ (k : ℕ). c.args.at + length c.args.bytes.now ≤ k) (sym whole) c.requires in fits))
 
 pub returns-clause-crash : goal.returns-clause-crash
 returns-clause-crash c left m =
