@@ -12,5 +12,4 @@ pub use again::letters_after;
 pub use copy_receiver::{CopiedEntry, on_sync, on_trim, trims_on};
 pub use copy_sender::{copies_on, on_sync_full, on_synced, on_trimmed};
 pub use link::{mend_jobs, mends};
-pub use link_blocks::caught_links;
 pub use link_pages::{on_hello, on_hello_ask};

@@ -8,8 +8,8 @@ ghost use Rattle.petal_rules.specs.Jobs.{own_wants};
 ghost use Rattle.petal_rules.specs.State.{is_in};
 ghost use Rattle.log_jobs.specs.Wants.{here_by, own_in};
 
-use copy_recovery::caught_links;
 use epoch_snapshot::drained;
+use link_blocks::caught_links;
 use log_side::LogSide;
 use pair_side::{Here, Side};
 use petal_base::{NoMemory, Sequence};

@@ -4,12 +4,12 @@
 #![tactic(auto)]
 
 ghost use Rattle.std.specs.Prelude.{◌≡◌, map};
-ghost use Rattle.server_recovery.specs.Server.{site_of};
+ghost use Rattle.first_servers.specs.Server.{site_of};
 ghost use Rattle.petal_world.specs.Desks.{first_sites};
 
 use chance_runs::{Count, Habit, simulate};
 use chance_scripts::{Chance, Tale, script_by};
-use memory_server::{MemServer, members};
+use first_servers::{MemServer, members};
 use petal_base::{NoMemory, Sequence, ServerId};
 use petal_script::{Script, read_script};
 use petal_world::{World, are_in_order};

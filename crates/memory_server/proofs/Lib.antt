@@ -1,4 +1,3 @@
 pub mod Ends
-pub mod Casting
 pub mod Ticking
 pub mod Keeping

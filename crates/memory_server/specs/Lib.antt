@@ -1,1 +1,1 @@
-pub mod Members
+pub use Rattle.server_recovery.specs.Server

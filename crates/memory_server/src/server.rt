@@ -15,8 +15,7 @@ use petal_base::{Inc, NoMemory, Rev, Sequence, ServerId};
 use petal_disk::{DeviceError, Disk, MemDisk, Plan, Planned, Which};
 use petal_msg::Letter;
 use petal_rules::Step;
-use server_core::ServerCore;
-use server_recovery::{Attempt, boot_again, boot_blank, work_first};
+use server_recovery::{Attempt, ServerCore, boot_stopped, work_first};
 use server_store::{DATA_START, SLOT_BYTES, Store};
 use state_store::{DEVICE_BYTES, StateStore};
 use std::alloc::Global;
@@ -56,6 +55,16 @@ fn both(a: bool, b: bool) -> bool
     a && b
 }
 
+/// A blank device that has exactly the bytes that so many slots need.
+fn blank_device(alloc: Global, slots: u32) -> Result<Device, NoMemory>
+    ensures { IfOk result (λ disk. ⟦<Planned<MemDisk> as Disk>⟧.size disk ≡ slot_start slots) }
+{
+    let Ok(disk) = MemDisk::new(alloc, DATA_START + SLOT_BYTES * u64::from(slots)) else {
+        return Err(NoMemory);
+    };
+    Ok(Planned::new(disk))
+}
+
 /// The state store of a server that runs for the first time.
 fn first_state(alloc: Global) -> Result<StateStore<Device>, NoMemory>
     ensures records { IfOk result (λ state. state.records ≡ Inc 1 ∷ []) }
@@ -85,21 +94,19 @@ impl MemServer {
         ensures site { IfOk result (λ server. site_of server ≡ record { me = me; servers = servers; server = first_server true slots }) }
         ensures device { IfOk result (λ server. ⟦<Planned<MemDisk> as Disk>⟧.size server.store.disk ≡ slot_start slots) }
     {
-        let Ok(disk) = MemDisk::new(alloc, DATA_START + SLOT_BYTES * u64::from(slots)) else {
+        let state = first_state(alloc)?;
+        let Ok(store) = Store::format(alloc, blank_device(alloc, slots)?, slots, false) else {
             return Err(NoMemory);
         };
+        // made last, since nothing can fail any more then
         let core = ServerCore::start(alloc, me, servers)?;
-        let state = first_state(alloc)?;
-        match Store::format(alloc, Planned::new(disk), slots, false) {
-            Ok(store) => Ok(MemServer {
-                core,
-                store,
-                state,
-                blank: None,
-                over: false,
-            }),
-            Err(_) => Err(NoMemory),
-        }
+        Ok(MemServer {
+            core,
+            store,
+            state,
+            blank: None,
+            over: false,
+        })
     }
 
     /// From now on this plan counts at the data device, which may be a blank one, and no earlier one.
@@ -214,13 +221,8 @@ impl MemServer {
         if self.over || self.core.is_running() {
             return Err(NoMemory);
         }
-        let Ok(disk) = MemDisk::new(
-            alloc,
-            DATA_START + SLOT_BYTES * u64::from(self.store.slots()),
-        ) else {
-            return Err(NoMemory);
-        };
-        self.blank = Some(Planned::new(disk));
+        let disk = blank_device(alloc, self.store.slots())?;
+        self.blank = Some(disk);
         Ok(())
     }
 
@@ -237,20 +239,10 @@ impl MemServer {
             return Err(NoMemory);
         }
         self.over = true;
-        match self.blank.take() {
-            None => {
-                let attempt = boot_again(alloc, &mut self.core, &mut self.store, &mut self.state)?;
-                self.over = false;
-                Ok(attempt)
-            }
-            Some(disk) => {
-                let (core, store, state) = (&mut self.core, &mut self.store, &mut self.state);
-                let (attempt, back) = boot_blank(alloc, core, store, state, disk)?;
-                self.blank = back;
-                self.over = false;
-                Ok(attempt)
-            }
-        }
+        let (core, store, state) = (&mut self.core, &mut self.store, &mut self.state);
+        let attempt = boot_stopped(alloc, core, store, state, &mut self.blank)?;
+        self.over = false;
+        Ok(attempt)
     }
 
     /// It boots, where it is stopped and its incarnation can be raised. A plan that stops the server fails the boot.

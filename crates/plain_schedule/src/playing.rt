@@ -13,7 +13,7 @@ ghost use Rattle.plain_schedule.specs.Places.{numbers, phase_run, progress_of, K
 
 use crate::answers::Answers;
 use actor_rounds::Rounds;
-use memory_server::{MemServer, members};
+use first_servers::{MemServer, members};
 use petal_base::NoMemory;
 use petal_history::History;
 use script_lines::{Line, Script};

@@ -1,4 +1,2 @@
 pub mod Stops
-pub mod Ticking
 pub mod Boots
-mod Looking

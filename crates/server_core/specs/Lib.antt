@@ -1,2 +1,3 @@
 pub mod Farewell
 pub mod Boots
+pub mod Works

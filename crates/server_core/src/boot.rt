@@ -1,7 +1,7 @@
 //! A stopped server runs again.
 
-ghost use Rattle.std.specs.Prelude.{◌≡◌, ◌<◌, ◌+◌, [], true, false, length, IfOk};
-ghost use Rattle.log_memory.specs.Part.{Part, sender_of};
+ghost use Rattle.std.specs.Prelude.{◌≡◌, ◌<◌, ◌+◌, [], true, false, length, IfOk, OnOk, OnErr};
+ghost use Rattle.log_memory.specs.Part.{Part, new_part, sender_of};
 ghost use Rattle.petal_paxos.specs.Kept.{inc_of};
 ghost use Rattle.petal_rules.specs.Entries.{known_run};
 ghost use Rattle.petal_rules.specs.Jobs.{down_posts};
@@ -11,9 +11,9 @@ ghost use Rattle.petal_rules.specs.World.{greatest_u32};
 ghost use Rattle.server_core.specs.Boots.{IsBoot, booted, next_voter, raised_core};
 
 use crate::server::ServerCore;
-use log_side::LogSide;
+use log_side::{LogSide, farewell};
 use pair_side::WorkError;
-use petal_base::{Inc, NoMemory, Sequence, ServerId};
+use petal_base::{Inc, NoMemory, Sequence};
 use petal_command::ServerNumber;
 use petal_disk::Disk;
 use petal_msg::Letter;
@@ -21,24 +21,24 @@ use server_work::of_state;
 use state_store::StateStore;
 use std::alloc::Global;
 
-/// The incarnation after this one, which has applied what the state device knows to be chosen, and its letters, which tell the
-/// others that the one before has stopped.
-fn next<E: Disk>(
+/// The part of the log of the incarnation after this one, which has applied what the state device knows to be chosen, and the
+/// letters that tell the others that the one before has stopped.
+fn next_log<E: Disk>(
     alloc: Global,
-    me: ServerId,
+    me: ServerNumber,
     before: Inc,
     servers: u8,
     state: &StateStore<E>,
-) -> Result<(ServerCore, Sequence<Letter>), NoMemory>
-    ensures core { (log : Log) → log.records ≡ state.now.records → IfOk result (λ out. out.0
-        ≡ booted (record { me = me; inc = before; servers = servers }) (known_run log 1 state.now.region.count)) }
-    ensures letters { IfOk result (λ out. out.1 ≡ letters_of (sender_of out.0.log) 0 (down_posts me before servers)) }
+) -> Result<(LogSide, Sequence<Letter>), NoMemory>
+    requires { before < greatest_u32 }
+    ensures voter { IfOk result (λ out. out.0.voter ≡ record { me = me; inc = before + 1; servers = servers }) }
+    ensures part { (log : Log) → log.records ≡ state.now.records → IfOk result (λ out. out.0
+        ≡ record (new_part (record { me = me; inc = before + 1; servers = servers })) { applied = known_run log 1 state.now.region.count }) }
+    ensures letters { IfOk result (λ out. out.1 ≡ letters_of (sender_of out.0) 0 (down_posts me before servers)) }
 {
-    let number = ServerNumber::checked(me).ok_or(NoMemory)?;
-    let inc = before.checked_add(1).ok_or(NoMemory)?;
-    let log = LogSide::boot(alloc, me, inc, servers, state)?;
-    let letters = log.envelope().down_letters(alloc, number, before, servers)?;
-    Ok((ServerCore::running(alloc, log)?, letters))
+    let log = LogSide::boot(alloc, me.get(), before + 1, servers, state)?;
+    let letters = log.envelope().down_letters(alloc, me, before, servers)?;
+    Ok((log, letters))
 }
 
 impl ServerCore {
@@ -61,15 +61,32 @@ impl ServerCore {
         requires raises { self.old.log.voter.inc < greatest_u32 }
         ensures { IsBoot E.Disk self.old self.new state.old state.new result }
     {
-        let (me, inc, servers) = (self.me(), self.inc(), self.servers());
         match state.raise_inc() {
-            Ok(()) => {
-                let (core, letters) = next(alloc, me, inc, servers, state)?;
-                *self = core;
-                Ok(letters)
-            }
+            Ok(()) => Ok(self.wake(alloc, state)?),
             Err(error) => Err(of_state(error)),
         }
+    }
+
+    /// It runs as the next incarnation, which stands on its state device.
+    fn wake<E: Disk>(
+        &mut self,
+        alloc: Global,
+        state: &StateStore<E>,
+    ) -> Result<Sequence<Letter>, NoMemory>
+        requires raises { self.old.log.voter.inc < greatest_u32 }
+        ensures core { (log : Log) → log.records ≡ state.now.records
+            → OnOk result (self.new ≡ booted self.old.log.voter (known_run log 1 state.now.region.count)) }
+        ensures letters { IfOk result (λ letters. letters ≡ letters_of (sender_of self.new.log) 0
+            (down_posts self.old.log.voter.me self.old.log.voter.inc self.old.log.voter.servers)) }
+        ensures err { OnErr result (self.new ≡ self.old) }
+    {
+        let (me, before, servers) = (self.me(), self.inc(), self.servers());
+        let number = ServerNumber::checked(me).ok_or(NoMemory)?;
+        let farewell = farewell(alloc, number, before + 1, servers)?;
+        let (log, letters) = next_log(alloc, number, before, servers, state)?;
+        self.parts.restart(alloc, log);
+        self.farewell = farewell;
+        Ok(letters)
     }
 
     /// The server's incarnation is the next one, as its state device tells after a boot that ended there.

@@ -7,7 +7,6 @@
 
 mod boot;
 mod server;
-mod ticks;
 mod work;
 
 pub use pair_side::WorkError;

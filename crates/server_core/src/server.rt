@@ -13,7 +13,6 @@ ghost use Rattle.petal_rules.specs.Store as stores;
 ghost use Rattle.petal_rules.specs.declared.job.Job.TheVariants as job;
 ghost use Rattle.server_work.specs.Core.{acted, here_in, is_spent, server_of};
 
-use crate::ticks::{moves_on, tick_jobs, tick_letters};
 use global_state::GlobalState;
 use log_side::{Envelope, LogSide, farewell};
 use petal_base::{Inc, NoMemory, OPERATOR, Rev, Sequence, ServerId};
@@ -22,6 +21,7 @@ use petal_disk::{DeviceError, Disk};
 use petal_msg::{Actor, Body, Letter, SharedLetter};
 use petal_rules::Job;
 use server_store::Store;
+use server_ticks::{moves_on, tick_jobs, tick_letters};
 use server_work::Parts;
 use std::alloc::Global;
 use std::marker::Model;
@@ -31,7 +31,7 @@ use std::marker::Model;
 #[derive(Drop)]
 pub struct ServerCore {
     pub(crate) parts: Parts,
-    farewell: Sequence<Letter>,
+    pub(crate) farewell: Sequence<Letter>,
 }
 
 impl Model for ServerCore {
@@ -47,22 +47,6 @@ impl Model for ServerCore {
 }
 
 impl ServerCore {
-    /// A server that runs, with this part of the log and nothing pending. Its last letters are made now, so that it can stop
-    /// without memory.
-    ///
-    /// # Errors
-    /// Out of memory, or where the server has no number that a command can name.
-    pub(crate) fn running(alloc: Global, log: LogSide) -> Result<ServerCore, NoMemory>
-        ensures { IfOk result (λ core. core ≡ record { running = true; log = log; side = new_side; queue = [] }) }
-    {
-        let me = ServerNumber::checked(log.me()).ok_or(NoMemory)?;
-        let farewell = farewell(alloc, me, log.inc(), log.servers())?;
-        Ok(ServerCore {
-            parts: Parts::new(alloc, log),
-            farewell,
-        })
-    }
-
     /// The first incarnation of one of so many servers, which has applied nothing and has nothing pending. Its last letters are
     /// made now, so that it can stop without memory.
     ///
@@ -72,7 +56,13 @@ impl ServerCore {
         ensures { IfOk result (λ core. core
             ≡ record { running = true; log = new_part (record { me = me; inc = 1; servers = servers }); side = new_side; queue = [] }) }
     {
-        ServerCore::running(alloc, LogSide::start(alloc, me, 1, servers)?)
+        let number = ServerNumber::checked(me).ok_or(NoMemory)?;
+        let farewell = farewell(alloc, number, 1, servers)?;
+        let log = LogSide::start(alloc, me, 1, servers)?;
+        Ok(ServerCore {
+            parts: Parts::new(alloc, log),
+            farewell,
+        })
     }
 
     /// Whether it runs.

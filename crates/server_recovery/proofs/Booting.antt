@@ -234,3 +234,13 @@ module _ {D : Type 0} (device : Ghosts D) (core : Core) (store : Holdings D) (st
     kept = record { stands = λ _ no. absurd (cc); rests = λ _. off; room = room; state = λ _. kept };
     cause = λ _. omega (arith, failed);
   }
+
+-- a server whose data device was no blank one booted
+pub booted_own : {D : Type 0} (device : Ghosts D) {old new : Mounted D} {end : WorkEnd} {letters : List Letter}
+    → Booted device old new end letters → BootedBlank device old new None end letters
+booted_own device booted = record {
+  site = booted.site;
+  sends = booted.sends;
+  kept = record { stands = λ _ _. booted.stands; rests = λ no. absurd (cc); room = tt; state = λ _. booted.stands.state };
+  cause = booted.cause;
+}

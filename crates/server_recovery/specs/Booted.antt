@@ -32,7 +32,7 @@ Worked device old new end letters = Took device old new (Work end) letters
 abbrev pub Booted : {D : Type 0} → Ghosts D → (old new : Mounted D) → WorkEnd → List Letter → Type 0
 Booted device old new end letters = Took device old new (Boot end) letters
 
--- so did one whose data device was a blank one, as it is still where it was handed back
+-- so did one whose data device may have been a blank one, as it is still where no store could be made there
 pub record BootedBlank {D : Type 0} (device : Ghosts D) (old new : Mounted D) (blank : Option D) (end : WorkEnd) (letters : List Letter) : Type 0 where
   pub site : site_of (record new { store = store_at blank new.store }) ≡ left_at (whole_after (whole_of old) (Boot end))
   pub sends : letters ≡ (acted_at (whole_of old) (Boot end)).letters

@@ -1,13 +1,13 @@
 //! A stopped server boots.
 
-ghost use Rattle.std.specs.Prelude.{◌≡◌, ◌<◌, ◌≤◌, [], false, IfOk};
+ghost use Rattle.std.specs.Prelude.{◌≡◌, ◌<◌, ◌≤◌, [], false, is_some, None, IfOk, IfSome, OnErr};
 ghost use Rattle.log_side.specs.Done as logs;
 ghost use Rattle.pair_side.specs.Done.{HoldsAt};
 ghost use Rattle.petal_paxos.specs.Kept.{inc_of};
 ghost use Rattle.petal_rules.specs.World.{greatest_u32};
 ghost use Rattle.server_store.specs.Slots.{slot_start};
 ghost use Rattle.server_recovery.specs.Booted.{Booted, BootedBlank, core_at};
-ghost use Rattle.server_recovery.specs.Server.{store_on};
+ghost use Rattle.server_recovery.specs.Server.{store_at, store_on};
 
 use crate::attempt::Attempt;
 use crate::recovery::{Counts, reopen, reread};
@@ -69,7 +69,7 @@ fn boot_opened<D: Disk>(
 ///
 /// # Errors
 /// Out of memory, where a device fails that is read, or where the state device tells another incarnation.
-pub fn boot_again<D: Disk>(
+fn boot_again<D: Disk>(
     alloc: Global,
     core: &mut ServerCore,
     store: &mut Store<D>,
@@ -96,7 +96,7 @@ pub fn boot_again<D: Disk>(
 ///
 /// # Errors
 /// As of [`boot_again`].
-pub fn boot_blank<D: Disk>(
+fn boot_blank<D: Disk>(
     alloc: Global,
     core: &mut ServerCore,
     store: &mut Store<D>,
@@ -121,5 +121,36 @@ pub fn boot_blank<D: Disk>(
             Ok((attempt, Some(disk)))
         }
         Err(_) => Err(NoMemory),
+    }
+}
+
+/// A stopped server boots: both of its stores are opened again, and it runs as its next incarnation, or stays stopped as the
+/// devices tell. Where a blank device has taken the place of its data device, a store is made there before, which waits to be filled;
+/// where that fails the server stays stopped, and the device is still as good as blank.
+///
+/// # Errors
+/// Out of memory, where a device fails that is read, or where the state device tells another incarnation. Then a blank device is gone.
+pub fn boot_stopped<D: Disk>(
+    alloc: Global,
+    core: &mut ServerCore,
+    store: &mut Store<D>,
+    state: &mut StateStore<D>,
+    blank: &mut Option<D>,
+) -> Result<Attempt, NoMemory>
+    requires stopped { core.old.running ≡ false }
+    requires raises { core.old.log.voter.inc < greatest_u32 }
+    requires room { IfSome blank.old (λ disk. slot_start store.old.slots ≤ D.size disk) }
+    ensures gone { OnErr result (blank.new ≡ None) }
+    ensures booted { IfOk result (λ attempt. D.told → (is_some blank.old ≡ false → HoldsAt D.Disk store.old) → logs.HoldsAt D.Disk state.old
+        → BootedBlank D.Disk (record { core = core.old; store = store_at blank.old store.old; state = state.old })
+        (record { core = core.new; store = store.new; state = state.new }) blank.new attempt.end attempt.letters) }
+{
+    match blank.take() {
+        None => boot_again(alloc, core, store, state),
+        Some(disk) => {
+            let (attempt, back) = boot_blank(alloc, core, store, state, disk)?;
+            *blank = back;
+            Ok(attempt)
+        }
     }
 }

@@ -11,5 +11,6 @@ mod recovery;
 mod work;
 
 pub use attempt::Attempt;
-pub use boot::{boot_again, boot_blank};
+pub use boot::boot_stopped;
+pub use server_core::ServerCore;
 pub use work::work_first;

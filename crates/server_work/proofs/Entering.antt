@@ -1,5 +1,5 @@
 -- The job that applies an entry, with what the entry does to the store.
-use Rattle.std.proofs.Common.{◌≡◌, ℕ, ◌+◌, ◌++◌, true, List, [], ◌∷◌, None, Some, Option, Ok, Err, drop, refl, sym, subst, ap, ◌∙◌, arith}
+use Rattle.std.proofs.Common.{◌≡◌, ◌≢◌, ℕ, ◌++◌, true, List, [], ◌∷◌, None, Some, Option, Result, Ok, Err, drop, refl, sym, subst, ap, ◌∙◌, arith}
 use Rattle.std.specs.Prelude.{slice_get, option_map, IfSome}
 use Rattle.kept_chains.specs.Kept.{store_of}
 use Rattle.kept_chains.specs.Standing.{StandsAsEither}
@@ -11,7 +11,7 @@ use Rattle.log_memory.specs.declared.entries.Entered.{Entered}
 use Rattle.log_memory.specs.declared.done.LogDone.{LogDone}
 use Rattle.pair_side.specs.Crossed.{IsEntered, lacks_room}
 use Rattle.pair_side.specs.Done.{HoldsAt}
-use Rattle.pair_side.specs.Side.{own_of}
+use Rattle.pair_side.specs.Side.{Side, own_of}
 use Rattle.pair_side.specs.declared.error.WorkError.{WorkError}
 use Rattle.pair_side.specs.declared.error.WorkError.TheVariants.{Failed, JournalFull, NoMemory}
 use Rattle.pair_side.proofs.Entering.{lacking}
@@ -25,7 +25,7 @@ use Rattle.petal_rules.proofs.Applied.{state_append}
 use Rattle.petal_rules.specs.State.{State}
 use Rattle.petal_state.specs.Command.{after, state_after}
 use Rattle.petal_rules.specs.Log.{Log}
-use Rattle.petal_rules.specs.Server.{Own}
+use Rattle.petal_rules.specs.Server.{Here, Own}
 use Rattle.petal_rules.specs.Store.{Store}
 use Rattle.petal_rules.specs.declared.job.Job.TheVariants as job
 use Rattle.server_work.specs.Core.{Core, here_in, left_by_first}
@@ -48,6 +48,34 @@ state_entered old new records done (Some it) by voter is before =
     (λ i. state_after (voter i).servers (applied i))
     ∙ sym (state_append old.voter.servers old.applied (it.entry ∷ []))
     ∙ ap (λ (s : State). after s it.entry) (sym before)
+
+-- what an entry left, told with another value
+module _ {D A B : Type 0} (device : Ghosts D) {here : Here} {entry : Option Command} {old new : Side} {before after : Holdings D} where
+  pub entered_with : (made : A) (done : B) → IsEntered device here entry old new before after (Ok made)
+      → IsEntered device here entry old new before after (Ok done)
+  entered_with made done is = record {
+    own = is.own;
+    keeps = is.keeps;
+    holds = is.holds;
+    moments = is.moments;
+    kept = is.kept;
+    errors = tt;
+    cause = record { later = is.cause.later; failed = λ no. absurd (cc) };
+    run = is.run;
+  }
+
+  pub entered_not : (e : WorkError) → IsEntered {T = A} device here entry old new before after (Err e)
+      → IsEntered {T = B} device here entry old new before after (Err e)
+  entered_not e is = record {
+    own = tt;
+    keeps = is.keeps;
+    holds = λ _ _. tt;
+    moments = is.moments;
+    kept = is.kept;
+    errors = is.errors;
+    cause = record { later = is.cause.later; failed = λ _. is.cause.failed (ap Err is.errors) };
+    run = is.run;
+  }
 
 module _ {D : Type 0} (device : Ghosts D) (records : List StateRecord) (old : Core) (before : Holdings D) (there : slice_get old.queue 0 ≡ Some job.Apply) where
   abbrev rule : Own
@@ -121,6 +149,20 @@ module _ {D : Type 0} (device : Ghosts D) (records : List StateRecord) (old : Co
       run = stays before.disk;
     }
 
+    -- it was not done: the device failed, or there was no memory for it
+    pub applied_not : {T : Type 0} (new : Core) (left : Holdings D) (e : WorkError)
+        → (◌≢◌ {A = Result T WorkError} (Err e) (Err NoMemory)
+        → IsEntered {T = T} device (here_in old) (next_known old.log records) old.side new.side before left (Err e))
+        → (◌≡◌ {A = Result T WorkError} (Err e) (Err NoMemory) → (new.log ≡ old.log) × (new.side ≡ old.side) × (left ≡ before))
+        → new.running ≡ old.running → new.log.voter ≡ old.log.voter → new.queue ≡ old.queue
+        → IsStoreWork device records old new before left (Err e)
+    applied_not new left Failed entered same running voter queue = applied_failed new left Failed refl (entered (λ no. absurd (cc))) running voter
+    applied_not new left JournalFull entered same running voter queue = let e = (entered (λ no. absurd (cc))).errors in absurd (cc)
+    applied_not new left NoMemory entered same running voter queue =
+        let is = same refl in
+        subst (λ (held : Holdings D). IsStoreWork device records old new before held (Err NoMemory)) (sym is.2)
+        (applied_nothing new (λ i. record { running = running i; log = is.0 i; side = is.1 i; queue = queue i }))
+
     -- the journal has no room for its record
     pub applied_full : lacks_room old.log.voter.me old.log.voter.inc (next_known old.log records) before ≡ true
         → (new : Core) → new ≡ old → IsStoreWork device records old new before before (Err JournalFull)
@@ -143,3 +185,11 @@ module _ {D : Type 0} (device : Ghosts D) (records : List StateRecord) (old : Co
           cause = record { later = omega arith; failed = λ no. absurd (cc) };
           run = stays before.disk;
         }
+
+    -- it was refused before anything changed
+    pub applied_refused : (new : Core) → new ≡ old → (e : WorkError) → e ≢ Failed
+        → (e ≡ JournalFull → lacks_room old.log.voter.me old.log.voter.inc (next_known old.log records) before ≡ true)
+        → IsStoreWork device records old new before before (Err e)
+    applied_refused new same Failed other lacks = absurd (other refl)
+    applied_refused new same JournalFull other lacks = applied_full (lacks refl) new same
+    applied_refused new same NoMemory other lacks = applied_nothing new same

@@ -1,5 +1,5 @@
 -- What a step of a server leaves.
-use Rattle.std.proofs.Common.{◌≡◌, ◌≢◌, ◌<◌, ◌+◌, arith, ℕ, List, [], ◌∷◌, Some, None, Result, Ok, Err, IsErr, IfOk, refl}
+use Rattle.std.proofs.Common.{◌≡◌, ◌≢◌, ◌<◌, ◌+◌, arith, ℕ, List, [], ◌∷◌, Some, None, Result, Ok, Err, IsErr, IsErrAnd, IfOk, refl, sym, subst}
 use Rattle.std.specs.Prelude.{slice_get}
 
 -- a list without a first item is empty
@@ -31,3 +31,8 @@ pub of_all : {A E X : Type 0} (Q : X → A → Type 0) (P : A → Type 0) → ((
     → ((x : X) → IfOk result (Q x)) → IfOk result P
 of_all Q P each (Ok a) holds = each a holds
 of_all Q P each (Err e) holds = tt
+
+-- what holds of an error holds of the result that has it
+pub of_error : {T E : Type 0} (P : Result T E → Type 0) (e : E) (result : Result T E) → IsErr result × IsErrAnd result (λ it. it ≡ e) → P (Err e) → P result
+of_error P e (Ok value) is holds = let no = is.0 in absurd (cc)
+of_error P e (Err it) is holds = subst (λ (x : _). P (Err x)) (sym is.1) holds

@@ -1,5 +1,5 @@
 -- A server in memory, and the server of the rules that it is with its two stores.
-use Rattle.std.specs.Prelude.{◌≡◌, ◌≤◌, ◌<◌, ◌⊎◌, ℕ, ◌==◌, ◌||◌, Bool, List, [], ◌∷◌, if◌then◌else◌, Option, None, Some, Result, Err}
+use Rattle.std.specs.Prelude.{◌≡◌, ◌≤◌, ◌<◌, ◌⊎◌, ℕ, ◌==◌, ◌||◌, Bool, List, [], ◌∷◌, Option, None, Some, Result, Err}
 use Rattle.log_jobs.specs.Wants.{here_by, own_in}
 use Rattle.log_memory.specs.Part.{Part, log_of}
 use Rattle.pair_side.specs.Side.{Side}
@@ -19,6 +19,10 @@ pub record Core : Type 0 where
   pub log : Part
   pub side : Side
   pub queue : List Job
+
+-- these parts as a server
+abbrev pub core_of : Bool → Part → Side → List Job → Core
+core_of running log side queue = record { running = running; log = log; side = side; queue = queue }
 
 -- where its jobs are done
 abbrev pub here_in : Core → Here

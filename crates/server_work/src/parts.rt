@@ -56,6 +56,13 @@ impl Parts {
         }
     }
 
+    /// The server runs again, with this part of the log and nothing pending. It takes no memory.
+    pub fn restart(&mut self, alloc: Global, log: LogSide)
+        ensures { self.new ≡ record { running = true; log = log; side = new_side; queue = [] } }
+    {
+        *self = Parts::new(alloc, log);
+    }
+
     /// The server stops: its jobs are gone. It takes no memory.
     pub fn halt(&mut self, alloc: Global)
         ensures { self.new ≡ record self.old { running = false; queue = [] } }

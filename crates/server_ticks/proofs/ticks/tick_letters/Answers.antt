@@ -1,7 +1,7 @@
 use Rattle.kept_chains.specs.Kept.{store_of}
 use Rattle.server_work.specs.Core.{Core}
-use Rattle.server_core.proofs.Ticking.{tick_all}
-use Rattle.server_core.proofs.ticks.tick_letters.Goals as goal
+use Rattle.server_ticks.proofs.Ticking.{tick_all}
+use Rattle.server_ticks.proofs.ticks.tick_letters.Goals as goal
 
 pub returns-clause-letters : goal.returns-clause-letters
 returns-clause-letters g c = λ told records.

@@ -4,10 +4,10 @@ ghost use Rattle.std.specs.Prelude.{◌≡◌, All, map, IfOk};
 ghost use Rattle.std.specs.List.{range_with_len};
 ghost use Rattle.world_desks.specs.Desks.{first_sites};
 ghost use Rattle.server_store.specs.Slots.{slot_start};
-ghost use Rattle.memory_server.specs.Members.{first_site};
-ghost use Rattle.server_recovery.specs.Server.{site_of};
+ghost use Rattle.first_servers.specs.Members.{first_site};
+ghost use Rattle.memory_server.specs.Server.{site_of};
 
-use crate::MemServer;
+use memory_server::MemServer;
 use petal_base::{NoMemory, Sequence};
 use petal_disk::{Disk, MemDisk, Planned};
 use script_lines::Script;

@@ -3,9 +3,9 @@ use Rattle.std.proofs.lemmas.List.Elements.{All-append, All-cons, All-nil}
 use Rattle.petal_disk.specs.declared.memory_disk.MemDisk.{MemDisk}
 use Rattle.petal_disk.specs.declared.planned.Planned.{Planned}
 use Rattle.server_store.specs.Slots.{slot_start}
-use Rattle.server_recovery.specs.Server.{Mounted, site_of}
-use Rattle.memory_server.proofs.Casting.{cast_more}
-use Rattle.memory_server.proofs.cast.started.Goals as goal
+use Rattle.memory_server.specs.Server.{Mounted, site_of}
+use Rattle.first_servers.proofs.Casting.{cast_more}
+use Rattle.first_servers.proofs.cast.started.Goals as goal
 
 abbrev fits : ℕ → Mounted (Planned MemDisk) → Type 0
 fits slots server = server.store.disk.disk.len ≡ slot_start slots

@@ -6,7 +6,7 @@ use Rattle.std.specs.List.{range_with_len}
 use Rattle.script_lines.specs.declared.script.Script.{Script}
 use Rattle.petal_rules.specs.World.{start, setting_of}
 use Rattle.world_desks.specs.Desks.{Site, desk_of}
-use Rattle.memory_server.specs.Members.{first_site}
+use Rattle.first_servers.specs.Members.{first_site}
 
 abbrev site_in : Script → ℕ → Site
 site_in script n = (desk_of (setting_of script) (start (setting_of script)) n).site

@@ -8,9 +8,9 @@ use Rattle.log_jobs.specs.Wants.{here_by}
 use Rattle.pair_side.specs.Side.{own_of}
 use Rattle.pair_side.proofs.Looks.{letters_two}
 use Rattle.server_work.proofs.Steps.{of_each}
-use Rattle.server_core.proofs.Looking.{look_then}
-use Rattle.server_core.proofs.Ticking.{anew_in}
-use Rattle.server_core.proofs.ticks.copies_after.Goals as goal
+use Rattle.server_ticks.proofs.Looking.{look_then}
+use Rattle.server_ticks.proofs.Ticking.{anew_in}
+use Rattle.server_ticks.proofs.ticks.copies_after.Goals as goal
 
 pub returns-clause-letters : goal.returns-clause-letters
 returns-clause-letters g c =

@@ -1,6 +1,6 @@
 use Rattle.kept_chains.specs.Kept.{store_of}
-use Rattle.server_core.proofs.Ticking.{tick_queued}
-use Rattle.server_core.proofs.ticks.tick_jobs.Goals as goal
+use Rattle.server_ticks.proofs.Ticking.{tick_queued}
+use Rattle.server_ticks.proofs.ticks.tick_jobs.Goals as goal
 
 pub returns : goal.returns
 returns g c = λ records.

@@ -1,6 +1,6 @@
 use Rattle.std.proofs.Common.{[], ◌∙◌}
 use Rattle.std.proofs.lemmas.Result.{IfOk-weaker}
-use Rattle.server_core.proofs.ticks.start_jobs.Goals as goal
+use Rattle.server_ticks.proofs.ticks.start_jobs.Goals as goal
 
 pub returns : goal.returns
 returns g c =

@@ -1,0 +1,2 @@
+pub mod Members
+pub use Rattle.memory_server.specs.Server

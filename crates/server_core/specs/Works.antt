@@ -1,0 +1,43 @@
+-- The first job of a server's queue, with both of its devices.
+use Rattle.std.specs.Prelude.{◌≡◌, ◌↔◌, [], List, Option, None, Result, Ok, Err, IfOk, OnOk, OnErr}
+use Rattle.kept_chains.specs.Kept.{store_of}
+use Rattle.kept_chains.specs.Standing.{StandsAsEither}
+use Rattle.log_side.specs.Done as logs
+use Rattle.pair_side.specs.Done.{HoldsAt}
+use Rattle.pair_side.specs.Side.{HasTicketsAt}
+use Rattle.pair_side.specs.declared.error.WorkError.{WorkError}
+use Rattle.pair_side.specs.declared.error.WorkError.TheVariants.{JournalFull, NoMemory}
+use Rattle.petal_disk.specs.declared.disk.Disk.{Ghosts}
+use Rattle.petal_disk.specs.Disk.{LeavesOnly}
+use Rattle.petal_msg.specs.declared.letter.Letter.{Letter}
+use Rattle.server_store.specs.Holdings.{Holdings}
+use Rattle.server_work.specs.Core.{Core, HasFaults, IsWork, left_by_first}
+use Rattle.server_work.specs.Work.{IsFullWork}
+use Rattle.state_store.specs.Device.{Keeping, StandsForEither}
+
+-- the first job is done, as the rule says where both devices tell their bytes and show the stores; None comes exactly where there is
+-- none. Where a device showed its store, now and after any crash, it shows the store after the job; a crash at any moment leaves
+-- the store before it, or the one that the rule leaves
+pub record IsFirstJob {D E : Type 0} (device : Ghosts D) (other : Ghosts E) (old new : Core) (before after : Holdings D) (state left : Keeping E)
+    (result : Result (Option (List Letter)) WorkError) : Type 0 where
+  pub idle : (result ≡ Ok None) ↔ (old.queue ≡ [])
+  pub work : IfOk result (λ worked. device.told → other.told → HoldsAt device before → logs.HoldsAt other state
+      → IsWork old (store_of before) state.records new (store_of after) left.records worked)
+  pub life : (new.running ≡ old.running) × (new.log.voter ≡ old.log.voter)
+  pub keeps : OnOk result (HasTicketsAt new.side after)
+  pub holds : device.told → HoldsAt device before → OnOk result (HoldsAt device after)
+  pub moments : device.told → HoldsAt device before
+      → LeavesOnly device.moment device.left_since before.disk after.disk
+      (StandsAsEither (store_of before) (left_by_first old (store_of before) state.records).own.store)
+  pub still : result ≡ Err NoMemory → device.told → HoldsAt device before → HoldsAt device after
+  pub same : result ≡ Err NoMemory → (new ≡ old) × (after ≡ record before { disk = after.disk }) × (left ≡ state)
+  pub kept : OnErr result (device.told → after.entries ≡ before.entries)
+  pub full : result ≡ Err JournalFull → IsFullWork device other old new before after state left
+  pub cause : HasFaults (device.faults before.disk) (device.faults after.disk) (other.faults state.disk) (other.faults left.disk) result
+  pub run : device.came_to before.disk after.disk
+  pub state_holds : other.told → logs.HoldsAt other state → OnOk result (logs.HoldsAt other left)
+  pub state_moments : other.told → logs.HoldsAt other state
+      → LeavesOnly other.moment other.left_since state.disk left.disk
+      (StandsForEither state.records (left_by_first old (store_of before) state.records).log.records)
+  pub state_kept : OnErr result (left.records ≡ state.records)
+  pub state_run : other.came_to state.disk left.disk
