@@ -9,5 +9,6 @@ mod error;
 mod journal;
 mod reading;
 
+pub use device_gate::write_header;
 pub use error::JournalError;
 pub use journal::Journal;

@@ -1,1 +1,2 @@
 pub mod Seats
+pub use Rattle.client_core.specs.Core

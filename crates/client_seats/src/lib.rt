@@ -7,5 +7,6 @@
 mod seat;
 mod seats;
 
+pub use client_core::Order;
 pub use seat::Seat;
 pub use seats::Seats;

@@ -11,5 +11,6 @@ mod links;
 
 pub use copies::Copies;
 pub use ends::{drops_cells, ends_cell};
+pub use global_state::{GlobalState, LinkRow, LinkState};
 pub use here::Here;
 pub use links::{LinkTable, link_id};

@@ -13,10 +13,9 @@ ghost use Rattle.pair_side.specs.Done.{HoldsAt};
 ghost use Rattle.pair_side.specs.Letters.{IsLook, posts_of};
 ghost use Rattle.copy_recovery.specs.Again.{other_of_cell};
 
-use copy_sender::{copy_stage, sync_body, trim_body};
+use copy_sender::{copy_stage, next_copy, other_in, other_on, sync_body, trim_body};
 use global_state::LinkRow;
 use kept_chains::read_nth;
-use link_blocks::{next_copy, other_in, other_on};
 use link_pages::page_wanted;
 use pair_side::{Here, Side, with_letter};
 use petal_base::{Cell, NoMemory, Sequence, ServerId};

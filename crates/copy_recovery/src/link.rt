@@ -7,10 +7,9 @@ ghost use Rattle.petal_rules.specs.declared.job.Job.TheVariants as job;
 ghost use Rattle.pair_side.specs.Side.{own_of, HasTicketsAt};
 ghost use Rattle.pair_side.specs.Done.{IsDone, IsSaid};
 
-use copy_sender::begins;
+use copy_sender::{begins, cell_at, followed, idle_mark, next_copy, other_in};
 use global_state::{LinkRow, LinkState};
 use kept_chains::{mark_left, unmark};
-use link_blocks::{cell_at, followed, idle_mark, next_copy, other_in};
 use link_pages::page_wanted;
 use pair_side::{Done, FollowUp, Here, Side, WorkError, link_id, says_to, silent};
 use petal_base::{BlockNo, NoMemory, ServerId};

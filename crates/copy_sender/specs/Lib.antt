@@ -1,1 +1,2 @@
 pub mod Stages
+pub use Rattle.link_blocks.specs.Walks

@@ -11,3 +11,4 @@ mod holder;
 pub use begin::begins;
 pub use copy::{copy_stage, sync_body, trim_body};
 pub use holder::{copies_on, on_sync_full, on_synced, on_trimmed};
+pub use link_blocks::{cell_at, followed, idle_mark, next_copy, other_in, other_on};

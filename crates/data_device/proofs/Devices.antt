@@ -4,7 +4,7 @@ use Rattle.std.proofs.lemmas.List.{map-append, length-map, take-take}
 use Rattle.petal_disk.specs.Disk.{Torn, Only, LeavesOnly, written}
 use Rattle.petal_disk.proofs.Moments.{joined, weaker}
 use Rattle.petal_disk.proofs.Tearing.{torn_front, torn_written}
-use Rattle.device_gate.specs.Gate.{IsShut}
+use Rattle.block_journal.specs.Gate.{IsShut}
 use Rattle.block_journal.specs.Records.{Stands, Stored, LeftByAppend}
 use Rattle.block_journal.specs.Records as journal
 use Rattle.block_journal.specs.Region.{Region}

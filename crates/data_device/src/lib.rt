@@ -16,3 +16,4 @@ pub use formatting::write_format;
 pub use header::Header;
 pub use opening::{Found, read_device};
 pub use record_log::RecordLog;
+pub use slot_ledger::{DATA_START, Ledger, SLOT_BYTES, SlotStore, Ticket};

@@ -20,8 +20,7 @@ use crate::replay::{Replay, read_records};
 use block_journal::Journal;
 use busy_marks::Marks;
 use petal_disk::{Disk, Failed};
-use slot_ledger::{DATA_START, Ledger};
-use slot_store::SLOT_BYTES;
+use slot_ledger::{DATA_START, Ledger, SLOT_BYTES};
 use std::alloc::Global;
 
 /// The records of a device, and what they give.

@@ -9,8 +9,7 @@ ghost use Rattle.data_device.specs.Reading.{LeftByFormat};
 
 use crate::error::StoreError;
 use crate::header::{Header, spell};
-use block_journal::{Journal, JournalError};
-use device_gate::write_header;
+use block_journal::{Journal, JournalError, write_header};
 use ghost_list::GhostList;
 use petal_disk::Disk;
 use std::alloc::Global;

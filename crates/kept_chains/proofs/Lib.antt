@@ -6,3 +6,4 @@ pub mod Commits
 pub mod Drops
 pub mod Walks
 pub mod Fronts
+pub use Rattle.server_store.proofs.Commits as ServerStoreCommits

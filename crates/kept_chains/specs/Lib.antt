@@ -4,3 +4,8 @@ pub mod Marking
 pub mod Reading
 pub mod Standing
 pub mod Walking
+pub use Rattle.server_store.specs.StoreError
+pub use Rattle.server_store.specs.Tickets
+pub use Rattle.server_store.specs.Errors
+pub use Rattle.server_store.specs.Holdings
+pub use Rattle.server_store.specs.Shown

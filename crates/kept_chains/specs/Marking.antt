@@ -6,8 +6,8 @@ use Rattle.petal_rules.specs.Store.{Store}
 use Rattle.server_store.specs.Errors.{IsMarkError, HasFault}
 use Rattle.server_store.specs.Holdings.{Holdings}
 use Rattle.server_store.specs.Shown.{Holds}
-use Rattle.data_device.specs.declared.error.StoreError.{StoreError}
-use Rattle.data_device.specs.declared.error.StoreError.TheVariants.{JournalFull, NoMemory}
+use Rattle.server_store.specs.StoreError.{StoreError}
+use Rattle.server_store.specs.StoreError.TheVariants.{JournalFull, NoMemory}
 use Rattle.kept_chains.specs.Kept.{store_of}
 use Rattle.kept_chains.specs.Standing.{StandsAsEither}
 

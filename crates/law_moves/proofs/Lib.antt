@@ -37,3 +37,4 @@ pub mod Visits
 pub mod Histories
 pub mod Afterwards
 pub mod Seconds
+pub use Rattle.law_epochs.proofs.Histories as EpochHistories

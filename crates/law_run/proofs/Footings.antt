@@ -40,7 +40,7 @@ use Rattle.law_stores.proofs.Ways.{At}
 use Rattle.law_requests.proofs.Histories.{AskingAlong, first_lives, more_lives, one_more, reports_known, start_along, start_asking, start_lives}
 use Rattle.law_requests.proofs.Stepping.{happens_asking, happens_later}
 use Rattle.law_log.proofs.Histories.{chosen_caught_was}
-use Rattle.law_epochs.proofs.Histories.{early_after, pending_timely, place_timely, second_timely}
+use Rattle.law_moves.proofs.EpochHistories.{early_after, pending_timely, place_timely, second_timely}
 use Rattle.law_run.specs.Follow.{Ground, KnowEpochs, KnowMoves}
 use Rattle.law_run.proofs.MovesKnown.{moves_known}
 use Rattle.law_run.proofs.Along.{Along}

@@ -40,8 +40,8 @@ use Rattle.law_copies.specs.Visits.{AliveIn, IsLinked, half, place_by, WasThere}
 use Rattle.law_requests.specs.Asked.{IsWrite}
 use Rattle.law_requests.specs.Known.{AskingBy, Lives, PendingFor, asked_for, seen}
 use Rattle.law_requests.proofs.Cells.{write_stays}
-use Rattle.law_epochs.specs.Early.{AreEarly}
-use Rattle.law_epochs.specs.Timely.{IsTimely}
+use Rattle.law_moves.specs.Early.{AreEarly}
+use Rattle.law_moves.specs.Timely.{IsTimely}
 use Rattle.law_moves.specs.Fills.{IsFrozen}
 use Rattle.law_run.specs.Follow.{Ground, IsRemembered, Is_pending, Was_pending}
 use Rattle.law_moves.proofs.Chains.{Drops, NeverDead, PutsAsked}

@@ -42,7 +42,7 @@ use Rattle.law_stores.specs.Waiting.{IsOwn}
 use Rattle.law_copies.specs.Good.{Good}
 use Rattle.law_copies.specs.Pair.{owns_of}
 use Rattle.law_copies.specs.Visits.{Visits}
-use Rattle.law_epochs.specs.Early.{AreEarly}
+use Rattle.law_moves.specs.Early.{AreEarly}
 use Rattle.law_run.specs.Follow.{Ground, Follow}
 use Rattle.law_run.proofs.Along.{Along, rows_in}
 use Rattle.law_run.proofs.Counted.{of_kept, same_kept, frozen_stays}

@@ -5,7 +5,7 @@ use Rattle.std.proofs.Common.{inl, inr, arith, ◌≢◌, ◌≤◌, length}
 use Rattle.std.specs.Ordering.{nat_cmp}
 use Rattle.law_steps.proofs.Coming.{stage_facts}
 use Rattle.petal_rules.specs.Writes.{is_clients}
-use Rattle.law_epochs.specs.Timely.{IsTimely}
+use Rattle.law_moves.specs.Timely.{IsTimely}
 use Rattle.law_moves.specs.Fills.{IsFrozen}
 use Rattle.law_state.specs.Homes.{stage_at, epoch_at}
 use Rattle.std.specs.Prelude.{unwrap_or}

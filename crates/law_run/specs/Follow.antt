@@ -41,8 +41,8 @@ use Rattle.law_copies.specs.Pair.{owns_of}
 use Rattle.law_copies.specs.Visits.{IsLast, IsLinked, Visits, WasThere, place_by}
 use Rattle.law_requests.specs.Asked.{IsOpen}
 use Rattle.law_requests.specs.Known.{Lives, PendingFor, seen, asked_for, AskingBy, KnowsReports}
-use Rattle.law_epochs.specs.Early.{HaveEarlyEntries}
-use Rattle.law_epochs.specs.Timely.{IsTimely}
+use Rattle.law_moves.specs.Early.{HaveEarlyEntries}
+use Rattle.law_moves.specs.Timely.{IsTimely}
 use Rattle.law_moves.specs.Fills.{AreFilled, HaveComeOver, IsFrozen}
 use Rattle.law_moves.specs.Still.{AreStill}
 use Rattle.law_run.specs.Onward.{IsMindful, is_held, Seat}

@@ -38,3 +38,5 @@ pub mod Coming
 pub mod Arriving
 pub mod Ties
 pub mod Waking
+pub use Rattle.law_log.proofs.Histories as LogHistories
+pub use Rattle.law_log.proofs.Lists

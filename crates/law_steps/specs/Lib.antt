@@ -14,3 +14,4 @@ pub mod Ready
 pub mod Ties
 pub mod Waking
 pub mod Coming
+pub use Rattle.law_log.specs.Requested

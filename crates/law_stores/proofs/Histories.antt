@@ -22,8 +22,8 @@ use Rattle.law_state.specs.Joins.{HasJoinedSince}
 use Rattle.law_state.specs.Plain.{IsPlainLog}
 use Rattle.law_state.proofs.BlankJoins.{joined_counts, joins_grow}
 use Rattle.law_state.proofs.Incarnations.{joined_in, joined_once}
-use Rattle.law_log.proofs.Histories.{chosen_join_acts, history_grows, history_is_firm, join_has_begun, join_was_wanted}
-use Rattle.law_log.proofs.Lists.{parted}
+use Rattle.law_steps.proofs.LogHistories.{chosen_join_acts, history_grows, history_is_firm, join_has_begun, join_was_wanted}
+use Rattle.law_steps.proofs.Lists.{parted}
 use Rattle.law_steps.proofs.Fronts.{front_more, front_on}
 use Rattle.law_stores.specs.Waiting.{AreEmpty, IsEmpty, IsOwn}
 use Rattle.law_stores.proofs.Counts.{joined_where, stands_in}

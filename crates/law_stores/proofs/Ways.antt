@@ -15,8 +15,8 @@ use Rattle.petal_rules.specs.Server.{Server}
 use Rattle.petal_rules.specs.World.{World, chosen_log, chosen_state, setting_of, start}
 use Rattle.petal_rules.proofs.ListLemmas.{in_former}
 use Rattle.petal_rules.proofs.Tests.{by_bool, true_false}
-use Rattle.law_log.specs.Requested.{WasReturning}
-use Rattle.law_log.proofs.Histories.{history_grows}
+use Rattle.law_steps.specs.Requested.{WasReturning}
+use Rattle.law_steps.proofs.LogHistories.{history_grows}
 use Rattle.law_steps.proofs.Firms.{always_firm}
 use Rattle.law_steps.proofs.Fronts.{below_itself}
 use Rattle.law_steps.proofs.Histories.{front_legal, last_happens}

@@ -14,7 +14,7 @@ use Rattle.petal_rules.specs.Server.{Own}
 use Rattle.petal_rules.specs.State.{State, is_on, is_whole}
 use Rattle.petal_rules.specs.Store.{Chain}
 use Rattle.petal_rules.specs.Writes.{is_under_way}
-use Rattle.kept_chains.specs.Walking.{marked_in, stored_in}
+use Rattle.pair_side.specs.Walking.{marked_in, stored_in}
 use Rattle.pair_side.proofs.Linked.{on_map}
 use Rattle.link_blocks.specs.Walks.{idle_on, left_on, marked_on, on_link, stored_on}
 use Rattle.link_blocks.proofs.Least.{filter_both, from_start, least_both}

@@ -10,12 +10,11 @@ ghost use Rattle.link_blocks.specs.Found.{listed};
 use crate::next::next_copy;
 use crate::roles::other_in;
 use global_state::LinkRow;
-use pair_side::{Here, Side};
+use pair_side::{Here, Side, Store};
 use petal_base::{NoMemory, ServerId};
 use petal_command::{Command, LinkNumber, ServerNumber};
 use petal_disk::Disk;
 use petal_msg::NextCopy;
-use server_store::Store;
 
 fn is_nothing(next: NextCopy) -> bool
     ensures { result ≡ returns.is_nothing next }

@@ -7,7 +7,7 @@ ghost use Rattle.petal_rules.specs.Copies as copies;
 ghost use Rattle.petal_rules.specs.Copies.{least};
 ghost use Rattle.petal_rules.specs.State.{is_on};
 ghost use Rattle.petal_rules.specs.Store.{Store as Stored};
-ghost use Rattle.kept_chains.specs.Kept.{chains_of};
+ghost use Rattle.pair_side.specs.Kept.{chains_of};
 ghost use Rattle.pair_side.specs.Side.{own_of};
 ghost use Rattle.link_blocks.specs.Walks.{left_on, side_own};
 
@@ -15,11 +15,10 @@ use crate::roles::is_whole;
 use crate::walk::{cell_at, marked_above, stored_above};
 use global_state::LinkRow;
 use pair_lock::PairLock;
-use pair_side::{Copies, Here, Side, link_id};
+use pair_side::{Copies, Here, Side, Store, link_id};
 use petal_base::BlockNo;
 use petal_disk::Disk;
 use petal_msg::NextCopy;
-use server_store::Store;
 
 fn lesser_block(a: Option<BlockNo>, b: Option<BlockNo>) -> Option<BlockNo>
     ensures { result ≡ lesser a b }

@@ -7,8 +7,8 @@ use Rattle.petal_rules.specs.Log.{LogDone as Rule}
 use Rattle.petal_rules.specs.Server.{Sender, letters_of}
 use Rattle.petal_rules.specs.declared.job.Job.{Job}
 use Rattle.petal_rules.specs.declared.job.Job.TheVariants as job
-use Rattle.state_store.specs.declared.error.StateError.{StateError}
-use Rattle.state_store.specs.declared.error.StateError.TheVariants.{NoMemory}
+use Rattle.paxos_core.specs.StateError.{StateError}
+use Rattle.paxos_core.specs.StateError.TheVariants.{NoMemory}
 use Rattle.log_memory.specs.declared.done.LogDone.{LogDone}
 use Rattle.log_memory.specs.Part.{Part, log_of, sender_of}
 

@@ -9,11 +9,10 @@ ghost use Rattle.log_memory.specs.Part.{new_part};
 use crate::entries::known_run;
 use crate::side::LogSide;
 use global_state::GlobalState;
-use paxos_core::Proposer;
+use paxos_core::{Proposer, StateStore};
 use petal_base::{Inc, NoMemory, Rev, Sequence, ServerId};
 use petal_command::Command;
 use petal_disk::Disk;
-use state_store::StateStore;
 use std::alloc::Global;
 
 /// The global state, as these entries make it.

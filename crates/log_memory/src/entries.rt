@@ -12,11 +12,11 @@ use crate::done::{LogDone, only};
 use crate::side::LogSide;
 use crate::wants::but;
 use global_state::GlobalState;
+use paxos_core::StateStore;
 use petal_base::{NoMemory, Rev, Sequence};
 use petal_command::Command;
 use petal_disk::Disk;
 use petal_paxos::Phase;
-use state_store::StateStore;
 use std::alloc::Global;
 
 /// The next entry, and the state with it.

@@ -11,9 +11,9 @@ use crate::done::{LogDone, only};
 use crate::side::LogSide;
 use crate::wants::is_same_command;
 use global_state::GlobalState;
+use paxos_core::StateError;
 use petal_base::{Inc, NoMemory, Sequence, ServerId};
 use petal_command::{Command, ServerNumber};
-use state_store::StateError;
 use std::alloc::{AllocError, Global};
 
 fn is_due(state: &GlobalState, command: &Command) -> bool

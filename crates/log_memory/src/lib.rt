@@ -22,4 +22,5 @@ pub use done::{LogDone, only};
 pub use down::farewell;
 pub use entries::{Entered, Next, known_run};
 pub use envelope::{Envelope, room_for};
+pub use paxos_core::{on_accept, on_prepare};
 pub use side::LogSide;

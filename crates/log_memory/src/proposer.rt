@@ -12,12 +12,11 @@ ghost use Rattle.log_memory.specs.Said.{IsLogSaid};
 use crate::done::{LogDone, only};
 use crate::envelope::room_for;
 use crate::side::LogSide;
-use paxos_core::Heard;
+use paxos_core::{Heard, StateError, StateStore};
 use petal_base::{NoMemory, Sequence, ServerId};
 use petal_command::{Ballot, Command, Pax};
 use petal_disk::Disk;
 use petal_paxos::Phase;
-use state_store::{StateError, StateStore};
 use std::alloc::Global;
 
 /// The log has so many places.

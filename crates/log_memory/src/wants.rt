@@ -10,9 +10,9 @@ ghost use Rattle.log_memory.specs.Part.{log_of};
 
 use crate::done::{LogDone, only};
 use crate::side::LogSide;
+use paxos_core::StateError;
 use petal_base::Sequence;
 use petal_command::Command;
-use state_store::StateError;
 use std::alloc::Global;
 
 /// Whether two commands are one.

@@ -13,10 +13,9 @@ use first_servers::{MemServer, members};
 use petal_base::{NoMemory, Sequence, ServerId};
 use petal_script::{Script, read_script};
 use petal_world::{World, are_in_order};
-use row_runs::{FirstHosts, Row, play_row};
+use row_runs::{FirstHosts, Row, Run, play_row};
 use std::alloc::Global;
 use std::test::Fail;
-use world_runs::Run;
 
 /// Servers with disks in memory.
 struct Memory;

@@ -2,7 +2,7 @@
 use Rattle.std.proofs.Common.{◌≡◌, ◌≤◌, Bool, true, false, Option, None, Some, refl, sym, ap, ◌∙◌}
 use Rattle.std.specs.Prelude.{is_some, if◌then◌else◌}
 use Rattle.petal_disk.specs.declared.disk.Disk.{Ghosts}
-use Rattle.server_work.specs.Core.{Core}
+use Rattle.server_recovery.specs.Core.{Core}
 use Rattle.server_store.specs.Holdings.{Holdings}
 use Rattle.server_store.specs.Slots.{slot_start}
 use Rattle.state_store.specs.Device.{Keeping}

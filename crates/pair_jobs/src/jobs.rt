@@ -10,13 +10,13 @@ use crate::letters::{at_other_rev, handles};
 use copy_recovery::{copies_on, mends, trims_on};
 use dead_cells::sweeps;
 use global_state::GlobalState;
-use lead_write::goes_on;
 use pair_side::{Done, Here, Side, WorkError, silent};
 use petal_base::{Cell, Inc, ServerId};
 use petal_disk::Disk;
 use petal_msg::{Actor, Letter};
 use petal_rules::Job;
 use server_store::Store;
+use write_pair::goes_on;
 
 /// Whether the server is In with this incarnation.
 fn is_in(state: &GlobalState, server: ServerId, inc: Inc) -> bool

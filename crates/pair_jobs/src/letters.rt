@@ -9,7 +9,6 @@ ghost use Rattle.pair_side.specs.Done.{HasVersions, IsDone, IsSaid};
 use copy_recovery::{
     CopiedEntry, on_hello, on_hello_ask, on_sync, on_sync_full, on_synced, on_trim, on_trimmed,
 };
-use lead_write::{Moving, on_fill};
 use pair_side::{Done, Here, Side, WorkError, says, silent};
 use petal_base::{MapId, Seq};
 use petal_disk::Disk;
@@ -17,6 +16,7 @@ use petal_msg::{Actor, Body, Letter, LinkId};
 use read_either::on_read;
 use redistribute::{on_fill_full, on_filled};
 use server_store::Store;
+use write_pair::{Moving, on_fill};
 
 /// The number of the request of which a client's letter speaks.
 fn asked_by(body: &Body) -> Option<Seq>

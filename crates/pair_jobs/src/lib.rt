@@ -7,4 +7,8 @@
 mod jobs;
 mod letters;
 
+pub use copy_recovery::{letters_after as copy_letters_after, mend_jobs};
+pub use dead_cells::has_dead;
 pub use jobs::does;
+pub use redistribute::fills_after;
+pub use write_pair::letters_after as write_letters_after;

@@ -1,7 +1,7 @@
 -- A server that begins has no ticket out, and needs none.
 use Rattle.std.proofs.Common.{◌≡◌, ℕ, List, [], refl, sym, subst}
 use Rattle.petal_table.specs.Table.{at}
-use Rattle.server_store.specs.Holdings.{Holdings}
+use Rattle.kept_chains.specs.Holdings.{Holdings}
 use Rattle.pair_side.specs.Side.{Side, HasTickets, HasTicketsAt, new_side}
 
 no_tickets : HasTickets [] [] [] [] []

@@ -24,8 +24,8 @@ use Rattle.petal_rules.specs.State.{State, link_named}
 use Rattle.petal_rules.specs.Store.{cell_cmp}
 use Rattle.petal_rules.specs.Writes.{has_slot}
 use Rattle.petal_rules.proofs.CellTables.{cell_cmp_same, cell_cmp_total}
-use Rattle.server_store.specs.Holdings.{Holdings}
-use Rattle.server_store.specs.Tickets as store
+use Rattle.kept_chains.specs.Holdings.{Holdings}
+use Rattle.kept_chains.specs.Tickets as store
 use Rattle.kept_chains.proofs.Puts.{tied}
 use Rattle.copy_memory.specs.Ended.{cell_ends, copies_left}
 use Rattle.pair_side.specs.Crossed.{AreFreed, IsCrossed}

@@ -1,16 +1,16 @@
 -- An entry of the log, with the commit of a store that waits no more.
 use Rattle.std.proofs.Common.{rules, ◌≡◌, ℕ, ◌+◌, ◌&&◌, Bool, true, false, Option, None, Some, List, Result, Ok, Err, length, refl, sym, subst, ap, ◌∙◌, arith}
 use Rattle.std.specs.Prelude.{◌==◌, if◌then◌else◌, IsErrOf}
-use Rattle.data_device.specs.declared.error.StoreError.{StoreError}
-use Rattle.data_device.specs.declared.error.StoreError.TheVariants as store
+use Rattle.kept_chains.specs.StoreError.{StoreError}
+use Rattle.kept_chains.specs.StoreError.TheVariants as store
 use Rattle.petal_command.specs.declared.command.Command.{Command}
 use Rattle.petal_disk.specs.Disk.{LeavesOnly}
 use Rattle.petal_disk.specs.declared.disk.Disk.{Ghosts}
 use Rattle.petal_rules.specs.Crossing.{crossed, crossed_by, is_blank_join}
 use Rattle.petal_rules.specs.Server.{Here, Own}
 use Rattle.petal_rules.specs.Store.{Store, settled}
-use Rattle.server_store.specs.Errors.{IsCommitError}
-use Rattle.server_store.specs.Holdings.{Holdings}
+use Rattle.kept_chains.specs.Errors.{IsCommitError}
+use Rattle.kept_chains.specs.Holdings.{Holdings}
 use Rattle.kept_chains.proofs.Commits.{still_moments}
 use Rattle.kept_chains.specs.Kept.{store_of}
 use Rattle.kept_chains.specs.Marking.{IsCommit}

@@ -5,7 +5,7 @@ use Rattle.petal_base.specs.declared.cell.Cell.{Cell}
 use Rattle.petal_table.specs.Table.{Table, at}
 use Rattle.petal_rules.specs.Store.{cell_cmp}
 use Rattle.petal_rules.proofs.CellTables.{cell_same}
-use Rattle.server_store.specs.Holdings.{Holdings}
+use Rattle.kept_chains.specs.Holdings.{Holdings}
 use Rattle.pair_side.specs.Slots.{IsKept}
 
 module _ {D : Type 0} (old_table new_table : Table Cell ℕ) (old new : Holdings D) (cell : Cell) (kept : IsKept old_table new_table old new cell) where

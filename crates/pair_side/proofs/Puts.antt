@@ -6,13 +6,13 @@ use Rattle.petal_disk.specs.Disk.{LeavesOnly}
 use Rattle.petal_disk.specs.declared.disk.Disk.{Ghosts}
 use Rattle.physical_map.specs.Keys.{placed}
 use Rattle.petal_rules.specs.Store.{Store, Stored, with_ticket, with_entry}
-use Rattle.server_store.specs.Errors.{IsCommitError, IsMarkError, HasFault}
-use Rattle.server_store.specs.Holdings.{Held, Holdings, key_held}
-use Rattle.server_store.specs.Shown.{Holds}
-use Rattle.server_store.specs.Tickets as lists
-use Rattle.server_store.proofs.Commits.{on_ok}
-use Rattle.data_device.specs.declared.error.StoreError.{StoreError}
-use Rattle.data_device.specs.declared.error.StoreError.TheVariants.{Failed, NoSpace, JournalFull, BadRecord, NoMemory}
+use Rattle.kept_chains.specs.Errors.{IsCommitError, IsMarkError, HasFault}
+use Rattle.kept_chains.specs.Holdings.{Held, Holdings, key_held}
+use Rattle.kept_chains.specs.Shown.{Holds}
+use Rattle.kept_chains.specs.Tickets as lists
+use Rattle.kept_chains.proofs.ServerStoreCommits.{on_ok}
+use Rattle.kept_chains.specs.StoreError.{StoreError}
+use Rattle.kept_chains.specs.StoreError.TheVariants.{Failed, NoSpace, JournalFull, BadRecord, NoMemory}
 use Rattle.kept_chains.specs.Kept.{store_of}
 use Rattle.kept_chains.specs.Marking.{IsChange}
 use Rattle.kept_chains.specs.Standing.{StandsAsEither}

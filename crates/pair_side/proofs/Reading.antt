@@ -9,7 +9,7 @@ use Rattle.petal_disk.specs.declared.disk.Disk.{Ghosts}
 use Rattle.petal_rules.specs.Server.{Here}
 use Rattle.petal_rules.specs.Server as rules
 use Rattle.petal_rules.specs.Store.{Store}
-use Rattle.server_store.specs.Holdings.{Holdings}
+use Rattle.kept_chains.specs.Holdings.{Holdings}
 use Rattle.pair_side.specs.declared.error.WorkError.{WorkError}
 use Rattle.pair_side.specs.declared.error.WorkError.TheVariants.{NoMemory}
 use Rattle.pair_side.specs.declared.done.Done.{Done}

@@ -3,7 +3,7 @@ use Rattle.std.proofs.Common.{◌≡◌, ℕ, List, Result, Ok, Err, refl, sym, 
 use Rattle.petal_disk.specs.declared.disk.Disk.{Ghosts}
 use Rattle.petal_rules.specs.Server.{Here}
 use Rattle.petal_rules.specs.Server as rules
-use Rattle.server_store.specs.Holdings.{Holdings}
+use Rattle.kept_chains.specs.Holdings.{Holdings}
 use Rattle.kept_chains.proofs.Commits.{still_moments}
 use Rattle.pair_side.specs.declared.error.WorkError.{WorkError}
 use Rattle.pair_side.specs.declared.error.WorkError.TheVariants.{JournalFull, NoMemory}

@@ -21,10 +21,10 @@ use Rattle.petal_base.specs.declared.cell.Key.{Key}
 use Rattle.physical_map.specs.Keys.{placed}
 use Rattle.petal_rules.specs.Store.{with_entry, with_ticket, without_ticket}
 use Rattle.petal_rules.specs.Store as rules
-use Rattle.server_store.specs.Holdings.{Holdings, key_held}
+use Rattle.kept_chains.specs.Holdings.{Holdings, key_held}
 use Rattle.kept_chains.specs.Kept.{chains_of, store_of}
 use Rattle.kept_chains.proofs.Kept.{placed_is}
-use Rattle.server_store.specs.Tickets as store
+use Rattle.kept_chains.specs.Tickets as store
 use Rattle.kept_chains.proofs.Chains.{cell_cases}
 use Rattle.pair_side.specs.Side.{HasTickets, times, needs_own, needs_apart}
 

@@ -9,7 +9,7 @@ use Rattle.petal_table.specs.Table.{Table}
 use Rattle.petal_rules.specs.Crossing.{crossed, crossed_by, is_blank_join}
 use Rattle.petal_rules.specs.Server.{Here}
 use Rattle.petal_rules.specs.State.{State}
-use Rattle.server_store.specs.Holdings.{Holdings}
+use Rattle.kept_chains.specs.Holdings.{Holdings}
 use Rattle.kept_chains.specs.Kept.{store_of}
 use Rattle.kept_chains.specs.Standing.{StandsAsEither}
 use Rattle.pair_side.specs.declared.error.WorkError.{WorkError}

@@ -8,8 +8,8 @@ use Rattle.petal_rules.specs.Server.{Own, Here, sender, letters_of}
 use Rattle.petal_rules.specs.Server.{Done as Rule}
 use Rattle.petal_rules.specs.declared.job.Job.{Job}
 use Rattle.petal_rules.specs.declared.job.Job.TheVariants as job
-use Rattle.server_store.specs.Holdings.{Holdings, listed}
-use Rattle.server_store.specs.Shown.{Holds}
+use Rattle.kept_chains.specs.Holdings.{Holdings, listed}
+use Rattle.kept_chains.specs.Shown.{Holds}
 use Rattle.kept_chains.specs.Kept.{store_of}
 use Rattle.kept_chains.specs.Standing.{StandsAsEither}
 use Rattle.pair_side.specs.declared.error.WorkError.{WorkError}

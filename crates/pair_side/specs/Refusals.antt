@@ -1,6 +1,6 @@
 -- A store's refusals, as those of a job.
-use Rattle.data_device.specs.declared.error.StoreError.{StoreError}
-use Rattle.data_device.specs.declared.error.StoreError.TheVariants as store
+use Rattle.kept_chains.specs.StoreError.{StoreError}
+use Rattle.kept_chains.specs.StoreError.TheVariants as store
 use Rattle.pair_side.specs.declared.error.WorkError.{WorkError}
 use Rattle.pair_side.specs.declared.error.WorkError.TheVariants.{Failed, JournalFull, NoMemory}
 

@@ -11,7 +11,7 @@ use Rattle.petal_msg.specs.declared.operation.Pending.{Pending}
 use Rattle.petal_rules.specs.Server.{Own, Pairs, Copies, no_copies}
 use Rattle.petal_rules.specs.Store.{cell_cmp}
 use Rattle.petal_rules.specs.Writes.{has_slot}
-use Rattle.server_store.specs.Holdings.{Holdings}
+use Rattle.kept_chains.specs.Holdings.{Holdings}
 use Rattle.kept_chains.specs.Kept.{store_of}
 
 -- the number of the next operation, what is pending, what is finished for each client, the last operation that was followed on

@@ -4,7 +4,7 @@ use Rattle.petal_base.specs.declared.cell.Cell.{Cell}
 use Rattle.petal_table.specs.Table.{Table, at, put}
 use Rattle.petal_base.specs.declared.cell.Key.{Key}
 use Rattle.petal_rules.specs.Store.{Store, Stored, cell_cmp, with_entry, with_ticket}
-use Rattle.server_store.specs.Holdings.{Holdings}
+use Rattle.kept_chains.specs.Holdings.{Holdings}
 use Rattle.pair_side.specs.declared.error.WorkError.{WorkError}
 use Rattle.pair_side.specs.declared.error.WorkError.TheVariants.{Failed, JournalFull, NoMemory}
 

@@ -15,9 +15,8 @@ ghost use Rattle.pair_side.specs.Crossed.{AreFreed, IsCrossed, IsEntered, lacks_
 ghost use Rattle.pair_side.specs.Side.{HasTicketsAt, pairs_of, times};
 
 use crate::{Side, WorkError, give_back};
-use copy_memory::{Here, drops_cells, ends_cell, link_id};
-use global_state::{GlobalState, LinkRow, LinkState};
-use kept_chains::settle;
+use copy_memory::{GlobalState, Here, LinkRow, LinkState, drops_cells, ends_cell, link_id};
+use kept_chains::{Store, Ticket, settle};
 use link_table::has_server;
 use pair_lock::PairLock;
 use petal_base::{Cell, NoMemory, ServerId};
@@ -25,7 +24,6 @@ use petal_command::Command;
 use petal_disk::Disk;
 use petal_rules::Job;
 use petal_table::Table;
-use server_store::{Store, Ticket};
 use std::alloc::{AllocError, Global};
 
 fn first_ended(

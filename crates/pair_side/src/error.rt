@@ -1,7 +1,7 @@
 //! Why a job was not done.
 
+use kept_chains::StoreError;
 use petal_base::NoMemory;
-use server_store::StoreError;
 use thiserror::Error;
 
 /// Why a job was not done.

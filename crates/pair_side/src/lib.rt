@@ -16,6 +16,7 @@ pub use copy_memory::{Copies, Here, LinkTable, link_id};
 pub use crossing::{enters, entry_jobs, lacks_room};
 pub use done::{Done, FollowUp, only};
 pub use error::WorkError;
+pub use kept_chains::{Store, next_marked, next_stored};
 pub use replies::{ended, finishes, says, says_to, silent};
 pub use sending::with_letter;
 pub use side::Side;

@@ -7,10 +7,10 @@ ghost use Rattle.pair_side.specs.Side.{own_of, HasTicketsAt};
 ghost use Rattle.pair_side.specs.Done.{IsSaid};
 
 use crate::{Done, Here, Side, WorkError, only};
+use kept_chains::Store;
 use petal_base::{ClientId, Seq, Sequence, ServerId};
 use petal_disk::Disk;
 use petal_msg::{Actor, Body, Ending, Finished};
-use server_store::Store;
 
 /// Nothing is sent.
 pub fn silent<D: Disk>(here: &Here, side: &Side, store: &Store<D>) -> Result<Done, WorkError>

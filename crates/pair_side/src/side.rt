@@ -9,11 +9,11 @@ ghost use Rattle.petal_rules.specs.Store.{cell_cmp};
 ghost use Rattle.pair_side.specs.Side.{new_side};
 
 use copy_memory::{Copies, LinkTable};
+use kept_chains::Ticket;
 use pair_lock::PairLock;
 use petal_base::{Cell, ClientId, Key, NoMemory, Op};
 use petal_msg::{Finished, LastOp, Pending};
 use petal_table::Table;
-use server_store::Ticket;
 use std::alloc::Global;
 use std::marker::Model;
 

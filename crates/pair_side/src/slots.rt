@@ -6,7 +6,7 @@ ghost use Rattle.std.specs.Map.{keys_of};
 ghost use Rattle.petal_disk.specs.Disk.{LeavesOnly};
 ghost use Rattle.petal_table.specs.Table.{at, put, without};
 ghost use Rattle.petal_rules.specs.Store.{cell_cmp, free_of, with_entry};
-ghost use Rattle.server_store.specs.Tickets as lists;
+ghost use Rattle.kept_chains.specs.Tickets as lists;
 ghost use Rattle.kept_chains.specs.Kept.{store_of};
 ghost use Rattle.kept_chains.specs.Marking.{IsChange};
 ghost use Rattle.kept_chains.specs.Standing.{StandsAsEither};
@@ -15,11 +15,10 @@ ghost use Rattle.pair_side.specs.Done.{HasFault, HoldsAt};
 ghost use Rattle.pair_side.specs.Slots.{IsKept, IsStop, IsOutAt, with_new};
 
 use crate::WorkError;
-use kept_chains::set_apart;
+use kept_chains::{Store, StoreError, Ticket, set_apart};
 use petal_base::{Cell, Key, NoMemory, SharedBlock, Version};
 use petal_disk::Disk;
 use petal_table::Table;
-use server_store::{Store, StoreError, Ticket};
 
 /// Sets a slot apart for a cell that has none; false where none is free.
 pub fn keep<D: Disk>(

@@ -13,3 +13,4 @@ mod proposer;
 pub use acceptor::{on_accept, on_prepare};
 pub use petal_paxos::{Heard, Phase};
 pub use proposer::{Proposer, has_majority};
+pub use state_store::{StateError, StateStore};

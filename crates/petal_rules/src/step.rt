@@ -1,7 +1,7 @@
 //! The steps of the world.
 
-use petal_disk::{Plan, Which};
 use petal_msg::SharedLetter;
+use script_lines::{Plan, Which};
 
 /// Whether the commit of a job that a device failed in was made.
 #[derive(Clone, Copy, Debug, PartialEq, Eq)]

@@ -6,7 +6,7 @@ use Rattle.petal_msg.specs.declared.letter.Actor.TheVariants as actor
 use Rattle.script_lines.specs.declared.request.Line.{Line}
 use Rattle.petal_rules.specs.World.{Setting, World, MayCall, MayClient, MayServer, MayStep, received, greatest_u64}
 use Rattle.petal_rules.specs.declared.step.Step.{Step}
-use Rattle.client_core.specs.Core as client
+use Rattle.client_seats.specs.Core as client
 use Rattle.client_seats.specs.declared.seat.Seat.{Seat}
 use Rattle.world_desks.specs.Desks.{Desk, desk_of}
 use Rattle.world_desks.specs.Desks as server

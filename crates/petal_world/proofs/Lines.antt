@@ -9,7 +9,7 @@ use Rattle.world_desks.specs.Desks.{Desk, desk_of}
 use Rattle.world_desks.proofs.Left.{left_life, left_runs}
 use Rattle.petal_rules.specs.Jobs.{operator}
 use Rattle.petal_rules.proofs.Tests.{none_some, same_some}
-use Rattle.client_core.specs.Core.{ordered}
+use Rattle.client_seats.specs.Core.{ordered}
 use Rattle.open_request.specs.Orders.{order_in, order_of}
 use Rattle.open_request.specs.declared.order.Order.{Order}
 use Rattle.open_request.specs.declared.order.Order.TheVariants.{Stop, Start, Blank}

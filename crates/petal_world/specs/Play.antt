@@ -13,7 +13,7 @@ use Rattle.petal_rules.specs.declared.step.Step.{Step}
 use Rattle.petal_rules.specs.declared.step.Step.TheVariants.{Call}
 use Rattle.petal_history.specs.Legal.{IsLegal, world_after}
 use Rattle.petal_history.specs.declared.record.Record.{Record}
-use Rattle.client_core.specs.Core.{is_spent}
+use Rattle.client_seats.specs.Core.{is_spent}
 use Rattle.petal_world.specs.declared.stepped.Stepped.{Stepped}
 use Rattle.world_desks.specs.Desks.{end_in}
 use Rattle.world_desks.specs.Playable.{AreOrdered}

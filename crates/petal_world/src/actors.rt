@@ -1,7 +1,7 @@
 //! What a world keeps beside its records.
 
 ghost use Rattle.std.specs.Prelude.{◌≡◌, ◌<◌, false, None, Some, length, slice_get, IfOk, IfSome};
-ghost use Rattle.client_core.specs.Core.{is_spent};
+ghost use Rattle.client_seats.specs.Core.{is_spent};
 ghost use Rattle.world_desks.specs.Desks.{Desk, end_in, ended};
 ghost use Rattle.world_desks.specs.declared.step_end.StepEnd.TheVariants.{Done};
 ghost use Rattle.client_seats.specs.Seats.{CanTake, reacted_at};

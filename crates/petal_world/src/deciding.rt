@@ -2,7 +2,7 @@
 
 ghost use Rattle.std.specs.Prelude.{◌≡◌, ◌↔◌, ℕ, Some, IsTrue, slice_get};
 ghost use Rattle.petal_msg.specs.declared.letter.Actor.TheVariants as actor;
-ghost use Rattle.client_core.specs.Core.{settle_of};
+ghost use Rattle.client_seats.specs.Core.{settle_of};
 ghost use Rattle.open_request.specs.declared.order.Order.{Order};
 ghost use Rattle.petal_rules.specs.Jobs.{operator};
 ghost use Rattle.petal_rules.specs.World.{Setting, World, MayAct, MayBlank, MayBoot, MayCall, MayClient, MayGlance, MayReceive};
@@ -17,8 +17,7 @@ ghost use Rattle.petal_world.specs.Actors.{Shows};
 
 use crate::actors::Actors;
 use crate::control::Given;
-use client_core::Order;
-use client_seats::Seat;
+use client_seats::{Order, Seat};
 use petal_base::{ClientId, Inc, OPERATOR, ServerId, Stamp};
 use petal_msg::{Actor, Letter};
 use petal_rules::Step;

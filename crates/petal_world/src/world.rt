@@ -2,7 +2,7 @@
 
 ghost use Rattle.std.specs.Prelude.{◌≡◌, ◌+◌, ◌++◌, ◌∷◌, [], map, min, false, true, IfOk, OnOk, OnErr, IsErrOf};
 ghost use Rattle.petal_history.specs.Legal.{IsLegal};
-ghost use Rattle.client_core.specs.Core.{settle_of};
+ghost use Rattle.client_seats.specs.Core.{settle_of};
 ghost use Rattle.petal_rules.specs.Jobs.{operator};
 ghost use Rattle.petal_rules.specs.World.{MayStep, greatest_u64, setting_of};
 ghost use Rattle.petal_world.specs.Play.{Can, LeavesIn, entered, played, rev_of, told_by, world_of};

@@ -7,5 +7,5 @@
 mod player;
 mod schedule;
 
-pub use row_wants::FirstHosts;
+pub use row_wants::{FirstHosts, Run};
 pub use schedule::{Row, play_row};

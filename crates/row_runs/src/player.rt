@@ -4,10 +4,9 @@ use petal_base::{NoMemory, ServerId, SharedBlock, Stamp};
 use petal_msg::{Actor, Body, Letter, SharedLetter};
 use petal_world::Host;
 use row_acts::Act;
-use row_wants::{FirstHosts, is_held, is_so};
+use row_wants::{FirstHosts, Run, is_held, is_so, play};
 use row_words::Mail;
 use std::alloc::Global;
-use world_runs::{Run, play};
 use world_told::{made, tells};
 
 /// A run, and for each letter that was sent whether it is gone: handed over or lost.

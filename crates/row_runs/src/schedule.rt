@@ -58,10 +58,9 @@ use crate::player::Player;
 use petal_base::NoMemory;
 use petal_world::Host;
 use row_acts::{Act, act_of};
-use row_wants::FirstHosts;
+use row_wants::{FirstHosts, Run};
 use std::alloc::Global;
 use std::test::Fail;
-use world_runs::Run;
 
 /// What a run shows, its script, and its steps, in the form of this module.
 #[derive(Clone, Copy)]

@@ -8,3 +8,4 @@ mod wants;
 
 pub use held::{FirstHosts, is_held};
 pub use wants::is_so;
+pub use world_runs::{Run, play};

@@ -11,6 +11,7 @@ mod run;
 mod script;
 
 pub use answer::Answer;
+pub use petal_disk::{Plan, Which};
 pub use request::{Line, Pattern, Request};
 pub use run::Run;
 pub use script::Script;

@@ -23,9 +23,9 @@ use Rattle.petal_rules.specs.Server.{Here, Sender, Server, letters_of}
 use Rattle.petal_rules.specs.Store.{Store}
 use Rattle.petal_rules.specs.declared.step.WorkEnd.TheVariants.{Done}
 use Rattle.server_core.specs.Boots.{IsBoot, booted, raised_records, shut}
-use Rattle.server_work.specs.Core.{Core, acted, here_in, server_of}
-use Rattle.server_work.proofs.Rooms.{few_records}
-use Rattle.server_work.proofs.Works.{few}
+use Rattle.server_ticks.specs.Core.{Core, acted, here_in, server_of}
+use Rattle.server_ticks.proofs.Rooms.{few_records}
+use Rattle.server_ticks.proofs.Works.{few}
 use Rattle.state_store.specs.Device.{Keeping, StandsForEither, WithOrWithout}
 
 -- a record of a greater incarnation is needed

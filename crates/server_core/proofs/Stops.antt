@@ -5,7 +5,7 @@ use Rattle.petal_msg.specs.declared.letter.Letter.{Letter}
 use Rattle.petal_paxos.specs.declared.record.StateRecord.{StateRecord}
 use Rattle.petal_rules.specs.Jobs.{stops}
 use Rattle.petal_rules.specs.Store.{Store}
-use Rattle.server_work.specs.Core.{Core, acted, here_in, server_of}
+use Rattle.server_ticks.specs.Core.{Core, acted, here_in, server_of}
 use Rattle.server_core.specs.Farewell.{farewell_of}
 
 -- with the letters that were made before it is as the rule says

@@ -18,7 +18,7 @@ use Rattle.petal_rules.specs.Jobs.{journal_records}
 use Rattle.petal_rules.specs.Log.{Voter}
 use Rattle.petal_rules.specs.Store.{Store}
 use Rattle.petal_rules.specs.declared.step.WorkEnd.TheVariants.{Done}
-use Rattle.server_work.specs.Core.{Core, acted, here_in, server_of}
+use Rattle.server_ticks.specs.Core.{Core, acted, here_in, server_of}
 use Rattle.state_store.specs.Device.{Keeping, StandsForEither}
 
 -- the same server as its next incarnation

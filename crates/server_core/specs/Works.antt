@@ -11,8 +11,8 @@ use Rattle.petal_disk.specs.declared.disk.Disk.{Ghosts}
 use Rattle.petal_disk.specs.Disk.{LeavesOnly}
 use Rattle.petal_msg.specs.declared.letter.Letter.{Letter}
 use Rattle.server_store.specs.Holdings.{Holdings}
-use Rattle.server_work.specs.Core.{Core, HasFaults, IsWork, left_by_first}
-use Rattle.server_work.specs.Work.{IsFullWork}
+use Rattle.server_ticks.specs.Core.{Core, HasFaults, IsWork, left_by_first}
+use Rattle.server_ticks.specs.Work.{IsFullWork}
 use Rattle.state_store.specs.Device.{Keeping, StandsForEither}
 
 -- the first job is done, as the rule says where both devices tell their bytes and show the stores; None comes exactly where there is

@@ -17,7 +17,7 @@ use petal_base::{Inc, NoMemory, Sequence};
 use petal_command::ServerNumber;
 use petal_disk::Disk;
 use petal_msg::Letter;
-use server_work::of_state;
+use server_ticks::of_state;
 use state_store::StateStore;
 use std::alloc::Global;
 

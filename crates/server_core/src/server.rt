@@ -11,7 +11,7 @@ ghost use Rattle.petal_paxos.specs.declared.record.StateRecord.{StateRecord};
 ghost use Rattle.petal_rules.specs.Jobs as jobs;
 ghost use Rattle.petal_rules.specs.Store as stores;
 ghost use Rattle.petal_rules.specs.declared.job.Job.TheVariants as job;
-ghost use Rattle.server_work.specs.Core.{acted, here_in, is_spent, server_of};
+ghost use Rattle.server_ticks.specs.Core.{acted, here_in, is_spent, server_of};
 
 use global_state::GlobalState;
 use log_side::{Envelope, LogSide, farewell};
@@ -21,8 +21,7 @@ use petal_disk::{DeviceError, Disk};
 use petal_msg::{Actor, Body, Letter, SharedLetter};
 use petal_rules::Job;
 use server_store::Store;
-use server_ticks::{moves_on, tick_jobs, tick_letters};
-use server_work::Parts;
+use server_ticks::{Parts, moves_on, tick_jobs, tick_letters};
 use std::alloc::Global;
 use std::marker::Model;
 
@@ -37,7 +36,7 @@ pub struct ServerCore {
 impl Model for ServerCore {
     ghost use Rattle.std.specs.Prelude.{◌≡◌, true};
     ghost use Rattle.server_core.specs.Farewell.{farewell_of};
-    ghost use Rattle.server_work.specs.Core.{Core};
+    ghost use Rattle.server_ticks.specs.Core.{Core};
 
     ghost Value = { Core };
 

@@ -20,9 +20,9 @@ use Rattle.petal_rules.specs.declared.step.Step.TheVariants.{Boot}
 use Rattle.petal_rules.specs.declared.step.WorkEnd.{WorkEnd}
 use Rattle.petal_rules.specs.declared.step.WorkEnd.TheVariants.{Done, Fault}
 use Rattle.server_core.specs.Boots.{IsBoot, next_voter, raised_core, raised_records, shut}
-use Rattle.server_work.specs.Core.{Core, acted, here_in, server_of}
+use Rattle.server_core.specs.Core.{Core, acted, here_in, server_of}
 use Rattle.server_core.proofs.Boots.{raised_are, room}
-use Rattle.server_work.proofs.Rooms.{few_records, few_stored}
+use Rattle.server_core.proofs.Rooms.{few_records, few_stored}
 use Rattle.server_store.specs.Holdings.{Holdings}
 use Rattle.server_store.specs.Slots.{slot_start}
 use Rattle.state_store.specs.Device.{Keeping}

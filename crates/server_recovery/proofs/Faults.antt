@@ -23,11 +23,11 @@ use Rattle.petal_rules.specs.declared.step.CommitEnd.{CommitEnd}
 use Rattle.petal_rules.specs.declared.step.CommitEnd.TheVariants.{Before, After}
 use Rattle.petal_rules.specs.declared.step.Step.TheVariants.{Work}
 use Rattle.petal_rules.specs.declared.step.WorkEnd.TheVariants.{Fault}
-use Rattle.server_work.specs.Core.{Core, HasFaults, after_first, here_in, left_by_first, server_of}
+use Rattle.server_core.specs.Core.{Core, HasFaults, after_first, here_in, left_by_first, server_of}
 use Rattle.server_core.specs.Farewell.{farewell_of}
-use Rattle.server_work.proofs.Rooms.{few_records, few_stored}
+use Rattle.server_core.proofs.Rooms.{few_records, few_stored}
 use Rattle.server_core.proofs.Stops.{stopped_with}
-use Rattle.server_work.proofs.Works.{fits}
+use Rattle.server_core.proofs.Works.{fits}
 use Rattle.server_store.specs.Holdings.{Holdings}
 use Rattle.state_store.specs.Device.{Keeping}
 use Rattle.world_desks.specs.Desks.{acted_at, left_of}

@@ -11,8 +11,8 @@ use Rattle.petal_paxos.specs.declared.record.StateRecord.{StateRecord}
 use Rattle.petal_rules.specs.Store.{Store}
 use Rattle.petal_rules.specs.declared.step.Step.TheVariants.{Work}
 use Rattle.petal_rules.specs.declared.step.WorkEnd.TheVariants.{Done}
-use Rattle.server_work.specs.Core.{Core, IsWork, acted, here_in, server_of}
-use Rattle.server_work.specs.Work.{IsFullWork}
+use Rattle.server_core.specs.Core.{Core, IsWork, acted, here_in, server_of}
+use Rattle.server_core.specs.Work.{IsFullWork}
 use Rattle.server_store.specs.Holdings.{Holdings}
 use Rattle.state_store.specs.Device.{Keeping}
 use Rattle.server_recovery.specs.Booted.{Worked}

@@ -8,7 +8,7 @@ use Rattle.petal_rules.specs.declared.step.Step.{Step}
 use Rattle.petal_rules.specs.declared.step.Step.TheVariants.{Boot, Work}
 use Rattle.petal_rules.specs.declared.step.WorkEnd.{WorkEnd}
 use Rattle.server_core.specs.Boots.{raised_core}
-use Rattle.server_work.specs.Core.{Core}
+use Rattle.server_core.specs.Core.{Core}
 use Rattle.world_desks.specs.Desks.{IsFault, acted_at, as_end, end_in}
 use Rattle.server_recovery.specs.Server.{HasFailed, IsKept, Mounted, Stands, left_at, site_of, store_at, whole_after, whole_of}
 

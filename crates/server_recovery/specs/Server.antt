@@ -3,7 +3,7 @@ use Rattle.std.specs.Prelude.{◌≡◌, ◌<◌, ◌≤◌, ◌+◌, ℕ, Bool,
 use Rattle.kept_chains.specs.Kept.{store_of}
 use Rattle.petal_rules.specs.declared.step.Step.{Step}
 use Rattle.world_desks.specs.Desks.{Site, acted_at, left_of}
-use Rattle.server_work.specs.Core.{Core, server_of}
+use Rattle.server_core.specs.Core.{Core, server_of}
 use Rattle.log_side.specs.Done as logs
 use Rattle.pair_side.specs.Done.{HoldsAt}
 use Rattle.pair_side.specs.Side.{HasTicketsAt}

@@ -2,7 +2,7 @@
 
 ghost use Rattle.std.specs.Prelude.{◌≡◌, [], true, false, IfOk};
 ghost use Rattle.kept_chains.specs.Kept.{store_of};
-ghost use Rattle.server_work.specs.Core.{is_spent};
+ghost use Rattle.server_core.specs.Core.{is_spent};
 ghost use Rattle.server_recovery.specs.Booted.{Worked};
 ghost use Rattle.server_recovery.specs.Server.{Stands};
 

@@ -4,7 +4,7 @@ use Rattle.std.specs.List.{All}
 use Rattle.std.specs.Result.{OnOk}
 use Rattle.petal_disk.specs.Disk.{Torn, Follows}
 use Rattle.petal_disk.proofs.Tearing.{torn_front}
-use Rattle.block_journal.proofs.Frame.{stands_outside}
+use Rattle.data_device.proofs.Frame.{stands_outside}
 use Rattle.physical_map.specs.declared.entry.Entry.{Entry}
 use Rattle.store_record.specs.declared.record.StoreRecord.{StoreRecord}
 use Rattle.store_record.specs.declared.record.StoreRecord.TheVariants as kind

@@ -4,7 +4,8 @@ pub use Rattle.data_device.specs.Found
 pub use Rattle.data_device.specs.Kept
 pub use Rattle.data_device.specs.Reading
 pub use Rattle.data_device.specs.Slots
-pub use Rattle.slot_ledger.specs.Tickets
+pub use Rattle.data_device.specs.Tickets
 pub mod Holdings
 pub mod Opening
 pub mod Shown
+pub use Rattle.data_device.specs.declared.error.StoreError

@@ -10,11 +10,10 @@ ghost use Rattle.data_device.specs.Kept.{kept_of};
 ghost use Rattle.server_store.specs.Shown.{Picture, PutsNothing, Keeps, ShowsEither, picture_after};
 ghost use Rattle.data_device.specs.Slots.{slot_start, slot_bytes};
 
-use data_device::{RecordLog, StoreError};
+use data_device::{RecordLog, SlotStore, StoreError};
 use petal_base::Block;
 use petal_disk::Disk;
 use physical_map::Entry;
-use slot_store::SlotStore;
 use store_record::StoreRecord;
 
 /// Commits a change that puts nothing: whole, or at any crash not at all. It takes no memory.

@@ -9,9 +9,7 @@ mod commit;
 mod opened;
 mod store;
 
-pub use data_device::StoreError;
+pub use data_device::{DATA_START, SLOT_BYTES, StoreError, Ticket};
 pub use opened::Opened;
 pub use physical_map::Entry;
-pub use slot_ledger::{DATA_START, Ticket};
-pub use slot_store::SLOT_BYTES;
 pub use store::Store;

@@ -4,7 +4,7 @@ ghost use Rattle.std.specs.Prelude.{◌==◌, ◌≡◌, ℕ, ◌⊎◌, ◌≤�
 ghost use Rattle.std.specs.Prelude.{IfErr, OnErr, IsErrOf, IfNone, true, false, not, is_some, if◌then◌else◌, Some, None};
 ghost use Rattle.std.specs.List.Sorted.{IsStrictlySortedBy};
 ghost use Rattle.busy_marks.specs.Marks.{mark_cmp, has_mark, with_mark, without_mark, next_marked, next_marked_map};
-ghost use Rattle.block_journal.specs.Records.{Counts};
+ghost use Rattle.data_device.specs.Records.{Counts};
 ghost use Rattle.petal_base.specs.Block.{zero_block};
 ghost use Rattle.petal_disk.specs.Disk.{LeavesOnly};
 ghost use Rattle.petal_disk.specs.Faults.{HasCause};
@@ -21,18 +21,17 @@ ghost use Rattle.server_store.specs.Opening.{IfStore, IfBlank, IsStore, Reopened
 ghost use Rattle.data_device.specs.Reading.{IsBadOn, IsBlank, LeftByFormat};
 ghost use Rattle.server_store.specs.Shown.{Picture, picture_of, picture_in, Shows, Holds, BeforeOrAfter};
 ghost use Rattle.data_device.specs.Slots.{slot_start};
-ghost use Rattle.slot_ledger.specs.Tickets.{without};
+ghost use Rattle.data_device.specs.Tickets.{without};
 ghost use Rattle.store_record.specs.declared.record.StoreRecord.{StoreRecord};
 ghost use Rattle.store_record.specs.declared.record.StoreRecord.TheVariants as records;
 
 use crate::Opened;
 use crate::commit::{commit, commit_put};
 use busy_marks::{MarkKind, Marks};
-use data_device::{Header, RecordLog, StoreError, read_device, write_format};
+use data_device::{Header, Ledger, RecordLog, StoreError, Ticket, read_device, write_format};
 use petal_base::{Block, BlockNo, Cell, Epoch, Key, MapId, NoMemory, Sequence, Version};
 use petal_disk::{Disk, Failed, Plan, Planned};
 use physical_map::Entry;
-use slot_ledger::{Ledger, Ticket};
 use std::alloc::Global;
 use std::marker::Model;
 use store_record::StoreRecord;

@@ -18,7 +18,7 @@ use Rattle.petal_rules.specs.Store.{Store}
 use Rattle.petal_rules.specs.Sweeping.{sweep_jobs}
 use Rattle.petal_rules.specs.declared.job.Job.{Job}
 use Rattle.server_work.specs.Core.{Core, acted, here_in, server_of}
-use Rattle.log_jobs.specs.Wants.{own_in, wants_in}
+use Rattle.server_work.specs.Wants.{own_in, wants_in}
 use Rattle.server_work.proofs.Works.{voter_is}
 
 count_letters : (who : Sender) (n : ℕ) (ps : List Post) → length (letters_of who n ps) ≡ length ps

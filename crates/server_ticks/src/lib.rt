@@ -6,4 +6,5 @@
 
 mod ticks;
 
+pub use server_work::{Kind, Parts, of_state};
 pub use ticks::{moves_on, tick_jobs, tick_letters};

@@ -3,7 +3,7 @@
 ghost use Rattle.std.specs.Prelude.{◌≡◌, ◌++◌, ◌+◌, ◌-◌, ◌%◌, ◌∷◌, List, [], length, if◌then◌else◌, IfOk, OnOk, OnErr};
 ghost use Rattle.kept_chains.specs.Kept.{store_of};
 ghost use Rattle.kept_chains.specs.Reading.{IsReadFault};
-ghost use Rattle.log_jobs.specs.Wants.{own_in, wants_in};
+ghost use Rattle.server_work.specs.Wants.{own_in, wants_in};
 ghost use Rattle.log_memory.specs.Part.{state_of};
 ghost use Rattle.pair_side.specs.Done.{HoldsAt};
 ghost use Rattle.pair_side.specs.Letters.{IsLook};
@@ -17,18 +17,16 @@ ghost use Rattle.petal_rules.specs.State.{is_in};
 ghost use Rattle.petal_rules.specs.Sweeping.{sweep_jobs};
 ghost use Rattle.server_work.specs.Core.{here_in, server_of};
 
-use copy_recovery::mend_jobs;
-use dead_cells::has_dead;
-use lead_write::letters_after;
-use log_jobs::{is_in, own_wants};
 use pair_side::Here;
 use petal_base::{NoMemory, Sequence};
 use petal_disk::{DeviceError, Disk};
 use petal_msg::Letter;
 use petal_rules::Job;
-use redistribute::fills_after;
 use server_store::Store;
-use server_work::Parts;
+use server_work::{
+    Parts, copy_letters_after, fills_after, has_dead, is_in, mend_jobs, own_wants,
+    write_letters_after,
+};
 use std::alloc::Global;
 
 /// These letters of a tick, and after them those of copies, pages and entries that move that are not yet answered, while the
@@ -47,7 +45,7 @@ fn copies_after<D: Disk>(
         return Ok(before);
     }
     let here = Here::new(alloc, parts.log.state(), parts.log.me(), parts.log.inc());
-    let copies = copy_recovery::letters_after(&here, &parts.side, store, before)?;
+    let copies = copy_letters_after(&here, &parts.side, store, before)?;
     fills_after(&here, &parts.side, store, copies)
 }
 
@@ -70,7 +68,7 @@ pub fn tick_letters<D: Disk>(
 {
     let here = Here::new(alloc, parts.log.state(), parts.log.me(), parts.log.inc());
     let ballot = parts.log.ballot_letters(alloc)?;
-    let pending = letters_after(&here, &parts.side, ballot)?;
+    let pending = write_letters_after(&here, &parts.side, ballot)?;
     let copies = copies_after(alloc, parts, store, pending)?;
     Ok(parts.log.with_ask(copies)?)
 }

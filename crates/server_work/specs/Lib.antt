@@ -1,2 +1,3 @@
 pub mod Core
 pub mod Work
+pub use Rattle.log_jobs.specs.Wants

@@ -9,5 +9,8 @@ mod log;
 mod pair;
 mod parts;
 
+pub use job_queue::Kind;
 pub use log::of_state;
+pub use log_jobs::{is_in, own_wants};
+pub use pair_jobs::{copy_letters_after, fills_after, has_dead, mend_jobs, write_letters_after};
 pub use parts::Parts;

@@ -8,4 +8,5 @@ mod ledger;
 mod ticket;
 
 pub use ledger::{DATA_START, Ledger};
+pub use slot_store::{SLOT_BYTES, SlotStore};
 pub use ticket::Ticket;

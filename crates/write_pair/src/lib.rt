@@ -7,5 +7,5 @@
 mod job;
 
 pub use job::on_letter;
-pub use lead_write::{goes_on, letters_after, next_stage};
+pub use lead_write::{Moving, goes_on, letters_after, next_stage, on_fill};
 pub use pair_side::{Done, Here, Side, WorkError};

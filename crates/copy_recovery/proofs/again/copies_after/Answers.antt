@@ -8,7 +8,7 @@ use Rattle.server_store.specs.Holdings.{Holdings}
 use Rattle.kept_chains.specs.Kept.{store_of}
 use Rattle.pair_side.specs.Side.{own_of}
 use Rattle.pair_side.proofs.Letters.{next_letters}
-use Rattle.link_blocks.specs.Walks.{side_own}
+use Rattle.copy_sender.specs.Walks.{side_own}
 use Rattle.pair_side.proofs.Looks.{seen_then}
 use Rattle.copy_recovery.proofs.again.copies_after.Goals as goal
 

@@ -5,7 +5,7 @@ use Rattle.petal_rules.specs.Store.{Store}
 use Rattle.server_store.specs.Holdings.{Holdings}
 use Rattle.kept_chains.specs.Kept.{store_of}
 use Rattle.pair_side.specs.Side.{own_of}
-use Rattle.link_blocks.specs.Walks.{side_own}
+use Rattle.copy_sender.specs.Walks.{side_own}
 use Rattle.pair_side.proofs.Looks.{letters_two}
 use Rattle.copy_recovery.proofs.again.letters_after.Goals as goal
 

@@ -2,7 +2,7 @@ use Rattle.std.proofs.Common.{Bool, sym, ap, ◌∙◌}
 use Rattle.std.specs.Prelude.{if◌then◌else◌}
 use Rattle.petal_msg.specs.declared.copying.NextCopy.TheVariants.{Wait, Nothing}
 use Rattle.petal_rules.specs.Copies.{next_block}
-use Rattle.kept_chains.specs.Kept.{store_of}
+use Rattle.pair_side.specs.Kept.{store_of}
 use Rattle.pair_side.specs.Side.{own_of}
 use Rattle.link_blocks.proofs.next.next_block.Goals as goal
 

@@ -1,6 +1,6 @@
 use Rattle.std.proofs.Common.{refl, sym, ◌∙◌}
-use Rattle.kept_chains.specs.Kept.{store_of}
-use Rattle.kept_chains.specs.Walking.{marked_in}
+use Rattle.pair_side.specs.Kept.{store_of}
+use Rattle.pair_side.specs.Walking.{marked_in}
 use Rattle.pair_side.specs.Side.{own_of}
 use Rattle.link_blocks.specs.Walks.{idle_on}
 use Rattle.link_blocks.proofs.Least.{walk_hit, walk_less, walk_none, walk_on}

@@ -3,7 +3,7 @@ use Rattle.std.proofs.Common.{◌≡◌, None}
 use Rattle.std.specs.Prelude.{filter}
 use Rattle.busy_marks.specs.Marks.{above}
 use Rattle.petal_rules.specs.Copies.{least}
-use Rattle.kept_chains.specs.Walking.{marked_in}
+use Rattle.pair_side.specs.Walking.{marked_in}
 use Rattle.pair_side.specs.Side.{own_of}
 use Rattle.link_blocks.specs.Walks.{idle_on, room_above}
 use Rattle.link_blocks.proofs.walk.idle_mark.Given as goal

@@ -1,7 +1,7 @@
 use Rattle.std.proofs.Common.{◌≡◌, Bool, Err, sym, ap, ◌∙◌, length, length-append}
 use Rattle.std.specs.Result.{IsErrOf}
-use Rattle.data_device.specs.declared.error.StoreError.{StoreError}
-use Rattle.data_device.specs.declared.error.StoreError.TheVariants.{Failed, JournalFull}
+use Rattle.kept_chains.specs.StoreError.{StoreError}
+use Rattle.kept_chains.specs.StoreError.TheVariants.{Failed, JournalFull}
 use Rattle.kept_chains.proofs.Commits.{put_moments}
 use Rattle.pair_side.proofs.Puts.{put_new_is}
 use Rattle.pair_side.proofs.slots.put_new.Goals as goal

@@ -3,7 +3,7 @@ use Rattle.std.proofs.Common.{◌<◌, ℕ, List, [], refl, sym, ap, ◌∙◌, 
 use Rattle.kept_chains.specs.Kept.{store_of}
 use Rattle.kept_chains.specs.Standing.{StandsAsEither}
 use Rattle.petal_rules.specs.Jobs.{Acted}
-use Rattle.server_work.specs.Core.{Core, left_by_first}
+use Rattle.server_core.specs.Core.{Core, left_by_first}
 use Rattle.state_store.specs.Device.{StandsForEither}
 use Rattle.server_recovery.proofs.Faults.{few_after, fault_commits, fault_letters, fault_site, has_failed, shown_of, stops_letters}
 use Rattle.server_recovery.proofs.Recovering.{shown_in}

@@ -4,7 +4,7 @@ use Rattle.petal_rules.specs.Fills.{fill_posts}
 use Rattle.petal_rules.specs.Server.{Own, Post, letters_of, sender}
 use Rattle.petal_rules.specs.State.{is_in}
 use Rattle.server_store.specs.Holdings.{Holdings}
-use Rattle.log_jobs.specs.Wants.{here_by}
+use Rattle.server_work.specs.Wants.{here_by}
 use Rattle.pair_side.specs.Side.{own_of}
 use Rattle.pair_side.proofs.Looks.{letters_two}
 use Rattle.server_work.proofs.Steps.{of_each}

@@ -1,6 +1,6 @@
 -- What a server sends, and what is left of it.
 use Rattle.std.proofs.Common.{sym, ◌∙◌}
-use Rattle.server_work.proofs.Steps.{of_each}
+use Rattle.server_recovery.proofs.Steps.{of_each}
 use Rattle.server_recovery.specs.Server.{whole_of}
 use Rattle.server_recovery.proofs.Seen.{ended_after, ended_letters}
 use Rattle.memory_server.proofs.server.MemServerHost.step.Goals as goal

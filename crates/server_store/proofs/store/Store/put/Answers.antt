@@ -6,7 +6,7 @@ use Rattle.physical_map.specs.Keys.{placed}
 use Rattle.data_device.specs.Kept.{Kept}
 use Rattle.server_store.proofs.Changes.{listed_still, put_shown}
 use Rattle.server_store.proofs.Contents.{listed-held, is_listed}
-use Rattle.slot_ledger.proofs.Ledgers.{of-all}
+use Rattle.data_device.proofs.Ledgers.{of-all}
 use Rattle.server_store.proofs.store.Store.put.Goals as goal
 
 pub returns-in-Ok-clause-put : goal.returns-in-Ok-clause-put
