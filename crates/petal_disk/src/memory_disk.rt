@@ -45,7 +45,14 @@ fn grow(bytes: &mut Vec<u8>, end: usize)
 fn are_zeros(bytes: &[u8]) -> bool
     ensures { OnTrue result (bytes.now ≡ replicate (length bytes.now) 0) }
 {
-    bytes.iter().all(|byte| *byte == 0)
+    let mut at = 0;
+    while at < bytes.len() {
+        if bytes[at] != 0 {
+            return false;
+        }
+        at += 1;
+    }
+    true
 }
 
 fn put(into: &mut Vec<u8>, at: usize, bytes: &[u8])

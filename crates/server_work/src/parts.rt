@@ -42,6 +42,13 @@ fn either(a: bool, b: bool) -> bool
     a || b
 }
 
+// All of its pairs is forgotten.
+fn forget(side: &mut Side, alloc: Global)
+    ensures { side.new ≡ new_side }
+{
+    *side = Side::new(alloc);
+}
+
 impl Parts {
     /// Those of a server that runs, with this part of the log and nothing pending. It takes no memory.
     pub fn new(alloc: Global, log: LogSide) -> Parts
@@ -60,7 +67,11 @@ impl Parts {
     pub fn restart(&mut self, alloc: Global, log: LogSide)
         ensures { self.new ≡ record { running = true; log = log; side = new_side; queue = [] } }
     {
-        *self = Parts::new(alloc, log);
+        self.running = true;
+        self.log = log;
+        forget(&mut self.side, alloc);
+        self.queue = VecDeque::new(alloc);
+        self.recent = RecentBlocks::new(alloc);
     }
 
     /// The server stops: its jobs are gone. It takes no memory.
