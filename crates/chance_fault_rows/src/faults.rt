@@ -1,6 +1,6 @@
 //! Worlds stepped by chance, in which a device fails, or stops its server.
 
-use chance_runs::{Count, Habit, simulate};
+use chance_runs::{Count, Habit, simulate_struck};
 use chance_scripts::{Chance, Tale, script_by};
 use memory_runs::{SEEDS, simulate_all, start};
 use petal_base::ServerId;
@@ -32,11 +32,10 @@ fn plan_by(chance: &mut Chance, stop: bool, late: bool) -> Plan {
 fn simulate_failing(alloc: Global, seed: u32, stop: bool, late: bool) -> Result<Count, Fail> {
     let mut chance = Chance::new(seed);
     let text = script_by(alloc, &mut chance, Tale::Plain)?;
-    let (server, which) = device_by(&mut chance);
+    let device = device_by(&mut chance);
     let plan = plan_by(&mut chance, stop, late);
-    let mut run = start(alloc, text.as_str())?;
-    run.arm(alloc, server, which, Some(plan))?;
-    simulate(alloc, seed, Habit::Even, chance, run)
+    let run = start(alloc, text.as_str())?;
+    simulate_struck(alloc, seed, chance, run, device, plan)
 }
 
 fn simulate_all_failing(alloc: Global, stop: bool, late: bool) -> Result<Count, Fail> {

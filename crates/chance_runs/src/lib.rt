@@ -10,4 +10,4 @@ mod simulation;
 mod struck;
 
 pub use count::Count;
-pub use simulation::{Habit, simulate};
+pub use simulation::{Habit, simulate, simulate_struck};

@@ -5,6 +5,7 @@ use crate::cuts::{boot_cut_off, stop_cut_off};
 use crate::struck::{arm_running, arm_stopped};
 use chance_scripts::Chance;
 use petal_base::{NoMemory, OPERATOR, ServerId};
+use petal_disk::{Plan, Which};
 use petal_msg::{Actor, SharedLetter};
 use petal_world::Host;
 use std::alloc::Global;
@@ -335,4 +336,22 @@ pub fn simulate<H: Host>(
         cut_boots: 0,
     };
     simulate_by(alloc, seed, &mut choice, &mut run)
+}
+
+/// As `simulate` by an even habit, where the server's device has this plan from the start.
+///
+/// # Errors
+/// As of `simulate`.
+pub fn simulate_struck<H: Host>(
+    alloc: Global,
+    seed: u32,
+    chance: Chance,
+    run: Run<H>,
+    device: (ServerId, Which),
+    plan: Plan,
+) -> Result<Count, Fail> {
+    let mut run = run;
+    let (server, which) = device;
+    run.arm(alloc, server, which, Some(plan))?;
+    simulate(alloc, seed, Habit::Even, chance, run)
 }
