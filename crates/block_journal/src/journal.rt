@@ -2,7 +2,7 @@
 
 ghost use Rattle.std.specs.Prelude.{◌≡◌, ◌⊎◌, ◌≤◌, ◌<◌, ◌+◌, ◌-◌, ◌*◌, ◌^◌, ◌++◌, ◌↔◌, [], ◌∷◌, ℕ, List, length, replicate, OnOk, IfOk, IsErrOf};
 ghost use Rattle.petal_disk.specs.Disk.{LeavesOnly, LeftByWrite, Only, Torn, Within};
-ghost use Rattle.petal_disk.specs.Faults.{HasCause};
+ghost use Rattle.device_faults.specs.Faults.{HasCause};
 ghost use Rattle.device_gate.specs.Gate.{IsShut};
 ghost use Rattle.block_journal.specs.Records.{contents, Counts, Stands, Stored, LeftByAppend, WithOrWithout};
 ghost use Rattle.block_journal.specs.declared.error.JournalError.TheVariants as error;

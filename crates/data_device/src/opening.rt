@@ -3,7 +3,7 @@
 ghost use Rattle.std.specs.Prelude.{◌≡◌, ◌≤◌, ◌<◌, ◌^◌, ℕ, Bool, List, [], take, IfOk, IfErr, IfSome, IfNone};
 ghost use Rattle.block_journal.specs.Records.{Counts, Stands};
 ghost use Rattle.petal_disk.specs.Disk.{Only};
-ghost use Rattle.petal_disk.specs.Faults.{HasCause};
+ghost use Rattle.device_faults.specs.Faults.{HasCause};
 ghost use Rattle.petal_disk.specs.Keeping.{KeepsDevice};
 ghost use Rattle.store_record.specs.declared.record.StoreRecord.{StoreRecord};
 ghost use Rattle.data_device.specs.Device.{header, bodies_of, AreSpelled, StandsFor, Logs};

@@ -1,6 +1,6 @@
 //! Readers and writers of the library as a source and a sink.
 
-use petal_disk::{Source, StdSink, StdSource, read_full, write_all};
+use byte_streams::{Source, StdSink, StdSource, read_full, write_all};
 use std::io;
 use std::io::Write;
 use std::test::Fail;

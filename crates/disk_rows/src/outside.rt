@@ -2,9 +2,9 @@
 
 ghost use Rattle.std.specs.Prelude.{◌≡◌, ◌≤◌};
 
+use byte_streams::{MemSink, MemSource, Sink, Source, read_full, write_all};
 use petal_disk::{
-    CallKind, DeviceError, Disk, Failed, MemDisk, MemShelf, MemSink, MemSource, Plan, Planned,
-    Shelf, Sink, Source, Which, read_full, write_all, write_kept,
+    CallKind, DeviceError, Disk, Failed, MemDisk, MemShelf, Plan, Planned, Shelf, Which, write_kept,
 };
 use std::alloc::Global;
 use std::test::Fail;

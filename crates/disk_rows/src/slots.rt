@@ -1,7 +1,10 @@
 //! Two slots are taken, written and read.
 
+ghost use Rattle.std.specs.Prelude.{◌≡◌, ◌<◌, ◌≤◌, ◌+◌, length};
+ghost use Rattle.slot_store.specs.Slots.{slot_start};
+
 use petal_base::{BLOCK_BYTES, Block};
-use petal_disk::MemDisk;
+use petal_disk::{Disk, MemDisk};
 use slot_store::SlotStore;
 use std::test::Fail;
 
@@ -22,15 +25,41 @@ fn slots(rt: HostRuntime) -> Result<(), Fail> {
     Ok(())
 }
 
+// The last byte of a slot.
+fn last_byte<D: Disk>(disk: &mut D, store: &SlotStore, content: &mut [u8], slot: u32) -> Option<u8>
+    requires slot { slot < length store.now.used }
+    requires room { slot_start store.now.base slot + 65536 ≤ D.size disk.old }
+    requires content { length content.old ≡ 65536 }
+{
+    store.read(disk, slot, content).ok()?;
+    content.last().copied()
+}
+
+// Writes a block into a slot.
+fn is_written<D: Disk>(disk: &mut D, store: &SlotStore, slot: u32, block: &Block) -> bool
+    requires slot { slot < length store.now.used }
+    requires room { slot_start store.now.base slot + 65536 ≤ D.size disk.old }
+    ensures size { D.size disk.new ≡ D.size disk.old }
+{
+    store.write(disk, slot, block).is_ok()
+}
+
 #[test]
-fn contents(rt: HostRuntime) -> Result<(), Fail> {
-    let mut disk = MemDisk::new(rt.alloc(), 135_168)?;
-    let store = SlotStore::new(rt.alloc(), 4096, 2)?;
+fn a_written_slot(rt: HostRuntime) -> Result<(), Fail> {
+    let sevens = Block::fill(rt.alloc(), 7)?;
     let mut content = vec![in rt.alloc(); 9u8; BLOCK_BYTES]?;
-    store.write(&mut disk, 1, &Block::fill(rt.alloc(), 7)?)?;
-    store.read(&mut disk, 1, &mut content)?;
-    assert_eq!(rt; content.last().copied(), Some(7));
-    store.read(&mut disk, 0, &mut content)?;
-    assert_eq!(rt; content.last().copied(), Some(0));
+    let store = SlotStore::new(rt.alloc(), 4096, 2)?;
+    let mut disk = MemDisk::new(rt.alloc(), 135_168)?;
+    assert!(rt; is_written(&mut disk, &store, 1, &sevens));
+    assert!(rt; last_byte(&mut disk, &store, &mut content, 1) == Some(7));
+    Ok(())
+}
+
+#[test]
+fn an_empty_slot(rt: HostRuntime) -> Result<(), Fail> {
+    let mut content = vec![in rt.alloc(); 9u8; BLOCK_BYTES]?;
+    let store = SlotStore::new(rt.alloc(), 4096, 2)?;
+    let mut disk = MemDisk::new(rt.alloc(), 135_168)?;
+    assert!(rt; last_byte(&mut disk, &store, &mut content, 0) == Some(0));
     Ok(())
 }

@@ -4,7 +4,7 @@ ghost use Rattle.std.specs.Prelude.{◌≡◌, ◌+◌, ◌-◌, ◌^◌, ◌<�
 ghost use Rattle.std.specs.Prelude.{OnOk, OnErr, IsErrOf, is_some, nat_eq, true};
 ghost use Rattle.std.specs.List.{list_any};
 ghost use Rattle.petal_base.specs.Cells.{cell_of};
-ghost use Rattle.petal_disk.specs.Faults.{HasCause};
+ghost use Rattle.device_faults.specs.Faults.{HasCause};
 ghost use Rattle.petal_disk.specs.Keeping.{KeepsDevice};
 ghost use Rattle.petal_rules.specs.Store.{bytes_of, chain_in, entry_at, epochs_of, free_of, settled, version_of, top_of};
 ghost use Rattle.petal_rules.specs.Store.{with_mark_on, without_entry, without_mark_on};

@@ -19,10 +19,10 @@ use Rattle.law_script.specs.Faults.{Positions, place, numbers_only, server_place
 use Rattle.law_script.specs.Faults.{write_positions, version_names, read_positions, snap_positions, client_positions, stop_positions, boot_positions, is_device}
 use Rattle.law_script.specs.Faults.{is_kind, fault_positions, operator_positions, line_positions, is_good, bad_name, bad_number, is_unfit, bad_tuple}
 use Rattle.law_script.specs.Faults.{lacks_servers, with_request, lines_with, are_too_many, leave_no_majority, servers_in, has_fault, in_order, told}
-use Rattle.petal_disk.specs.declared.shelf.Which.{Which}
-use Rattle.petal_disk.specs.declared.shelf.Which.TheVariants as devices
-use Rattle.petal_disk.specs.declared.planned.CallKind.{CallKind}
-use Rattle.petal_disk.specs.declared.planned.CallKind.TheVariants as calls
+use Rattle.device_faults.specs.declared.which.Which.{Which}
+use Rattle.device_faults.specs.declared.which.Which.TheVariants as devices
+use Rattle.device_faults.specs.declared.plan.CallKind.{CallKind}
+use Rattle.device_faults.specs.declared.plan.CallKind.TheVariants as calls
 use Rattle.script_lines.specs.declared.script.Script.{Script}
 use Rattle.script_lines.specs.declared.request.Line.{Line}
 use Rattle.script_lines.specs.declared.request.Request.{Request}

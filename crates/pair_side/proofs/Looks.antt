@@ -13,7 +13,7 @@ use Rattle.petal_disk.specs.Keeping.{KeepsDevice}
 use Rattle.petal_disk.specs.declared.disk.Disk.{Ghosts}
 use Rattle.petal_disk.proofs.Keeping.{keeps_all, keeps_on}
 use Rattle.kept_chains.specs.Holdings.{Holdings}
-use Rattle.petal_disk.specs.declared.failure.DeviceError.{DeviceError}
+use Rattle.device_faults.specs.declared.failure.DeviceError.{DeviceError}
 use Rattle.pair_side.specs.Done.{HoldsAt}
 use Rattle.pair_side.specs.Letters.{IsLook}
 

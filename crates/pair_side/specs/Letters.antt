@@ -6,7 +6,7 @@ use Rattle.petal_msg.specs.declared.body.Body.{Body}
 use Rattle.petal_rules.specs.Server.{Post, post_to}
 use Rattle.kept_chains.specs.Holdings.{Holdings}
 use Rattle.kept_chains.specs.Reading.{IsReadFault}
-use Rattle.petal_disk.specs.declared.failure.DeviceError.{DeviceError}
+use Rattle.device_faults.specs.declared.failure.DeviceError.{DeviceError}
 use Rattle.pair_side.specs.Done.{HoldsAt}
 
 -- one letter to a server, if any

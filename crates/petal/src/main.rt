@@ -2,7 +2,8 @@
 //! memory. It ends with the status of the top call, or with 3 where there is no memory for its words.
 #![tactic(auto)]
 
-use petal_disk::{MemShelf, StdSink, StdSource};
+use byte_streams::{StdSink, StdSource};
+use petal_disk::MemShelf;
 use petal_run::{NO_MEMORY, petal};
 use std::io::ErrorKind;
 use std::process::ExitCode;

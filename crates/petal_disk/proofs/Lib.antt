@@ -1,4 +1,3 @@
-mod Fronts
 pub mod Keeping
 mod Kept
 pub mod Mixed

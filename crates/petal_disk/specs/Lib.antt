@@ -1,9 +1,7 @@
 pub mod Disk
-pub mod Faults
 pub mod Keeping
 pub mod Mixes
 pub mod Padded
 pub mod PlanRuns
 pub mod Plans
-pub mod Streams
 pub mod Tears

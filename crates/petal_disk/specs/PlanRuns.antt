@@ -1,7 +1,7 @@
 -- A run of calls meets a plan at most once.
 use Rattle.std.specs.Prelude.{◌≡◌, ◌||◌, Bool, Option, Some, None, refl}
 use Rattle.std.proofs.Common.{inl, inr, arith, sym, ◌∙◌, ap, subst}
-use Rattle.petal_disk.specs.declared.planned.Plan.{Plan}
+use Rattle.device_faults.specs.declared.plan.Plan.{Plan}
 use Rattle.petal_disk.specs.Plans.{PlanState, WaitsOn, CameTo}
 
 waits_same : (plan : Option Plan) → WaitsOn plan plan

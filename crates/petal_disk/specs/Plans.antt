@@ -1,8 +1,8 @@
 -- When the one plan of a disk is met, and what its calls make of it.
 use Rattle.std.specs.Prelude.{◌≡◌, ◌≤◌, ◌⊎◌, ◌+◌, ◌-◌, ◌==◌, ◌||◌, ◌&&◌, ℕ, Bool, true, false, Option, Some, None, if◌then◌else◌}
-use Rattle.petal_disk.specs.declared.planned.CallKind.{CallKind}
-use Rattle.petal_disk.specs.declared.planned.CallKind.TheVariants.{Any, Read, Write, Sync}
-use Rattle.petal_disk.specs.declared.planned.Plan.{Plan}
+use Rattle.device_faults.specs.declared.plan.CallKind.{CallKind}
+use Rattle.device_faults.specs.declared.plan.CallKind.TheVariants.{Any, Read, Write, Sync}
+use Rattle.device_faults.specs.declared.plan.Plan.{Plan}
 use Rattle.petal_disk.specs.declared.planned.Watch.{Watch}
 use Rattle.petal_disk.specs.declared.planned.Planned.{Planned}
 

@@ -2,9 +2,9 @@
 
 ghost use Rattle.std.specs.Prelude.{◌≡◌, ◌≤◌, ◌+◌, List, ℕ, length, OnOk};
 ghost use Rattle.petal_disk.specs.Disk.{part, written, Torn, Follows, Within, Only, Elapses};
-ghost use Rattle.petal_disk.specs.Faults.{HasCause};
+ghost use Rattle.device_faults.specs.Faults.{HasCause};
 
-use crate::Failed;
+use device_faults::Failed;
 
 /// A disk that can fail, and lose in a crash what was not synced.
 pub trait Disk: Send + Drop {

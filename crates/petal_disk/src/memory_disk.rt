@@ -6,7 +6,8 @@ ghost use Rattle.petal_disk.specs.Disk.{written, Only};
 ghost use Rattle.petal_disk.specs.Mixes.{Mixes};
 ghost use Rattle.petal_disk.specs.Padded.{padded, length-padded, length-left};
 
-use crate::{Disk, Failed};
+use crate::Disk;
+use device_faults::Failed;
 use petal_base::NoMemory;
 use std::alloc::Global;
 

@@ -3,7 +3,8 @@
 ghost use Rattle.std.specs.Prelude.{◌≡◌, ◌+◌, ℕ, true, false, None, refl};
 ghost use Rattle.petal_disk.specs.Plans.{as_count, calls_before};
 
-use crate::{DeviceError, MemDisk, Shelf, Which};
+use crate::{MemDisk, Shelf};
+use device_faults::{DeviceError, Which};
 use std::alloc::Global;
 
 /// A shelf of disks in memory, which never fail. It can be made to refuse one call.

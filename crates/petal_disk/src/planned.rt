@@ -2,40 +2,12 @@
 
 ghost use Rattle.std.specs.Prelude.{◌≡◌, ◌≤◌, ◌<◌, ◌+◌, ◌/◌, ◌⊎◌, true, false, None, Some, IsErr, length, take, OnOk};
 ghost use Rattle.petal_disk.specs.Disk.{part, written, Torn, Follows, Within, Only, Elapses};
-ghost use Rattle.petal_disk.specs.Faults.{HasCause};
+ghost use Rattle.device_faults.specs.Faults.{HasCause};
 ghost use Rattle.petal_disk.specs.Plans.{counts, fails, plan_after, stops, is_late, unplanned, after, watch_state, plan_state, beneath, CameTo};
-ghost use Rattle.petal_disk.specs.declared.planned.CallKind.TheVariants as call;
+ghost use Rattle.device_faults.specs.declared.plan.CallKind.TheVariants as call;
 
-use crate::count::Count;
-use crate::{Disk, Failed};
-
-/// Which calls a plan counts.
-#[derive(Clone, Copy, Debug, PartialEq, Eq)]
-pub enum CallKind {
-    /// Reads, writes and syncs.
-    Any,
-    /// Reads.
-    Read,
-    /// Writes.
-    Write,
-    /// Syncs.
-    Sync,
-}
-
-/// The call of this kind with the number `at` after arming, counted from 1, fails, once. With `late`, a write or a sync that
-/// fails so does all of its work before; with `stop` alone, a write writes the first half of its bytes; else the call does
-/// nothing.
-#[derive(Clone, Copy, Debug, PartialEq, Eq)]
-pub struct Plan {
-    /// Which calls count.
-    pub kind: CallKind,
-    /// The number of the call that fails.
-    pub at: u32,
-    /// Whether the server is to stop at it.
-    pub stop: bool,
-    /// Whether a write or a sync that fails has done all of its work before.
-    pub late: bool,
-}
+use crate::Disk;
+use device_faults::{CallKind, Count, Failed, Plan};
 
 // A plan and what became of it.
 #[derive(Drop)]

@@ -2,19 +2,11 @@
 
 ghost use Rattle.std.specs.Prelude.{◌≡◌, ◌<◌, ◌≤◌, ℕ, replicate, IfOk, IsErrOf};
 ghost use Rattle.petal_disk.specs.Disk.{Only};
-ghost use Rattle.petal_disk.specs.declared.failure.DeviceError.TheVariants as error;
+ghost use Rattle.device_faults.specs.declared.failure.DeviceError.TheVariants as error;
 
-use crate::{DeviceError, Disk};
+use crate::Disk;
+use device_faults::{DeviceError, Which};
 use std::alloc::Global;
-
-/// Which of a server's two devices.
-#[derive(Clone, Copy, Debug, PartialEq, Eq)]
-pub enum Which {
-    /// The one that holds the contents of blocks.
-    Data,
-    /// The one that holds what the server has promised.
-    State,
-}
 
 /// A shelf of new disks.
 pub trait Shelf: Send {

@@ -2,9 +2,10 @@
 
 ghost use Rattle.std.specs.Prelude.{◌≡◌, ◌≤◌, ◌+◌, length, OnOk};
 ghost use Rattle.petal_disk.specs.Disk.{written, Torn, Follows, Only, LeavesOnly, LeftByWrite};
-ghost use Rattle.petal_disk.specs.Faults.{HasCause};
+ghost use Rattle.device_faults.specs.Faults.{HasCause};
 
-use crate::{Disk, Failed};
+use crate::Disk;
+use device_faults::Failed;
 
 /// Writes, and syncs.
 pub fn write_kept<D: Disk>(disk: &mut D, at: u64, bytes: &[u8]) -> Result<(), Failed>

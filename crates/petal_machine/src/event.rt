@@ -3,7 +3,7 @@
 use petal_base::{BlockNo, ClientId, Name, Seq, SharedBlock};
 
 /// A client's request to put new contents into a block of a disk.
-#[derive(Clone, PartialEq, Eq, Drop)]
+#[derive(PartialEq, Eq, Drop)]
 pub struct Write {
     pub client: ClientId,
     pub seq: Seq,
@@ -22,7 +22,7 @@ pub enum WriteEnd {
 }
 
 /// One event of the machine.
-#[derive(Clone, PartialEq, Eq, Drop)]
+#[derive(PartialEq, Eq, Drop)]
 pub enum Event {
     /// A new disk.
     Make {

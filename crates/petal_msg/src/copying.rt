@@ -34,7 +34,7 @@ pub struct Copying {
 }
 
 /// The last copy of a cell that the other server took part in.
-#[derive(Clone, PartialEq, Eq, Drop)]
+#[derive(PartialEq, Eq, Drop)]
 pub struct LastCopy {
     pub op: Op,
     /// The epochs of the holder's entries.

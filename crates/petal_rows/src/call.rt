@@ -1,7 +1,8 @@
 //! One call of the program over an outside in memory, as a row of a table.
 
 use crate::letters::letters;
-use petal_disk::{MemShelf, MemSink, MemSource};
+use byte_streams::{MemSink, MemSource};
+use petal_disk::MemShelf;
 use petal_history::Record;
 use petal_run::{Outcome, petal};
 use std::alloc::{AllocError, Global};

@@ -2,7 +2,7 @@
 use Rattle.std.proofs.Common.{◌≡◌, ◌≤◌, ◌<◌, ℕ, List, [], ◌++◌, length, take, drop, min, arith, ◌∙◌, subst}
 use Rattle.std.proofs.Math.Seq.{take-append_seam}
 use Rattle.std.proofs.lemmas.List.{take_min, drop_all, length-take, length-take-le}
-use Rattle.petal_disk.specs.Streams.{Takes}
+use Rattle.byte_streams.specs.Streams.{Takes}
 
 drop_min : (n : ℕ) (xs : List ℕ) → drop (min n (length xs)) xs ≡ drop n xs
 drop_min n xs = grind (arith, drop_all n xs, drop_all (length xs) xs)

@@ -8,7 +8,7 @@ use Rattle.std.specs.Ordering.{nat_cmp}
 use Rattle.petal_history.specs.Order.{AreRising, AnsweredComeFirst, AnswersPhases, all_answered}
 use Rattle.world_desks.specs.Playable.{AreOrdered}
 use Rattle.script_lines.specs.declared.request.Line.{Line}
-use Rattle.petal_disk.specs.Streams.{Adds}
+use Rattle.byte_streams.specs.Streams.{Adds}
 use Rattle.petal_table.specs.Table.{Table}
 use Rattle.petal_table.proofs.Rows.{at-empty}
 use Rattle.script_lines.specs.declared.answer.Answer.{Answer}

@@ -1,6 +1,6 @@
 -- What a call of the program has done when it ends.
 use Rattle.std.specs.Prelude.{◌≡◌, ℕ, ◌+◌, true, List, [], ◌++◌}
-use Rattle.petal_disk.specs.Streams.{Adds}
+use Rattle.byte_streams.specs.Streams.{Adds}
 use Rattle.script_lines.specs.declared.script.Script.{Script}
 use Rattle.petal_history.specs.declared.record.Record.{Record}
 use Rattle.petal_history.specs.Claims.{Keeps}

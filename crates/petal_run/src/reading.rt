@@ -1,10 +1,11 @@
 //! Reading the whole script.
 
 ghost use Rattle.std.specs.Prelude.{◌≡◌, ◌≤◌, ◌<◌, ℕ, length, take, drop, IfOk, IsErrOf};
-ghost use Rattle.petal_disk.specs.declared.failure.DeviceError.TheVariants as error;
+ghost use Rattle.device_faults.specs.declared.failure.DeviceError.TheVariants as error;
 
 use crate::buffer::make_buffer;
-use petal_disk::{DeviceError, Source, read_full};
+use byte_streams::{Source, read_full};
+use petal_disk::DeviceError;
 use std::alloc::Global;
 
 /// A script has at most 1,048,576 bytes. One byte more shows that it is too long.

@@ -2,7 +2,7 @@
 
 ghost use Rattle.std.specs.Prelude.{◌≡◌, ◌≤◌, ◌<◌, ◌⊎◌, ◌++◌, ℕ, List, [], length, true, IfOk, OnOk, IsErrOf, IfSome, Some, None};
 ghost use Rattle.petal_history.specs.Order.{AreRising, all_answered};
-ghost use Rattle.petal_disk.specs.Streams.{Adds};
+ghost use Rattle.byte_streams.specs.Streams.{Adds};
 ghost use Rattle.script_lines.specs.Printed.{refusal_line};
 ghost use Rattle.petal_script.specs.Script.{script_of};
 ghost use Rattle.petal_history.specs.Sound.{IsSound};
@@ -13,17 +13,18 @@ ghost use Rattle.petal_run.specs.Built.{first_not_built};
 ghost use Rattle.world_desks.specs.Playable.{AreOrdered};
 ghost use Rattle.petal_run.specs.Said.{Done, DoneInPart, EndsWithPhase, WrittenByPhases, WrittenInPhase, WroteInPhase, WrotePhases};
 ghost use Rattle.petal_run.specs.Written.{Wrote, text_of_answers};
-ghost use Rattle.petal_disk.specs.declared.failure.DeviceError.TheVariants as error;
+ghost use Rattle.device_faults.specs.declared.failure.DeviceError.TheVariants as error;
 
 use crate::built::not_built;
 use crate::laws::{lines_rise, nothing_is_a_part, phases_rise};
 use crate::outcome::{ENDED, NO_MEMORY, Outcome, REFUSED, SINK_FAILED};
 use crate::text::{answers_text, refusal_text};
+use byte_streams::{Sink, write_all};
 use law_answers::phases_come_one_after_the_other;
 use law_run::{every_history_keeps_the_law, read_scripts_are_sound};
 use law_script::lines_are_the_text;
 use petal_base::{NoMemory, Sequence};
-use petal_disk::{DeviceError, Sink, write_all};
+use petal_disk::DeviceError;
 use petal_history::History;
 use petal_script::{Script, ScriptError, read_script};
 use plain_schedule::{Answers, Playing};

@@ -11,7 +11,7 @@ mod run;
 mod script;
 
 pub use answer::Answer;
-pub use petal_disk::{Plan, Which};
+pub use device_faults::{Plan, Which};
 pub use request::{Line, Pattern, Request};
 pub use run::Run;
 pub use script::Script;

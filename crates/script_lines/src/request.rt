@@ -4,8 +4,8 @@ ghost use Rattle.std.specs.Prelude.{◌≡◌, None, Some, IfOk, MatchOption};
 ghost use Rattle.script_lines.specs.Pattern.{pattern_block};
 ghost use Rattle.script_lines.specs.Requests.{is_disk, is_write, is_read, is_snap, is_move, is_stop, is_boot, disk_of};
 
+use device_faults::{CallKind, Which};
 use petal_base::{Block, BlockNo, ClientId, Name, NoMemory, ServerId, Tuple};
-use petal_disk::{CallKind, Which};
 use std::alloc::Global;
 
 /// The contents that a line spells for a block.
@@ -33,7 +33,7 @@ impl Pattern {
 }
 
 /// What a client or the operator asks for.
-#[derive(Clone, PartialEq, Eq, Drop)]
+#[derive(PartialEq, Eq, Drop)]
 pub enum Request {
     /// A new disk over these servers.
     Disk {
@@ -173,7 +173,7 @@ impl Request {
 }
 
 /// A request, where it stands, and who makes it.
-#[derive(Clone, PartialEq, Eq, Drop)]
+#[derive(PartialEq, Eq, Drop)]
 pub struct Line {
     /// The number of its line in the text, from 1.
     pub number: u32,

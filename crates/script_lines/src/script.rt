@@ -4,7 +4,7 @@ use crate::request::Line;
 use petal_base::Sequence;
 
 /// The lines that a run is told to do, in order.
-#[derive(Clone, PartialEq, Eq, Drop)]
+#[derive(PartialEq, Eq, Drop)]
 pub struct Script {
     /// How many servers there are, 2 to 8.
     pub servers: u8,

@@ -7,10 +7,10 @@ use Rattle.script_words.specs.Number.{number_of}
 use Rattle.script_words.specs.Words.{Word, ◌>>=◌, or_else, is_word}
 use Rattle.script_words.specs.declared.cause.Cause.{Cause}
 use Rattle.script_words.specs.declared.cause.Cause.TheVariants.{BadLine, BadName, BadNumber, BadTuple}
-use Rattle.petal_disk.specs.declared.shelf.Which.{Which}
-use Rattle.petal_disk.specs.declared.shelf.Which.TheVariants as devices
-use Rattle.petal_disk.specs.declared.planned.CallKind.{CallKind}
-use Rattle.petal_disk.specs.declared.planned.CallKind.TheVariants as calls
+use Rattle.device_faults.specs.declared.which.Which.{Which}
+use Rattle.device_faults.specs.declared.which.Which.TheVariants as devices
+use Rattle.device_faults.specs.declared.plan.CallKind.{CallKind}
+use Rattle.device_faults.specs.declared.plan.CallKind.TheVariants as calls
 
 -- a name
 abbrev pub a_name : Word → Result (List ℕ) Cause

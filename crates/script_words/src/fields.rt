@@ -6,8 +6,8 @@ ghost use Rattle.script_words.specs.Fields.{a_name, a_byte, a_block, a_server, a
 
 use crate::cause::Cause;
 use crate::number::in_limits;
+use device_faults::{CallKind, Which};
 use petal_base::{BLOCKS, BlockNo, Name, ServerId};
-use petal_disk::{CallKind, Which};
 
 /// A call that a plan names is one of the first so many.
 const LAST_CALL: u64 = 1_000_000;

@@ -3,7 +3,7 @@ use Rattle.std.proofs.Common.{◌≤◌, ◌<◌, Result, ap, ◌∙◌, arith}
 use Rattle.petal_disk.specs.declared.disk.Disk.{Ghosts}
 use Rattle.petal_disk.proofs.Keeping.{keeps_on}
 use Rattle.server_store.specs.Holdings.{Holdings}
-use Rattle.petal_disk.specs.declared.failure.DeviceError.{DeviceError}
+use Rattle.device_faults.specs.declared.failure.DeviceError.{DeviceError}
 use Rattle.pair_side.specs.Letters.{IsLook}
 
 module _ {D T U : Type 0} (device : Ghosts D) (onward : (a b c : D) → device.came_to a b → device.came_to b c → device.came_to a c)

@@ -1,8 +1,8 @@
 -- What is left of a server, and of it after a step.
 use Rattle.std.proofs.Common.{◌≡◌, ℕ, zero, suc, ◌+◌, Bool, true, false, List, length, Option, Some, None, refl, sym, ap, ◌∙◌}
 use Rattle.std.specs.Prelude.{not, if◌then◌else◌}
-use Rattle.petal_disk.specs.declared.planned.Plan.{Plan}
-use Rattle.petal_disk.specs.declared.shelf.Which.{Which}
+use Rattle.device_faults.specs.declared.plan.Plan.{Plan}
+use Rattle.device_faults.specs.declared.which.Which.{Which}
 use Rattle.petal_msg.specs.declared.letter.Actor.TheVariants as actor
 use Rattle.petal_msg.specs.declared.letter.Letter.{Letter}
 use Rattle.petal_paxos.specs.Kept.{known_at}

@@ -1,5 +1,5 @@
 use Rattle.std.proofs.Common.{◌≡◌, List, sym, ap, ◌∙◌, subst, inl, inr, arith}
-use Rattle.petal_disk.specs.Streams.{Adds}
+use Rattle.byte_streams.specs.Streams.{Adds}
 use Rattle.petal_history.specs.Legal.{IsLegal}
 use Rattle.petal_history.specs.Text.{text_of}
 use Rattle.petal_history.specs.declared.record.Record.{Record}

@@ -1,6 +1,0 @@
--- It owns nothing, so it may go to another thread.
-use denote.Param.Send.{IsSend}
-use Rattle.petal_disk.specs.contracts.count.Count.{the_row}
-
-pub send : IsSend the_row
-send = record { owned = λ n vs. ((λ _. (tt, tt)), tt); leaving = λ k d w. tt }
