@@ -6,3 +6,4 @@ pub mod Moments
 pub mod Padding
 pub mod Struck
 pub mod Tearing
+mod Writing

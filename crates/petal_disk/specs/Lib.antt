@@ -4,6 +4,7 @@ pub mod Keeping
 pub mod Mixes
 pub mod Padded
 pub mod PlanRuns
+pub mod PlannedWrites
 pub mod Plans
 pub mod Streams
 pub mod Tears

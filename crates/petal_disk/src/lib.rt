@@ -26,4 +26,4 @@ pub use planned::{CallKind, Plan, Planned};
 pub use shelf::{Shelf, Which};
 pub use standard::{StdSink, StdSource, slices_and_vectors_tell};
 pub use stream::{Sink, Source, read_full, write_all};
-pub use write::write_kept;
+pub use write::{write_kept, write_zeros_kept};
