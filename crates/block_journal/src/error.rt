@@ -4,7 +4,7 @@ use petal_disk::Failed;
 use std::alloc::{AllocError, AllocFailed};
 use thiserror::Error;
 
-/// Why a journal was not formatted, opened or appended to.
+/// Why a journal was not opened or appended to.
 #[derive(Clone, Copy, Debug, PartialEq, Eq, Error)]
 pub enum JournalError {
     /// The disk failed, and its count of faults rose. The journal is to be opened again.
@@ -13,7 +13,7 @@ pub enum JournalError {
     /// Each of the records counts already. Nothing changed.
     #[error("the journal is full")]
     Full,
-    /// There was no memory to read or clear the region with.
+    /// There was no memory to read the region with.
     #[error("out of memory")]
     NoMemory,
 }

@@ -1,6 +1,6 @@
 //! Appending to a journal, and making and opening one.
 
-ghost use Rattle.std.specs.Prelude.{◌≡◌, ◌⊎◌, ◌≤◌, ◌<◌, ◌+◌, ◌-◌, ◌*◌, ◌^◌, ◌++◌, ◌↔◌, [], ◌∷◌, ℕ, List, length, replicate, OnOk, IfOk, IsErrOf};
+ghost use Rattle.std.specs.Prelude.{◌≡◌, ◌⊎◌, ◌≤◌, ◌<◌, ◌+◌, ◌-◌, ◌*◌, ◌^◌, ◌++◌, ◌↔◌, [], ◌∷◌, ℕ, List, length, OnOk, IfOk, IsErrOf};
 ghost use Rattle.petal_disk.specs.Disk.{LeavesOnly, LeftByWrite, Only, Torn, Within};
 ghost use Rattle.device_faults.specs.Faults.{HasCause};
 ghost use Rattle.device_gate.specs.Gate.{IsShut};
@@ -10,7 +10,7 @@ ghost use Rattle.block_journal.specs.declared.error.JournalError.TheVariants as 
 use crate::JournalError;
 use crate::reading::read_bodies;
 use device_gate::{OPEN, close_gate};
-use petal_disk::{Disk, Failed, write_kept};
+use petal_disk::{Disk, Failed, write_kept, write_zeros_kept};
 use std::alloc::Global;
 use std::marker::Model;
 
@@ -34,78 +34,13 @@ impl<const R: usize> Model for Journal<R> {
 }
 
 impl<const R: usize> Journal<R> {
-    /// Makes a journal of no bodies: closes the gates of all `limit` records from `base` on, and syncs.
+    /// Makes a journal of no bodies: closes the gates of all `limit` records from `base` on, and syncs. It takes no memory.
     ///
     /// # Errors
-    /// `Failed` where the disk failed; `NoMemory`.
-    pub fn format<D: Disk>(
-        alloc: Global,
-        disk: &mut D,
-        base: u64,
-        limit: u32,
-    ) -> Result<Journal<R>, JournalError>
+    /// The disk failed.
+    pub fn format<D: Disk>(disk: &mut D, base: u64, limit: u32) -> Result<Journal<R>, Failed>
         requires wide { 0 < R }
         requires region { base + R * limit ≤ D.size disk.old }
-        ensures region { IfOk result (λ journal. journal ≡ record { base = base; limit = limit; count = 0 }) }
-        ensures stored { IfOk result (λ journal. D.told → Stored R journal (D.seen disk.new) (D.may_leave disk.new) []) }
-        ensures any_moment { LeavesOnly D.moment D.left_since disk.old disk.new
-            (LeftByWrite base (R * limit) (D.may_leave disk.old)) }
-        ensures outside { D.told → Torn base (R * limit) (D.seen disk.old) (D.seen disk.new) }
-        ensures full { ¬ IsErrOf result error.Full }
-        ensures memory { IsErrOf result error.NoMemory → disk.new ≡ disk.old }
-        ensures size { D.size disk.new ≡ D.size disk.old }
-        ensures later { D.faults disk.old ≤ D.faults disk.new }
-        ensures failed { IsErrOf result error.Failed → D.faults disk.old < D.faults disk.new }
-        ensures run { D.came_to disk.old disk.new }
-    {
-        let _size = disk.len();
-        let zeros = vec![in alloc; 0; R * limit as usize]?;
-        Ok(Journal::format_over(&zeros, disk, base, limit)?)
-    }
-
-    /// Makes a journal of no bodies on a device whose gate it closes first: so what the records that it clears stood for is
-    /// no longer read. A crash at any moment leaves what it might have left before, or a closed gate.
-    ///
-    /// # Errors
-    /// `NoMemory`, before any call of the device; `Failed` where the device failed.
-    pub fn format_behind_gate<D: Disk>(
-        alloc: Global,
-        disk: &mut D,
-        base: u64,
-        limit: u32,
-    ) -> Result<Journal<R>, JournalError>
-        requires wide { 0 < R }
-        requires behind { 1 ≤ base }
-        requires region { base + R * limit ≤ D.size disk.old }
-        ensures region { IfOk result (λ journal. journal ≡ record { base = base; limit = limit; count = 0 }) }
-        ensures stored { IfOk result (λ journal. D.told → Stored R journal (D.seen disk.new) (D.may_leave disk.new) []) }
-        ensures durable { OnOk result (D.told → Only (D.seen disk.new) (D.may_leave disk.new)) }
-        ensures shut { OnOk result (D.told → IsShut (D.seen disk.new)) }
-        ensures any_moment { D.told → LeavesOnly D.moment D.left_since disk.old disk.new (λ c. D.may_leave disk.old c ⊎ IsShut c) }
-        ensures either { D.told → (D.seen disk.new ≡ D.seen disk.old) ⊎ IsShut (D.seen disk.new) }
-        ensures full { ¬ IsErrOf result error.Full }
-        ensures memory { IsErrOf result error.NoMemory → disk.new ≡ disk.old }
-        ensures size { D.size disk.new ≡ D.size disk.old }
-        ensures later { D.faults disk.old ≤ D.faults disk.new }
-        ensures failed { IsErrOf result error.Failed → D.faults disk.old < D.faults disk.new }
-        ensures run { D.came_to disk.old disk.new }
-    {
-        let _size = disk.len();
-        let zeros = vec![in alloc; 0; R * limit as usize]?;
-        close_gate(disk)?;
-        Ok(Journal::format_over(&zeros, disk, base, limit)?)
-    }
-
-    // Makes a journal of no bodies out of zeros at hand.
-    fn format_over<D: Disk>(
-        zeros: &[u8],
-        disk: &mut D,
-        base: u64,
-        limit: u32,
-    ) -> Result<Journal<R>, Failed>
-        requires wide { 0 < R }
-        requires region { base + R * limit ≤ D.size disk.old }
-        requires zeros { zeros.now ≡ replicate (R * limit) 0 }
         ensures region { IfOk result (λ journal. journal ≡ record { base = base; limit = limit; count = 0 }) }
         ensures stored { IfOk result (λ journal. D.told → Stored R journal (D.seen disk.new) (D.may_leave disk.new) []) }
         ensures durable { OnOk result (D.told → Only (D.seen disk.new) (D.may_leave disk.new)) }
@@ -117,12 +52,40 @@ impl<const R: usize> Journal<R> {
         ensures run { D.came_to disk.old disk.new }
     {
         let _size = disk.len();
-        write_kept(disk, base, zeros)?;
+        write_zeros_kept(disk, base, R as u64 * u64::from(limit))?;
         Ok(Journal {
             base,
             limit,
             count: 0,
         })
+    }
+
+    /// Makes a journal of no bodies on a device whose gate it closes first: so what the records that it clears stood for is
+    /// no longer read. A crash at any moment leaves what it might have left before, or a closed gate. It takes no memory.
+    ///
+    /// # Errors
+    /// The device failed.
+    pub fn format_behind_gate<D: Disk>(
+        disk: &mut D,
+        base: u64,
+        limit: u32,
+    ) -> Result<Journal<R>, Failed>
+        requires wide { 0 < R }
+        requires behind { 1 ≤ base }
+        requires region { base + R * limit ≤ D.size disk.old }
+        ensures region { IfOk result (λ journal. journal ≡ record { base = base; limit = limit; count = 0 }) }
+        ensures stored { IfOk result (λ journal. D.told → Stored R journal (D.seen disk.new) (D.may_leave disk.new) []) }
+        ensures durable { OnOk result (D.told → Only (D.seen disk.new) (D.may_leave disk.new)) }
+        ensures shut { OnOk result (D.told → IsShut (D.seen disk.new)) }
+        ensures any_moment { D.told → LeavesOnly D.moment D.left_since disk.old disk.new (λ c. D.may_leave disk.old c ⊎ IsShut c) }
+        ensures either { D.told → (D.seen disk.new ≡ D.seen disk.old) ⊎ IsShut (D.seen disk.new) }
+        ensures size { D.size disk.new ≡ D.size disk.old }
+        ensures cause { HasCause (D.faults disk.old) (D.faults disk.new) result }
+        ensures run { D.came_to disk.old disk.new }
+    {
+        let _size = disk.len();
+        close_gate(disk)?;
+        Journal::format(disk, base, limit)
     }
 
     /// Opens the journal of `limit` records from `base` on: syncs, and gives the bodies up to the first gate that is not

@@ -33,6 +33,6 @@ pub fn write_format<D: Disk>(
     ensures run { D.came_to disk.old disk.new }
 {
     let ledger = Ledger::new(alloc, said.slots)?;
-    let log = RecordLog::format(alloc, disk, said)?;
+    let log = RecordLog::format(disk, said)?;
     Ok((ledger, log))
 }

@@ -12,7 +12,6 @@ use crate::header::{Header, spell};
 use block_journal::{Journal, JournalError, write_header};
 use ghost_list::GhostList;
 use petal_disk::Disk;
-use std::alloc::Global;
 use std::marker::Model;
 use store_record::{StoreRecord, encode};
 
@@ -44,11 +43,7 @@ impl Model for RecordLog {
 
 impl RecordLog {
     /// Makes the device stand for no record: closes its gate, clears the journal, writes the header, and opens the gate last.
-    pub fn format<D: Disk>(
-        alloc: Global,
-        disk: &mut D,
-        said: Header,
-    ) -> Result<RecordLog, StoreError>
+    pub fn format<D: Disk>(disk: &mut D, said: Header) -> Result<RecordLog, StoreError>
         requires { 4198400 ≤ D.size disk.old }
         ensures ok { IfOk result (λ log. (log.fresh ≡ said.fresh) × (log.records ≡ [])) }
         ensures logs { IfOk result (λ log. D.told → Logs said.slots log (D.seen disk.new) (D.may_leave disk.new)) }
@@ -61,7 +56,7 @@ impl RecordLog {
         ensures size { D.size disk.new ≡ D.size disk.old }
         ensures run { D.came_to disk.old disk.new }
     {
-        let journal = Journal::format_behind_gate(alloc, disk, JOURNAL_BASE, JOURNAL_RECORDS)?;
+        let journal = Journal::format_behind_gate(disk, JOURNAL_BASE, JOURNAL_RECORDS)?;
         write_header(disk, &spell(said))?;
         Ok(RecordLog {
             journal,

@@ -43,7 +43,7 @@ fn appended<D: Disk>(
 ) -> Result<u32, JournalError>
     requires { 64 * limit ≤ D.size disk.old }
 {
-    let mut journal = Journal::<RECORD_BYTES>::format(alloc, disk, 0, limit)?;
+    let mut journal = Journal::<RECORD_BYTES>::format(disk, 0, limit)?;
     append_all(&mut journal, disk, &[7; 63], count)?;
     if !opens {
         return Ok(journal.count());

@@ -7,7 +7,7 @@ ghost use Rattle.petal_disk.specs.Disk.{LeavesOnly};
 
 use crate::Remembering;
 use block_journal::{Journal, JournalError};
-use petal_disk::Disk;
+use petal_disk::{Disk, Failed};
 use std::alloc::Global;
 
 /// Appends a body of 7 bytes to a journal on a disk that remembers. A crash at an earlier moment would have left the list
@@ -35,14 +35,14 @@ pub fn append_body(
 }
 
 /// Formats a journal of one record.
-fn begin(alloc: Global, disk: &mut Remembering) -> Result<Journal<8>, JournalError>
+fn begin(disk: &mut Remembering) -> Result<Journal<8>, Failed>
     requires { 8 ≤ ⟦<Remembering as Disk>⟧.size disk.old }
     ensures region { IfOk result (λ journal. journal ≡ record { base = 0; limit = 1; count = 0 }) }
     ensures stored { IfOk result (λ journal. Stored 8 (record { base = 0; limit = 1; count = 0 }) (⟦<Remembering as Disk>⟧.seen disk.new)
         (⟦<Remembering as Disk>⟧.may_leave disk.new) []) }
     ensures size { ⟦<Remembering as Disk>⟧.size disk.new ≡ ⟦<Remembering as Disk>⟧.size disk.old }
 {
-    Journal::<8>::format(alloc, disk, 0, 1)
+    Journal::<8>::format(disk, 0, 1)
 }
 
 /// A disk with a past: a journal of one record is formatted on it, and then has a body.
@@ -56,7 +56,7 @@ pub fn with_a_past(alloc: Global) -> Result<Remembering, JournalError>
     let Ok(mut disk) = Remembering::new(alloc, 8) else {
         return Err(JournalError::NoMemory);
     };
-    let mut journal = begin(alloc, &mut disk)?;
+    let mut journal = begin(&mut disk)?;
     append_body(&mut journal, &mut disk, b"a body.")?;
     Ok(disk)
 }

@@ -93,6 +93,11 @@ impl Disk for Remembering {
         self.disk.write_at(at, bytes)
     }
 
+    fn write_zeros(&mut self, at: u64, n: u64) -> Result<(), Failed> {
+        self.note();
+        self.disk.write_zeros(at, n)
+    }
+
     fn sync(&mut self) -> Result<(), Failed> {
         self.note();
         self.disk.sync()

@@ -8,12 +8,12 @@ use std::alloc::Global;
 use std::test::Fail;
 
 // Makes a journal of two records, and appends the first.
-fn one_of_two<D: Disk>(alloc: Global, disk: &mut D) -> Result<Journal<4>, JournalError>
+fn one_of_two<D: Disk>(disk: &mut D) -> Result<Journal<4>, JournalError>
     requires { 12 ≤ D.size disk.old }
     ensures size { D.size disk.new ≡ D.size disk.old }
     ensures place { IfOk result (λ journal. (journal.base ≡ 4) × (journal.limit ≡ 2)) }
 {
-    let mut journal = Journal::<4>::format(alloc, disk, 4, 2)?;
+    let mut journal = Journal::<4>::format(disk, 4, 2)?;
     journal.append(disk, b"abc")?;
     Ok(journal)
 }
@@ -42,7 +42,7 @@ fn last_there<D: Disk>(alloc: Global, disk: &mut D) -> Result<(u32, Vec<u8>), Fa
 #[test]
 fn a_record_is_a_gate_and_a_body(rt: HostRuntime) -> Result<(), Fail> {
     let mut disk = MemDisk::new(rt.alloc(), 12)?;
-    let mut journal = one_of_two(rt.alloc(), &mut disk)?;
+    let mut journal = one_of_two(&mut disk)?;
     let mut bytes = [9; 12];
     assert_eq!(rt; disk.read(0, &mut bytes), Ok(()));
     assert_eq!(rt; &bytes, b"\0\0\0\0\xa5abc\0\0\0\0");
@@ -52,12 +52,12 @@ fn a_record_is_a_gate_and_a_body(rt: HostRuntime) -> Result<(), Fail> {
     Ok(())
 }
 
-fn begun<D: Disk>(alloc: Global, disk: &mut D) -> Result<Journal<8>, JournalError>
+fn begun<D: Disk>(disk: &mut D) -> Result<Journal<8>, JournalError>
     requires { 32 ≤ D.size disk.old }
     ensures size { D.size disk.new ≡ D.size disk.old }
     ensures place { IfOk result (λ journal. (journal.base ≡ 0) × (journal.limit ≡ 4)) }
 {
-    let mut journal = Journal::<8>::format(alloc, disk, 0, 4)?;
+    let mut journal = Journal::<8>::format(disk, 0, 4)?;
     journal.append(disk, b"a first")?;
     Ok(journal)
 }
@@ -87,7 +87,7 @@ fn bodies_after_stop(alloc: Global, at: u32, crashes: bool) -> Result<u32, Journ
         return Err(JournalError::NoMemory);
     };
     let mut disk = Planned::new(memory);
-    let mut journal = begun(alloc, &mut disk)?;
+    let mut journal = begun(&mut disk)?;
     disk.arm(Plan {
         kind: CallKind::Any,
         at,

@@ -2,7 +2,7 @@
 use Rattle.std.proofs.Common.{◌≡◌, ℕ, ◌+◌, ◌-◌, ◌≤◌, List, ◌++◌, length, take, drop, sym, ◌∙◌, ap, arith, append_assoc, length-drop, take-append-drop}
 use Rattle.std.proofs.lemmas.List.{drop-drop, length-take-le}
 use Rattle.petal_disk.specs.Disk.{written}
-use Rattle.petal_disk.proofs.Tearing.{take_less, drop_further, torn_front, torn_rest, torn_written}
+use Rattle.petal_disk.proofs.Tearing.{drop_further}
 
 -- the range is empty
 pub same_all : (low high : ℕ) (now kept : List ℕ) → high ≤ low → take low kept ≡ take low now → drop high kept ≡ drop high now → kept ≡ now
@@ -28,16 +28,3 @@ copied low high now kept mid new le fits is before behind done =
     ∙ ap (λ (l : List ℕ). take low now ++ (take (high - low) (drop low now) ++ l)) rest
     ∙ ap (λ (l : List ℕ). take low now ++ l) (take-append-drop (high - low) (drop low now))
     ∙ take-append-drop low now
-
--- the range grows with a write
-pub before_write : (k low at : ℕ) (bytes now kept new : List ℕ) → k ≤ low → k ≤ at → at + length bytes ≤ length now → take low kept ≡ take low now
-    → new ≡ written now at bytes → take k kept ≡ take k new
-before_write k low at bytes now kept new le le' fits same is =
-    take_less k low now kept le same ∙ sym (torn_front k at (length bytes) now (written now at bytes) le' (torn_written now at bytes fits))
-    ∙ ap (λ (l : List ℕ). take k l) (sym is)
-
-pub behind_write : (k high at : ℕ) (bytes now kept new : List ℕ) → high ≤ k → at + length bytes ≤ k → at + length bytes ≤ length now
-    → drop high kept ≡ drop high now → new ≡ written now at bytes → drop k kept ≡ drop k new
-behind_write k high at bytes now kept new le le' fits same is =
-    drop_further high k now kept le same ∙ sym (torn_rest k at (length bytes) now (written now at bytes) le' (torn_written now at bytes fits))
-    ∙ ap (λ (l : List ℕ). drop k l) (sym is)

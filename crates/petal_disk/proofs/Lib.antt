@@ -5,3 +5,4 @@ pub mod Moments
 pub mod Padding
 pub mod Struck
 pub mod Tearing
+mod Writing

@@ -1,6 +1,6 @@
 //! A disk of a fixed length: what a read gives, and what a crash may leave.
 
-ghost use Rattle.std.specs.Prelude.{◌≡◌, ◌≤◌, ◌+◌, List, ℕ, length, OnOk};
+ghost use Rattle.std.specs.Prelude.{◌≡◌, ◌≤◌, ◌+◌, List, ℕ, length, replicate, OnOk};
 ghost use Rattle.petal_disk.specs.Disk.{part, written, Torn, Follows, Within, Only, Elapses};
 ghost use Rattle.device_faults.specs.Faults.{HasCause};
 
@@ -54,6 +54,17 @@ pub trait Disk: Send + Drop {
         ensures torn { told → Torn at (length bytes.now) (seen self.old) (seen self.new) }
         ensures size { size self.new ≡ size self.old }
         ensures crash { Follows (Torn at (length bytes.now)) (may_leave self.old) (may_leave self.new) }
+        ensures time { Elapses (moment self.old) (moment self.new) (left_since self.old) (left_since self.new) (may_leave self.new) }
+        ensures cause { HasCause (faults self.old) (faults self.new) result }
+        ensures run { came_to self.old self.new };
+
+    /// Writes zeros over `n` bytes, as `write_at` writes bytes.
+    fn write_zeros(&mut self, at: u64, n: u64) -> Result<(), Failed>
+        requires { at + n ≤ size self.old }
+        ensures written { OnOk result (told → seen self.new ≡ written (seen self.old) at (replicate n 0)) }
+        ensures torn { told → Torn at n (seen self.old) (seen self.new) }
+        ensures size { size self.new ≡ size self.old }
+        ensures crash { Follows (Torn at n) (may_leave self.old) (may_leave self.new) }
         ensures time { Elapses (moment self.old) (moment self.new) (left_since self.old) (left_since self.new) (may_leave self.new) }
         ensures cause { HasCause (faults self.old) (faults self.new) result }
         ensures run { came_to self.old self.new };

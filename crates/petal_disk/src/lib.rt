@@ -17,4 +17,4 @@ pub use memory_disk::MemDisk;
 pub use memory_shelf::MemShelf;
 pub use planned::Planned;
 pub use shelf::Shelf;
-pub use write::write_kept;
+pub use write::{write_kept, write_zeros_kept};

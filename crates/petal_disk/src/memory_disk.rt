@@ -1,7 +1,6 @@
 //! A disk in memory: what was written, and what was there at the last sync. No call fails.
 
 ghost use Rattle.std.specs.Prelude.{◌≡◌, ◌≤◌, ◌+◌, ◌-◌, ◌++◌, length, take, drop, replicate, vec_capacity, IfOk};
-ghost use Rattle.std.specs.Bool.{OnTrue};
 ghost use Rattle.petal_disk.specs.Disk.{written, Only};
 ghost use Rattle.petal_disk.specs.Mixes.{Mixes};
 ghost use Rattle.petal_disk.specs.Padded.{padded, length-padded, length-left};
@@ -15,7 +14,7 @@ use std::alloc::Global;
 /// needs more; a page of it is touched only once bytes up to there were written. A crash leaves what was there at the last sync.
 #[derive(Drop)]
 pub struct MemDisk {
-    // the bytes up to the last that was ever written; after it all are zeros
+    // the bytes up to a place; from there on all are zeros, and no write of zeros brings them in
     now: Vec<u8>,
     kept: Vec<u8>,
     len: usize,
@@ -42,26 +41,20 @@ fn grow(bytes: &mut Vec<u8>, end: usize)
     }
 }
 
-// Whether all are zeros.
-fn are_zeros(bytes: &[u8]) -> bool
-    ensures { OnTrue result (bytes.now ≡ replicate (length bytes.now) 0) }
-{
-    let mut at = 0;
-    while at < bytes.len() {
-        if bytes[at] != 0 {
-            return false;
-        }
-        at += 1;
-    }
-    true
-}
-
 fn put(into: &mut Vec<u8>, at: usize, bytes: &[u8])
     requires { at + length bytes.now ≤ length into.old.items }
     ensures items { into.new.items ≡ written into.old.items at bytes.now }
     ensures room { vec_capacity into.new ≡ vec_capacity into.old }
 {
     into[at..at + bytes.len()].copy_from_slice(bytes);
+}
+
+fn put_zeros(into: &mut Vec<u8>, at: usize, n: usize)
+    requires { at + n ≤ length into.old.items }
+    ensures items { into.new.items ≡ written into.old.items at (replicate n 0) }
+    ensures room { vec_capacity into.new ≡ vec_capacity into.old }
+{
+    into[at..at + n].fill(0);
 }
 
 // Makes both the same, by a copy of the range in which they may differ.
@@ -93,6 +86,21 @@ impl MemDisk {
             low: len,
             high: 0,
         })
+    }
+
+    // Before a write from `at` up to `end`: brings the bytes up to there into memory, and counts the range as written.
+    fn open_range(&mut self, at: usize, end: usize)
+        requires { end ≤ self.old.len }
+        ensures len { self.new.len ≡ self.old.len }
+        ensures now { self.new.now.items ≡ self.old.now.items ++ replicate (end - length self.old.now.items) 0 }
+        ensures kept { self.new.kept.items ≡ self.old.kept.items ++ replicate (end - length self.old.kept.items) 0 }
+        ensures low { self.new.low ≤ at }
+        ensures high { end ≤ self.new.high }
+    {
+        grow(&mut self.now, end);
+        grow(&mut self.kept, end);
+        self.low = self.low.min(at);
+        self.high = self.high.max(end);
     }
 }
 
@@ -145,15 +153,18 @@ impl Disk for MemDisk {
 
     fn write_at(&mut self, at: u64, bytes: &[u8]) -> Result<(), Failed> {
         let at = at as usize;
-        let end = at + bytes.len();
-        if self.now.len() <= at && are_zeros(bytes) {
+        self.open_range(at, at + bytes.len());
+        put(&mut self.now, at, bytes);
+        Ok(())
+    }
+
+    fn write_zeros(&mut self, at: u64, n: u64) -> Result<(), Failed> {
+        let (at, n) = (at as usize, n as usize);
+        if self.now.len() <= at {
             return Ok(());
         }
-        grow(&mut self.now, end);
-        grow(&mut self.kept, end);
-        put(&mut self.now, at, bytes);
-        self.low = self.low.min(at);
-        self.high = self.high.max(end);
+        self.open_range(at, at + n);
+        put_zeros(&mut self.now, at, n);
         Ok(())
     }
 

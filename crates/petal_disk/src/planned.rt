@@ -1,9 +1,10 @@
 //! A disk with one plan: which of its next calls fails.
 
-ghost use Rattle.std.specs.Prelude.{◌≡◌, ◌≤◌, ◌<◌, ◌+◌, ◌/◌, ◌⊎◌, true, false, None, Some, IsErr, length, take, OnOk};
+ghost use Rattle.std.specs.Prelude.{◌≡◌, ◌≤◌, ◌<◌, ◌+◌, ◌/◌, ◌⊎◌, true, false, None, Some, IsErr, length, replicate, take, OnOk};
 ghost use Rattle.petal_disk.specs.Disk.{part, written, Torn, Follows, Within, Only, Elapses};
 ghost use Rattle.device_faults.specs.Faults.{HasCause};
 ghost use Rattle.petal_disk.specs.Plans.{counts, fails, plan_after, stops, is_late, unplanned, after, watch_state, plan_state, beneath, CameTo};
+ghost use Rattle.petal_disk.specs.PlannedWrites.{PlannedWrite};
 ghost use Rattle.device_faults.specs.declared.plan.CallKind.TheVariants as call;
 
 use crate::Disk;
@@ -208,18 +209,7 @@ impl<D: Disk> Disk for Planned<D> {
             (D.may_leave self.new.disk) }
         ensures cause { HasCause (D.faults self.old.disk + self.old.watch.strikes.times) (D.faults self.new.disk + self.new.watch.strikes.times) result }
         ensures run { D.came_to self.old.disk self.new.disk × CameTo (plan_state self.old) (plan_state self.new) }
-        ensures struck { fails (plan_state self.old).plan call.Write ≡ true → IsErr result }
-        ensures late { fails (plan_state self.old).plan call.Write ≡ true → is_late (plan_state self.old).plan ≡ true
-            → (D.told → D.seen self.new.disk ≡ written (D.seen self.old.disk) at bytes.now)
-            ⊎ (D.faults self.old.disk < D.faults self.new.disk) }
-        ensures halved { fails (plan_state self.old).plan call.Write ≡ true → is_late (plan_state self.old).plan ≡ false
-            → stops (plan_state self.old).plan ≡ true
-            → (D.told → D.seen self.new.disk ≡ written (D.seen self.old.disk) at (take (length bytes.now / 2) bytes.now))
-            ⊎ (D.faults self.old.disk < D.faults self.new.disk) }
-        ensures unwritten { fails (plan_state self.old).plan call.Write ≡ true → is_late (plan_state self.old).plan ≡ false
-            → stops (plan_state self.old).plan ≡ false → self.new.disk ≡ self.old.disk }
-        ensures spared { fails (plan_state self.old).plan call.Write ≡ false → HasCause (D.faults self.old.disk) (D.faults self.new.disk) result }
-        ensures state { plan_state self.new ≡ after (plan_state self.old) call.Write }
+        ensures planned { PlannedWrite D.told D.seen D.faults self.old self.new at bytes.now (take (length bytes.now / 2) bytes.now) result }
     {
         let late = self.watch.is_late();
         let stops = self.watch.stops();
@@ -230,6 +220,31 @@ impl<D: Disk> Disk for Planned<D> {
             let _ = self.disk.write_at(at, bytes);
         } else if stops {
             let _ = self.disk.write_at(at, &bytes[..bytes.len() / 2]);
+        }
+        Err(Failed)
+    }
+
+    fn write_zeros(&mut self, at: u64, n: u64) -> Result<(), Failed>
+        requires { at + n ≤ D.size self.old.disk }
+        ensures written { OnOk result (D.told → D.seen self.new.disk ≡ written (D.seen self.old.disk) at (replicate n 0)) }
+        ensures torn { D.told → Torn at n (D.seen self.old.disk) (D.seen self.new.disk) }
+        ensures size { D.size self.new.disk ≡ D.size self.old.disk }
+        ensures crash { Follows (Torn at n) (D.may_leave self.old.disk) (D.may_leave self.new.disk) }
+        ensures time { Elapses (D.moment self.old.disk) (D.moment self.new.disk) (D.left_since self.old.disk) (D.left_since self.new.disk)
+            (D.may_leave self.new.disk) }
+        ensures cause { HasCause (D.faults self.old.disk + self.old.watch.strikes.times) (D.faults self.new.disk + self.new.watch.strikes.times) result }
+        ensures run { D.came_to self.old.disk self.new.disk × CameTo (plan_state self.old) (plan_state self.new) }
+        ensures planned { PlannedWrite D.told D.seen D.faults self.old self.new at (replicate n 0) (replicate (n / 2) 0) result }
+    {
+        let late = self.watch.is_late();
+        let stops = self.watch.stops();
+        if !self.watch.fails_now(CallKind::Write) {
+            return self.disk.write_zeros(at, n);
+        }
+        if late {
+            let _ = self.disk.write_zeros(at, n);
+        } else if stops {
+            let _ = self.disk.write_zeros(at, n / 2);
         }
         Err(Failed)
     }

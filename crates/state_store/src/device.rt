@@ -62,7 +62,7 @@ pub struct Kept {
 
 impl<D: Disk> Device<D> {
     /// A device that stands for the one record of an incarnation.
-    pub fn format(alloc: Global, disk: D, inc: Inc) -> Result<Device<D>, (D, StateError)>
+    pub fn format(disk: D, inc: Inc) -> Result<Device<D>, (D, StateError)>
         requires { 8392704 ≤ D.size disk }
         ensures ok { IfOk result (λ d. (d.records ≡ kind.Inc inc ∷ []) × (d.region.count ≡ 1)) }
         ensures holds { IfOk result (λ d. D.told → Holds d.region (D.seen d.disk) (D.may_leave d.disk) d.records) }
@@ -78,7 +78,7 @@ impl<D: Disk> Device<D> {
         ensures err_run { IfErr result (λ e. D.came_to disk e.0) }
     {
         let mut disk = disk;
-        match write_format(alloc, &mut disk, inc) {
+        match write_format(&mut disk, inc) {
             Ok(journal) => Ok(Device {
                 disk,
                 journal,
@@ -200,7 +200,7 @@ const HEADER: [u8; 64] = [
 ];
 
 /// Closes the gate of the device, writes a journal of the one record, writes the header, and opens the gate last.
-fn write_format<D: Disk>(alloc: Global, disk: &mut D, inc: Inc) -> Result<Journal<128>, StateError>
+fn write_format<D: Disk>(disk: &mut D, inc: Inc) -> Result<Journal<128>, StateError>
     requires { 8392704 ≤ D.size disk.old }
     ensures region { IfOk result (λ j. (j.base ≡ 4096) × (j.limit ≡ 65536) × (j.count ≡ 1)) }
     ensures holds { IfOk result (λ j. D.told → Holds j (D.seen disk.new) (D.may_leave disk.new) (kind.Inc inc ∷ [])) }
@@ -213,13 +213,13 @@ fn write_format<D: Disk>(alloc: Global, disk: &mut D, inc: Inc) -> Result<Journa
     ensures size { D.size disk.new ≡ D.size disk.old }
     ensures run { D.came_to disk.old disk.new }
 {
-    let journal = write_first(alloc, disk, inc)?;
+    let journal = write_first(disk, inc)?;
     write_header(disk, &HEADER)?;
     Ok(journal)
 }
 
 /// Closes the gate of the device, and writes a journal of the one record.
-fn write_first<D: Disk>(alloc: Global, disk: &mut D, inc: Inc) -> Result<Journal<128>, StateError>
+fn write_first<D: Disk>(disk: &mut D, inc: Inc) -> Result<Journal<128>, StateError>
     requires { 8392704 ≤ D.size disk.old }
     ensures region { IfOk result (λ j. (j.base ≡ 4096) × (j.limit ≡ 65536) × (j.count ≡ 1)) }
     ensures stands { IfOk result (λ j. D.told → Stands 128 4096 65536 (D.seen disk.new) (bodies_of (kind.Inc inc ∷ []))) }
@@ -234,7 +234,7 @@ fn write_first<D: Disk>(alloc: Global, disk: &mut D, inc: Inc) -> Result<Journal
     ensures size { D.size disk.new ≡ D.size disk.old }
     ensures run { D.came_to disk.old disk.new }
 {
-    let mut journal = Journal::format_behind_gate(alloc, disk, JOURNAL_BASE, JOURNAL_RECORDS)?;
+    let mut journal = Journal::format_behind_gate(disk, JOURNAL_BASE, JOURNAL_RECORDS)?;
     journal.append(disk, &body_of(&StateRecord::Inc { inc }))?;
     Ok(journal)
 }

@@ -68,7 +68,7 @@ impl<D: Disk> StateStore<D> {
         ensures run { IfOk result (λ s. D.came_to disk s.disk) }
         ensures err_run { IfErr result (λ e. D.came_to disk e.0) }
     {
-        match Device::format(alloc, disk, inc) {
+        match Device::format(disk, inc) {
             Ok(device) => Ok(StateStore {
                 device,
                 places: Places::new(alloc),
