@@ -72,7 +72,7 @@ impl Post {
         self.boxes.get_mut(place)?.pop_front()
     }
 
-    /// Puts so many of the first letters of the box at this place behind its others.
+    /// Puts so many of the first letters of the box at this place after its others.
     pub(crate) fn turn(&mut self, place: usize, count: usize) -> Result<(), NoMemory> {
         for _ in 0..count {
             if let Some(letter) = self.take(place) {

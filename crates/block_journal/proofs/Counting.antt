@@ -21,7 +21,7 @@ counts_one r base file body opened is = record {
   ends = λ lt. absurd (omega (arith, lt));
 }
 
--- those of one piece behind those of another, all of whose records count
+-- those of one piece after those of another, all of whose records count
 pub counts_joined : (r base n m : ℕ) (file : List ℕ) (xs ys : List (List ℕ)) → length xs ≡ n → Counts r base n file xs → Counts r (base + r * n) m file ys
     → Counts r base (n + m) file (xs ++ ys)
 counts_joined r base n m file xs ys all front rest =

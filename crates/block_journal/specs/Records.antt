@@ -22,7 +22,7 @@ pub record Counts (r base limit : ℕ) (file : List ℕ) (bodies : List (List �
   pub counted : (i : ℕ) → i < length bodies → IsOpen r base file i × (body_at r base file i ≡ slice_index_or bodies i [])
   pub ends : length bodies < limit → ¬ IsOpen r base file (length bodies)
 
--- the region stands for these bodies: they count, and all gates behind theirs are closed
+-- the region stands for these bodies: they count, and all gates after theirs are closed
 pub record Stands (r base limit : ℕ) (file : List ℕ) (bodies : List (List ℕ)) : Type 0 where
   pub few : length bodies ≤ limit
   pub counted : (i : ℕ) → i < length bodies → IsOpen r base file i × (body_at r base file i ≡ slice_index_or bodies i [])

@@ -132,7 +132,7 @@ impl<const R: usize> Journal<R> {
         self.count
     }
 
-    /// Appends a body of `R - 1` bytes: writes it behind a gate that stays closed, syncs, opens the gate, syncs. A crash at
+    /// Appends a body of `R - 1` bytes: writes it after a gate that stays closed, syncs, opens the gate, syncs. A crash at
     /// any moment leaves the list as it was, or with the body. It takes no memory.
     ///
     /// # Errors

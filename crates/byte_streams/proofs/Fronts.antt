@@ -11,7 +11,7 @@ pub record TakenSoFar (left rest old new : List ℕ) (done : ℕ) : Type 0 where
   pub buffer : new ≡ take done left ++ drop done old
   pub rest_is : rest ≡ drop done left
 
--- one piece behind another
+-- one piece after another
 pub joined : (done count : ℕ) (bytes : List ℕ) → take done bytes ++ take count (drop done bytes) ≡ take (done + count) bytes
 joined done count bytes =
     ap (λ (l : List ℕ). l ++ take count (drop done bytes)) (sym (take-take done (done + count) bytes (omega arith)))
@@ -46,7 +46,7 @@ more_taken left rest rest' old into new done count k within wide so_far takes =
       rest_is = takes.rest_is ∙ ap (λ (l : List ℕ). drop count l) so_far.rest_is ∙ drop-drop count done left;
     }
 
--- a piece behind what was written
+-- a piece after what was written
 pub more_written : (old mid new bytes : List ℕ) (done count k : ℕ) → k ≡ length bytes - done → mid ≡ old ++ take done bytes
     → new ≡ mid ++ take count (take k (drop done bytes)) → new ≡ old ++ take (done + count) bytes
 more_written old mid new bytes done count k wide so_far is =

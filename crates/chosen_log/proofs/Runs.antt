@@ -35,7 +35,7 @@ pushed_run g [] x h e (suc k) lt = absurd (omega arith)
 pushed_run g (y ∷ ys) x h e zero lt = h 0 (omega arith)
 pushed_run g (y ∷ ys) x h e (suc k) lt = pushed_run (λ k. g (suc k)) ys x (λ k lt. h (suc k) (omega arith)) e k (omega arith)
 
--- nothing stands behind the items
+-- nothing stands after the items
 pub whole_run : {X : Type 0} (g : ℕ → Option X) (xs : List X) → ((k : ℕ) → k < length xs → slice_get xs k ≡ g k) → g (length xs) ≡ None → (k : ℕ)
     → k ≤ length xs → slice_get xs k ≡ g k
 whole_run g [] h e zero le = sym e
@@ -98,7 +98,7 @@ drop_past [] (suc n) le = refl
 drop_past (x ∷ xs) zero le = absurd (omega arith)
 drop_past (x ∷ xs) (suc n) le = drop_past xs n (omega arith)
 
--- what stands behind the first ones, where there are so many
+-- what stands after the first ones, where there are so many
 pub rest_of : {X : Type 0} (xs : List X) (m n : ℕ) → (n ≤ length xs → m ≡ n) → (length xs ≤ n → m ≡ length xs) → take (length xs - m) (drop m xs) ≡ drop n xs
 rest_of xs m n inside_it past = take_rest xs m ∙ by (nat_le n (length xs)) refl
   where

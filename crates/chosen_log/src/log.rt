@@ -69,7 +69,7 @@ impl ChosenLog {
         self.run.as_slice()
     }
 
-    /// What of that run stands behind its first `rev` commands.
+    /// What of that run stands after its first `rev` commands.
     pub fn since(&self, rev: Rev) -> &[Command]
         ensures { (run : List Command) → IsLongestRun self.now run → result.now ≡ drop rev run }
     {

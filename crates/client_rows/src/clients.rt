@@ -53,9 +53,9 @@ enum Step {
     AsksFor(Line, u32),
     /// It takes a tick, and its last letter goes to the server.
     ResendsTo(ServerId),
-    /// It hears of the entry behind so many: that answers its line so.
+    /// It hears of the entry after so many: that answers its line so.
     Told(Rev, Entry, Ending),
-    /// It hears of the entry behind so many, and is at this revision then.
+    /// It hears of the entry after so many, and is at this revision then.
     IsAt(Rev, Entry, Rev),
     /// It hears of the first two entries, and sends its write to the server, at this revision.
     WritesTo(Entry, Entry, ServerId, Rev),
@@ -222,7 +222,7 @@ fn hear(alloc: Global, client: &mut ClientCore, rev: Rev, body: Body) -> Result<
     Ok(client.deliver(alloc, &letter)?)
 }
 
-/// It hears of an entry behind so many.
+/// It hears of an entry after so many.
 fn learn(
     alloc: Global,
     client: &mut ClientCore,

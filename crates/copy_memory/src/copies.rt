@@ -230,7 +230,7 @@ impl Copies {
         self.full = full;
     }
 
-    /// Nothing is left of the copies of which nothing is kept behind the entry, which makes this next state. It takes no memory.
+    /// Nothing is left of the copies of which nothing is kept after the entry, which makes this next state. It takes no memory.
     pub fn crosses(&mut self, here: &Here, entry: &Command, next: &GlobalState)
         ensures { self.new ≡ copies_left here.now.state next.now entry.now self.old }
     {

@@ -111,7 +111,7 @@ impl<X: Copy + Drop> LinkTable<X> {
         let _ = self.rows.remove(&key(link));
     }
 
-    /// Nothing stands from now on at the links of which nothing is kept behind the entry, which makes this next state.
+    /// Nothing stands from now on at the links of which nothing is kept after the entry, which makes this next state.
     pub fn drop_ended(&mut self, here: &Here, entry: &Command, next: &GlobalState)
         ensures { self.new ≡ filter (λ row. not (link_ends here.now.state next.now entry.now row.0)) self.old }
     {

@@ -86,7 +86,7 @@ not_read slots fresh bodies i old body lt here so_far refused = record {
       (subst (λ k. Fits old.ledger.slots k r) (sym so_far.kept) (subst (λ n. Fits n (kept_of fresh old.history.items) r) (sym so_far.slots_are) fits));
 }
 
--- a record among those that all fit fits behind those before it
+-- a record among those that all fit fits after those before it
 fits_at : (slots : ℕ) (kept : Kept) (records : List StoreRecord) (i : ℕ) (r : StoreRecord) → AllFit slots kept records → i < length records
     → take (suc i) records ≡ take i records ++ r ∷ [] → Fits slots (fold kept_after kept (take i records)) r
 fits_at slots kept [] i r fit lt is = absurd (omega arith)

@@ -1,4 +1,4 @@
--- What a data device stands for: a header of 64 bytes, behind 4,096 bytes a journal of 65,536 records of 64 bytes, and behind
+-- What a data device stands for: a header of 64 bytes, after 4,096 bytes a journal of 65,536 records of 64 bytes, and after
 -- that the slots.
 use Rattle.std.specs.Prelude.{ℕ, ◌≡◌, ◌⊎◌, Bool, List, [], ◌∷◌, ◌++◌, map, length, take, replicate, ⊤}
 use Rattle.block_journal.specs.Records.{Stands}

@@ -11,7 +11,7 @@ use Rattle.device_gate.specs.Gate.{IsShut, BeginsOpen}
 pub shut_still : (at n : ℕ) (x y : List ℕ) → 1 ≤ at → Torn at n x y → IsShut x → IsShut y
 shut_still at n x y le torn shut is = shut (sym (torn_front 1 at n x y le torn) ∙ is)
 
--- what is written behind a first byte
+-- what is written after a first byte
 behind_one : (f : ℕ) (fs hs : List ℕ) → written (f ∷ fs) 1 (drop 1 (0 ∷ hs)) ≡ f ∷ (hs ++ drop (1 + length hs) (f ∷ fs))
 behind_one f fs hs = refl
 
@@ -19,11 +19,11 @@ behind_one f fs hs = refl
 over_first : (h : ℕ) (hs file : List ℕ) → h ∷ (hs ++ drop (1 + length hs) file) ≡ written file 0 (h ∷ hs)
 over_first h hs file = ap (λ (k : ℕ). h ∷ (hs ++ drop k file)) (let e : 1 + length hs ≡ 0 + length (h ∷ hs) = omega arith in e)
 
--- all behind the first byte
+-- all after the first byte
 pub all_behind : (xs : List ℕ) → take (length xs - 1) (drop 1 xs) ≡ drop 1 xs
 all_behind xs = take_all (length xs - 1) (drop 1 xs) (omega (arith, length-drop 1 xs))
 
--- a write over a closed gate with nothing else pending leaves it closed, or the header that stands behind it
+-- a write over a closed gate with nothing else pending leaves it closed, or the header that stands after it
 pub torn_shut : (file header x y : List ℕ) → BeginsOpen header → length header ≤ length file → x ≡ written file 1 (drop 1 header) → Torn 0 1 x y
     → IsShut y ⊎ (y ≡ written file 0 header)
 torn_shut file [] x y opens fits is torn = absurd (cc)
@@ -37,7 +37,7 @@ torn_shut (f ∷ fs) (h ∷ hs) (a ∷ x) (b ∷ y) opens fits is torn = elim (c
 ]
 
 module _ {D : Type 0} (moment : D → ℕ) (left_since : D → ℕ → List ℕ → Type 0) where
-  -- what stands behind the gate alone is written
+  -- what stands after the gate alone is written
   pub behind_gate : (d0 d1 : D) (n : ℕ) (leave0 : List ℕ → Type 0) (file header : List ℕ) → Only file leave0 → IsShut file
       → LeavesOnly moment left_since d0 d1 (LeftByWrite 1 n leave0) → LeavesOnly moment left_since d0 d1 (λ c. IsShut c ⊎ (c ≡ written file 0 header))
   behind_gate d0 d1 n leave0 file header only shut first =
@@ -54,7 +54,7 @@ module _ {D : Type 0} (moment : D → ℕ) (left_since : D → ℕ → List ℕ 
       (behind_gate d0 d1 n leave0 file header only shut first) second
       (λ c left. torn_shut file header left.0 c opens fits (only' left.0 left.1 ∙ is) left.2)
 
-  -- the gate is closed, and then a range behind it is written
+  -- the gate is closed, and then a range after it is written
   pub clearing : (d0 d1 d2 : D) (at n : ℕ) (leave0 leave1 : List ℕ → Type 0) (file : List ℕ) → 1 ≤ at → Only file leave1 → IsShut file
       → LeavesOnly moment left_since d0 d1 (λ c. leave0 c ⊎ IsShut c) → LeavesOnly moment left_since d1 d2 (LeftByWrite at n leave1)
       → LeavesOnly moment left_since d0 d2 (λ c. leave0 c ⊎ IsShut c)

@@ -1,4 +1,4 @@
-//! A device of a server fails, or stops it, in a boot or behind the boot of a blanked server.
+//! A device of a server fails, or stops it, in a boot or after the boot of a blanked server.
 
 use memory_runs::play_steps;
 use std::alloc::Global;
@@ -49,7 +49,7 @@ fn boots_that_fail_late(rt: HostRuntime) -> Result<(), Fail> {
     failing_boot(rt.alloc(), "sync 4 late stop", 1)
 }
 
-/// A device fails in the boot of server 1 behind its blank, which has raised the incarnation or not. It does so no less where the plan
+/// A device fails in the boot of server 1 after its blank, which has raised the incarnation or not. It does so no less where the plan
 /// stops the server.
 fn failing_boot_of_blank(alloc: Global, plan: &str, committed: u32) -> Result<(), Fail> {
     let steps = format!(in alloc;
@@ -77,7 +77,7 @@ fn a_blank_device_fails_in_the_boot(rt: HostRuntime) -> Result<(), Fail> {
         "data sync 2 stop",
         "data sync 3",
         "data sync 4",
-        // the store is whole then, and is made anew
+        // the store is whole then, and is made again
         "data sync 4 late",
     ] {
         failing_boot_of_blank(rt.alloc(), plan, 0)?;
@@ -86,7 +86,7 @@ fn a_blank_device_fails_in_the_boot(rt: HostRuntime) -> Result<(), Fail> {
 }
 
 #[test]
-fn a_state_device_fails_in_the_boot_behind_a_blank(rt: HostRuntime) -> Result<(), Fail> {
+fn a_state_device_fails_in_the_boot_after_a_blank(rt: HostRuntime) -> Result<(), Fail> {
     // those that raise the incarnation; the device is read again first, which syncs it twice
     for plan in [
         "state write 1",
@@ -104,8 +104,8 @@ const FILLED: &str =
     "servers 3 slots 4\na disk vol on 0 1 2\nwait\na write vol 0 fill 7\nwait\nop blank 1\nop start 1\nop settle\nop start 1\nop settle\nop stop 0\nwait
 b read vol 0\n";
 
-/// The blank device of server 1 has this plan, which is met behind the boot, as it tells.
-fn met_behind_the_boot(alloc: Global, plan: &str, told: &str) -> Result<(), Fail> {
+/// The blank device of server 1 has this plan, which is met after the boot, as it tells.
+fn met_after_the_boot(alloc: Global, plan: &str, told: &str) -> Result<(), Fail> {
     let steps = format!(in alloc;
         "a calls 2; agree; wait; a calls 4; agree; wait; op calls 6; 1 stops; 1 blanks; 1 arms data {plan}; 1 boots; 1 shows 6; seen 1>op; line 6 ok;
         play out; {told}; line 7 ok; line 8 ok; line 9 ok; line 10 ok; line 11 ok; line 13 fill 7"
@@ -119,19 +119,19 @@ fn met_behind_the_boot(alloc: Global, plan: &str, told: &str) -> Result<(), Fail
 }
 
 fn fails(alloc: Global, plan: &str) -> Result<(), Fail> {
-    met_behind_the_boot(alloc, plan, "failed 1; stopped 0")
+    met_after_the_boot(alloc, plan, "failed 1; stopped 0")
 }
 
 fn stops(alloc: Global, plan: &str) -> Result<(), Fail> {
-    met_behind_the_boot(alloc, plan, "failed 0; stopped 1; committed 0")
+    met_after_the_boot(alloc, plan, "failed 0; stopped 1; committed 0")
 }
 
 fn fails_late(alloc: Global, plan: &str) -> Result<(), Fail> {
-    met_behind_the_boot(alloc, plan, "failed 1; stopped 0; committed 1")
+    met_after_the_boot(alloc, plan, "failed 1; stopped 0; committed 1")
 }
 
 fn stops_late(alloc: Global, plan: &str) -> Result<(), Fail> {
-    met_behind_the_boot(alloc, plan, "failed 0; stopped 1; committed 1")
+    met_after_the_boot(alloc, plan, "failed 0; stopped 1; committed 1")
 }
 
 // Behind the calls that make the store, of which the last one opens its gate, and the two syncs as it is read again.

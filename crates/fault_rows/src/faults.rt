@@ -197,7 +197,7 @@ const SECOND_SYNCS_NO_MORE: Calls = Calls {
     ..SYNCS_NO_MORE
 };
 
-// The block is marked, put, and its mark is taken away: a record behind its gate, and the gate; before a put the content.
+// The block is marked, put, and its mark is taken away: a record after its gate, and the gate; before a put the content.
 #[test]
 fn each_sync_of_a_data_device(rt: HostRuntime) -> Result<(), Fail> {
     each_sync(rt.alloc(), "0 arms data", &[0, 1, 0, 0, 1, 0, 1])?;

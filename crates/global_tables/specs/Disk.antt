@@ -41,7 +41,7 @@ made disks name of = record {
   made = disks.made + 1;
 }
 
--- a snapshot of what was written up to the present epoch, behind which a newer one begins
+-- a snapshot of what was written up to the present epoch, after which a newer one begins
 abbrev pub row_frozen : List ℕ → DiskRow → DiskRow
 row_frozen name row = record row { snaps = row.snaps ++ record { name = name; epoch = row.epoch } ∷ []; epoch = row.epoch + 1 }
 

@@ -43,7 +43,7 @@ row_between of up link primary secondary = record {
   state = new_state (is_up up primary) (is_up up secondary) primary secondary;
 }
 
--- link i of a new map: from server i of its tuple to the next one, behind the last to the first
+-- link i of a new map: from server i of its tuple to the next one, after the last to the first
 abbrev pub new_row : ℕ → List ℕ → List Bool → ℕ → LinkRow
 new_row of tuple up i = row_between of up i (slice_index tuple i) (slice_index tuple ((i + 1) % length tuple))
 

@@ -62,7 +62,7 @@ out_of (Some member) = last_inc member
 abbrev pub left : View → ℕ → View
 left view server = renewed view (slice_set view.members server (Out (out_of (slice_get view.members server))))
 
--- the waiting set of a fence that is queued behind these
+-- the waiting set of a fence that is queued after these
 abbrev pub first_waiting : List Member → List Fence → List ℕ
 first_waiting members [] = servers_in members
 first_waiting members (fence ∷ fences) = []
@@ -92,7 +92,7 @@ abbrev pub ready : List Fence → Option Fence
 ready [] = None
 ready (fence ∷ fences) = if length fence.waiting == 0 then Some fence else None
 
--- what is behind the head, the first of which then waits for these servers
+-- what is after the head, the first of which then waits for these servers
 abbrev pub behind : List ℕ → List Fence → List Fence
 behind servers [] = []
 behind servers (fence ∷ fences) = awaiting servers fences

@@ -20,7 +20,7 @@ pub struct LinkRow {
     /// Its number in the map, which is the primary's place in the map's tuple.
     pub link: u8,
     pub primary: ServerId,
-    /// The next server in the tuple; the first behind the last.
+    /// The next server in the tuple; the first after the last.
     pub secondary: ServerId,
     pub state: LinkState,
 }

@@ -33,7 +33,7 @@ start_acts = Moves (Calls 8 2 ∷ []) ∷ Stops 1 ∷ Shows 1 2 ∷ Moves (Hands
 abbrev pub boot_acts : WorkEnd → List Act
 boot_acts end = start_acts ++ Boots 1 end ∷ []
 
--- it was glanced at, and the operator has its answer, which comes behind so many letters
+-- it was glanced at, and the operator has its answer, which comes after so many letters
 abbrev pub seen_acts : WorkEnd → ℕ → List Act
 seen_acts end letters = boot_acts end ++ Shows 1 3 ∷ Moves (Hands letters ∷ []) ∷ []
 
@@ -58,7 +58,7 @@ abbrev pub wants_of_1 : World → List Command
 wants_of_1 w = wanted_by (here_of (server_state comeback w 1) 1 (w.servers 1)) (w.servers 1)
 
 -- a tick of this server of three asks another one what follows, which is letter k, and it starts a ballot. It and the other server promise
--- and accept, and both hear and apply what is chosen. Of the letters that it sends to all, its own and that to the other one are so many behind
+-- and accept, and both hear and apply what is chosen. Of the letters that it sends to all, its own and that to the other one are so many after
 -- the first
 abbrev pub ballot_of : (server other its_own to_other k : ℕ) → List Move
 ballot_of server other its_own to_other k =

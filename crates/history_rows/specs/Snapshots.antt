@@ -40,11 +40,11 @@ report_of server = Drained server 1 1
 abbrev pub fenced_log : List Command
 fenced_log = crowd_disk ∷ snap_mon ∷ []
 
--- those that the active fence awaits, behind these entries
+-- those that the active fence awaits, after these entries
 abbrev pub awaited_by : List Command → Option (List ℕ)
 awaited_by log = option_map (λ (fence : Fence). fence.waiting) (head (state_after 3 log).view.queue)
 
--- the snapshots and the epoch of each disk, behind these entries
+-- the snapshots and the epoch of each disk, after these entries
 abbrev pub snaps_by : List Command → List (List Snapshot)
 snaps_by log = map (λ (row : DiskRow). row.snaps) (state_after 3 log).disks.rows
 

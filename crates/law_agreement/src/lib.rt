@@ -49,7 +49,7 @@ pub fn letters_stand()
         → In (sent from (Accepted place b)) (run n events begin).letters → (v : Command) × In (vote from place b v) (run n events begin).votes }
 {}
 
-/// The law speaks of something: three servers choose a command for place 1, though one of them stops behind its commit and
+/// The law speaks of something: three servers choose a command for place 1, though one of them stops after its commit and
 /// boots again, and the third learns of it.
 pub fn some_value()
     ensures { (v : Command) → (run 3 (Starts 0 1 1 v Goes ∷ Handed 0 0 Goes ∷ Handed 1 1 Goes ∷ Handed 0 0 Goes ∷ Handed 1 0 Goes ∷ Handed 0 0 Goes

@@ -109,7 +109,7 @@ module _ (lines : List Line) (rise : AreRising lines) (given : List (ℕ × Answ
   others_after None c d called client ne own a = a
   others_after (Some row) c d called client ne own a = others_ahead row c d called client ne (own row refl) a
 
-  -- the client behind its step: what it answered is open no more
+  -- the client after its step: what it answered is open no more
   record IsTurned (c : ℕ) (reacted : Reaction) : Type 0 where
     own : OwnAnswer c reacted.client.seq reacted.answer
     ahead : IsAhead lines (with_answer reacted.answer given) c reacted.client

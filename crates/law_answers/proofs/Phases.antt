@@ -1,4 +1,4 @@
--- Answers of greater lines stand behind.
+-- Answers of greater lines stand after.
 use Rattle.std.proofs.Common.{◌≡◌, ◌<◌, ℕ, true, false, cond, List, [], ◌∷◌, ◌++◌, Option, Some, None, is_some, refl, sym, ap, ◌∙◌, subst, inl, inr, arith}
 use Rattle.std.proofs.lemmas.Bool.Decides.{nat_tests}
 use Rattle.std.proofs.lemmas.Grind.{flat_map-append, fold-append}
@@ -41,7 +41,7 @@ insert_behind (row ∷ rows) b number answer below =
     ap (λ r. match_ordering r ((number, answer) ∷ row ∷ rows ++ b) ((row.0, answer) ∷ rows ++ b) (row ∷ insert_entry nat_cmp (rows ++ b) number answer)) o
     ∙ ap (λ more. row ∷ more) (insert_behind rows b number answer (λ other i. below other (inr i)))
 
--- an answer of a greater number is put behind
+-- an answer of a greater number is put after
 put_behind : (a b : Table ℕ Answer) (number : ℕ) (answer : Answer) → AreBelow a number → put nat_cmp (a ++ b) number answer ≡ a ++ put nat_cmp b number answer
 unfolding put
 put_behind a b number answer below = insert_behind a b number answer below

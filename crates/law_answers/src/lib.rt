@@ -1,5 +1,5 @@
 //! The rule of answers: over every legal history of a script whose lines rise, no line is answered twice, and what is answered
-//! later than a phase stands behind it in the text.
+//! later than a phase stands after it in the text.
 //!
 //! To the layers above it promises that the text of a history is the texts of its phases one after the other. It speaks of
 //! definitions alone, and knows nothing of code.

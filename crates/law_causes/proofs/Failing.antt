@@ -136,7 +136,7 @@ glanced_at (request.Start server) n m running before done named = sym done.0 ∙
 glanced_at (request.Blank server) n m running before done named = sym done.0 ∙ same_some named
 glanced_at _ n m running before never named = absurd never
 
--- it stands behind the steps that its line gives, and is the line's first
+-- it stands after the steps that its line gives, and is the line's first
 pub due_once : (w : World) (asked : Asked) (n round : ℕ) (what : Request) (m : ℕ) → (names what).server ≡ Some m → IsDue w asked n round what
     → (round ≡ 0) × (w.control.glanced ≢ Some asked.line) × IsDone what n (w.servers n).life.running w.control.hand
 due_once w asked n round request.Settle m named due = none_some refl named

@@ -270,7 +270,7 @@ old_now s d c q seq v same number low = ap (is_new seq) (told_itself s d c q v (
 asked_by : (d q c seq : ℕ) → (let pair : Option (ℕ × ℕ) = Some (d, q) in pair) ≡ Some (c, seq) → (d ≡ c) × (q ≡ seq)
 asked_by d q c seq e = let same = same_some e in (ap (λ (x : ℕ × ℕ). x.0) same, ap (λ (x : ℕ × ℕ). x.1) same)
 
--- behind a client's own command its number is old
+-- after a client's own command its number is old
 old_act : (e : Command) (s : State) (c seq : ℕ) → asker e ≡ Some (c, seq) → c < length s.verdicts → is_new seq (latest (act e s) c) ≡ false
 old_act (MakeDisk client q name tuple) s c seq own low =
     let one = asked_by client q c seq own in

@@ -23,8 +23,8 @@ use Rattle.law_steps.proofs.Letters.{one_post}
 use Rattle.law_steps.proofs.LogJobs.{ballot_logged, ask_logged}
 use Rattle.law_log.proofs.Copying.{IsCalm, calm_mends}
 use Rattle.law_log.proofs.Filling.{calm_sweeps}
-use Rattle.law_log.proofs.Handling.{calm_handles, calm_stages, calm_where_in, dated_copies_anew}
-use Rattle.law_log.proofs.Pairs.{dated_anew}
+use Rattle.law_log.proofs.Handling.{calm_handles, calm_stages, calm_where_in, dated_copies_again}
+use Rattle.law_log.proofs.Pairs.{dated_again}
 use Rattle.law_causes.proofs.Mute.{IsMute, AreMute, M, both_mute, calm_mute, dated_mute, logged_mute, none_mute}
 
 module _ (here : Here) where
@@ -33,8 +33,8 @@ module _ (here : Here) where
       both_mute _ _
       (both_mute _ _
       (both_mute _ _ (λ post h. logged_mute post.body (ballot_logged (voter_of here) server.log.phase post h))
-      (λ post h. dated_mute post.body (dated_anew here server.own server.own.pairs.pending post h)))
-      (λ post h. dated_mute post.body (dated_copies_anew here server.own post h)))
+      (λ post h. dated_mute post.body (dated_again here server.own server.own.pairs.pending post h)))
+      (λ post h. dated_mute post.body (dated_copies_again here server.own post h)))
       (λ post h. logged_mute post.body (ask_logged (voter_of here) server.log post h))
 
   -- a job that tells of another revision

@@ -49,7 +49,7 @@ module _ (servers : ℕ) (log : List Command) (plain : IsPlainLog servers log) w
         ∙ old_after servers e.0 (at k) c seq (entry_plain k e.0 e.1) (old_on c seq i k (omega arith) (omega arith) old)
   ]
 
-  -- behind a client's own command its number is old
+  -- after a client's own command its number is old
   pub own_old : (c seq i : ℕ) (e : Command) → slice_get log i ≡ Some e → i < length log → asker e ≡ Some (c, seq) → c < 9
       → is_new seq (latest (at (suc i)) c) ≡ false
   own_old c seq i e is low own few =

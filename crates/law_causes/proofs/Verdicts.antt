@@ -177,7 +177,7 @@ module _ (servers : ℕ) (log : List Command) (plain : IsPlainLog servers log) w
         ∙ last_found (λ (x : Snapshot). same_name x.name active.name) active.row.snaps (record { name = active.name; epoch = active.row.epoch })
         (text_itself active.name)
 
-    -- the fences behind it stood before
+    -- the fences after it stood before
     queue_behind : (s : State) (fence : Fence) (i : ℕ) (other : Fence) → slice_get (one_passed s fence).view.queue i ≡ Some other
         → OldOrWaits s (one_passed s fence) other
     queue_behind s fence i other e =
@@ -528,7 +528,7 @@ module _ (servers : ℕ) (log : List Command) (plain : IsPlainLog servers log) w
 
     -- ### The place of the verdict
 
-    -- the first state that answers the request, behind so many entries and one more, answers it so
+    -- the first state that answers the request, after so many entries and one more, answers it so
     pub judged_first : (k : ℕ) → k ≤ length log → (given : Answer) → says (at k) ≡ Some given
         → (j : ℕ) × (j + 1 ≤ k) × (says (at (j + 1)) ≡ Some given) × ((i : ℕ) → i ≤ j → says (at i) ≡ None)
     judged_first zero low given h = none_some (ap (verdict_for seq) (nobody_told 9 c)) h

@@ -5,7 +5,7 @@ use Rattle.petal_rules.specs.Store.{Store}
 use Rattle.petal_rules.specs.World.{Setting, World, blank_joins_in, chosen_log, server_state}
 use Rattle.law_copies.proofs.Ground.{Ground}
 
--- a running server that is In as itself: its store is the one that counts, and no Join of it with an empty store is chosen behind its
+-- a running server that is In as itself: its store is the one that counts, and no Join of it with an empty store is chosen after its
 -- own entries
 pub record IsAtWork (setting : Setting) (w : World) (stores : ℕ → Store) (k : ℕ) : Type 0 where
   pub runs : (w.servers k).life.running ≡ true

@@ -439,7 +439,7 @@ module _ (it : AtJob) where
               → blank_joins_in setting more other_one ≡ blank_joins_in setting f other_one
           now_at more same = ap (blank_joins_in setting more) e ∙ same ∙ sym now ∙ ap (blank_joins_in setting f) (sym e)
 
-          -- behind the front the holder started a ballot
+          -- after the front the holder started a ballot
           by_caught : (more : List Command) (kept : Bool) → IsPrefix f front → (u : IsCaughtUp setting records w stores firm good f front cell holder kept)
               → HasFilled setting top visits f cell holder other_one
           by_caught more kept p u =

@@ -104,7 +104,7 @@ module _ (it : AtEntry) where
   alive_there : (cell : Cell) → AliveIn (state_in setting.servers server.log) cell → AliveIn (server_state setting w k) cell
   alive_there = entering.alive_before it
 
-  -- it was In as itself where it is so behind an entry that does not touch a link of its own
+  -- it was In as itself where it is so after an entry that does not touch a link of its own
   seat_before : (row : LinkRow) (cell : Cell) → has_server k row ≡ true → StaysSo cell row (server_state setting w k) (state_in setting.servers server.log)
       → is_in (state_in setting.servers server.log) k server.life.inc ≡ true → is_in (server_state setting w k) k (w.servers k).life.inc ≡ true
   seat_before row cell has so seat =

@@ -49,7 +49,7 @@ use Rattle.law_copies.proofs.Counts.{joins_at, store_at}
 use Rattle.law_copies.proofs.Framed.{other_is_one}
 use Rattle.law_copies.proofs.Later.{alone_not_lost, holder_is_one, other_than}
 use Rattle.law_copies.proofs.Mute.{said_mute}
-use Rattle.law_copies.proofs.NewPlaces.{beside_same, both_cover, cover_anew, in_common, new_alone, new_twins, twins_same}
+use Rattle.law_copies.proofs.NewPlaces.{beside_same, both_cover, cover_again, in_common, new_alone, new_twins, twins_same}
 use Rattle.law_copies.proofs.Places.{below_at, front_or_all, links_up, other_later}
 use Rattle.law_copies.proofs.Renewed.{blanked_alone, counts_same, filled_cover, joined_not_both, joins_so, no_blank_join, no_chains}
 use Rattle.law_copies.proofs.AtNext.{AtNext, next_of, IsGrownTo}
@@ -155,7 +155,7 @@ module _ (it : AtNext) where
   alone_cover cell row now holder whole is end alive alone still =
       let beside = beside_top cell row holder whole is alive alone in
       subst (λ m. IsCovered now cell (old holder) (old m) None) (sym (other_later row now holder (later_then it cell row now is end)))
-      (cover_anew row now cell (old holder) (old (other_of holder row)) (good.visits holder (place_by setting top row) cell)
+      (cover_again row now cell (old holder) (old (other_of holder row)) (good.visits holder (place_by setting top row) cell)
       (λ all. ap is_whole (still ∙ sym alone) ∙ all) beside.alike.covered)
 
   -- one of its two servers has left
@@ -220,7 +220,7 @@ module _ (it : AtNext) where
       → HasFilled setting next good.visits f cell holder other
   filled_on f cell holder other h = has_filled_on h (front_on h.more top next h.within (front_more top entry)) refl h.own h.visited
 
-  -- behind as many of its Joins with an empty store
+  -- after as many of its Joins with an empty store
   filled_next : (cell : Cell) (holder other : ℕ) → blank_joins_in setting next other ≡ blank_joins_in setting top other
       → HasFilled setting top good.visits top cell holder other → HasFilled setting next good.visits next cell holder other
   filled_next cell holder other same h = has_filled_on h (front_on h.more top next h.within (front_more top entry)) (sym same) h.own h.visited

@@ -40,7 +40,7 @@ use Rattle.law_copies.specs.Good.{Good}
 use Rattle.law_copies.specs.Visits.{AliveIn, IsLinked, place_by, with_stores}
 use Rattle.law_copies.proofs.Places.{alive_on, at_most_or_above, fronts_meet, one_row, other_later, places_up, rows_later}
 
--- each Caught that is chosen was started by its holder behind the entries before it
+-- each Caught that is chosen was started by its holder after the entries before it
 abbrev pub AllStarted : Setting → List Record → World → Type 0
 AllStarted setting records w = (front : List Command) (of link holder inc other other_inc : ℕ)
     → IsPrefix (front ++ Caught of link holder inc other other_inc ∷ []) (chosen_log setting w)
@@ -109,7 +109,7 @@ module _ (setting : Setting) (records : List Record) (w : World) (stores : ℕ �
 
   -- ### Where servers have been
 
-  -- a server has been at no place behind its own
+  -- a server has been at no place after its own
   pub been_below : (n place : ℕ) (cell : Cell) (own : Own) (row : LinkRow) → good.visits n place cell ≡ Some own → IsLinked setting (own_front n) cell row
       → place ≤ place_by setting (own_front n) row
   been_below n place cell own row e is =
@@ -133,7 +133,7 @@ module _ (setting : Setting) (records : List Record) (w : World) (stores : ℕ �
       let here = good.here k cell row is seat alive in
       good.reaching.below (own_front k) cell row k here.own (firm.servers k) is serving here.is
 
-  -- at a place behind the last one that counts nobody who serves it has been
+  -- at a place after the last one that counts nobody who serves it has been
   pub not_reached : (front : List Command) (cell : Cell) (row : LinkRow) (n : ℕ) → IsPrefix front chosen → IsLinked setting front cell row
       → serves n row row.state ≡ true → good.reached cell < place_by setting front row → good.visits n (place_by setting front row) cell ≡ None
   not_reached front cell row n prefix is serving lt = elim (some_or_none (good.visits n (place_by setting front row) cell)) [
@@ -150,7 +150,7 @@ module _ (setting : Setting) (records : List Record) (w : World) (stores : ℕ �
 
   -- ### A link that one server holds alone
 
-  -- behind these entries the holder's Caught was started, for which it has the link in mind; and the other server was there
+  -- after these entries the holder's Caught was started, for which it has the link in mind; and the other server was there
   pub record IsCaughtUp (front more : List Command) (cell : Cell) (holder : ℕ) (whole : Bool) : Type 0 where
     pub until : List Command
     pub behind : IsPrefix front until

@@ -31,7 +31,7 @@ use Rattle.law_copies.proofs.Visited.{then_of}
 use Rattle.law_copies.proofs.AtJob.{AtJob, seat_at, step_at}
 use Rattle.law_copies.proofs.Between.{held_same, to_fill}
 use Rattle.law_copies.proofs.Framed.{LeavesStore}
-use Rattle.law_copies.proofs.NewPlaces.{both_cover, cover_anew}
+use Rattle.law_copies.proofs.NewPlaces.{both_cover, cover_again}
 use Rattle.law_copies.proofs.Later.{alone_last, alone_or_flagged, both_since, holder_is_one, holds_since}
 use Rattle.law_copies.proofs.Later.{not_reached, not_serving, serves_its, unseen_beyond}
 use Rattle.law_copies.proofs.Others.{other_apart}
@@ -250,7 +250,7 @@ module _ (it : AtJob) where
                       let beside =
                       (worked.alone_now it cell mine is alive k whole alone has).beside lives last_here in
                       same_covers so.0 so.1 (let up = joins_grow setting.servers front f beside_k on in omega arith)
-                      (cover_anew mine row cell (news front k) (news front beside_k) (visits k place cell)
+                      (cover_again mine row cell (news front k) (news front beside_k) (visits k place cell)
                       (λ all. ap is_whole so.1 ∙ so.2 (sym (ap is_whole alone) ∙ all)) beside.alike.covered))
                   | inr flagged ↦ Same_store (left_so f cell now (flagged_leaves whole alone flagged))
                 ]

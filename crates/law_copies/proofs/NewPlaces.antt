@@ -76,12 +76,12 @@ module _ (stores : ℕ → Store) (visits : Visits) (place : ℕ) (row now : Lin
   ]
 
 -- what covers the copies at one place covers them at the next one, at which the holder has heard of no block
-pub cover_anew : (row now : LinkRow) (cell : Cell) (a b : Store) (visit : Option Own) → (is_whole row.state ≡ true → is_whole now.state ≡ true)
+pub cover_again : (row now : LinkRow) (cell : Cell) (a b : Store) (visit : Option Own) → (is_whole row.state ≡ true → is_whole now.state ≡ true)
     → IsCovered row cell a b visit → IsCovered now cell a b None
-cover_anew row now cell a b visit whole (Is_equal same) = Is_equal same
-cover_anew row now cell a b visit whole (Is_marked_here marked) = Is_marked_here marked
-cover_anew row now cell a b visit whole (Is_marked_there marked ahead) = Is_marked_there marked tt
-cover_anew row now cell a b visit whole (Is_to_be_copied all copied) = Is_to_be_copied (record { whole = whole all.whole; stored = all.stored }) tt
+cover_again row now cell a b visit whole (Is_equal same) = Is_equal same
+cover_again row now cell a b visit whole (Is_marked_here marked) = Is_marked_here marked
+cover_again row now cell a b visit whole (Is_marked_there marked ahead) = Is_marked_there marked tt
+cover_again row now cell a b visit whole (Is_to_be_copied all copied) = Is_to_be_copied (record { whole = whole all.whole; stored = all.stored }) tt
 
 -- ### A new place
 

@@ -187,7 +187,7 @@ module _ (setting : Setting) where
           | inr died ↦ none_some died.0 end
         ]
 
-    -- two fronts at one place of a link, the longer one before or behind, say the same of it
+    -- two fronts at one place of a link, the longer one before or after, say the same of it
     pub one_place : (front more : List Command) (cell : Cell) (row now : LinkRow) → IsPrefix front whole → IsPrefix more whole
         → IsLinked setting front cell row → IsLinked setting more cell now → place_by setting front row ≡ place_by setting more now
         → StaysSo cell row (state_after setting.servers front) (state_after setting.servers more)

@@ -35,7 +35,7 @@ module _ {X : Type 0} where
     | inr ne ↦ inr (at_in es k x (sym (at_there e es k ne) ∙ is))
   ]
 
-  -- those behind a row are above it
+  -- those after a row are above it
   above_head : (e : ℕ × X) (es : Table ℕ X) (k : ℕ) (x : X) → IsRising nat_cmp (e ∷ es) → at nat_cmp es k ≡ Some x → e.0 < k
   above_head e es k x h is = ranked e.0 k Less (sym (h.0 (k, x) (at_in es k x is)))
 

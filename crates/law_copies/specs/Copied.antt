@@ -201,7 +201,7 @@ pub record IsOfLink (state : State) (cell : Cell) (link : ℕ) : Type 0 where
   pub is : cell_link state cell ≡ Some row
   pub link_is : row.link ≡ link
 
--- a page tells of the marks at the other server as they are: none from behind `after` up to the block, and none at all where
+-- a page tells of the marks at the other server as they are: none from after `after` up to the block, and none at all where
 -- it tells of none
 abbrev pub IsUpTo : ℕ → Option ℕ → Type 0
 IsUpTo block None = Unit {0}

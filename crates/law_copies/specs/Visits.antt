@@ -115,7 +115,7 @@ pub record HasReached (setting : Setting) (top : List Command) (visits : Visits)
   pub own : Own
   pub visited : visits server place cell ≡ Some own
 
--- the holder has been at a place of the cell's link behind as many Joins of the other server with an empty store
+-- the holder has been at a place of the cell's link after as many Joins of the other server with an empty store
 pub record HasFilled (setting : Setting) (top : List Command) (visits : Visits) (front : List Command) (cell : Cell) (holder other : ℕ) : Type 0 where
   pub more : List Command
   pub within : IsPrefix more top

@@ -14,7 +14,7 @@ first e = cc
 rest : {A : Type 0} {x z : A} {xs zs : List A} → x ∷ xs ≡ z ∷ zs → xs ≡ zs
 rest e = cc
 
--- of two fronts of a list the second goes on from the first, or the first from the second, and then so does what is behind the second
+-- of two fronts of a list the second goes on from the first, or the first from the second, and then so does what is after the second
 pub one_in_other : {A : Type 0} (xs ys zs ws : List A) → xs ++ ys ≡ zs ++ ws
     → ((more : List A) × (zs ≡ xs ++ more) × (ys ≡ more ++ ws)) ⊎ ((more : List A) × (xs ≡ zs ++ more) × (ws ≡ more ++ ys))
 one_in_other [] ys zs ws e = inl (zs, refl, e)

@@ -104,7 +104,7 @@ module _ (it : StoppedLog) (Good : ℕ → Command → Type 0) where
             (record { proposer = subst (IsProposer true Idle) (sym (put_here q.proposers n (Some Idle))) (refl, tt); asked = tt }));
       }
 
-  -- it failed behind its commit, and doesn't run
+  -- it failed after its commit, and doesn't run
   pub fail_turn : IsBusyAs servers n false log.phase p → HasTurn servers n false (commits log (Inc (inc + 1))) [] p Good
   fail_turn busy = record {
     events = Boots n StopsAfter ∷ [];

@@ -34,7 +34,7 @@ use Rattle.law_log.proofs.Worlds.{IsGrown}
 within_or_past : (i many : ℕ) → (i ≤ many) ⊎ (many < i)
 within_or_past i many = grind (arith, nat_tests)
 
--- one command more of a front, and what stands behind it
+-- one command more of a front, and what stands after it
 next_stands : (front whole : List Command) (c : Command) (i : ℕ) → IsPrefix front whole → length front ≡ i → slice_get whole i ≡ Some c
     → IsPrefix (front ++ c ∷ []) whole
 next_stands front whole c i prefix many e =
@@ -90,7 +90,7 @@ module _ {Was : Minded} (setting : Setting) (w : World) (fair : IsFair setting) 
         record { later = front.0; is = front.1 };
   }
 
-  -- a chosen command is called for, or it acts behind the entries before it as a Caught, a Join, a report or a Moved
+  -- a chosen command is called for, or it acts after the entries before it as a Caught, a Join, a report or a Moved
   called_at : (i : ℕ) (c : Command) → slice_get (chosen_log setting w) i ≡ Some c
       → IsCalledAnywhere setting w c
       ⊎ ((front : List Command) × IsPrefix front (chosen_log setting w) × (length front ≡ i) × Returns setting.servers w.servers front c
@@ -105,7 +105,7 @@ module _ {Was : Minded} (setting : Setting) (w : World) (fair : IsFair setting) 
             inr (returns.front, record { later = front.0; is = front.1 }, omega arith, returns.is, returns.was))
       ]
 
-  -- what stands behind a front, and is called for nowhere else, acts behind that front
+  -- what stands after a front, and is called for nowhere else, acts after that front
   returns_at : (front : List Command) (c : Command) → (IsCalledAnywhere setting w c → ⊥) → IsPrefix (front ++ c ∷ []) (chosen_log setting w)
       → Returns setting.servers w.servers front c × WasMinded Was front c
   returns_at front c none prefix = elim (called_at (length front) c (stands_next front (chosen_log setting w) c prefix)) [
@@ -152,7 +152,7 @@ module _ {Was : Minded} (setting : Setting) (w : World) (fair : IsFair setting) 
       → (server : ℕ) × (inc : ℕ) × Was server inc front (Moves of region link)
   moved_was front of region link prefix = (returns_at front (Moved of region link) (λ called. no_moved setting w of region link called.0) prefix).1
 
-  -- each chosen command stands behind a front
+  -- each chosen command stands after a front
   stands_at : (c : Command) → Among c (chosen_log setting w) → (front : List Command) × IsPrefix (front ++ c ∷ []) (chosen_log setting w)
   stands_at c i =
       let part = parted c (chosen_log setting w) i in

@@ -11,7 +11,7 @@ use Rattle.petal_msg.specs.declared.letter.Actor.{Actor}
 use Rattle.petal_msg.specs.declared.letter.Actor.TheVariants as actor
 use Rattle.petal_msg.specs.declared.letter.Letter.{Letter}
 use Rattle.petal_table.specs.Table.{at}
-use Rattle.petal_rules.specs.Jobs.{handles, wrong_rev, at_other_rev, is_from_in, on_letter, stages, does, asked_by, copies_anew}
+use Rattle.petal_rules.specs.Jobs.{handles, wrong_rev, at_other_rev, is_from_in, on_letter, stages, does, asked_by, copies_again}
 use Rattle.petal_rules.specs.Copies.{copy_posts, page_posts}
 use Rattle.petal_rules.specs.Fills.{fill_posts}
 use Rattle.petal_rules.specs.Lists.{In as Among}
@@ -113,8 +113,8 @@ harmless_job here own job.Apply = harmless_silent own
 harmless_job here own job.Start = harmless_silent own
 
 -- what a tick sends for copies and fills
-pub dated_copies_anew : (here : Here) (own : Own) (post : Post) → Among post (copies_anew here own) → IsDated post.body
-dated_copies_anew here own post i =
+pub dated_copies_again : (here : Here) (own : Own) (post : Post) → Among post (copies_again here own) → IsDated post.body
+dated_copies_again here own post i =
     by_test (λ posts. Among post posts → IsDated post.body) (is_in here.state here.me here.inc)
     (copy_posts here own ++ page_posts here own ++ fill_posts here own) []
     (λ e j. elim (in-append post (copy_posts here own ++ page_posts here own) (fill_posts here own) j) [

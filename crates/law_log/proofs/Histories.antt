@@ -93,7 +93,7 @@ pub chosen_is_called_for : (script : Script) (records : List Record) → IsSound
 chosen_is_called_for script records sound legal command i =
     called_for (setting_of script) (At script records) (sound_fair script sound) (logged script records sound legal) command i
 
--- a Caught that is chosen acts behind the entries before it, and its holder started the ballot there
+-- a Caught that is chosen acts after the entries before it, and its holder started the ballot there
 pub chosen_caught : (script : Script) (records : List Record) → IsSound script → IsLegal script records → (front : List Command)
     (of link holder inc other other_inc : ℕ)
     → IsPrefix (front ++ Caught of link holder inc other other_inc ∷ []) (chosen_log (setting_of script) (At script records))

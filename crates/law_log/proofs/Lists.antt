@@ -25,7 +25,7 @@ at_among x [] h = absurd h
 at_among x (y ∷ ys) (inl e) = (0, ap Some (sym e))
 at_among x (y ∷ ys) (inr h) = let rest = at_among x ys h in (suc rest.0, rest.1)
 
--- what stands before it, and behind it
+-- what stands before it, and after it
 pub parted : {X : Type 0} (x : X) (xs : List X) → Among x xs → (front : List X) × (back : List X) × (xs ≡ front ++ x ∷ back)
 unfolding Among
 parted x [] h = absurd h
@@ -54,7 +54,7 @@ at_last (z ∷ xs) y (suc i) x e = elim (at_last xs y i x e) [
   | inr last ↦ inr (omega (arith, last.0), last.1)
 ]
 
--- what stands behind a front
+-- what stands after a front
 pub next_at : {X : Type 0} (front later : List X) (x : X) → slice_get (front ++ later) (length front) ≡ Some x → (rest : List X) × (later ≡ x ∷ rest)
 next_at [] [] x e = none_some refl e
 next_at [] (y ∷ later) x e = (later, ap (λ z. z ∷ later) (same_some e))

@@ -1,4 +1,4 @@
--- What a server wants by its own part may be wanted: a Join, a Caught, a report and a Moved are each behind the entries that it has applied, and it has it in
+-- What a server wants by its own part may be wanted: a Join, a Caught, a report and a Moved are each after the entries that it has applied, and it has it in
 -- mind.
 use Rattle.std.proofs.Common.{◌≡◌, ◌<◌, ◌≤◌, ◌+◌, ◌==◌, ◌⊎◌, inl, inr, ℕ, true, false, List, ◌++◌}
 use Rattle.std.proofs.Common.{length, Option, Some, refl, sym, ap, ◌∙◌, subst, arith}
@@ -56,7 +56,7 @@ unfolding Among
 join_only {A} state me inc fresh c so h = by_test (λ (xs : List Command). Among c xs → A) (may_join (slice_get state.view.members me) inc) _ _
     (λ e i. elim i [ inl is ↦ so e is | inr none ↦ absurd none ]) (λ e i. absurd i) h
 
--- which is of an incarnation behind the first
+-- which is of an incarnation after the first
 join_later : (servers : ℕ) (state : State) → IsPlainState servers state → (me inc : ℕ) → may_join (slice_get state.view.members me) inc ≡ true → 1 < inc
 join_later servers state p me inc may =
     let was = may_by (slice_get state.view.members me) inc may in
@@ -91,7 +91,7 @@ module _ (it : ServerStep) (runs : (it.w.servers it.n).life.running ≡ true) (r
   applied_told : IsToldBefore P (next_place (w.servers n).log) (w.servers n).log.applied
   applied_told = record { many = refl; told = λ i d e. (l.is.servers n).told (i + 1) d ((l.is.servers n).applied i d e) }
 
-  -- a Caught is behind the entries that it has applied, and it has it in mind
+  -- a Caught is after the entries that it has applied, and it has it in mind
   good_caught : Remembers Was setting.servers n (w.servers n) starts_to → seated here.state n here.inc ≡ true → (c : Command) → started_for ≡ Some c
       → Among c (caught_links here (w.servers n).own) → Good starts_to (next_place (w.servers n).log) c
   good_caught remembers seat c first_is h =
@@ -123,7 +123,7 @@ module _ (it : ServerStep) (runs : (it.w.servers it.n).life.running ≡ true) (r
         reached_next setting w l n,
       )
 
-  -- a Join acts behind the entries that it has applied
+  -- a Join acts after the entries that it has applied
   good_join : Remembers Was setting.servers n (w.servers n) starts_to → (c : Command) → may_join (slice_get here.state.view.members n) here.inc ≡ true
       → c ≡ Join n here.inc (w.servers n).own.store.fresh → Good starts_to (next_place (w.servers n).log) c
   good_join remembers c may is = (
@@ -149,7 +149,7 @@ module _ (it : ServerStep) (runs : (it.w.servers it.n).life.running ≡ true) (r
       (λ seat. good_caught remembers seat c first_is)
       (λ out i. join_only here.state n here.inc (w.servers n).own.store.fresh c (λ may is. good_join remembers c may is) i) h
 
-  -- a report counts behind the entries that it has applied
+  -- a report counts after the entries that it has applied
   good_report : Remembers Was setting.servers n (w.servers n) starts_to → (c : Command) → IsReport here (w.servers n).own c
       → Good starts_to (next_place (w.servers n).log) c
   good_report remembers c report = (
@@ -163,7 +163,7 @@ module _ (it : ServerStep) (runs : (it.w.servers it.n).life.running ≡ true) (r
     reached_next setting w l n,
   )
 
-  -- a Moved is behind the entries that it has applied
+  -- a Moved is after the entries that it has applied
   good_moved : Remembers Was setting.servers n (w.servers n) starts_to → (c : Command) → IsMove here (w.servers n).own c
       → Good starts_to (next_place (w.servers n).log) c
   good_moved remembers c move =

@@ -27,7 +27,7 @@ use Rattle.petal_msg.specs.declared.operation.Pending.{Pending}
 use Rattle.petal_msg.specs.declared.operation.Reply.{Reply}
 use Rattle.petal_msg.specs.declared.operation.Reply.TheVariants as reply
 use Rattle.petal_paxos.specs.Schedule.{World}
-use Rattle.petal_rules.specs.Jobs.{awaited, sent_anew}
+use Rattle.petal_rules.specs.Jobs.{awaited, sent_again}
 use Rattle.petal_rules.specs.Lists.{In as Among}
 use Rattle.petal_rules.specs.Reads.{on_read, reply_to, said}
 use Rattle.petal_rules.specs.Server.{Own, Copies, Here, Post, Done, post_to, silent, says, says_to}
@@ -254,10 +254,10 @@ dated_awaited here own op action.Reserve post i = (pair_act here own op action.R
 dated_awaited here own op action.Replicate post i = (pair_act here own op action.Replicate).quiet.posts post i
 dated_awaited here own op _ post i = no_posts post i
 
-pub dated_anew : (here : Here) (own : Own) (rows : List (Cell × Pending)) (post : Post) → Among post (flat_map (λ row. sent_anew here own row.1) rows)
+pub dated_again : (here : Here) (own : Own) (rows : List (Cell × Pending)) (post : Post) → Among post (flat_map (λ row. sent_again here own row.1) rows)
     → IsDated post.body
-dated_anew here own [] post i = no_posts post i
-dated_anew here own (row ∷ rows) post i = elim (in-append post (sent_anew here own row.1) (flat_map (λ row. sent_anew here own row.1) rows) i) [
+dated_again here own [] post i = no_posts post i
+dated_again here own (row ∷ rows) post i = elim (in-append post (sent_again here own row.1) (flat_map (λ row. sent_again here own row.1) rows) i) [
   | inl now ↦ dated_awaited here own row.1 _ post now
-  | inr later ↦ dated_anew here own rows post later
+  | inr later ↦ dated_again here own rows post later
 ]

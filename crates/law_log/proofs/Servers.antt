@@ -22,8 +22,8 @@ use Rattle.petal_rules.specs.Returns.{proposed}
 use Rattle.petal_rules.specs.Crossing.{crossed_by, jobs_by}
 use Rattle.petal_rules.specs.Entries.{applies, applies_known}
 use Rattle.petal_rules.specs.Jobs.{Acted, is_log_job, voter_of, worked, entered, crossing, job_done, down_posts, stops, is_overfull}
-use Rattle.petal_rules.specs.Jobs.{works, faults, glances, glance_sender, delivered, tick_jobs, tick_posts, ticks, log_does, does, sent_anew}
-use Rattle.petal_rules.specs.Jobs.{copies_anew, starting, own_wants, wanted_by}
+use Rattle.petal_rules.specs.Jobs.{works, faults, glances, glance_sender, delivered, tick_jobs, tick_posts, ticks, log_does, does, sent_again}
+use Rattle.petal_rules.specs.Jobs.{copies_again, starting, own_wants, wanted_by}
 use Rattle.petal_rules.specs.Lists.{In as Among, put_at}
 use Rattle.petal_rules.specs.Log.{LogDone, known, next_place, rev_of}
 use Rattle.petal_rules.specs.Posts.{Post, Sender, letters_of}
@@ -46,9 +46,9 @@ use Rattle.law_log.proofs.Facts.{IsFair, as_many, told_once}
 use Rattle.law_log.proofs.Boots.{StoppedLog, fail_turn, no_proposer, wake_turn}
 use Rattle.law_log.proofs.Catching.{kept_proposed}
 use Rattle.law_log.proofs.Copying.{IsKept, kept_itself}
-use Rattle.law_log.proofs.Handling.{IsHarmless, harmless_job, dated_copies_anew}
+use Rattle.law_log.proofs.Handling.{IsHarmless, harmless_job, dated_copies_again}
 use Rattle.law_log.proofs.Jobs.{JobLog, Outcome, applied_next, fine_wanted, job_done as log_job_done, one_longer, started}
-use Rattle.law_log.proofs.Pairs.{dated_anew, dated_backed, other_backed}
+use Rattle.law_log.proofs.Pairs.{dated_again, dated_backed, other_backed}
 use Rattle.law_log.proofs.Proposing.{first_among, said_to_all}
 use Rattle.law_log.proofs.Turns.{HasTurn, still, no_posts, stop_turn, turn_more}
 use Rattle.law_log.proofs.Worlds.{Acts, Goes, ServerStep, before_of, server_at, IsLaterLife, KeepsStarted, Remembers}
@@ -228,7 +228,7 @@ module _ (it : ServerStep) where
   ticks_on : GoesBy (ticks here (w.servers n))
   ticks_on =
       let ballots = ballot_posts (voter_of here) (w.servers n).log.phase in
-      let pairs = flat_map (λ row. sent_anew here (w.servers n).own row.1) (w.servers n).own.pairs.pending in
+      let pairs = flat_map (λ row. sent_again here (w.servers n).own row.1) (w.servers n).own.pairs.pending in
       did_goes (ticks here (w.servers n)) (record {
         posts = tick_posts here (w.servers n);
         letters = refl;
@@ -238,14 +238,14 @@ module _ (it : ServerStep) where
               | inl old ↦ l.is.queued n other old
               | inr new ↦ absurd (tick_only here (w.servers n) other new)
             ])
-            (λ post h. elim (in-append post (ballots ++ pairs ++ copies_anew here (w.servers n).own) (ask_posts (voter_of here) (w.servers n).log) h) [
-              | inl former ↦ elim (in-append post (ballots ++ pairs) (copies_anew here (w.servers n).own) former) [
-                | inr copy ↦ dated_backed P (λ c. ⊥) (λ said. In (sent n said) P.letters) post.body (dated_copies_anew here (w.servers n).own post copy)
+            (λ post h. elim (in-append post (ballots ++ pairs ++ copies_again here (w.servers n).own) (ask_posts (voter_of here) (w.servers n).log) h) [
+              | inl former ↦ elim (in-append post (ballots ++ pairs) (copies_again here (w.servers n).own) former) [
+                | inr copy ↦ dated_backed P (λ c. ⊥) (λ said. In (sent n said) P.letters) post.body (dated_copies_again here (w.servers n).own post copy)
                 | inl earlier ↦ elim (in-append post ballots pairs earlier) [
                   | inl ballot ↦ ballot_backed P n (voter_of here) (w.servers n).log.phase
                       (subst (λ k. IsAskedFor P n k (w.servers n).log.phase) (sym (as_many setting w fair l n)) (l.is.busy n member).asked) post ballot
                   | inr pair ↦ dated_backed P (λ c. ⊥) (λ said. In (sent n said) P.letters) post.body
-                      (dated_anew here (w.servers n).own (w.servers n).own.pairs.pending post pair)
+                      (dated_again here (w.servers n).own (w.servers n).own.pairs.pending post pair)
                 ]
               ]
               | inr ask ↦ only (λ (x : Post). IsBacked P (λ c. ⊥) (λ said. In (sent n said) P.letters) x.body) _ post ask tt
@@ -430,7 +430,7 @@ module _ (it : ServerStep) where
       (is_overfull (job_done here (w.servers n) first rest).server) _ _
       (λ full kept. stops_now runs) (λ room kept. did_goes (job_done here (w.servers n) first rest) (does_job runs first rest is kept)) remembers
 
-  -- a fault behind the commit leaves what the job commits, and one before it nothing
+  -- a fault after the commit leaves what the job commits, and one before it nothing
   faults_on : Runs → (end : CommitEnd) (jobs : List Job) → (w.servers n).queue ≡ jobs
       → Remembers Was setting.servers n (w.servers n) (faults here (w.servers n) jobs end).server → GoesBy (faults here (w.servers n) jobs end)
   faults_on runs Before jobs is remembers = stops_now runs

@@ -171,7 +171,7 @@ pub record Acts (Was : Minded) (setting : Setting) (w : World) (p : schedule.Wor
   pub started : KeepsStarted (w.servers n) to
   pub turn : HasTurn setting.servers n to.life.running to.log posts p (MayWant Was setting w (put_at w.servers n to) p)
 
--- a step of a server, behind a world that is logged
+-- a step of a server, after a world that is logged
 pub record ServerStep : Type 1 where
   pub Was : Minded
   pub setting : Setting

@@ -52,7 +52,7 @@ pub data Mind : Type 0 where
 abbrev pub Minded : Type 1
 Minded = (server inc : ℕ) (front : List Command) → Mind → Type 0
 
--- it was so behind these entries of the Caught's holder, of the Join's or the report's server, or of one that moved
+-- it was so after these entries of the Caught's holder, of the Join's or the report's server, or of one that moved
 abbrev pub WasMinded : Minded → (front : List Command) → Command → Type 0
 WasMinded Was front (Caught of link holder inc other other_inc) = Was holder inc front (Catches (record { map = of; link = link }))
 WasMinded Was front (Join server inc blank) = Was server inc front (Waits blank)
@@ -60,13 +60,13 @@ WasMinded Was front (Drained server inc fence) = Was server inc front Drains
 WasMinded Was front (Moved of region link) = (server : ℕ) × (inc : ℕ) × Was server inc front (Moves of region link)
 WasMinded Was front _ = ⊤
 
--- behind these entries the Join acts, of an incarnation behind the first that has begun
+-- after these entries the Join acts, of an incarnation after the first that has begun
 pub record IsJoinAt (servers : ℕ) (actors : ℕ → Server) (front : List Command) (server inc : ℕ) : Type 0 where
   pub may : may_join (slice_get (state_after servers front).view.members server) inc ≡ true
   pub later : 1 < inc
   pub begun : inc ≤ (actors server).life.inc
 
--- the command acts behind these entries, as a Caught, a Join, a report to the active fence or a Moved
+-- the command acts after these entries, as a Caught, a Join, a report to the active fence or a Moved
 abbrev pub Returns : (servers : ℕ) → (actors : ℕ → Server) → (front : List Command) → Command → Type 0
 Returns servers actors front (Caught of link holder inc other other_inc) = IsCaughtAt servers actors front of link holder inc other other_inc
 Returns servers actors front (Join server inc blank) = IsJoinAt servers actors front server inc
@@ -74,7 +74,7 @@ Returns servers actors front (Drained server inc fence) = IsReportAt servers fro
 Returns servers actors front (Moved of region link) = IsMovedAt servers front of region link
 Returns servers actors front _ = ⊥
 
--- it does so behind what was told for the places before this one
+-- it does so after what was told for the places before this one
 pub record IsReturnFor (Was : Minded) (servers : ℕ) (actors : ℕ → Server) (p : schedule.World) (place : ℕ) (command : Command) : Type 0 where
   pub front : List Command
   pub told : IsToldBefore p place front

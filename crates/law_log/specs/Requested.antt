@@ -51,7 +51,7 @@ HasStopped w server inc = (((w.servers server).life.running ≡ false) × (inc �
 abbrev pub HasBegun : World → (server inc : ℕ) → Type 0
 HasBegun w server inc = inc ≤ (w.servers server).life.inc
 
--- the command is the Leave of an incarnation that has stopped, or the Join of one that has begun behind the first
+-- the command is the Leave of an incarnation that has stopped, or the Join of one that has begun after the first
 abbrev pub IsOfLives : World → Command → Type 0
 IsOfLives w (Leave server inc) = HasStopped w server inc
 IsOfLives w (Join server inc blank) = (1 < inc) × HasBegun w server inc
@@ -63,7 +63,7 @@ IsCalledFor setting w command = IsScripted setting w command ⊎ IsOfLives w com
 
 -- ### Caughts
 
--- behind these entries the Caught acts: the holder has the link alone, and both servers are In; and the holder started its ballot there
+-- after these entries the Caught acts: the holder has the link alone, and both servers are In; and the holder started its ballot there
 pub record IsCaughtAt (servers : ℕ) (actors : ℕ → Server) (front : List Command) (of link holder inc other other_inc : ℕ) : Type 0 where
   pub may : may_catch holder other (link_at (state_after servers front).links of link) ≡ true
   pub holds : is_in (state_after servers front) holder inc ≡ true
@@ -72,7 +72,7 @@ pub record IsCaughtAt (servers : ℕ) (actors : ℕ → Server) (front : List Co
 
 -- ### Reports to fences
 
--- behind these entries the report counts: the server is In, and the active fence has this number and awaits it
+-- after these entries the report counts: the server is In, and the active fence has this number and awaits it
 pub record IsReportAt (servers : ℕ) (front : List Command) (server inc fence : ℕ) : Type 0 where
   pub seated : is_in (state_after servers front) server inc ≡ true
   pub active : Fence
@@ -98,7 +98,7 @@ pub record WasDraining (setting : Setting) (records : List Record) (server inc :
 
 -- ### Moves
 
--- behind these entries the Moved counts: a server that is In is to move the region of the link
+-- after these entries the Moved counts: a server that is In is to move the region of the link
 pub record IsMovedAt (servers : ℕ) (front : List Command) (of region link : ℕ) : Type 0 where
   pub server : ℕ
   pub inc : ℕ
@@ -119,14 +119,14 @@ pub record WasMoving (setting : Setting) (records : List Record) (front : List C
 
 -- ### What servers want of themselves
 
--- the command is a Caught, a report to a fence, or a Moved, that counts behind these entries
+-- the command is a Caught, a report to a fence, or a Moved, that counts after these entries
 abbrev pub IsWantedAt : (servers : ℕ) → (actors : ℕ → Server) → (front : List Command) → Command → Type 0
 IsWantedAt servers actors front (Caught of link holder inc other other_inc) = IsCaughtAt servers actors front of link holder inc other other_inc
 IsWantedAt servers actors front (Drained server inc fence) = IsReportAt servers front server inc fence
 IsWantedAt servers actors front (Moved of region link) = IsMovedAt servers front of region link
 IsWantedAt servers actors front _ = ⊥
 
--- the command stands in the chosen log as such a one behind the entries before it
+-- the command stands in the chosen log as such a one after the entries before it
 pub record WasWanted (setting : Setting) (w : World) (command : Command) : Type 0 where
   pub front : List Command
   pub stands : IsPrefix (front ++ command ∷ []) (chosen_log setting w)

@@ -38,7 +38,7 @@ pub fn the_chosen_log_grows()
 {}
 
 /// Each chosen command is that of a line that its client has called, a Witness of it, the Leave of an incarnation that has
-/// stopped, the Join of one that has begun, a Caught, a report to a fence, or a Moved. A Caught acts behind the entries before it, and its holder, where
+/// stopped, the Join of one that has begun, a Caught, a report to a fence, or a Moved. A Caught acts after the entries before it, and its holder, where
 /// it is still of that incarnation and has applied no more than those, has in mind that it started the ballot.
 pub fn chosen_commands_are_the_scripts()
     ensures called { (script : Script) (records : List Record) (command : Command) → IsSound script
@@ -60,7 +60,7 @@ pub fn a_chosen_caught_was_started()
         → WasStarted (setting_of script) records holder inc front (record { map = of; link = link }) }
 {}
 
-/// A report that is chosen counts: behind the entries before it the active fence awaits the server. And on the way the server, with no entries
+/// A report that is chosen counts: after the entries before it the active fence awaits the server. And on the way the server, with no entries
 /// applied but those, had no client's write under way that the fence held.
 pub fn a_chosen_report_was_made()
     ensures counts { (script : Script) (records : List Record)
@@ -73,7 +73,7 @@ pub fn a_chosen_report_was_made()
         → WasDraining (setting_of script) records server inc front }
 {}
 
-/// A Moved that is chosen was wanted: behind the entries before it some server was to move the region of the link. And on the way that server,
+/// A Moved that is chosen was wanted: after the entries before it some server was to move the region of the link. And on the way that server,
 /// with no entries applied but those, had nothing left of the link's blocks of the region.
 pub fn a_chosen_moved_was_wanted()
     ensures { (script : Script) (records : List Record) → IsSound script → IsLegal script records → (front : List Command) (of region link : ℕ)
@@ -82,7 +82,7 @@ pub fn a_chosen_moved_was_wanted()
 {}
 
 /// A server whose Join is chosen ran on the way as the incarnation that the Join names, and its store waited to be filled or not, as the Join
-/// says. And each Join that is chosen acts: behind the entries before it its server is Out, and was In as earlier incarnations alone.
+/// says. And each Join that is chosen acts: after the entries before it its server is Out, and was In as earlier incarnations alone.
 pub fn a_chosen_join_was_wanted()
     ensures wanted { (script : Script) (records : List Record) → IsSound script → IsLegal script records → (server inc : ℕ) (blank : Bool)
         → In (Join server inc blank) (chosen_log (setting_of script) (world_after (setting_of script) (start (setting_of script)) records))

@@ -1,5 +1,5 @@
--- Who serves a link at a front of what is chosen after a step, behind what was chosen before it: a server that served it then, or the other server of
--- one that held it alone, by a Caught right behind what was chosen then. That one's holder had started the ballot, so the two copies are equal.
+-- Who serves a link at a front of what is chosen after a step, after what was chosen before it: a server that served it then, or the other server of
+-- one that held it alone, by a Caught right after what was chosen then. That one's holder had started the ballot, so the two copies are equal.
 use Rattle.std.proofs.Common.{◌≡◌, ◌≢◌, ◌<◌, ◌++◌, ◌==◌, ◌&&◌, ◌||◌, ◌⊎◌, ℕ, Bool, true, false, List, [], ◌∷◌, length}
 use Rattle.std.proofs.Common.{length-append, Some, refl, sym, ap, ◌∙◌, subst, inl, inr, arith}
 use Rattle.std.specs.Prelude.{if◌then◌else◌}
@@ -116,7 +116,7 @@ module _ (it : OneMore) where
       started_within acts.holder acts.inc f row (chosen_caught_was script records sound legal f row.map row.link acts.holder acts.inc
       (other_of acts.holder row) acts.other_inc (subst (λ c. IsPrefix (f ++ c ∷ []) whole) acts.is stands))
 
-  -- so none stands behind more than that
+  -- so none stands after more than that
   no_caught : (low f : List Command) (cell : Cell) (row : LinkRow) (holder : ℕ) (fills : Bool) → length top < length low → IsPrefix f whole
       → IsCaughtStill script.servers low f cell row holder fills → ⊥
   no_caught low f cell row holder fills lt lies still =
@@ -217,7 +217,7 @@ module _ (it : OneMore) where
     is_one : has_server n row ≡ true
     is_one = sym (one_before row serving.row n (rows_later setting whole plain top f cell row serving.row on lies is serving.is)) ∙ serving.one_of
 
-    -- by a Caught right behind what was chosen
+    -- by a Caught right after what was chosen
     module _ (h : ℕ) (fills : Bool) (alone : row.state ≡ Only h fills) (apart : (h == n) ≡ false)
         (still : IsCaughtStill script.servers top f cell row h fills) where
       abbrev c : IsCaughtIn script.servers top f cell (record row { state = Only h still.later })

@@ -1,5 +1,5 @@
 -- What a lead of a cell, by its own state, has of it while nothing of its own is under way, or its second server has followed: each server that serves the
--- link by what is chosen has it too. And of two such leads the one has just held the link alone, and is behind its own Caught.
+-- link by what is chosen has it too. And of two such leads the one has just held the link alone, and is after its own Caught.
 use Rattle.std.proofs.Common.{◌≡◌, ◌≤◌, ◌<◌, ◌+◌, ◌==◌, ◌⊎◌, ℕ, Bool, true, false, List, Option, Some, None, is_some}
 use Rattle.std.proofs.Common.{refl, sym, ap, ◌∙◌, subst, inl, inr, arith}
 use Rattle.std.specs.Prelude.{option_and_then}

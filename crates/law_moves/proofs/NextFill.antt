@@ -29,7 +29,7 @@ use Rattle.petal_rules.proofs.Tests.{both_true, by_bool, by_test, none_some, num
 
 -- ### The order of keys
 
--- a key comes before another one, or it is that one or comes behind it
+-- a key comes before another one, or it is that one or comes after it
 abbrev pub IsBefore : Key → Key → Type 0
 IsBefore one other = (one.block < other.block) ⊎ ((one.block ≡ other.block) × (other.epoch < one.epoch))
 

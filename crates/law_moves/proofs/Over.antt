@@ -1,4 +1,4 @@
--- A region that has moved has all that was frozen: behind the Moved of a link each of its entries was told to be at the new map, and what was told
+-- A region that has moved has all that was frozen: after the Moved of a link each of its entries was told to be at the new map, and what was told
 -- so is there.
 use Rattle.std.proofs.Common.{◌≡◌, ◌≤◌, ◌++◌, ◌==◌, ℕ, List, [], ◌∷◌, length, Some, refl, sym, ap, ◌∙◌, subst, inl, inr, arith}
 use Rattle.std.specs.Prelude.{option_and_then, option_map}

@@ -229,7 +229,7 @@ module _ (it : OneMore) (all : WereKnown it) where
             same_at i s t logs incs =
                 λ j. is_at setting i (record t { life = record t.life { inc = incs j }; log = record t.log { applied = logs j } }) place cell
 
-        -- by another one: it comes behind the server, as the second one of the link, and has nothing of the fill's epoch
+        -- by another one: it comes after the server, as the second one of the link, and has nothing of the fill's epoch
         module _ (apart : n ≢ k) where
           leads_now : LeadsAt setting w cell k
           leads_now = record { runs = p.job.runs; seat = leading.seat; low = omega arith; leads = leading.leads }

@@ -1,5 +1,5 @@
 -- What the new map has of a region that is on its way, and what still comes. All of it is told by the letters that say that an entry is there:
--- what such a letter tells of stays there; a fill is under way only of an entry of which none was sent; and a link is noted behind letters of
+-- what such a letter tells of stays there; a fill is under way only of an entry of which none was sent; and a link is noted after letters of
 -- all its entries.
 use Rattle.std.specs.Prelude.{◌≡◌, ◌<◌, ◌≤◌, ◌++◌, ◌∷◌, [], ℕ, true, false, List, length, Some, None, is_some}
 use Rattle.std.specs.Ordering.{nat_cmp}
@@ -50,7 +50,7 @@ pub record IsThere (setting : Setting) (w : World) (cell : Cell) (epoch : ℕ) :
 abbrev pub IsOf : Chain → (epoch : ℕ) → List ℕ → Type 0
 IsOf before epoch bytes = (version : ℕ) × (at nat_cmp before epoch ≡ Some (record { version = version; bytes = bytes }))
 
--- an entry that moves, at this revision: it is a frozen one of the cell's source, and of all that is newer behind it a letter says that it is there
+-- an entry that moves, at this revision: it is a frozen one of the cell's source, and of all that is newer after it a letter says that it is there
 pub record IsFrozen (setting : Setting) (w : World) (rev : ℕ) (key : Key) (bytes : List ℕ) : Type 0 where
   pub front : List Command
   pub lies : IsPrefix front (chosen_log setting w)
@@ -72,7 +72,7 @@ pub record IsOnWay (servers : ℕ) (front : List Command) (old new : Cell) (row 
 abbrev pub AllFilled : World → (old new : Cell) → (Which : ℕ → Type 0) → Type 0
 AllFilled w old new Which = (before : Chain) (epoch : ℕ) → w.frozen old ≡ Some before → Has before epoch → Which epoch → WasFilled w (key_at new epoch)
 
--- the key isn't behind the last one of its link and region of which the old lead was told
+-- the key isn't after the last one of its link and region of which the old lead was told
 pub record IsToldOf (last : Key) (old : Cell) (epoch : ℕ) : Type 0 where
   pub region : region_of old.block ≡ region_of last.block
   pub so : comes_before last (key_at old epoch) ≡ false

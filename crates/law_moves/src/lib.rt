@@ -1,8 +1,8 @@
 //! The law of moves: while a region is on its way, no write is pending under the old map, and its copies are as they were when the region's fence
-//! took effect, at each server that serves them; what the new map has of a block has all that is newer behind it; a link that is noted has moved
+//! took effect, at each server that serves them; what the new map has of a block has all that is newer after it; a link that is noted has moved
 //! all that it had; and so a region that has moved has the contents that it had.
 //!
-//! All of it is one induction: a fill leaves its stage only behind a Moved, whose server had nothing left of what is still; and what is still is so
+//! All of it is one induction: a fill leaves its stage only after a Moved, whose server had nothing left of what is still; and what is still is so
 //! since no fill of an earlier move is under way.
 #![tactic(auto)]
 

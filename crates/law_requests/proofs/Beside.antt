@@ -107,7 +107,7 @@ module _ (setting : Setting) (w : World) (firm : Firm setting w) (lives : Lives)
       takes : Takes (At log) want.cell
       takes = takes_on log (front_on front p.upto log p.opened late) all
 
-  -- the other server holds the link alone by these entries, behind its own
+  -- the other server holds the link alone by these entries, after its own
   record IsLeftTo (log : List Command) : Type 0 where
     behind : IsPrefix own log
     alone : is_alone_on (At log) m want.cell ≡ true

@@ -58,7 +58,7 @@ pub record PendingHere (setting : Setting) (w : World) (lives : Lives) (n : ℕ)
   pub unheld : has_proposed (server_state setting w n) (w.servers n).own want.cell ≡ false
   pub stays : IsUnleft setting w n (lives.ran n) want.cell
 
--- the server has in mind that it has started a ballot for each Caught of this incarnation that is chosen behind its own entries
+-- the server has in mind that it has started a ballot for each Caught of this incarnation that is chosen after its own entries
 abbrev pub RemembersCaughts : Setting → World → (n inc : ℕ) → Type 0
 RemembersCaughts setting w n inc = (front : List Command) (row : LinkRow) (other other_inc : ℕ) → IsPrefix (w.servers n).log.applied front
     → IsPrefix (front ++ Caught row.map row.link n inc other other_inc ∷ []) (chosen_log setting w)

@@ -61,7 +61,7 @@ module _ (this : ServerStep) where
       this.onward.good.started acts.holder acts.inc acts.whole f.until cell then until_end f.was
       (alive_on this.setting end plain_end f.until end cell until_end (front_itself end) alive) acts.alone acts.holds told
 
-  -- none stands behind a Join of the link's server
+  -- none stands after a Join of the link's server
   uncaught : (cell : Cell) (link : LinkRow) → IsLinked this.setting top cell link → AliveIn (chosen_state this.setting v) cell → (n inc : ℕ)
       → (j : HasJoinedSince this.setting.servers top end n inc true) → IsUncaught this.setting.servers end plain_end cell top n inc j
   uncaught cell link is alive n inc j row mid there touched now holder copied c =

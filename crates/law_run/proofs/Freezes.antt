@@ -66,7 +66,7 @@ next_by maps row place is done (snap ∷ more) e =
     get_seam (z ∷ zs) x ys = get_seam zs x ys
 
 module _ (has : DiskRow → (epoch block : ℕ) → Bool) (contents : DiskRow → (epoch block : ℕ) → List ℕ) (done : DiskRow → List Snapshot) where
-  -- what is told of a disk: a freeze for each snapshot behind the ones that it had
+  -- what is told of a disk: a freeze for each snapshot after the ones that it had
   abbrev pub freezes_of : DiskRow → List Event
   freezes_of row = map (freeze_of row) (drop (length (done row)) row.snaps)
 

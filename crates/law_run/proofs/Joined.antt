@@ -64,12 +64,12 @@ module _ (servers : ℕ) (whole : List Command) (all : IsPlainLog servers whole)
     until_whole : IsPrefix j.until whole
     until_whole = front_on j.until behind whole (front_more j.until entry) j.stands
 
-    -- no Caught of the link stands behind the Join
+    -- no Caught of the link stands after the Join
     abbrev pub IsUncaught : Type 0
     IsUncaught = (row mid : LinkRow) → IsLinkedBy j.until row → touches (state_after servers j.until) entry row ≡ true → IsLinkedBy behind mid
         → (holder : ℕ) (copied : Bool) → IsCaughtStill servers behind whole cell mid holder copied → ⊥
 
-    -- right behind it the link is Lost, or the other server holds it alone
+    -- right after it the link is Lost, or the other server holds it alone
     pub data IsLeftSo (row : LinkRow) : Type 0 where
       Nobody : (row_blanked n row).state ≡ Lost → IsLeftSo row
       Another : (holder : ℕ) (later : Bool) → (row_blanked n row).state ≡ Only holder later → (holder == n) ≡ false → IsLeftSo row

@@ -112,7 +112,7 @@ module _ (script : Script) (records : List Record) (sound : IsSound script) (leg
       rises : IsRising nat_cmp before
       rises = rising_after script records sound legal cell before is
 
-  -- a region begins to leave behind the reports of all that read it
+  -- a region begins to leave after the reports of all that read it
   unread : (n : ℕ) (cell : Cell) → (w.servers n).life.running ≡ true → is_in (server_state setting w n) n (w.servers n).life.inc ≡ true
       → is_all_held (held (server_state setting w n) cell) ≡ false → 1 ≤ stage_at (server_state setting w n) cell
       → stage_at (server_state setting w n) cell ≤ 2 → stage_at chosen cell ≤ 2

@@ -94,7 +94,7 @@ entry_top (row ∷ rows) epoch entry rises is = by_bool (nat_le row.0 epoch)
     ])
     (λ f. none_some (ap (λ b. first_so b rows epoch row.1) f) is)
   where
-    -- what is not of the first row is of those behind it
+    -- what is not of the first row is of those after it
     behind : (other : ℕ) → other ≢ row.0 → at nat_cmp (row ∷ rows) other ≡ at nat_cmp rows other
     behind other ne = by_bool (is_eq (nat_cmp other row.0))
         (λ t. absurd (ne (ranked other row.0 Equal (sym (equal_so (nat_cmp other row.0) t)))))

@@ -159,7 +159,7 @@ fit_disk servers asked name tuple e h = subst (IsFit servers) e h
 fit_move : (servers : ℕ) (asked : Request) (name tuple : List ℕ) → asked ≡ request.Move name tuple → IsFit servers asked → is_tuple servers tuple ≡ true
 fit_move servers asked name tuple e h = subst (IsFit servers) e h
 
--- ### Lines behind the servers line
+-- ### Lines after the servers line
 
 -- the same servers and lines
 record IsLike (s t : Script) : Type 0 where

@@ -196,7 +196,7 @@ module _ (this : ServerStep) (same_store : (new this).store.chains ≡ (owns_of 
           (subst (λ k. joined_now this k ≡ joined_then this k) e
           (holder_has holder later alone (subst (λ k. has_server k link ≡ true) (sym e) holds)))
 
-      -- in Both again behind the holder's Caught, which was done with the link before
+      -- in Both again after the holder's Caught, which was done with the link before
       module _ (c : IsCaughtStill this.setting.servers top end cell link a whole) where
         abbrev found : LinkRow
         found = record link { state = Only a c.later }

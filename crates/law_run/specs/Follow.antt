@@ -64,7 +64,7 @@ pub data IsRemembered (setting : Setting) (w : World) (lives : Lives) (n place :
       → (row : LinkRow)
       → IsLinked setting known.upto cell row → place_by setting known.upto row ≡ place → IsRemembered setting w lives n place cell op
 
--- so are the writes of all visits of a place at which the cell's link is in Both, and behind which no server that serves the link has been
+-- so are the writes of all visits of a place at which the cell's link is in Both, and after which no server that serves the link has been
 abbrev pub AreRemembered : (setting : Setting) (w : World) (lives : Lives) (visits : Visits) (reached : Cell → ℕ) → Type 0
 AreRemembered setting w lives visits reached = (front : List Command) (cell : Cell) (row : LinkRow) (n : ℕ) (own : Own) (op : Pending)
     → IsPrefix front (chosen_log setting w) → IsLinked setting front cell row → row.state ≡ Both → IsLast reached setting front cell row
@@ -129,7 +129,7 @@ pub record KnowMoves (setting : Setting) (records : List Record) (w : World) : T
       → stage_at (chosen_state setting w) cell ≤ 3 → stage_at (chosen_state setting w) cell ≡ 1
 
 -- the ground on which the run stands, at a state from what is chosen on: the laws below it, after these records, of two copies by the
--- stores that count, which of a server that runs and is In as itself is its own, and no Join of it with an empty store stands behind the
+-- stores that count, which of a server that runs and is In as itself is its own, and no Join of it with an empty store stands after the
 -- front by which it is so; the writes that servers had at places that count are known of; and what is known of epochs and of moves
 pub record Ground (setting : Setting) (state : State) (w : World) : Type 0 where
   pub ready : Ready setting state w

@@ -71,13 +71,13 @@ number_told : (least most : ℕ) (word : Word) → told (in_limits least most wo
 unfolding in_limits
 number_told least most word = limited (is_number word) (value word) (λ n. nat_le least n && nat_le n most)
 
--- a name, and what comes behind it
+-- a name, and what comes after it
 named : {B : Type 0} (word : Word) (f : List ℕ → Result B Cause) (t : Bool) (later : Option Cause)
     → ((x : List ℕ) → told (f x) ≡ cond t (Some BadName) later) → told (a_name word >>= f) ≡ cond (not (is_name word) || t) (Some BadName) later
 named word f t later same = told_bind (a_name word) f (cond t (Some BadName) later) same
     ∙ ap (λ e. or_first e (cond t (Some BadName) later)) (name_told word) ∙ joins (is_name word) t BadName later
 
--- a number, and what comes behind it
+-- a number, and what comes after it
 numbered : {B : Type 0} (least most : ℕ) (word : Word) (f : ℕ → Result B Cause) (t : Bool) (later : Option Cause)
     → ((x : ℕ) → told (f x) ≡ cond t (Some BadNumber) later)
     → told (in_limits least most word >>= f) ≡ cond (not (is_good (place least most word)) || t) (Some BadNumber) later
@@ -86,7 +86,7 @@ numbered least most word f t later same = told_bind (in_limits least most word) 
 
 -- ### Words in their places
 
--- what words in their places are told, and what comes behind them
+-- what words in their places are told, and what comes after them
 abbrev places_told : ℕ → Option Positions → Option Cause → Option Cause
 places_told servers places later =
     cond (is_none places) (Some BadLine)

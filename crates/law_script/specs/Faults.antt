@@ -26,7 +26,7 @@ pub record NumberPosition : Type 0 where
   pub least : ℕ
   pub most : ℕ
 
--- the words of a line in their places; what stands behind `on`, if it does
+-- the words of a line in their places; what stands after `on`, if it does
 pub record Positions : Type 0 where
   pub names : List Word
   pub numbers : List NumberPosition
@@ -98,7 +98,7 @@ abbrev pub snap_positions : List Word → Option Positions
 snap_positions (disk ∷ snap ∷ []) = Some (record { names = disk ∷ snap ∷ []; numbers = []; tuple = None })
 snap_positions _ = None
 
--- behind a client
+-- after a client
 abbrev pub client_positions : List Word → Option Positions
 client_positions [] = None
 client_positions (verb ∷ words) =
@@ -133,7 +133,7 @@ fault_positions servers (s ∷ device ∷ kind ∷ k ∷ []) =
     if is_device device && is_kind kind then numbers_only (server_place servers s ∷ place 1 1000000 k ∷ []) else None
 fault_positions servers _ = None
 
--- behind `op`
+-- after `op`
 abbrev pub operator_positions : ℕ → List Word → Option Positions
 operator_positions servers [] = None
 operator_positions servers (verb ∷ words) =
@@ -166,7 +166,7 @@ abbrev pub bad_name : Option Positions → Bool
 bad_name None = false
 bad_name (Some p) = list_any (λ word. not (is_name word)) p.names
 
--- one of the words behind `on` is no number
+-- one of the words after `on` is no number
 abbrev pub unreadable : Option (List Word) → Bool
 unreadable None = false
 unreadable (Some words) = is_none (numbers_of words)
@@ -232,7 +232,7 @@ abbrev pub servers_in : Option Script → ℕ
 servers_in None = 0
 servers_in (Some s) = s.servers
 
--- a line behind these lines has this fault
+-- a line after these lines has this fault
 abbrev pub has_fault : Cause → Option Script → TextLine → Bool
 has_fault NotAscii before line = not (list_all is_ascii line.text)
 has_fault TooLong before line = nat_lt 256 (length line.text) || nat_lt 1048576 line.reach

@@ -53,7 +53,7 @@ Asks servers first words client request =
 abbrev pub line_at : Script → ℕ → ℕ → Request → Line
 line_at s number client request = record { number = number; phase = s.phases - 1; client = client; request = request }
 
--- What a line does that is taken behind the servers line.
+-- What a line does that is taken after the servers line.
 pub data Does (s : Script) (told : TextLine) (t : Script) : Type 0 where
   skipped : is_skipped told.text ≡ true → t ≡ s → Does s told t
   nets : (first : Word) (words : List Word) → words_of told.text ≡ first ∷ words → is_word first (codes "net") ≡ true → net_line s words ≡ Ok t → Does s told t
@@ -62,7 +62,7 @@ pub data Does (s : Script) (told : TextLine) (t : Script) : Type 0 where
       → words_of told.text ≡ first ∷ words → Asks s.servers first words client request → too_many t.lines ≡ false → no_majority t.servers t.lines ≡ false
       → t ≡ record s { lines = s.lines ++ line_at s told.number client request ∷ [] } → Does s told t
 
--- The lines behind the servers line, one by one, from script to script.
+-- The lines after the servers line, one by one, from script to script.
 abbrev pub Follows : Script → List TextLine → Script → Type 0
 Follows s [] t = t ≡ s
 Follows s (told ∷ more) t = (next : Script) × Does s told next × Follows next more t

@@ -31,7 +31,7 @@ pub fn what_a_script_is()
     ensures { (text : List ℕ) (s : Script) → script_of text ≡ Ok s → IsAccepted (text_lines text) s }
 {}
 
-/// What a line does that is taken behind the servers line.
+/// What a line does that is taken after the servers line.
 pub fn what_a_line_does()
     ensures { (s : Script) (told : TextLine) (after : Option Script) → line_verdict (Some s) told ≡ Ok after → (t : Script) × (after ≡ Some t) × Does s told t }
 {}
@@ -41,7 +41,7 @@ pub fn first_fault()
     ensures { (before : Option Script) (line : TextLine) → told (line_verdict before line) ≡ find (λ cause. has_fault cause before line) in_order }
 {}
 
-/// The runs of a block laid out one behind the other are the block, and none can be longer.
+/// The runs of a block laid out one after the other are the block, and none can be longer.
 pub fn runs_are_the_block()
     ensures whole { (bytes : List ℕ) → flat_map run_bytes (runs bytes) ≡ bytes }
     ensures longest { (bytes : List ℕ) → AreLongest (runs bytes) }

@@ -64,7 +64,7 @@ record IsCaughtAmong (s : State) (entries : List Command) (cell : Cell) (row : L
   acts : IsCaughtBy (fold after s before) entry row
   on : touches (fold after s before) entry row ≡ true
 
--- behind one entry more
+-- after one entry more
 abbrev later_caught : (s : State) (entry : Command) (entries : List Command) (cell : Cell) (row : LinkRow) → IsCaughtAmong (after s entry) entries cell row
     → IsCaughtAmong s (entry ∷ entries) cell row
 later_caught s entry entries cell row c =
@@ -93,7 +93,7 @@ abbrev HeldUntil : State → List Command → Cell → (row now : LinkRow) → (
 HeldUntil s entries cell row now holder whole =
     IsHeldStill holder whole now.state ⊎ (now.state ≡ Lost) × IsLostAmong s entries holder ⊎ IsCaughtHeld s entries cell row holder whole
 
--- behind one entry more, which leaves the link as it is, but that more of it may have to be copied
+-- after one entry more, which leaves the link as it is, but that more of it may have to be copied
 held_on : (s : State) (entry : Command) (rest : List Command) (cell : Cell) (row now : LinkRow) (holder : ℕ) (whole more : Bool) → (whole ≡ true → more ≡ true)
     → HeldUntil (after s entry) rest cell row now holder more → HeldUntil s (entry ∷ rest) cell row now holder whole
 held_on s entry rest cell row now holder whole more kept (inl still) = inl (still.0, still.1, λ e. still.2 (kept e))
@@ -125,7 +125,7 @@ stays_row row server holder has alone =
     ap (λ b. if b then record row { state = left_state (other_of server row) row.state } else row) has ∙ (λ i. record row { state = same i })
 
 module _ (servers : ℕ) where
-  -- where nothing touches the link behind the entry
+  -- where nothing touches the link after the entry
   made_both : (s : State) → IsPlainState servers s → (entry : Command) → IsPlain servers entry → (rest : List Command) (cell : Cell) (row next now : LinkRow)
       → cell_link s cell ≡ Some row → touches s entry row ≡ true → cell_link (after s entry) cell ≡ Some next → IsLater row next
       → StaysSo cell next (after s entry) (fold after (after s entry) rest) → places_from (after s entry) rest next ≡ 0
@@ -257,7 +257,7 @@ module _ (servers : ℕ) where
   gone_untouched s p (Moved of region link) plain cell row one other same gone first second first_on second_on = refl
   gone_untouched s p (Witness client seq turn) plain cell row one other same gone first second first_on second_on = refl
 
-  -- two servers that are In before these entries and after them are so behind the first one
+  -- two servers that are In before these entries and after them are so after the first one
   ups_between : (entry : Command) (rest : List Command) (s : State) → IsPlainState servers s → IsPlainLog servers (entry ∷ rest)
       → (row : LinkRow) (one other : ℕ) → is_up_as s row.primary one ≡ true → is_up_as s row.secondary other ≡ true
       → is_up_as (fold after s (entry ∷ rest)) row.primary one ≡ true → is_up_as (fold after s (entry ∷ rest)) row.secondary other ≡ true
@@ -322,7 +322,7 @@ module _ (servers : ℕ) (front whole : List Command) (all : IsPlainLog servers 
   at_place : (before : List Command) → state_after servers (front ++ before) ≡ fold after s before
   at_place before = fold-append after (start servers) front before
 
-  -- an entry of those behind the front, with all before it
+  -- an entry of those after the front, with all before it
   behind_front : (before : List Command) (entry : Command) (rest : List Command) → prefix.later ≡ before ++ entry ∷ rest
       → IsPrefix ((front ++ before) ++ entry ∷ []) whole
   behind_front before entry rest lies = record {
@@ -340,7 +340,7 @@ module _ (servers : ℕ) (front whole : List Command) (all : IsPlainLog servers 
     acts = subst (λ (t : State). IsCaughtBy t c.entry row) (sym (at_place c.before)) c.acts;
   }
 
-  -- the Caught's place, and none behind it
+  -- the Caught's place, and none after it
   place_on : (cell : Cell) (now : LinkRow) (c : IsCaughtLast s prefix.later cell now)
       → places_from (start servers) whole c.row ≡ places_from (start servers) (front ++ c.found.before) c.row + 1
   place_on cell now c =

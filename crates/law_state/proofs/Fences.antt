@@ -1,4 +1,4 @@
--- Between what a command does and what settles behind it: a state that is plain, but that its active fence may wait for nobody.
+-- Between what a command does and what settles after it: a state that is plain, but that its active fence may wait for nobody.
 use Rattle.std.proofs.Common.{◌≡◌, ◌≢◌, ◌≤◌, ◌<◌, ◌+◌, ◌++◌, ◌==◌, ◌&&◌, ℕ, zero, suc, List, [], ◌∷◌, length, Bool, true, false, not, Option}
 use Rattle.std.proofs.Common.{Some, None, refl, subst, sym, ap, ◌∙◌, ◌⊎◌, inl, inr, arith}
 use Rattle.std.specs.Prelude.{◌||◌, filter, nat_eq, slice_get, if◌then◌else◌}
@@ -201,7 +201,7 @@ pub head_awaiting : (waiting : List ℕ) (queue : List Fence) (fence : Fence) �
 head_awaiting waiting [] fence e = none_some refl e
 head_awaiting waiting (first ∷ rest) fence e = ap (λ (f : Fence). f.waiting) (sym (same_some e))
 
--- of what is behind the head the first one waits for these servers
+-- of what is after the head the first one waits for these servers
 pub head_behind : (waiting : List ℕ) (queue : List Fence) (fence : Fence) → head (behind waiting queue) ≡ Some fence → fence.waiting ≡ waiting
 head_behind waiting [] fence e = none_some refl e
 head_behind waiting (first ∷ rest) fence e = head_awaiting waiting rest fence e
@@ -230,7 +230,7 @@ head_reported server (first ∷ rest) fence e = (
   },
 )
 
--- the head behind a new fence is the one before, or the new one, where no other waits
+-- the head after a new fence is the one before, or the new one, where no other waits
 pub head_queued : (v : View) (kind : FenceKind) (fence : Fence) → head (queued v kind).queue ≡ Some fence
     → (head v.queue ≡ Some fence) ⊎ (fence.waiting ≡ servers_in v.members)
 head_queued v kind fence = by v.queue

@@ -9,7 +9,7 @@ last_moment records own = record { front = records; own = own; behind = []; is =
 abbrev pub first_moment : (own : Record) (later : List Record) → IsMoment (own ∷ later)
 first_moment own later = record { front = []; own = own; behind = later; is = refl }
 
--- with one record more behind
+-- with one record more after
 abbrev pub moment_more : (records : List Record) (next : Record) → IsMoment records → IsMoment (records ++ next ∷ [])
 moment_more records next m = record {
   front = m.front;

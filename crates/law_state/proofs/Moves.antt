@@ -1,4 +1,4 @@
--- A StartMove gives a disk a new map, and queues a fence for its first region. A Moved notes a link; behind the last link of the old map the
+-- A StartMove gives a disk a new map, and queues a fence for its first region. A Moved notes a link; after the last link of the old map the
 -- region is at the new one, and the next one waits, or the move is over and the links of the old map are gone.
 use Rattle.std.proofs.Common.{◌≡◌, ◌≢◌, ◌≤◌, ◌<◌, ◌+◌, ◌==◌, ℕ, List, [], ◌∷◌, length, Bool, true, false, not, cond, Option, Some, None}
 use Rattle.std.proofs.Common.{is_some, Result, Ok, Err, refl, sym, ap, ◌∙◌, subst, ◌⊎◌, inl, inr, arith}

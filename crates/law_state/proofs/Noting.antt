@@ -1,4 +1,4 @@
--- Links are noted one by one, each behind its own Moved: what of this a state says, that stands in its log.
+-- Links are noted one by one, each after its own Moved: what of this a state says, that stands in its log.
 use Rattle.std.proofs.Common.{◌≡◌, ◌≤◌, ◌<◌, ◌+◌, ◌++◌, ◌==◌, ◌&&◌, ℕ, zero, suc, List, [], ◌∷◌, length, Bool, true, false, Option, Some, None}
 use Rattle.std.proofs.Common.{is_some, not, refl, sym, ap, ◌∙◌, subst, ◌⊎◌, inl, inr, append_assoc, arith}
 use Rattle.std.specs.Prelude.{◌||◌, fold, nat_eq, option_map, option_and_then, slice_get, slice_set, unwrap_or, if◌then◌else◌}

@@ -95,7 +95,7 @@ cell_settled s cell =
     (λ i. option_and_then (λ tuple. link_at ((settled_framed s).links i) cell.map (link_of (length tuple) cell.block))
     (tuple_of ((settled_framed s).maps i) cell.map))
 
--- ### What is behind the head
+-- ### What is after the head
 
 module _ (servers : ℕ) (s : State) (p : IsUnsettled servers s) where
   behind_apart : (i j : ℕ) (one other : Fence) (disk client seq later again : ℕ) (name : List ℕ) → slice_get (passed s.view).queue i ≡ Some one
@@ -337,7 +337,7 @@ passing servers s p fence first = elim (p.fences.each 0 fence first) [
 
 -- ### The whole
 
--- what waits behind the head is one fence less
+-- what waits after the head is one fence less
 fewer : (s : State) (fence : Fence) (n : ℕ) → ready s.view.queue ≡ Some fence → length s.view.queue ≤ suc n → length (one_passed s fence).view.queue ≤ n
 fewer s fence n is few =
     let e = length-behind (servers_in s.view.members) s.view.queue fence is in

@@ -1,4 +1,4 @@
--- An era rises behind reports: while a server stays In as one incarnation, the active fence that holds a cell's writes awaits its report.
+-- An era rises after reports: while a server stays In as one incarnation, the active fence that holds a cell's writes awaits its report.
 use Rattle.std.proofs.Common.{◌≡◌, ◌≢◌, ◌≤◌, ◌<◌, ◌+◌, ◌==◌, ◌&&◌, ◌++◌, ℕ, Bool, List, [], ◌∷◌, length, true, false, not, Some, None}
 use Rattle.std.proofs.Common.{is_some, refl, sym, ap, ◌∙◌, subst, ◌⊎◌, inl, inr, append_assoc, arith}
 use Rattle.std.specs.Prelude.{◌||◌, fold, nat_eq, replicate, slice_get, unwrap_or, if◌then◌else◌}
@@ -456,7 +456,7 @@ module _ (which : Hold → Bool) (every : which All ≡ true) (nothing : which N
     seated : is_up_as (fold after s before) n inc ≡ true
     holds : which (held (fold after s before) cell) ≡ true
 
-  -- behind one entry more
+  -- after one entry more
   later_report : (s : State) (entry : Command) (entries : List Command) (n inc : ℕ) (cell : Cell) → IsReportAmong (after s entry) entries n inc cell
       → IsReportAmong s (entry ∷ entries) n inc cell
   later_report s entry entries n inc cell c =
@@ -536,7 +536,7 @@ module _ (which : Hold → Bool) (every : which All ≡ true) (nothing : which N
           | inr report ↦ inr (reported_by report)
         ]
 
-  -- what is so behind a Leave that acts
+  -- what is so after a Leave that acts
   left_still : (servers : ℕ) (s : State) → IsPlainState servers s → (other other_inc n inc : ℕ) (cell : Cell) → is_up_as s other other_inc ≡ true
       → is_up_as (after s (Leave other other_inc)) n inc ≡ true → 1 ≤ stage_at s cell → stage_at s cell ≤ 2
       → IsStill s n cell (after s (Leave other other_inc))
@@ -575,7 +575,7 @@ log_unheld servers front whole n inc cell all prefix is end free low high rises 
     (still_by is_writes_held refl refl servers front whole n inc cell all prefix is end
     (unheld_awaited is_writes_held refl refl (state_after servers front) n cell free) low high)
 
--- while the server stays In, the cell begins to leave only behind the server's report to a fence that holds reads of the cell
+-- while the server stays In, the cell begins to leave only after the server's report to a fence that holds reads of the cell
 pub log_unread : (servers : ℕ) (front whole : List Command) (n inc : ℕ) (cell : Cell) → IsPlainLog servers whole → IsPrefix front whole
     → is_in (state_after servers front) n inc ≡ true → is_in (state_after servers whole) n inc ≡ true
     → is_all_held (held (state_after servers front) cell) ≡ false → 1 ≤ stage_at (state_after servers front) cell

@@ -100,7 +100,7 @@ module _ (servers : ℕ) (s t : State) (p : IsPlainState servers s) (q : IsPlain
       let now : later.now ≡ two.row = same_some (sym later.is ∙ ap (slice_get t.disks.rows) same ∙ there.1) in
       record { row = one.0; there = one.1; name_is = sym later.so.name ∙ ap (λ (row : DiskRow). row.name) now ∙ two.name_is; map_is = one.2 }
 
-  -- a disk that was made later stands behind those before
+  -- a disk that was made later stands after those before
   pub later_place : (row : DiskRow) → In row (later_rows s t) → (i : ℕ) × (slice_get t.disks.rows i ≡ Some row) × (length s.disks.rows ≤ i)
   later_place row h =
       let at = get_in (later_rows s t) row h in

@@ -10,7 +10,7 @@ use Rattle.petal_rules.specs.State.{held, is_in}
 use Rattle.petal_rules.specs.Writes.{is_writes_held}
 pub use Rattle.law_state.specs.Homes.{epoch_at, era_at}
 
--- behind this front of the log stands the server's report to the active fence, by which such a hold of the cell is so there; and the server
+-- after this front of the log stands the server's report to the active fence, by which such a hold of the cell is so there; and the server
 -- is In as this incarnation
 pub record HasReportedBy (which : Hold → Bool) (servers : ℕ) (front whole : List Command) (n inc : ℕ) (cell : Cell) : Type 0 where
   pub until : List Command

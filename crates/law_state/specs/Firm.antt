@@ -11,7 +11,7 @@ use Rattle.law_state.specs.Plain.{IsPlainLog}
 use Rattle.law_state.specs.Started.{HasStarted, is_caught}
 
 -- what servers and clients have applied stands at the front of the chosen log, whose entries are plain; who runs, and is In as
--- itself by some front of the log, is so by all that is chosen; of a Caught that is chosen the holder started the ballot behind the
+-- itself by some front of the log, is so by all that is chosen; of a Caught that is chosen the holder started the ballot after the
 -- entries before it; and what servers are asked to propose is no Caught
 pub record Firm (setting : Setting) (w : World) : Type 0 where
   pub servers : (n : ℕ) → IsPrefix (w.servers n).log.applied (chosen_log setting w)

@@ -7,14 +7,14 @@ use Rattle.petal_state.specs.Command.{may_join, state_after}
 use Rattle.petal_state.specs.State.{start}
 use Rattle.petal_rules.specs.Blanked.{blank_joins_from}
 
--- behind this front of the log the server, which was Out, joins as this incarnation
+-- after this front of the log the server, which was Out, joins as this incarnation
 pub record HasJoinedSince (servers : ℕ) (front whole : List Command) (n inc : ℕ) (blank : Bool) : Type 0 where
   pub until : List Command
   pub behind : IsPrefix front until
   pub stands : IsPrefix (until ++ Join n inc blank ∷ []) whole
   pub may : may_join (slice_get (state_after servers until).view.members n) inc ≡ true
 
--- the entry behind these is a Join of the server with an empty store that acts: one more
+-- the entry after these is a Join of the server with an empty store that acts: one more
 pub record IsBlankJoin (servers : ℕ) (front : List Command) (entry : Command) (n : ℕ) : Type 0 where
   pub inc : ℕ
   pub is : entry ≡ Join n inc true

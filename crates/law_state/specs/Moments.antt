@@ -1,4 +1,4 @@
--- A moment of a history: one of its records, with those before it and those behind it.
+-- A moment of a history: one of its records, with those before it and those after it.
 use Rattle.std.specs.Prelude.{◌≡◌, ◌++◌, List, ◌∷◌}
 use Rattle.petal_history.specs.declared.record.Record.{Record}
 

@@ -1,4 +1,4 @@
--- How a region comes to its new map: each link of the old one is noted behind its own Moved.
+-- How a region comes to its new map: each link of the old one is noted after its own Moved.
 use Rattle.std.specs.Prelude.{◌≡◌, ◌++◌, ◌∷◌, [], ℕ, List}
 use Rattle.global_tables.specs.Region.{region_of}
 use Rattle.petal_base.specs.declared.cell.Cell.{Cell}

@@ -67,7 +67,7 @@ pub data IsTouchedBy (cell : Cell) (row : LinkRow) (state : State) (entry : Comm
       → row.state ≢ Both → IsReseated state (after state entry) joined.server (Some joined.inc) → IsTouchedBy cell row state entry
   By_caught : IsCaughtBy state entry row → StaysSo cell (record row { state = Both }) state (after state entry) → IsTouchedBy cell row state entry
 
--- behind this front of the log stands a Caught that acts on the cell's link, and finds it as this row
+-- after this front of the log stands a Caught that acts on the cell's link, and finds it as this row
 pub record IsCaughtIn (servers : ℕ) (front whole : List Command) (cell : Cell) (row : LinkRow) : Type 0 where
   pub until : List Command
   pub entry : Command
@@ -89,7 +89,7 @@ pub record IsCaughtSince (servers : ℕ) (front whole : List Command) (cell : Ce
 abbrev pub IsHeldStill : (holder : ℕ) (whole : Bool) → LinkState → Type 0
 IsHeldStill holder whole now = (later : Bool) × (now ≡ Only holder later) × (whole ≡ true → later ≡ true)
 
--- behind this front of the log a server joins with an empty store, which was Out
+-- after this front of the log a server joins with an empty store, which was Out
 pub record IsLostIn (servers : ℕ) (front whole : List Command) (holder : ℕ) : Type 0 where
   pub until : List Command
   pub inc : ℕ
@@ -97,7 +97,7 @@ pub record IsLostIn (servers : ℕ) (front whole : List Command) (holder : ℕ) 
   pub stands : IsPrefix (until ++ Join holder inc true ∷ []) whole
   pub may : may_join (slice_get (state_after servers until).view.members holder) inc ≡ true
 
--- behind this front stands a Caught that acts on the cell's link, which the server has held alone until then, and has had to copy all of
+-- after this front stands a Caught that acts on the cell's link, which the server has held alone until then, and has had to copy all of
 -- it then too where it had to before
 pub record IsCaughtStill (servers : ℕ) (front whole : List Command) (cell : Cell) (row : LinkRow) (holder : ℕ) (fills : Bool) : Type 0 where
   pub later : Bool

@@ -17,12 +17,12 @@ is_caught _ = false
 abbrev pub is_flagged : Own → LinkId → Bool
 is_flagged own id = option_map_or (λ (p : Progress). p.caught) (at link_cmp own.copies.progress id) false
 
--- the server has applied so many entries and, as long as no more, has such a ballot behind them in mind
+-- the server has applied so many entries and, as long as no more, has such a ballot after them in mind
 pub record HasFlag (server : Server) (rev : ℕ) (id : LinkId) : Type 0 where
   pub reached : rev ≤ length server.log.applied
   pub flagged : length server.log.applied ≡ rev → is_flagged server.own id ≡ true
 
--- this incarnation of the holder has started a ballot for the link's Caught behind so many entries: where it is still the server's,
+-- this incarnation of the holder has started a ballot for the link's Caught after so many entries: where it is still the server's,
 -- the server has it in mind, also when it has stopped
 abbrev pub HasStarted : (actors : ℕ → Server) → (holder inc rev : ℕ) → LinkId → Type 0
 HasStarted actors holder inc rev id = (inc < (actors holder).life.inc) ⊎ ((inc ≡ (actors holder).life.inc) × HasFlag (actors holder) rev id)

@@ -25,7 +25,7 @@ use Rattle.law_state.specs.Ages.{age_of}
 use Rattle.law_state.specs.Homes.{stage_at, stage_of}
 use Rattle.law_state.specs.Rows.{GoesOn, IsServed}
 
--- the regions of a move, of which this one is next: those before it are at the new map, and those behind it at the old one
+-- the regions of a move, of which this one is next: those before it are at the new map, and those after it at the old one
 pub record IsShape (regions : List RegionState) (next : ℕ) (now : RegionState) : Type 0 where
   pub many : length regions ≡ 16
   pub low : next < 16

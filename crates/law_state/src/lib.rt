@@ -64,7 +64,7 @@ pub fn a_plain_log_makes_plain_tables()
     ensures { (servers : ℕ) (log : List Command) → IsPlainLog servers log → IsPlainState servers (state_after servers log) }
 {}
 
-/// A longer log adds rows behind those that are there, and changes none but who serves a link, and which snapshots and which maps a disk has;
+/// A longer log adds rows after those that are there, and changes none but who serves a link, and which snapshots and which maps a disk has;
 /// and it drops the links of a map that is dead.
 pub fn a_longer_log_only_adds()
     ensures { (servers : ℕ) (front whole : List Command) → IsPlainLog servers whole → IsPrefix front whole
@@ -151,10 +151,10 @@ pub fn blank_joins_only_grow()
         → blank_joins_from (start servers) front n < blank_joins_from (start servers) whole n }
 {}
 
-/// A cell's era never falls. While a server stays In as one incarnation, the era of a cell that is live and not leaving rises only behind its
+/// A cell's era never falls. While a server stays In as one incarnation, the era of a cell that is live and not leaving rises only after its
 /// report to an active fence that holds the cell's writes: from a front on whose own active fence does not hold them, and from one behind
 /// which a server leaves, since the active fence then awaits all reports again.
-pub fn an_epoch_rises_behind_reports()
+pub fn an_epoch_rises_after_reports()
     ensures grows { (servers : ℕ) (front whole : List Command) (cell : Cell) → IsPlainLog servers whole → IsPrefix front whole
         → era_at (state_after servers front) cell ≤ era_at (state_after servers whole) cell }
     ensures unheld { (servers : ℕ) (front whole : List Command) (n inc : ℕ) (cell : Cell)
@@ -182,8 +182,8 @@ pub fn a_stage_says_what_a_cell_is()
     ensures { (servers : ℕ) (log : List Command) (cell : Cell) → IsPlainLog servers log → HasStage (state_after servers log) cell }
 {}
 
-/// A link of an old map is noted behind its Moved, and a region has moved behind those of all links.
-pub fn a_region_moves_behind_its_links()
+/// A link of an old map is noted after its Moved, and a region has moved after those of all links.
+pub fn a_region_moves_after_its_links()
     ensures noted { (servers : ℕ) (whole : List Command) (cell : Cell) (link : ℕ) → IsPlainLog servers whole → stage_at (state_after servers whole) cell ≡ 3
         → is_noted (state_after servers whole) cell.map (region_of cell.block) link ≡ true → HasMovedIn servers whole cell link }
     ensures dead { (servers : ℕ) (whole : List Command) (cell : Cell) (link : ℕ) → IsPlainLog servers whole → stage_at (state_after servers whole) cell ≡ 4

@@ -124,7 +124,7 @@ module _ (setting : Setting) (w : World) (firm : Firm setting w) (c : AreComing 
       none_posted _ stamp _ (λ post j. downs_other n (w.servers n).life.inc _ post j) letter key bytes i e
   sent_was stamp what _ (Fails booted asleep) letter key bytes i e = absurd i
 
-  -- what a server has pending behind a job
+  -- what a server has pending after a job
   worked_was : (after : Log) (done : Done) → Worked setting w n after done → (cell : Cell) (op : Pending)
       → at cell_cmp done.own.pairs.pending cell ≡ Some op → op.kind ≡ kind.Fill → WasComing setting w op.rev cell
   worked_was _ _ (By_job after done same did seat) cell op is e =

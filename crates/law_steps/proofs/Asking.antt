@@ -27,7 +27,7 @@ use Rattle.petal_rules.specs.State.{in_both, is_in, leads_link, live, other_in, 
 use Rattle.petal_rules.specs.Store.{Stored, cell_cmp, chain_in, epochs_of, mark_left}
 use Rattle.petal_rules.specs.Writes.{pending_on, both_action, alone_action, next_stage}
 use Rattle.petal_rules.specs.Jobs.{voter_of}
-use Rattle.petal_rules.specs.Jobs.{tick_posts, sent_anew, copies_anew, awaited}
+use Rattle.petal_rules.specs.Jobs.{tick_posts, sent_again, copies_again, awaited}
 use Rattle.petal_rules.proofs.ListLemmas.{in-append}
 use Rattle.petal_rules.proofs.CellTables.{cell_cmp_total}
 use Rattle.petal_rules.proofs.Tests.{by_test, by_bool, not_true, only, true_false}
@@ -82,7 +82,7 @@ module _ (it : KnownServer) where
   dead_sends op none action.Answer post i = i
   dead_sends op none action.Drop post i = i
 
-  asked_again : (op : Pending) → pending_on own op.cell ≡ Some op → (post : Post) → In post (sent_anew here own op) → A post
+  asked_again : (op : Pending) → pending_on own op.cell ≡ Some op → (post : Post) → In post (sent_again here own op) → A post
   unfolding In
   asked_again op is post h =
       let s = staged op.cell op is in
@@ -102,9 +102,9 @@ module _ (it : KnownServer) where
           → In post (awaited here own op (both_action stage))
       sent both stage e lead = subst (λ a. In post (awaited here own op a)) (both_next hears_server here own steady staged op stage lead both e) h
 
-  pending_asks : (post : Post) → In post (flat_map (λ (row : Cell × Pending). sent_anew here own row.1) own.pairs.pending) → A post
+  pending_asks : (post : Post) → In post (flat_map (λ (row : Cell × Pending). sent_again here own row.1) own.pairs.pending) → A post
   pending_asks post h =
-      let found = in_flat_map (λ (row : Cell × Pending). sent_anew here own row.1) own.pairs.pending post h in
+      let found = in_flat_map (λ (row : Cell × Pending). sent_again here own row.1) own.pairs.pending post h in
       let row = found.0 in
       let is : pending_on own row.0 ≡ Some row.1 = at_row cell_cmp_total own.pairs.pending row (rests.pending n).rising found.1 in
       asked_again row.1 (subst (λ (q : Cell). pending_on own q ≡ Some row.1) (sym (staged row.0 row.1 is).own) is) post found.2
@@ -175,7 +175,7 @@ module _ (it : KnownServer) where
       let found = in_flat_map (λ (row : LinkRow). fills_row here own row) here.state.links post h in
       An_entry_to_move post (row_fills here own seat found.0 found.1 post found.2)
 
-  again_asks : (post : Post) → In post (copies_anew here own) → A post
+  again_asks : (post : Post) → In post (copies_again here own) → A post
   again_asks post h =
       by_test (λ (xs : List Post). In post xs → A post) (is_in here.state here.me here.inc)
       (copy_posts here own ++ page_posts here own ++ fill_posts here own) []
@@ -191,10 +191,10 @@ module _ (it : KnownServer) where
   pub tick_asks : (post : Post) → In post (tick_posts here server) → A post
   tick_asks post h =
       let ballots = ballot_posts (voter_of here) log.phase in
-      let pairs = flat_map (λ (row : Cell × Pending). sent_anew here own row.1) own.pairs.pending in
-      elim (in-append post (ballots ++ pairs ++ copies_anew here own) (ask_posts (voter_of here) log) h) [
+      let pairs = flat_map (λ (row : Cell × Pending). sent_again here own row.1) own.pairs.pending in
+      elim (in-append post (ballots ++ pairs ++ copies_again here own) (ask_posts (voter_of here) log) h) [
         | inr asks ↦ Of_the_log post (ask_logged (voter_of here) log post asks)
-        | inl former ↦ elim (in-append post (ballots ++ pairs) (copies_anew here own) former) [
+        | inl former ↦ elim (in-append post (ballots ++ pairs) (copies_again here own) former) [
           | inr again ↦ again_asks post again
           | inl earlier ↦ elim (in-append post ballots pairs earlier) [
             | inl ballot ↦ Of_the_log post (ballot_logged (voter_of here) log.phase post ballot)
@@ -209,10 +209,10 @@ module _ (it : KnownServer) where
   unfolding In
   tick_mute runs out post h =
       let ballots = ballot_posts (voter_of here) log.phase in
-      let pairs = flat_map (λ (row : Cell × Pending). sent_anew here own row.1) own.pairs.pending in
-      elim (in-append post (ballots ++ pairs ++ copies_anew here own) (ask_posts (voter_of here) log) h) [
+      let pairs = flat_map (λ (row : Cell × Pending). sent_again here own row.1) own.pairs.pending in
+      elim (in-append post (ballots ++ pairs ++ copies_again here own) (ask_posts (voter_of here) log) h) [
         | inr asks ↦ logged_apart (subject_of post.body) (ask_logged (voter_of here) log post asks)
-        | inl former ↦ elim (in-append post (ballots ++ pairs) (copies_anew here own) former) [
+        | inl former ↦ elim (in-append post (ballots ++ pairs) (copies_again here own) former) [
           | inr again ↦ no_copy again
           | inl earlier ↦ elim (in-append post ballots pairs earlier) [
             | inl ballot ↦ logged_apart (subject_of post.body) (ballot_logged (voter_of here) log.phase post ballot)
@@ -221,13 +221,13 @@ module _ (it : KnownServer) where
         ]
       ]
     where
-      no_copy : In post (copies_anew here own) → is_between (subject_of post.body) ≡ false
+      no_copy : In post (copies_again here own) → is_between (subject_of post.body) ≡ false
       no_copy = by_test (λ (xs : List Post). In post xs → is_between (subject_of post.body) ≡ false) (is_in here.state here.me here.inc) _ _
           (λ t. true_false t out) (λ t i. absurd i)
 
-      no_pair : In post (flat_map (λ (row : Cell × Pending). sent_anew here own row.1) own.pairs.pending) → is_between (subject_of post.body) ≡ false
+      no_pair : In post (flat_map (λ (row : Cell × Pending). sent_again here own row.1) own.pairs.pending) → is_between (subject_of post.body) ≡ false
       no_pair i =
-          let found = in_flat_map (λ (row : Cell × Pending). sent_anew here own row.1) own.pairs.pending post i in
+          let found = in_flat_map (λ (row : Cell × Pending). sent_again here own row.1) own.pairs.pending post i in
           let row = found.0 in
           true_false (rests.seated n row.0 row.1 runs (at_row cell_cmp_total own.pairs.pending row (rests.pending n).rising found.1)) out
 

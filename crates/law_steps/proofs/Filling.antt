@@ -78,7 +78,7 @@ pub record IsOpenedFill (heard : Body → Type 0) (here : Here) (own : Own) (cel
   pub bytes : op.bytes ≡ moving.bytes
   pub rev : op.rev ≡ here.state.rev
 
--- what is pending behind a job was so before, or is of a client's write, or was opened for an entry
+-- what is pending after a job was so before, or is of a client's write, or was opened for an entry
 pub data HasCome (heard : Body → Type 0) (here : Here) (own : Own) (cell : Cell) (op : Pending) : Type 0 where
   Stood : Was own cell op → HasCome heard here own cell op
   Writes : op.kind ≡ kind.Write → HasCome heard here own cell op

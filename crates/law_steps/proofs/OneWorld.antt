@@ -206,7 +206,7 @@ module _ (setting : Setting) (w : World) (firm : Firm setting w) where
       → is_in (chosen_state setting w) n (w.servers n).life.inc ≡ true
   runs_now n runs is = firm.runs n (w.servers n).log.applied runs (firm.servers n) is
 
-  -- a Caught behind its own entries the server has in mind, where it is In as itself
+  -- a Caught after its own entries the server has in mind, where it is In as itself
   caught_held : (n : ℕ) (more : List Command) → IsPrefix (w.servers n).log.applied more → IsPrefix more (chosen_log setting w)
       → (w.servers n).life.running ≡ true → is_in (server_state setting w n) n (w.servers n).life.inc ≡ true → (cell : Cell) (row : LinkRow)
       → (copied : Bool) → cell_link (server_state setting w n) cell ≡ Some row

@@ -51,7 +51,7 @@ use Rattle.law_steps.proofs.Subjects.{of_filler, of_lead, of_read, of_second, of
 
 -- ### What is left of it
 
--- where neither copies nor last ones are added, and no link's pages are anew
+-- where neither copies nor last ones are added, and no link's pages are new
 pub resting_same : (state : State) (me : ℕ) (own to : Own)
     → ((cell : Cell) (copy : Copying) → copying_on to cell ≡ Some copy → (was : Copying) × (copying_on own cell ≡ Some was)
     × (copy.trimmed ≡ false → was.trimmed ≡ false)
@@ -78,7 +78,7 @@ resting_equal state me own to e = resting_same state me own to
     (λ cell last is. (last, ap (λ (c : Copies). at cell_cmp c.last cell) (sym e) ∙ is))
     (λ row paged. ap (λ (c : Copies). (unwrap_or (at link_cmp c.progress (id_of row)) no_progress).paged) e ∙ paged)
 
--- pages are not anew by what is put of a link
+-- pages are not new by what is put of a link
 pub paged_put : (own : Own) (row : LinkRow) (new : Progress) → ((progress_on own row).paged ≡ true → new.paged ≡ true) → (other : LinkRow)
     → (progress_on own other).paged ≡ true → (progress_on (with_progress own row new) other).paged ≡ true
 paged_put own row new keeps other is = by_bool (eq_by_cmp link_cmp (id_of other) (id_of row))

@@ -219,7 +219,7 @@ module _ (it : KnownServer) where
       by_test (λ a. F (Work work_end.Done) a → S (Work work_end.Done) a) (is_overfull acted.server) (stops here server) acted
       (λ full later. stops_serve (Work work_end.Done) runs) (λ room later. goes_on acted runs (job_worked what rest e) later)
 
-  -- a device failed in a job, or was to stop the server, behind its commit
+  -- a device failed in a job, or was to stop the server, after its commit
   faults_serve : (step : Step) (queue : List Job) → server.queue ≡ queue → (queue ≡ [] → ⊥) → server.life.running ≡ true
       → F step (stops here (works here server queue).server) → S step (stops here (works here server queue).server)
   faults_serve step [] e some runs = absurd (some refl)

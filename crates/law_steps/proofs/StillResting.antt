@@ -1,4 +1,4 @@
--- What a server remembers of copies rests behind an entry, which drops what it touches; and at the start it remembers nothing of them.
+-- What a server remembers of copies rests after an entry, which drops what it touches; and at the start it remembers nothing of them.
 use Rattle.std.proofs.Common.{◌≡◌, ◌≤◌, ◌==◌, ◌&&◌, not, ℕ, Bool, true, false, cond, if◌then◌else◌, List, [], ◌∷◌, ◌++◌, Option}
 use Rattle.std.proofs.Common.{Some, None, refl, sym, ap, ◌∙◌, subst, inl, inr, arith}
 use Rattle.std.specs.Prelude.{◌||◌, filter, is_none, unwrap_or}
@@ -55,7 +55,7 @@ left_there state entry t cell x is =
     let neither = either_false (touches_cell state entry cell) (dies state entry cell) off in
     (sym (lies ∙ ap (λ b. cond (not b) (at cell_cmp t cell) None) off) ∙ is, neither.0, neither.1))
 
--- a live cell that doesn't die by the entry is live behind it
+-- a live cell that doesn't die by the entry is live after it
 still_live : (before behind : Bool) → (before && not behind) ≡ false → before ≡ true → behind ≡ true
 still_live before true e on = refl
 still_live true false e on = true_false refl e

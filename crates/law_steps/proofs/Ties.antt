@@ -1,4 +1,4 @@
--- What ties a server that runs to what is chosen: a Caught of its own stands at most behind its last entry.
+-- What ties a server that runs to what is chosen: a Caught of its own stands at most after its last entry.
 use Rattle.std.proofs.Common.{◌≡◌, ◌<◌, ◌++◌, ℕ, Bool, List, [], ◌∷◌, true, Some, length, sym, ap, ◌∙◌, subst, inl, inr, arith}
 use Rattle.global_tables.specs.Link.{has_server, other_of}
 use Rattle.global_tables.specs.declared.link.LinkRow.{LinkRow}
@@ -73,7 +73,7 @@ module _ (it : RunningFronts) (cell : Cell) (row : LinkRow) (is : cell_link (sta
   abbrev later : State
   later = state_after setting.servers more
 
-  -- a Caught behind these entries, of a link that the server serves, is its own, and stands behind its last entry
+  -- a Caught after these entries, of a link that the server serves, is its own, and stands after its last entry
   record IsOwn (found : LinkRow) (c : IsCaughtIn setting.servers front more cell found) : Type 0 where
     whole : Bool
     mine : found.state ≡ Only n whole

@@ -15,7 +15,7 @@ abbrev pub StaysInBoth : Setting → (n : ℕ) → (front more : List Command) �
 StaysInBoth setting n front more cell row =
     StaysSo cell row (state_after setting.servers front) (state_after setting.servers more) ⊎ (is_alone_on (state_after setting.servers more) n cell ≡ true)
 
--- the link is in Both by a Caught for which the server has started the ballot, and of which it doesn't know yet: it stands behind the
+-- the link is in Both by a Caught for which the server has started the ballot, and of which it doesn't know yet: it stands after the
 -- server's last entry, and nothing has touched the link since
 pub record HasOwnCaught (setting : Setting) (w : World) (n : ℕ) (front more : List Command) (cell : Cell) : Type 0 where
   pub at : front ≡ (w.servers n).log.applied

@@ -65,7 +65,7 @@ pub fn each_step_is_of_a_kind()
 
 /// While a server runs, and is In as itself, it is tied to what is chosen from its own entries on: a link that was in Both is so at the
 /// same place, or the server holds it alone; and one that it held alone it holds so still, or it is in Both by a Caught for which the
-/// server has started the ballot, right behind its own entries. This is said while the cell is not dead.
+/// server has started the ballot, right after its own entries. This is said while the cell is not dead.
 pub fn a_running_server_is_tied_to_what_is_chosen()
     ensures both { (script : Script) (records : List Record) → IsSound script → IsLegal script records → (n : ℕ) (front more : List Command)
         → ((world_after (setting_of script) (start (setting_of script)) records).servers n).life.running ≡ true

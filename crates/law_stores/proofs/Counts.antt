@@ -52,13 +52,13 @@ joined_where servers n front whole prefix more =
     let found = joined_by servers n front prefix.later (λ same. more (sym same ∙ ap (λ log. blank_joins_from (start servers) log n) (sym prefix.is))) in
     (found.0, subst (λ log. HasJoinedSince servers front log n found.0 true) (sym prefix.is) found.1)
 
--- an entry that stands behind a front stands in the log
+-- an entry that stands after a front stands in the log
 pub stands_in : (front whole : List Command) (entry : Command) → IsPrefix (front ++ entry ∷ []) whole → In entry whole
 unfolding In
 stands_in front whole entry prefix =
     subst (In entry) (sym (prefix.is ∙ append_assoc front (entry ∷ []) prefix.later)) (in_later entry front (entry ∷ prefix.later) (inl refl))
 
--- one that does not stand in a front stands behind it
+-- one that does not stand in a front stands after it
 pub behind_front : (front log whole : List Command) (entry : Command) → IsPrefix front whole → IsPrefix (log ++ entry ∷ []) whole
     → In entry front ⊎ IsPrefix front log
 behind_front front log whole entry one two = elim (either (length front) (length log)) [

@@ -21,7 +21,7 @@ pub fn a_store_that_waits_is_empty()
 {}
 
 /// The store of a server that runs, and is In as itself by its own state, waits for nobody, and is the one that counts. And once a server is
-/// In as itself by a front of what is chosen, none of its Joins with an empty store is chosen behind that.
+/// In as itself by a front of what is chosen, none of its Joins with an empty store is chosen after that.
 pub fn who_is_in_has_the_store_that_counts()
     ensures filled { (script : Script) (records : List Record) (n : ℕ) → IsSound script → IsLegal script records
         → ((world_after (setting_of script) (start (setting_of script)) records).servers n).life.running ≡ true

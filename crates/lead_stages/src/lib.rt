@@ -5,12 +5,12 @@
 #![tactic(auto)]
 
 mod actions;
-mod anew;
 mod end;
+mod resend;
 mod stage;
 mod stages;
 
 pub use actions::{acts, goes_on};
-pub use anew::letters_after;
 pub use end::ends;
+pub use resend::letters_after;
 pub use stage::{first_stage, next_stage};

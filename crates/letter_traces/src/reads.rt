@@ -52,7 +52,7 @@ fn upto(records: &[Record], at: usize) -> &[Record] {
     }
 }
 
-/// The records behind this one.
+/// The records after this one.
 fn behind(records: &[Record], at: usize) -> &[Record] {
     match records.get(at.saturating_add(1)..) {
         Some(later) => later,

@@ -1,4 +1,4 @@
--- What is left of a link behind the last key that is remembered.
+-- What is left of a link after the last key that is remembered.
 use Rattle.std.proofs.Common.{◌≡◌, ℕ, Option, Some, None, refl}
 use Rattle.global_tables.specs.declared.link.LinkRow.{LinkRow}
 use Rattle.petal_table.specs.Table.{at}
@@ -13,7 +13,7 @@ unfolding next_fill
 left_is state row None me own = refl
 left_is state row (Some region) me own = refl
 
--- what is left behind the last key that is remembered
+-- what is left after the last key that is remembered
 pub fill_is : (state : State) (me : ℕ) (row : LinkRow) (own : Own)
     → left_after state row (region_to_move state me row) (at link_cmp own.filled (id_of row)) own.store.chains ≡ fill_of state me row own
 fill_is state me row own = left_is state row (region_to_move state me row) me own

@@ -43,7 +43,7 @@ module _ (state : State) (row : LinkRow) (region : ℕ) (last : Option Key) wher
   last_key [] = None
   last_key (k ∷ ks) = or_key (last_key ks) (comes_next region last k) k
 
-  -- the last key of the cell that is behind the last one
+  -- the last key of the cell that is after the last one
   abbrev pub last_in : Cell → List Key → Option Key
   last_in cell ks = last_key (filter (in_cell cell) ks)
 

@@ -17,7 +17,7 @@ use Rattle.physical_map.specs.Entries.{key_of}
 abbrev pub is_of : State → LinkRow → (region : ℕ) → Cell → Bool
 is_of state row region cell = is_on state row cell && (region_of cell.block == region)
 
--- the rule's next key of a link and a region behind the last one, of these chains
+-- the rule's next key of a link and a region after the last one, of these chains
 abbrev pub next_after : State → LinkRow → (region : ℕ) → Option Key → Table Cell Chain → Option Key
 next_after state row region last chains =
     first_key (filter (comes_next region last) (flat_map keys_of (filter (λ held. is_of state row region held.0) chains)))
@@ -27,7 +27,7 @@ abbrev pub left_after : State → LinkRow → (region : Option ℕ) → Option K
 left_after state row None last chains = None
 left_after state row (Some region) last chains = next_after state row region last chains
 
--- the key is of the link and the region, and behind the last one
+-- the key is of the link and the region, and after the last one
 abbrev pub is_left : State → LinkRow → (region : ℕ) → Option Key → Key → Bool
 is_left state row region last key = is_of state row region (cell_of key) && comes_next region last key
 
@@ -47,7 +47,7 @@ or_key None true key = Some key
 or_key None false key = None
 or_key (Some other) is key = Some other
 
--- of these entries the last one that is behind the last key
+-- of these entries the last one that is after the last key
 abbrev pub last_left : (region : ℕ) → Option Key → List Entry → Option Key
 last_left region last [] = None
 last_left region last (entry ∷ entries) = or_key (last_left region last entries) (comes_next region last entry.key) entry.key

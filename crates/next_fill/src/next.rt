@@ -21,7 +21,7 @@ fn comes_before(one: &Key, other: &Key) -> bool
     one.block < other.block || (one.block == other.block && other.epoch < one.epoch)
 }
 
-/// Whether the key comes behind the last one of its region that the new map is known to have.
+/// Whether the key comes after the last one of its region that the new map is known to have.
 fn comes_next(moved: u8, last: &Option<Key>, key: &Key) -> bool
     ensures { result ≡ fills.comes_next moved last.now key.now }
 {
@@ -88,7 +88,7 @@ fn last_left(moved: u8, last: &Option<Key>, chain: &[Entry]) -> Option<Key>
     }
 }
 
-/// The next key of the link in the region behind the last one that the new map is known to have.
+/// The next key of the link in the region after the last one that the new map is known to have.
 fn next_after<D: Disk>(
     here: &Here,
     store: &Store<D>,
@@ -107,7 +107,7 @@ fn next_after<D: Disk>(
     }
 }
 
-/// What is left of the link behind this key, where this server is to move it.
+/// What is left of the link after this key, where this server is to move it.
 pub fn left_after<D: Disk>(
     here: &Here,
     store: &Store<D>,

@@ -1,4 +1,4 @@
--- What became of the open request, behind an entry of a letter.
+-- What became of the open request, after an entry of a letter.
 use Rattle.std.specs.Prelude.{Some, None}
 use Rattle.petal_rules.specs.State.{State}
 use Rattle.petal_rules.specs.Clients.{Client, Asked, Learning}

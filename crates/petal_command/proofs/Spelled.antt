@@ -41,7 +41,7 @@ name_of-name word name e is = rw (e, is)
 pub tuple_of-tuple : (ids tuple : List ℕ) → ids ≡ tuple → is_tuple 8 tuple ≡ true → tuple_of 8 ids ≡ Some tuple
 tuple_of-tuple ids tuple e is = rw (e, is)
 
--- the field behind a name that begins at byte 6
+-- the field after a name that begins at byte 6
 pub second_field : (name second rest bytes : List ℕ) → is_name name ≡ true → drop 6 bytes ≡ name_field name ++ second ++ rest → drop 23 bytes ≡ second ++ rest
 second_field name second rest bytes is e =
     sym (drop-drop 17 6 bytes) ∙ ap (drop 17) (e ∙ append_assoc (name_field name) second rest) ∙ padded-behind 16 name (second ++ rest) (name-short name is)

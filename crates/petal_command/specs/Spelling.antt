@@ -12,7 +12,7 @@ name_field name = padded 16 name
 abbrev pub tuple_field : List ℕ → List ℕ
 tuple_field tuple = padded 8 tuple
 
--- the kind and the fields, and the zeros behind them
+-- the kind and the fields, and the zeros after them
 abbrev pub spelling : Command → List ℕ
 spelling (Join server inc blank) = byte 1 ++ byte server ++ word inc ++ flag blank ++ replicate 57 0
 spelling (Leave server inc) = byte 2 ++ byte server ++ word inc ++ replicate 58 0

@@ -27,7 +27,7 @@ torn_twice at n x y z first second = record {
   size = second.size ∙ first.size;
 }
 
--- behind a front that stays
+-- after a front that stays
 pub torn_behind : (a at n : ℕ) (x y : List ℕ) → Torn (a + at) n x y → Torn at n (drop a x) (drop a y)
 torn_behind a at n x y torn = record {
   before = sym (drop-take a at y) ∙ ap (λ (l : List ℕ). drop a l) torn.before ∙ drop-take a at x;
@@ -40,7 +40,7 @@ torn_behind a at n x y torn = record {
 pub torn_front : (k at n : ℕ) (x y : List ℕ) → k ≤ at → Torn at n x y → take k y ≡ take k x
 torn_front k at n x y le torn = take_less k at x y le torn.before
 
--- what stands behind the range
+-- what stands after the range
 pub torn_rest : (k at n : ℕ) (x y : List ℕ) → at + n ≤ k → Torn at n x y → drop k y ≡ drop k x
 torn_rest k at n x y le torn = drop_further (at + n) k x y le torn.after
 

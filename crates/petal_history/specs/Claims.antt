@@ -187,7 +187,7 @@ pub record IsFilledFrom (setting : Setting) (w : World) (cell : Cell) (before : 
   pub frozen : w.frozen old ≡ Some before
 
 -- the two-copy rule in a region that is on its way: no client's write is pending under the old map, whose copies are still; what the new map
--- has of a block, or can still get, has all that is newer behind it; and where a link is noted the new map has all of it
+-- has of a block, or can still get, has all that is newer after it; and where a link is noted the new map has all of it
 pub record Moves (setting : Setting) (w : World) : Type 0 where
   pub unwritten : (n : ℕ) (cell : Cell) (op : Pending) → (w.servers n).life.running ≡ true
       → at cell_cmp (w.servers n).own.pairs.pending cell ≡ Some op → is_clients op.kind ≡ true → leaving (chosen_state setting w) cell ≡ false

@@ -52,7 +52,7 @@ run_of servers slots lines = setting_of (record { servers = servers; slots = slo
 abbrev pub told_of : Setting → List Move → Option (List Event)
 told_of setting moves = told_from setting (start setting) (records_of setting (start setting) moves)
 
--- the world behind these moves
+-- the world after these moves
 abbrev pub world_of : Setting → List Move → World
 world_of setting moves = plays setting (start setting) moves
 
@@ -212,7 +212,7 @@ crowd = record (start crowded) {
   clients = λ c. record first_client { applied = crowd_disk ∷ []; seq = if c == 0 then 1 else 0 };
 }
 
--- the world behind these moves, from that one
+-- the world after these moves, from that one
 abbrev pub crowd_after : List Move → World
 crowd_after moves = plays crowded crowd moves
 

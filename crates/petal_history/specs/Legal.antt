@@ -36,7 +36,7 @@ abbrev pub IsLegalFrom : Setting → World → List Record → Type 0
 IsLegalFrom setting w [] = Unit {0}
 IsLegalFrom setting w (own ∷ later) = Follows setting w own × IsLegalFrom setting (stepped setting w own).world later
 
--- the world behind a list of records
+-- the world after a list of records
 abbrev pub world_after : Setting → World → List Record → World
 world_after setting w [] = w
 world_after setting w (own ∷ later) = world_after setting (stepped setting w own).world later

@@ -38,12 +38,12 @@ moved setting w (Hands letter) = handed setting w (slice_get (reverse w.sent) le
 moved setting w (Works server) = record_by setting w (actor.Server server) (Work work_end.Done) ∷ []
 moved setting w (Ticks who) = record_by setting w who Tick ∷ []
 
--- the world behind a record
+-- the world after a record
 abbrev pub behind : Setting → World → List Record → World
 behind setting w [] = w
 behind setting w (own ∷ later) = behind setting (step own.actor own.step setting w own.stamp).world later
 
--- the world behind a list of moves
+-- the world after a list of moves
 abbrev pub plays : Setting → World → List Move → World
 plays setting w [] = w
 plays setting w (move ∷ moves) = plays setting (behind setting w (moved setting w move)) moves

@@ -256,7 +256,7 @@ replies asked rev what = option_map_or (counts_as asked rev what.any_rev) what.s
 abbrev pub answers : Client → Asked → Answer → Reaction
 answers client asked given = record { client = record client { asked = None }; posts = []; answer = Some (asked.line, given) }
 
--- the new map has nothing: the old one is asked, at the same revision; behind another one the request starts again
+-- the new map has nothing: the old one is asked, at the same revision; after another one the request starts again
 abbrev pub goes_the_old_way : State → ℕ → Client → Asked → Reaction
 goes_the_old_way state me client asked = goes_out state me client (record asked { told = true; old_way = true })
 

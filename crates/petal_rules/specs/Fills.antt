@@ -87,7 +87,7 @@ region_to_move state me row = if is_the (row_lead state row) me then not_noted s
 abbrev pub comes_before : Key → Key → Bool
 comes_before one other = nat_lt one.block other.block || (one.block == other.block && nat_lt other.epoch one.epoch)
 
--- the key comes behind the last one of its region that the new map is known to have
+-- the key comes after the last one of its region that the new map is known to have
 abbrev pub comes_next : (region : ℕ) → Option Key → Key → Bool
 comes_next region None key = true
 comes_next region (Some last) key = not (region_of last.block == region) || comes_before last key

@@ -277,20 +277,20 @@ awaited here own op (action.Unmark kind) = []
 awaited here own op action.Answer = []
 awaited here own op action.Drop = []
 
-abbrev pub sent_anew : Here → Own → Pending → List Post
-sent_anew here own op = awaited here own op (next_stage here.state here.me op)
+abbrev pub sent_again : Here → Own → Pending → List Post
+sent_again here own op = awaited here own op (next_stage here.state here.me op)
 
 -- of copies and fills too, while the server is In as itself
-abbrev pub copies_anew : Here → Own → List Post
-copies_anew here own =
+abbrev pub copies_again : Here → Own → List Post
+copies_again here own =
     if is_in here.state here.me here.inc then copy_posts here own ++ page_posts here own ++ fill_posts here own else []
 
 -- each letter that is not yet answered goes out again, and one of the other servers is asked what follows
 abbrev pub tick_posts : Here → Server → List Post
 tick_posts here server =
     ballot_posts (voter_of here) server.log.phase
-    ++ flat_map (λ row. sent_anew here server.own row.1) server.own.pairs.pending
-    ++ copies_anew here server.own
+    ++ flat_map (λ row. sent_again here server.own row.1) server.own.pairs.pending
+    ++ copies_again here server.own
     ++ ask_posts (voter_of here) server.log
 
 -- an idle proposer is to start a ballot where a command is wanted, and links whose next copy or old mark waits are to be mended

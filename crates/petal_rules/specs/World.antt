@@ -300,7 +300,7 @@ pub record IsAnswered (given : List (ℕ × Answer)) (number : ℕ) : Type 0 whe
   pub answer : Answer
   pub is : In (number, answer) given
 
--- a client with nothing open calls its next line, behind every answer of the phases before
+-- a client with nothing open calls its next line, after every answer of the phases before
 pub record MayCall (setting : Setting) (w : World) (c number : ℕ) : Type 0 where
   pub free : (w.clients c).asked ≡ None
   pub line : Line
@@ -364,7 +364,7 @@ IsDone (request.Start server) n running before = (server ≡ n) × ((running ≡
 IsDone (request.Blank server) n running before = (server ≡ n) × (before ≡ Some (n, Booted))
 IsDone _ n running before = ⊥
 
--- behind the steps that a line gives, or at once where it gives none, stands the line's one glance; a settle glances at all
+-- after the steps that a line gives, or at once where it gives none, stands the line's one glance; a settle glances at all
 -- servers in each of its rounds
 abbrev pub IsDue : World → Asked → (n round : ℕ) → Request → Type 0
 IsDue w asked n round request.Settle = round ≡ asked.round

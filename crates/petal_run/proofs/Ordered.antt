@@ -40,7 +40,7 @@ unfolding In
 only line other (inl is) = is
 only line other (inr h) = absurd h
 
--- a greater line behind lines that rise
+-- a greater line after lines that rise
 rising_more : (lines : List Line) (new : Line) → AreRising lines → ((line : Line) → In line lines → line.number < new.number) → AreRising (lines ++ new ∷ [])
 unfolding In
 rising_more [] new rising below = ((λ other h. absurd h), tt)
@@ -127,7 +127,7 @@ net_like s t words is =
       ]
     ]
 
--- a line that is taken behind the servers line
+-- a line that is taken after the servers line
 does_read : (s t : Script) (told : TextLine) (n : ℕ) → told.number ≡ n + 1 → Read s.phases s.lines n → Does s told t → Read t.phases t.lines (n + 1)
 does_read s t told n number r (skipped is same) = rw same (later s.phases s.lines n r)
 does_read s t told n number r (nets first words spelled is net) = like s t (n + 1) (net_like s t words net) (later s.phases s.lines n r)
@@ -135,7 +135,7 @@ does_read s t told n number r (waits first spelled is same) = rw same (waited s.
 does_read s t told n number r (asks first words client request spelled asked few many same) =
     rw same (read_more s.phases s.lines n (line_at s told.number client request) number refl r)
 
--- ### Lines one behind the other
+-- ### Lines one after the other
 
 record Numbered (lines : List TextLine) : Type 0 where
   number : ℕ

@@ -164,7 +164,7 @@ nothing_wrote text old = nothing_of_wrote (script_of text) old
 
 -- ### How a play ends
 
--- the history of a play, where no record came behind the phases that have ended
+-- the history of a play, where no record came after the phases that have ended
 pub ended_all : (p : Progress) (history : List Record) → history ≡ records_of p → p.since ≡ [] → history ≡ p.ended
 ended_all p history is none = is ∙ ap (λ r. p.ended ++ r) none ∙ append_nil p.ended
 

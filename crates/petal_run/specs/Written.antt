@@ -11,6 +11,6 @@ use Rattle.petal_history.specs.declared.record.Record.{Record}
 abbrev pub text_of_answers : Table ℕ Answer → List ℕ
 text_of_answers answers = flat_map (λ row. answer_line row.0 row.1) answers
 
--- behind these bytes stands the text of these records
+-- after these bytes stands the text of these records
 abbrev pub Wrote : List ℕ → List Record → List ℕ → Type 0
 Wrote base records taken = taken ≡ base ++ text_of records

@@ -96,7 +96,7 @@ fn tell<W: Sink>(alloc: Global, sink: &mut W, answers: Answers) -> Result<(), De
 }
 
 /// Plays the next phase and writes its answers. Gives the status with which the run ends, and None where it goes on. The text
-/// of the phases that have ended stands written, behind some bytes.
+/// of the phases that have ended stands written, after some bytes.
 fn play_and_tell<R: Wait, W: Sink>(
     rt: &R,
     alloc: Global,

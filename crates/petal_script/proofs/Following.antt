@@ -5,7 +5,7 @@ use Rattle.script_lines.specs.declared.script.Script.{Script}
 use Rattle.petal_script.specs.Script.{TextLine, lines_behind, script_from, script_of, line_verdict, goes_on, ended}
 use Rattle.script_words.specs.declared.cause.Cause.{Cause}
 
--- what is still to be read behind n lines of a text of so many bytes
+-- what is still to be read after n lines of a text of so many bytes
 abbrev pub left : ℕ → ℕ → List ℕ → List TextLine
 left n total rest = lines_behind n (total - length rest) (pieces rest)
 

@@ -1,4 +1,4 @@
--- What a client's line asks for, by the words behind the client. The order of the steps is the order of the causes.
+-- What a client's line asks for, by the words after the client. The order of the steps is the order of the causes.
 use Rattle.std.specs.Prelude.{ℕ, not, ◌||◌, ◌==◌, List, length, if◌then◌else◌, codes, Result, Ok, Err}
 use Rattle.script_words.specs.Words.{Word, ◌>>=◌, is_word, front_word, one_word, two_words}
 use Rattle.script_words.specs.Fields.{a_name, a_byte, a_block, a_tuple, version_of}
@@ -9,7 +9,7 @@ use Rattle.script_lines.specs.declared.request.Request.TheVariants.{Disk, Write,
 use Rattle.script_lines.specs.declared.request.Pattern.{Pattern}
 use Rattle.script_lines.specs.declared.request.Pattern.TheVariants.{Fill, Halves, Ramp}
 
--- V on S S ..: at least one word behind `on`
+-- V on S S ..: at least one word after `on`
 unfoldable pub spread_of : ℕ → List Word → Result (List ℕ × List ℕ) Cause
 spread_of servers words = do
   disk ← front_word words

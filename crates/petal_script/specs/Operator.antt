@@ -1,4 +1,4 @@
--- What the operator's line asks for, by the words behind `op`. The order of the steps is the order of the causes.
+-- What the operator's line asks for, by the words after `op`. The order of the steps is the order of the causes.
 use Rattle.std.specs.Prelude.{ℕ, not, ◌==◌, List, length, if◌then◌else◌, codes, Result, Ok, Err}
 use Rattle.script_words.specs.Words.{Word, ◌>>=◌, is_word, front_word, no_word, one_word, two_words, four_words}
 use Rattle.script_words.specs.Fields.{a_server, a_call, a_device, a_kind}

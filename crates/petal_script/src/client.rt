@@ -1,4 +1,4 @@
-//! What a client's line asks for, by the words behind the client.
+//! What a client's line asks for, by the words after the client.
 
 ghost use Rattle.std.specs.Prelude.{◌≡◌};
 ghost use Rattle.script_lines.specs.declared.request.Pattern.TheVariants.{Fill, Ramp};
@@ -82,7 +82,7 @@ fn halves_request(disk: &[u8], place: &[u8], x: &[u8], y: &[u8]) -> Result<Reque
     })
 }
 
-/// A write of the contents that the words behind the block spell.
+/// A write of the contents that the words after the block spell.
 fn write_by(disk: &[u8], place: &[u8], kind: &[u8], words: &mut Words<'_>) -> Result<Request, Cause>
     ensures { result ≡ write_by disk.now place.now kind.now words.old }
 {
@@ -128,7 +128,7 @@ fn snap_request(words: &mut Words<'_>) -> Result<Request, Cause>
     Ok(Request::Snap { name: disk, snap })
 }
 
-/// A request of a client, by the words behind the client.
+/// A request of a client, by the words after the client.
 #[tactic(auto, unfolding(crate::specs::Client::client_request))]
 pub(crate) fn client_request(servers: u8, words: &mut Words<'_>) -> Result<Request, Cause>
     ensures { result ≡ client_request servers words.old }

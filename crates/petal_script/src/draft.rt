@@ -78,7 +78,7 @@ impl Draft {
         self.script.phases += 1;
     }
 
-    /// A line behind `net`. Where it is refused the script is as before.
+    /// A line after `net`. Where it is refused the script is as before.
     #[tactic(auto, unfolding(crate::specs::Script::net_line))]
     pub(crate) fn net(&mut self, words: &mut Words<'_>) -> Result<(), Cause>
         ensures rule { MatchResult result (λ _. net_line self.old words.old ≡ Ok self.new) (λ e. net_line self.old words.old ≡ Err e) }

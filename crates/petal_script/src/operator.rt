@@ -1,4 +1,4 @@
-//! What the operator's line asks for, by the words behind `op`.
+//! What the operator's line asks for, by the words after `op`.
 
 ghost use Rattle.std.specs.Prelude.{◌≡◌, ◌<◌};
 ghost use Rattle.petal_script.specs.Operator.{stop_at, stop_of, fault_of, operator_request};
@@ -54,7 +54,7 @@ fn fault_request(servers: u8, words: &mut Words<'_>) -> Result<Request, Cause>
     })
 }
 
-/// A request of the operator, by the words behind `op`.
+/// A request of the operator, by the words after `op`.
 #[tactic(auto, unfolding(crate::specs::Operator::operator_request, crate::specs::Operator::boot_of))]
 pub(crate) fn operator_request(servers: u8, words: &mut Words<'_>) -> Result<Request, Cause>
     requires { 0 < servers }

@@ -64,7 +64,7 @@ fn first_line(alloc: Global, words: &mut Words<'_>) -> Result<Draft, Cause>
     }
 }
 
-/// A line that counts behind the servers line. After an `Err` nothing is said of the draft.
+/// A line that counts after the servers line. After an `Err` nothing is said of the draft.
 #[tactic(auto, unfolding(crate::specs::Script::later_line))]
 fn later_line(draft: &mut Draft, number: u32, words: &mut Words<'_>) -> Result<(), LineError>
     requires { draft.old.phases + 1 < 2 ^ 32 }

@@ -242,7 +242,7 @@ through r zero s h = h
 through r (suc n) s h =
     through_next r s (let_through n) (λ fence is. through r n (one_passed s fence) (passed_within r s fence is h)) h (view.ready s.view.queue) refl
 
--- no number passes the revision, behind an entry as before it
+-- no number passes the revision, after an entry as before it
 pub after_within : (s : State) (command : Command) → IsWithin s.rev s → IsWithin (after s command).rev (after s command)
 after_within s command h =
     let t : IsWithin (s.rev + 1) (settled (act command s)) =

@@ -148,7 +148,7 @@ module _ (w : World) (n : ℕ) where
     boots = is_boots by.1.asked.request n w.control.hand (inr (by.1.request_is, blanked));
   }
 
-  -- the open line is a settle in this round, or its glance is due behind what it gave the server
+  -- the open line is a settle in this round, or its glance is due after what it gave the server
   abbrev pub ShownBy : (line round : ℕ) → Type 0
   ShownBy line round = IsSettling w line round ⊎ ((round ≡ 0) × (HasStopped w n line ⊎ HasBlanked w n line ⊎ HasStarted w n line))
 

@@ -29,7 +29,7 @@ pub record Play : Type 0 where
   pub floor : ℕ
   pub over : Bool
 
--- the world behind the records
+-- the world after the records
 abbrev pub world_of : Play → World
 world_of play = world_after (setting_of play.script) (start (setting_of play.script)) play.records
 
@@ -55,7 +55,7 @@ abbrev pub phase_for : Step → Actor → Setting → World → ℕ → ℕ
 phase_for (Call line) (actor.Client c) setting w phase = phase_of (next_line setting.lines c (w.clients c)) phase
 phase_for _ who setting w phase = phase
 
--- what a step does to the world behind the records
+-- what a step does to the world after the records
 abbrev pub done_by : Play → Actor → Step → rules.Stepped
 done_by play who what = step who what (setting_of play.script) (world_of play) (stamp_of play.floor (world_of play) who what)
 
@@ -90,7 +90,7 @@ Can actors (actor.Client c) what =
     (c < length actors.seats) × IfSome (slice_get actors.seats c) (λ seat. CanTake what seat.core.client)
     × IfSome (slice_get actors.seats c) (λ seat. is_spent seat.core.client ≡ false)
 
--- the records are a legal history, and until memory was wanting what is kept is that of the world behind them
+-- the records are a legal history, and until memory was wanting what is kept is that of the world after them
 pub record IsKept (play : Play) (actors : Actors) : Type 0 where
   pub ordered : AreOrdered play.script.lines
   pub legal : IsLegal play.script play.records

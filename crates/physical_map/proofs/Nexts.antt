@@ -1,4 +1,4 @@
--- The next block of a map, and the next map, stand behind all entries that do not count.
+-- The next block of a map, and the next map, stand after all entries that do not count.
 use Rattle.std.proofs.Common.{◌≡◌, ℕ, suc, ◌+◌, ◌≤◌, ◌<◌, ◌==◌, ◌&&◌, true, false, not, nat_lt, List, [], ◌∷◌, length, get_or, drop, Option, None}
 use Rattle.std.proofs.Common.{Some, if◌then◌else◌, refl, sym, ◌∙◌, ap, subst, arith, inl, inr}
 use Rattle.std.proofs.lemmas.Bool.{cases_Bool, cases_eq}

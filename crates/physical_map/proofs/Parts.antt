@@ -44,7 +44,7 @@ module _ (map : ℕ) (after : Option ℕ) where
   none_later k [] over rises = refl
   none_later k (x ∷ xs) over rises = rw (later_out k x.key over rises.0) (none_later k xs over rises.1)
 
-  -- behind those that come before, all up to the next map are the map's
+  -- after those that come before, all up to the next map are the map's
   kept_cons : (x : Entry) (xs : List Entry) → before_blocks map after x.key ≡ false → IsAbove key_of x.key xs
       → map_entries map after xs ≡ take (front xs) xs → map_entries map after (x ∷ xs) ≡ take (front (x ∷ xs)) (x ∷ xs)
   kept_cons x xs behind rises rest = elim (cases_Bool (nat_lt map x.key.map)) [

@@ -1,4 +1,4 @@
--- The greatest version behind a put and behind a drop.
+-- The greatest version after a put and after a drop.
 use Rattle.std.proofs.Common.{◌≡◌, max, List, [], ◌∷◌, refl, arith, inl, inr}
 use Rattle.std.proofs.lemmas.Bool.{cases_Bool}
 use Rattle.petal_base.specs.declared.cell.Key.{Key}
@@ -17,7 +17,7 @@ top-parted (x ∷ xs) key = elim (cases_Bool (same_key x.key key)) [
   | inr other ↦ rw other (omega (arith, top-parted xs key))
 ]
 
--- behind a put, it is that of the new entry and of the rest
+-- after a put, it is that of the new entry and of the rest
 pub top-placed : (es : List Entry) (e : Entry) → IsInOrder key_of es → top_of (placed key_of es e) ≡ max e.version (top_of (without_key es e.key))
 top-placed [] e order = refl
 top-placed (x ∷ xs) e order = elim (cases_Bool (key_below x.key e.key)) [

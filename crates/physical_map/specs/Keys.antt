@@ -32,7 +32,7 @@ abbrev pub newest : {A : Type 0} → (A → Key) → Key → List A → Option A
 newest key at [] = None
 newest key at (x ∷ xs) = if sees at (key x) then later key (Some x) (newest key at xs) else newest key at xs
 
--- everything in the list has a key behind this one
+-- everything in the list has a key after this one
 abbrev pub IsAbove : {A : Type 0} → (A → Key) → Key → List A → Type 0
 IsAbove key k [] = Unit {0}
 IsAbove key k (x ∷ xs) = (key_below k (key x) ≡ true) × IsAbove key k xs

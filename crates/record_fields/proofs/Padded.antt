@@ -1,4 +1,4 @@
--- Lists with their length before them and zeros behind them.
+-- Lists with their length before them and zeros after them.
 use Rattle.std.proofs.Common.{◌≡◌, ℕ, ◌+◌, ◌-◌, ◌≤◌, List, [], ◌∷◌, ◌++◌, length, take, drop, replicate, get_or, refl, ap, sym}
 use Rattle.std.proofs.Common.{◌∙◌, append_assoc, arith, add-zero, length-append}
 use Rattle.std.proofs.lemmas.List.{take_at, drop_at, drop-drop, get_or-drop, length-replicate}

@@ -27,7 +27,7 @@ last_there own row key =
     at-put link_cmp_total own.filled (id_of row) key (id_of row)
     ∙ ap (λ o. cond (is_eq o) (Some key) (at link_cmp own.filled (id_of row))) (tied_itself link_cmp_total (id_of row))
 
--- what goes out behind a key
+-- what goes out after a key
 pub behind_is : (here : Here) (own : Own) (row : LinkRow) (key : Key)
     → filled_with own row key (posts_behind here own row key) ≡ goes_behind here (behind own row key) row
 behind_is here own row key =

@@ -11,7 +11,7 @@ use Rattle.next_fill.specs.Next.{left_after}
 abbrev pub behind : Own → LinkRow → Key → Own
 behind own row key = with_full (with_filled own row key) false
 
--- the entry behind the key goes out
+-- the entry after the key goes out
 abbrev pub posts_behind : Here → Own → LinkRow → Key → List Post
 posts_behind here own row key =
     sends_key here.state own (left_after here.state row (region_to_move here.state here.me row) (Some key) own.store.chains)

@@ -16,7 +16,7 @@ prefix_yes b bs = let more : 1 + prefix_len (λ x. x == b) bs ≡ suc (prefix_le
 prefix_no : (b c : ℕ) (cs : List ℕ) → c ≢ b → prefix_len (λ x. x == b) (c ∷ cs) ≡ 0
 prefix_no b c cs ne = rw (ne_eqb c b ne) refl
 
--- the run at the front of some bytes that begin with b, and the runs behind it
+-- the run at the front of some bytes that begin with b, and the runs after it
 abbrev front_run : ℕ → List ℕ → Run
 front_run b bytes = record { count = prefix_len (λ x. x == b) bytes; byte = b }
 

@@ -38,7 +38,7 @@ a_server servers word = in_limits 0 (servers - 1) word
 abbrev pub a_call : Word → Result ℕ Cause
 a_call word = in_limits 1 1000000 word
 
--- a number and those behind it
+-- a number and those after it
 abbrev pub cons_number : Option ℕ → Option (List ℕ) → Option (List ℕ)
 cons_number (Some n) (Some ns) = Some (n ∷ ns)
 cons_number _ _ = None

@@ -28,7 +28,7 @@ Gives view (Err e) rule = rule ≡ Err e
 abbrev pub is_word : Word → Word → Bool
 is_word = pointwise nat_eq
 
--- a word, and those behind it
+-- a word, and those after it
 abbrev pub front_word : List Word → Result (Word × List Word) Cause
 front_word (a ∷ words) = Ok (a, words)
 front_word [] = Err BadLine

@@ -26,7 +26,7 @@ pub enum Cause {
     /// A word in a number's place is none, or a number is outside its limits.
     #[error("bad number")]
     BadNumber,
-    /// The numbers behind `on` aren't 2 to 8 distinct servers.
+    /// The numbers after `on` aren't 2 to 8 distinct servers.
     #[error("bad tuple")]
     BadTuple,
     /// There are more requests, or requests of this kind, than a script may have.

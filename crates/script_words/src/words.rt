@@ -102,7 +102,7 @@ impl<'a> Words<'a> {
     }
 }
 
-/// The text behind the blanks that it begins with.
+/// The text after the blanks that it begins with.
 #[tactic(auto, using(crate::proofs::WordList::words_trimmed, crate::proofs::WordList::none_trimmed))]
 fn trimmed(text: &[u8]) -> &[u8]
     ensures words { words_of result.now ≡ words_of text.now }

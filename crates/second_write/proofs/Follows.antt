@@ -63,12 +63,12 @@ module _ {D : Type 0} (here : Here) (side : Side) (store : Holdings D) (cell : C
   apart_none : needs_apart (at cell_cmp side.last cell) ≡ false → at cell_cmp side.apart cell ≡ None
   apart_none has = tickets.apart_none side.pending side.last side.own side.apart store.tickets h cell has
 
-  pub anew_is : (last : Table Cell LastOp) (apart : Table Cell ℕ) (after : Holdings D) (letters : List Letter) (room : Bool)
+  pub free_slot_is : (last : Table Cell LastOp) (apart : Table Cell ℕ) (after : Holdings D) (letters : List Letter) (room : Bool)
       → needs_apart (at cell_cmp side.last cell) ≡ false → room ≡ true → IsKept side.apart apart store after cell
       → last ≡ put cell_cmp side.last cell (reserved number)
       → letters ≡ letters_of (sender here) 0 (post_to (first here.state cell) (body.Reserved number cell))
       → IsSaid here side (record side { last = last; apart = apart }) store after (Ok (only letters)) (reserves here (own_of side store) cell number false room)
-  anew_is last apart after letters room has free kept table said =
+  free_slot_is last apart after letters room has free kept table said =
       rw (free, table, said, kept.table, kept.store) (record {
         done = record {
           own = ap (λ (s : Store). record {

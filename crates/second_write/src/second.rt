@@ -93,7 +93,7 @@ fn promises(
 }
 
 /// An operation that is new here gets a free slot.
-fn reserves_anew<D: Disk>(
+fn reserves_free_slot<D: Disk>(
     here: &Here,
     side: &mut Side,
     store: &mut Store<D>,
@@ -144,7 +144,7 @@ fn reserves<D: Disk>(
     if has {
         reserves_again(here, side, store, cell, op)
     } else {
-        reserves_anew(here, side, store, cell, op)
+        reserves_free_slot(here, side, store, cell, op)
     }
 }
 

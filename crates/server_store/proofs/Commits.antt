@@ -16,7 +16,7 @@ use Rattle.data_device.specs.Slots.{slot_start, slot_bytes}
 use Rattle.data_device.proofs.Readings.{kept_more}
 use Rattle.server_store.proofs.Contents.{part-behind, held-apart, map-placed, map-without}
 
--- Slots lie behind the journal.
+-- Slots lie after the journal.
 
 pub slot-behind : (slot : ℕ) (x y : List ℕ) → Torn 4096 4194304 x y → slot_bytes y slot ≡ slot_bytes x slot
 slot-behind slot x y torn = part-behind 4096 4194304 (slot_start slot) 65536 x y torn (omega arith)

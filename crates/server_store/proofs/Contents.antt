@@ -13,7 +13,7 @@ use Rattle.physical_map.specs.Keys.{placed, newest, later, sees, key_below, same
 use Rattle.server_store.specs.Holdings.{held_in, key_held, listed, content_of, without_held}
 use Rattle.data_device.specs.Slots.{slot_start, slot_bytes}
 
--- a range that lies before or behind another
+-- a range that lies before or after another
 part-apart : (at n low m : ℕ) (x y : List ℕ) → Torn at n x y → low + m ≤ at → part y low m ≡ part x low m
 part-apart at n low m x y torn fits =
     sym (drop-take low m y) ∙ ap (λ (l : List ℕ). drop low l) (torn_front (low + m) at n x y fits torn) ∙ drop-take low m x

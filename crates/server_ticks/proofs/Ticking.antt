@@ -10,7 +10,7 @@ use Rattle.petal_paxos.specs.declared.record.StateRecord.{StateRecord}
 use Rattle.petal_rules.specs.Ballots.{ballot_posts, ask_posts, start_jobs, wanted}
 use Rattle.petal_rules.specs.Copies.{copy_posts, mend_jobs, page_posts}
 use Rattle.petal_rules.specs.Fills.{fill_posts}
-use Rattle.petal_rules.specs.Jobs.{copies_anew, own_wants, sent_anew, tick_jobs, tick_posts, ticks, voter_of}
+use Rattle.petal_rules.specs.Jobs.{copies_again, own_wants, sent_again, tick_jobs, tick_posts, ticks, voter_of}
 use Rattle.petal_rules.specs.Log.{Voter}
 use Rattle.petal_rules.specs.Server.{Here, Own, Post, Sender, letters_of, sender}
 use Rattle.petal_rules.specs.State.{is_in}
@@ -39,27 +39,27 @@ tick_sent who b p k a ballot pending copies all first second third last =
     with_more who (b ++ p ++ k) a copies all (with_more who (b ++ p) k pending copies (with_more who b p ballot pending first second) third) last
 
 -- while the server is In as itself, those of copies and fills go out again
-pub anew_in : (here : Here) (own : Own) → is_in here.state here.me here.inc ≡ true
-    → copies_anew here own ≡ copy_posts here own ++ page_posts here own ++ fill_posts here own
-anew_in here own may = rw may refl
+pub again_in : (here : Here) (own : Own) → is_in here.state here.me here.inc ≡ true
+    → copies_again here own ≡ copy_posts here own ++ page_posts here own ++ fill_posts here own
+again_in here own may = rw may refl
 
 -- all letters of a tick
 pub tick_all : (core : Core) (store : Store) (records : List StateRecord) (ballot pending copies all : List Letter)
     → ballot ≡ letters_of (sender_of core.log) 0 (ballot_posts core.log.voter core.log.phase)
     → ((own : Own)
-    → pending ≡ ballot ++ letters_of (sender (here_in core)) (length ballot) (flat_map (λ row. sent_anew (here_in core) own row.1) core.side.pending))
-    → copies ≡ pending ++ letters_of (sender (here_in core)) (length pending) (copies_anew (here_in core) (own_in core.side store))
+    → pending ≡ ballot ++ letters_of (sender (here_in core)) (length ballot) (flat_map (λ row. sent_again (here_in core) own row.1) core.side.pending))
+    → copies ≡ pending ++ letters_of (sender (here_in core)) (length pending) (copies_again (here_in core) (own_in core.side store))
     → all ≡ copies ++ letters_of (sender_of core.log) (length copies) (ask_posts core.log.voter (log_of core.log records))
     → all ≡ letters_of (sender (here_in core)) 0 (tick_posts (here_in core) (server_of core store records))
 tick_all core store records ballot pending copies all first second third last = at_voter (voter_of (here_in core)) (voter_is core)
   where
     at_voter : (voter : Voter) → voter ≡ core.log.voter → all ≡ letters_of (sender_of core.log) 0
         (ballot_posts voter core.log.phase
-        ++ flat_map (λ row. sent_anew (here_in core) (server_of core store records).own row.1) core.side.pending
-        ++ copies_anew (here_in core) (own_in core.side store)
+        ++ flat_map (λ row. sent_again (here_in core) (server_of core store records).own row.1) core.side.pending
+        ++ copies_again (here_in core) (own_in core.side store)
         ++ ask_posts voter (log_of core.log records))
     at_voter voter is =
-        rw is (tick_sent (sender_of core.log) (ballot_posts core.log.voter core.log.phase) _ (copies_anew (here_in core) (own_in core.side store))
+        rw is (tick_sent (sender_of core.log) (ballot_posts core.log.voter core.log.phase) _ (copies_again (here_in core) (own_in core.side store))
         (ask_posts core.log.voter (log_of core.log records)) ballot pending copies all first (second (server_of core store records).own) third last)
 
 -- the jobs of a tick that are of links and of what is kept

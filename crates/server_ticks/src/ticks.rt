@@ -11,7 +11,7 @@ ghost use Rattle.petal_disk.specs.Keeping.{KeepsDevice};
 ghost use Rattle.petal_paxos.specs.declared.record.StateRecord.{StateRecord};
 ghost use Rattle.petal_rules.specs.Ballots.{start_jobs};
 ghost use Rattle.petal_rules.specs.Copies.{mend_jobs};
-ghost use Rattle.petal_rules.specs.Jobs.{copies_anew, tick_jobs, tick_posts};
+ghost use Rattle.petal_rules.specs.Jobs.{copies_again, tick_jobs, tick_posts};
 ghost use Rattle.petal_rules.specs.Server.{letters_of, sender};
 ghost use Rattle.petal_rules.specs.State.{is_in};
 ghost use Rattle.petal_rules.specs.Sweeping.{sweep_jobs};
@@ -38,7 +38,7 @@ fn copies_after<D: Disk>(
     before: Sequence<Letter>,
 ) -> Result<Sequence<Letter>, DeviceError>
     ensures letters { IfOk result (λ letters. D.told → letters ≡ before ++ letters_of (sender (here_in parts.now)) (length before)
-        (copies_anew (here_in parts.now) (own_in parts.now.side (store_of store.old)))) }
+        (copies_again (here_in parts.now) (own_in parts.now.side (store_of store.old)))) }
     ensures look { IsLook D.Disk store.old store.new result }
 {
     if !is_in(&parts.log) {

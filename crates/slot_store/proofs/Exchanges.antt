@@ -7,7 +7,7 @@ use Rattle.slot_store.specs.Turn.{IsBackBy, exchanged}
 pub length-exchanged : (f g : List ℕ) (k j : ℕ) → length (exchanged f g k j) ≡ length f
 length-exchanged f g k j = length-set (set f k j) (get_or g j 0) (get_or f k 0) ∙ length-set f k j
 
--- what stands behind an exchange
+-- what stands after an exchange
 pub exchanged-other : (f g : List ℕ) (k j t : ℕ) → get_or g j 0 < length f → t ≡ get_or g j 0 → get_or (exchanged f g k j) t 0 ≡ get_or f k 0
 exchanged-other f g k j t within is =
     ap (λ (i : ℕ). get_or (exchanged f g k j) i 0) is ∙ get_or-set_same (set f k j) (get_or g j 0) (get_or f k 0) 0 (omega (arith, length-set f k j))

@@ -21,7 +21,7 @@ is-get (x ∷ us) zero u is = cc
 is-get (x ∷ us) (suc slot) u is = is-get us slot u is
 
 module _ (used : List Bool) (order place : List ℕ) (taken : ℕ) (turn : IsInTurn used order place taken) where
-  -- the slot behind those in use is free
+  -- the slot after those in use is free
   pub next-free : taken < length used → slice_get used (get_or order taken 0) ≡ Some false
   next-free more =
       let held = turn.holds taken more in
@@ -117,7 +117,7 @@ module _ (used : List Bool) (order place : List ℕ) (taken : ℕ) (turn : IsInT
     | inr apart ↦ exchanged-here order place at slot at (omega (arith, turn.ordered)) apart refl
   ]
 
--- a free slot is taken into use once it stands behind those in use
+-- a free slot is taken into use once it stands after those in use
 pub turn-taken_this : (used : List Bool) (order place : List ℕ) (taken slot : ℕ) → IsInTurn used order place taken → slot < length used
     → get_or used slot false ≡ false → IsInTurn (set used slot true) (exchanged order place taken slot) (exchanged place order slot taken) (taken + 1)
 turn-taken_this used order place taken slot turn within free =

@@ -1,4 +1,4 @@
--- Slots behind a base, and how many are free.
+-- Slots after a base, and how many are free.
 use Rattle.std.specs.Prelude.{ℕ, ◌+◌, ◌*◌, Bool, true, false, List, [], ◌∷◌}
 
 -- where the slots begin, and which are in use

@@ -31,7 +31,7 @@ epochs_fit s fence is h disk row at =
 taken_some : (v : View) (fence : Fence) → ready v.queue ≡ Some fence → taken v ≡ passed v
 taken_some v fence is = ap (λ o. if is_some o then passed v else v) is
 
--- behind a fence that took effect there is room
+-- after a fence that took effect there is room
 pub room_behind : (s t : State) (v : View) (fence : Fence) → ready s.view.queue ≡ Some fence → v ≡ taken s.view
     → t ≡ effect fence.kind (record s { view = v }) → HasRoom s → HasRoom t
 room_behind s t v fence is took did h =

@@ -1,4 +1,4 @@
--- The 127 bytes behind the gate that spell a record of the state device.
+-- The 127 bytes after the gate that spell a record of the state device.
 use Rattle.std.specs.Prelude.{ℕ, ◌<◌, ◌^◌, List, ◌++◌, replicate}
 use Rattle.petal_command.specs.declared.ballot.Ballot.{Ballot}
 use Rattle.petal_command.specs.Spelling.{spelling, HasSpelling}

@@ -136,7 +136,7 @@ formatting moment left_since d0 d1 d2 before inc file word fits stands first sec
     (weaker moment left_since d0 d1 (λ c. before c ⊎ IsShut c) (LeftByFormat before inc) first (left_by_clearing before inc)) second
     (λ c left. left_by_header before inc file c word fits stands left)
 
--- a first record behind a closed gate
+-- a first record after a closed gate
 pub first_record : {D : Type 0} (moment : D → ℕ) (left_since : D → ℕ → List ℕ → Type 0) (d0 d1 d2 : D) (before leave1 : List ℕ → Type 0)
     (file body : List ℕ) (region : Region) → IsPlaced region → Only file leave1 → IsShut file
     → LeavesOnly moment left_since d0 d1 (λ c. before c ⊎ IsShut c) → LeavesOnly moment left_since d1 d2 (LeftByAppend 128 region leave1 [] body)

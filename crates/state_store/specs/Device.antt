@@ -1,4 +1,4 @@
--- What a state device stands for: a header of 64 bytes, and behind 4,096 bytes a journal of 65,536 records of 128 bytes.
+-- What a state device stands for: a header of 64 bytes, and after 4,096 bytes a journal of 65,536 records of 128 bytes.
 use Rattle.std.specs.Prelude.{ℕ, ◌≡◌, ◌≢◌, ◌⊎◌, ◌+◌, ◌≤◌, ◌<◌, List, [], ◌∷◌, ◌++◌, map, length, take, replicate, ⊤}
 use Rattle.block_journal.specs.Records.{Stands, IsOpen, body_at}
 use Rattle.block_journal.specs.Region.{Region}

@@ -11,7 +11,7 @@ abbrev pub code_of : MarkKind → ℕ
 code_of Busy = 1
 code_of Stale = 2
 
--- the kind and the fields, and zeros between and behind them
+-- the kind and the fields, and zeros between and after them
 abbrev pub spelling : StoreRecord → List ℕ
 spelling (Put key version slot) = byte 1 ++ word key.map ++ long key.block ++ word key.epoch ++ long version ++ word slot ++ replicate 34 0
 spelling (Drop key) = byte 2 ++ word key.map ++ long key.block ++ word key.epoch ++ replicate 46 0

@@ -3,7 +3,7 @@
 use busy_marks::MarkKind;
 use petal_base::{Cell, Key, Version};
 
-/// A record is spelled by so many bytes, behind its gate.
+/// A record is spelled by so many bytes, after its gate.
 pub const RECORD_BYTES: usize = 63;
 
 /// One change of a store. Behind the gate, the 63 bytes of its spelling are, with numbers in big-endian order:

@@ -93,7 +93,7 @@ impl Directory {
         Ok(id)
     }
 
-    /// The disk gets a snapshot of this name at its epoch, behind which the next epoch begins.
+    /// The disk gets a snapshot of this name at its epoch, after which the next epoch begins.
     pub fn freeze(&mut self, disk: DiskId, name: &Name) -> Result<(), NoMemory>
         requires { ForSome (disk_at self.old.rows disk) (λ row. row.epoch < 2 ^ 32 - 1) }
         ensures ok { OnOk result (self.new ≡ frozen self.old disk name.now) }

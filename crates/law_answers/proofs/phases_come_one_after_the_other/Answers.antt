@@ -1,4 +1,4 @@
--- By induction on the records behind.
+-- By induction on the records after.
 use Rattle.law_answers.proofs.Phases.{answers_join, text_joins}
 use Rattle.law_answers.proofs.phases_come_one_after_the_other.Goals as goal
 

@@ -1,4 +1,4 @@
--- A ballot for a Join starts in a step of its server, behind entries by which it may join.
+-- A ballot for a Join starts in a step of its server, after entries by which it may join.
 use Rattle.law_log.proofs.Histories.{chosen_join_acts, join_was_wanted}
 use Rattle.law_log.proofs.a_chosen_join_was_wanted.Goals as goal
 

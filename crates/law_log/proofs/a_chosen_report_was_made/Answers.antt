@@ -1,4 +1,4 @@
--- A ballot for a report starts in a step of its server, behind entries by which the active fence awaits it.
+-- A ballot for a report starts in a step of its server, after entries by which the active fence awaits it.
 use Rattle.law_log.proofs.Histories.{report_counts, report_was_made}
 use Rattle.law_log.proofs.a_chosen_report_was_made.Goals as goal
 

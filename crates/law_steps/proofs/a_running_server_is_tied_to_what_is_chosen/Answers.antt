@@ -1,4 +1,4 @@
--- A Caught of its own stands at most behind its last entry.
+-- A Caught of its own stands at most after its last entry.
 use Rattle.std.proofs.Common.{ap, ◌∙◌}
 use Rattle.petal_state.specs.CellState.{serves}
 use Rattle.petal_rules.specs.World.{setting_of, start}

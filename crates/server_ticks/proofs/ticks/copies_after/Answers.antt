@@ -9,7 +9,7 @@ use Rattle.pair_side.specs.Side.{own_of}
 use Rattle.pair_side.proofs.Looks.{letters_two}
 use Rattle.server_work.proofs.Steps.{of_each}
 use Rattle.server_ticks.proofs.Looking.{look_then}
-use Rattle.server_ticks.proofs.Ticking.{anew_in}
+use Rattle.server_ticks.proofs.Ticking.{again_in}
 use Rattle.server_ticks.proofs.ticks.copies_after.Goals as goal
 
 pub returns-clause-letters : goal.returns-clause-letters
@@ -26,7 +26,7 @@ returns-clause-letters g c =
     (of_each _ _ (λ all is told.
     letters_two (sender here) c.args.before copies all (copy_posts here own ++ page_posts here own) (fill_posts here own) (first told)
     (is told ∙ ap (λ (o : Own). copies ++ letters_of (sender here) (length copies) (fill_posts here o)) same)
-    ∙ ap (λ (posts : List Post). c.args.before ++ letters_of (sender here) (length c.args.before) posts) (sym (anew_in here own may)))
+    ∙ ap (λ (posts : List Post). c.args.before ++ letters_of (sender here) (length c.args.before) posts) (sym (again_in here own may)))
     c.fills_after.result last)
 
 pub returns-clause-look : goal.returns-clause-look

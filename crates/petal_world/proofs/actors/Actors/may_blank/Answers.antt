@@ -1,4 +1,4 @@
--- The open line blanks the server, as its first step or behind its stop.
+-- The open line blanks the server, as its first step or after its stop.
 use Rattle.petal_rules.proofs.Tests.{true_false}
 use Rattle.petal_world.proofs.Allowed.{hindered}
 use Rattle.petal_world.proofs.Lines.{blanked_by}

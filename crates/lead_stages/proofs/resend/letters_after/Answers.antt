@@ -1,4 +1,4 @@
-use Rattle.lead_stages.proofs.anew.letters_after.Goals as goal
+use Rattle.lead_stages.proofs.resend.letters_after.Goals as goal
 
 pub returns : goal.returns
 returns c = rw (← c.side.view_is) c.all_after.ensures

@@ -1,6 +1,6 @@
--- Entry by entry: a link that is noted is new in one state alone, behind its Moved.
+-- Entry by entry: a link that is noted is new in one state alone, after its Moved.
 use Rattle.law_state.proofs.Noting.{log_dead, log_noted, log_twins}
-use Rattle.law_state.proofs.a_region_moves_behind_its_links.Goals as goal
+use Rattle.law_state.proofs.a_region_moves_after_its_links.Goals as goal
 
 -- a cell that leaves had no link noted when it began to
 pub returns-clause-noted : goal.returns-clause-noted

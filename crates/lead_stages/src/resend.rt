@@ -3,7 +3,7 @@
 ghost use Rattle.std.specs.Prelude.{◌≡◌, ◌+◌, ◌++◌, length, IfOk};
 ghost use Rattle.std.specs.List.{flat_map};
 ghost use Rattle.petal_rules.specs.Server.{Own, letters_of, sender};
-ghost use Rattle.petal_rules.specs.Jobs.{sent_anew};
+ghost use Rattle.petal_rules.specs.Jobs.{sent_again};
 ghost use Rattle.pair_side.specs.Letters.{posts_of};
 
 use crate::stage::next_stage;
@@ -14,7 +14,7 @@ use petal_msg::{Action, Body, Letter, Pending};
 
 /// The letter that an operation sends, with its content, if it waits for an answer.
 fn awaited(here: &Here, op: &Pending) -> Result<Option<(ServerId, Body)>, NoMemory>
-    ensures { IfOk result (λ found. (own : Own) → posts_of found ≡ sent_anew here.now own op.now) }
+    ensures { IfOk result (λ found. (own : Own) → posts_of found ≡ sent_again here.now own op.now) }
 {
     match (next_stage(here, op), here.second(op.cell)) {
         (Action::Reserve, Some(to)) => {
@@ -46,8 +46,8 @@ fn with_awaited(
     nth: u32,
     op: &Pending,
 ) -> Result<(Sequence<Letter>, u32), NoMemory>
-    ensures { IfOk result (λ more. (own : Own) → (more.0 ≡ letters ++ letters_of (sender here.now) nth (sent_anew here.now own op.now))
-        × (more.1 ≡ nth + length (sent_anew here.now own op.now))) }
+    ensures { IfOk result (λ more. (own : Own) → (more.0 ≡ letters ++ letters_of (sender here.now) nth (sent_again here.now own op.now))
+        × (more.1 ≡ nth + length (sent_again here.now own op.now))) }
 {
     with_letter(here, letters, nth, awaited(here, op)?)
 }
@@ -58,7 +58,7 @@ fn all_after(
     before: Sequence<Letter>,
 ) -> Result<Sequence<Letter>, NoMemory>
     ensures { IfOk result (λ letters. (own : Own)
-        → letters ≡ before ++ letters_of (sender here.now) (length before) (flat_map (λ row. sent_anew here.now own row.1) locks.now)) }
+        → letters ≡ before ++ letters_of (sender here.now) (length before) (flat_map (λ row. sent_again here.now own row.1) locks.now)) }
 {
     let Ok(first) = u32::try_from(before.len()) else {
         return Err(NoMemory);
@@ -83,7 +83,7 @@ pub fn letters_after(
     before: Sequence<Letter>,
 ) -> Result<Sequence<Letter>, NoMemory>
     ensures { IfOk result (λ letters. (own : Own)
-        → letters ≡ before ++ letters_of (sender here.now) (length before) (flat_map (λ row. sent_anew here.now own row.1) side.now.pending)) }
+        → letters ≡ before ++ letters_of (sender here.now) (length before) (flat_map (λ row. sent_again here.now own row.1) side.now.pending)) }
 {
     all_after(here, &side.locks, before)
 }

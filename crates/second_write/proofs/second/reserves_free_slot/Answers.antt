@@ -1,8 +1,8 @@
 use Rattle.std.proofs.Common.{refl, sym, ◌∙◌}
 use Rattle.pair_side.proofs.Kept.{kept_there, kept_some, kept_out}
 use Rattle.pair_side.proofs.Tickets.{undone}
-use Rattle.second_write.proofs.Follows.{anew_is, refused_is}
-use Rattle.second_write.proofs.second.reserves_anew.Goals as goal
+use Rattle.second_write.proofs.Follows.{free_slot_is, refused_is}
+use Rattle.second_write.proofs.second.reserves_free_slot.Goals as goal
 
 pub give_back-requires-clause-some : goal.give_back-requires-clause-some
 give_back-requires-clause-some g c = λ _ _.
@@ -16,7 +16,7 @@ pub returns-in-Ok : goal.returns-in-Ok
 returns-in-Ok g c =
     let h = rw (← c.side.view_is) at c.requires.tickets in
     rw (← c.side.view_is, c.only.ensures)
-    (anew_is c.args.here.now _ c.args.store.now c.args.cell c.args.op h c.promises.new.last c.keep.new.table c.keep.new.store c.in-Ok.letters _
+    (free_slot_is c.args.here.now _ c.args.store.now c.args.cell c.args.op h c.promises.new.last c.keep.new.table c.keep.new.store c.in-Ok.letters _
     (rw (← c.side.view_is) at c.requires.has) (sym c.in_ok-keep.ensures.room ∙ c.if-not-branch.false) (c.in_ok-keep.ensures.yes c.if-not-branch.false)
     c.in-Ok.ensures.ok c.in-Ok.ensures.letters)
 
