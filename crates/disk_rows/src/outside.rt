@@ -4,7 +4,8 @@ ghost use Rattle.std.specs.Prelude.{◌≡◌, ◌≤◌};
 
 use byte_streams::{MemSink, MemSource, Sink, Source, read_full, write_all};
 use petal_disk::{
-    CallKind, DeviceError, Disk, Failed, MemDisk, MemShelf, Plan, Planned, Shelf, Which, write_kept,
+    CallKind, DeviceError, Disk, Failed, MemDisk, MemShelf, Plan, Planned, Shelf, Which,
+    write_kept, write_zeros_kept,
 };
 use std::alloc::Global;
 use std::test::Fail;
@@ -128,6 +129,24 @@ fn write_and_crash<D: Disk>(disk: &mut D) -> Result<[u8; 4], Failed>
 fn a_crash_loses_what_was_not_synced(rt: HostRuntime) -> Result<(), Fail> {
     let mut disk = MemDisk::new(rt.alloc(), 4)?;
     assert_eq!(rt; write_and_crash(&mut disk), Ok(*b"\0ab\0"));
+    Ok(())
+}
+
+fn write_zeros_over<D: Disk>(disk: &mut D) -> Result<[u8; 8], Failed>
+    requires { 8 ≤ D.size disk.old }
+{
+    write_kept(disk, 0, b"abcd")?;
+    write_zeros_kept(disk, 1, 2)?;
+    disk.write_zeros(6, 2)?;
+    let mut seen = [9; 8];
+    disk.read(0, &mut seen)?;
+    Ok(seen)
+}
+
+#[test]
+fn zeros_are_written_over_what_is_there_alone(rt: HostRuntime) -> Result<(), Fail> {
+    let mut disk = MemDisk::new(rt.alloc(), 8)?;
+    assert_eq!(rt; write_zeros_over(&mut disk), Ok(*b"a\0\0d\0\0\0\0"));
     Ok(())
 }
 

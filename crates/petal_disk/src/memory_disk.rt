@@ -14,7 +14,7 @@ use std::alloc::Global;
 /// needs more; a page of it is touched only once bytes up to there were written. A crash leaves what was there at the last sync.
 #[derive(Drop)]
 pub struct MemDisk {
-    // the bytes up to a place; from there on all are zeros, and no write of zeros brings them in
+    // the bytes up to a place; after it all are zeros, and `write_zeros` from there on brings none in
     now: Vec<u8>,
     kept: Vec<u8>,
     len: usize,
