@@ -1,7 +1,7 @@
 -- Which bodies count, as they are read piece by piece.
 use Rattle.std.proofs.Common.{◌≡◌, inl, inr, true, false, Bool, ℕ, ◌+◌, ◌-◌, ◌*◌, ◌<◌, ◌≤◌, List, [], ◌∷◌, ◌++◌, length, take, drop}
 use Rattle.std.proofs.Common.{get_or, sym, ◌∙◌, ap, subst, arith, length-append}
-use Rattle.std.proofs.Math.Nat.{mul-add}
+use Rattle.std.proofs.Math.Nat.{mul-add, mul-zero}
 use Rattle.std.proofs.lemmas.List.{get_or_append_left, get_or-append_right, get_or-drop, get_or-take, drop-take, drop-drop, take-take, same_lists}
 use Rattle.std.proofs.lemmas.Bool.{cases_eq}
 use Rattle.std.proofs.lemmas.Option.{slice_get-get_or}
@@ -45,6 +45,14 @@ counts_joined r base n m file xs ys all front rest =
       ends = λ lt opened.
           rest.ends (omega (arith, longer, lt)) (ap (λ (k : ℕ). get_or file k 0) (place (length ys) ∙ ap (λ (k : ℕ). base + r * k) (sym longer)) ∙ opened);
     }
+
+-- the body of the next record of a piece behind those that count
+pub counts_next : (r n : ℕ) (piece body : List ℕ) (bodies : List (List ℕ)) → length bodies ≡ n → IsOpen r 0 piece n → body_at r 0 piece n ≡ body
+    → Counts r 0 n piece bodies → Counts r 0 (n + 1) piece (bodies ++ body ∷ [])
+counts_next r n piece body bodies all opened is counts =
+    let at : 0 + r * n + r * 0 ≡ 0 + r * n = omega (arith, mul-zero r) in
+    counts_joined r 0 n 1 piece bodies (body ∷ []) all counts
+    (counts_one r (0 + r * n) piece body (ap (λ (k : ℕ). get_or piece k 0) at ∙ opened) (ap (λ (k : ℕ). part piece (k + 1) (r - 1)) at ∙ is))
 
 -- where one does not count, no later record does
 pub counts_stopped : (r base n limit : ℕ) (file : List ℕ) (xs : List (List ℕ)) → length xs < n → n ≤ limit → Counts r base n file xs

@@ -1,6 +1,6 @@
-//! Closing a gate, and writing a header with its gate last.
+//! Closing a gate, writing a header with its gate last, and reading one.
 
-ghost use Rattle.std.specs.Prelude.{◌≡◌, ◌⊎◌, ◌≤◌, ◌<◌, length, IfOk, OnOk};
+ghost use Rattle.std.specs.Prelude.{◌≡◌, ◌⊎◌, ◌≤◌, ◌<◌, length, take, IfOk, OnOk};
 ghost use Rattle.std.specs.Bool.{OnFalse, OnTrue};
 ghost use Rattle.petal_disk.specs.Disk.{written, Only, LeavesOnly};
 ghost use Rattle.device_faults.specs.Faults.{HasCause};
@@ -11,6 +11,23 @@ use petal_disk::{Disk, Failed, write_kept};
 
 /// A gate byte that is open, of a device or of a record.
 pub const OPEN: u8 = 0xa5;
+
+/// Reads the first bytes of a device, after a sync: then a crash leaves what a read gives.
+///
+/// # Errors
+/// The device failed.
+pub fn read_front<D: Disk>(disk: &mut D, into: &mut [u8]) -> Result<(), Failed>
+    requires { length into.old ≤ D.size disk.old }
+    ensures bytes { OnOk result (D.told → into.new ≡ take (length into.old) (D.seen disk.old)) }
+    ensures durable { OnOk result (D.told → Only (D.seen disk.new) (D.may_leave disk.new)) }
+    ensures device { KeepsDevice D.size D.seen D.may_leave D.moment D.left_since disk.old disk.new }
+    ensures any_moment { LeavesOnly D.moment D.left_since disk.old disk.new (D.may_leave disk.old) }
+    ensures cause { HasCause (D.faults disk.old) (D.faults disk.new) result }
+    ensures run { D.came_to disk.old disk.new }
+{
+    disk.sync()?;
+    disk.read(0, into)
+}
 
 // Whether the gate is open; then a crash leaves what a read gives.
 fn is_open<D: Disk>(disk: &mut D) -> Result<bool, Failed>
@@ -23,9 +40,8 @@ fn is_open<D: Disk>(disk: &mut D) -> Result<bool, Failed>
     ensures cause { HasCause (D.faults disk.old) (D.faults disk.new) result }
     ensures run { D.came_to disk.old disk.new }
 {
-    disk.sync()?;
     let mut gate = [0];
-    disk.read(0, &mut gate)?;
+    read_front(disk, &mut gate)?;
     Ok(gate[0] == OPEN)
 }
 

@@ -1,7 +1,7 @@
 use Rattle.std.proofs.Common.{◌≡◌, ◌≤◌, ◌-◌, length, vec_len}
-use Rattle.petal_disk.specs.Disk.{LeavesOnly, Within}
+use Rattle.petal_disk.specs.Keeping.{KeepsDevice}
 use Rattle.block_journal.specs.Records.{contents, Counts}
-use Rattle.block_journal.proofs.reading.read_bodies.Given as goal
+use Rattle.block_journal.proofs.reading.read_into.Given as goal
 
 abbrev pub invariant-loop-first : goal.invariant-loop-first
 invariant-loop-first g l =
@@ -9,12 +9,9 @@ invariant-loop-first g l =
     record {
       within : l.first ≤ l.limit;
       count : vec_len l.all ≤ l.first;
-      size : d.size l.disk ≡ d.size l.fn.disk;
-      seen : d.seen l.disk ≡ d.seen l.fn.disk;
       counts : d.told → Counts g.row.R l.base l.first (d.seen l.fn.disk) (contents l.all.items);
       all : d.told → length (contents l.all.items) ≡ l.first;
-      crash : Within (d.may_leave l.fn.disk) (d.may_leave l.disk);
-      moments : LeavesOnly d.moment d.left_since l.fn.disk l.disk (d.may_leave l.fn.disk);
+      device : KeepsDevice d.size d.seen d.may_leave d.moment d.left_since l.fn.disk l.disk;
       later : d.faults l.fn.disk ≤ d.faults l.disk;
       run : d.came_to l.fn.disk l.disk;
     }
