@@ -46,7 +46,7 @@ counts_joined r base n m file xs ys all front rest =
           rest.ends (omega (arith, longer, lt)) (ap (λ (k : ℕ). get_or file k 0) (place (length ys) ∙ ap (λ (k : ℕ). base + r * k) (sym longer)) ∙ opened);
     }
 
--- the body of the next record of a piece behind those that count
+-- the body of the next record of a piece after those that count
 pub counts_next : (r n : ℕ) (piece body : List ℕ) (bodies : List (List ℕ)) → length bodies ≡ n → IsOpen r 0 piece n → body_at r 0 piece n ≡ body
     → Counts r 0 n piece bodies → Counts r 0 (n + 1) piece (bodies ++ body ∷ [])
 counts_next r n piece body bodies all opened is counts =
