@@ -189,3 +189,10 @@ opened_device slots fresh records log seen seen' leave leave' same_fresh same_re
       now = subst (λ f. StandsFor f slots log.fresh log.records) (sym same_seen) now;
       left = λ c i. subst (λ f. StandsFor f slots log.fresh log.records) (sym (only c (within c i))) now;
     }
+
+-- what a device stands for, said of equal bytes and an equal header
+pub stands_here : (old new : List ℕ) (slots slots' : ℕ) (fresh fresh' : Bool) (records : List StoreRecord) → new ≡ old → slots' ≡ slots → fresh' ≡ fresh
+    → StandsFor old slots fresh records → StandsFor new slots' fresh' records
+stands_here old new slots slots' fresh fresh' records bytes many kind stands =
+    subst (λ (file : List ℕ). StandsFor file slots' fresh' records) (sym bytes)
+    (subst (λ (b : Bool). StandsFor old slots' b records) (sym kind) (subst (λ (n : ℕ). StandsFor old n fresh records) (sym many) stands))

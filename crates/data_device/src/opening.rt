@@ -1,6 +1,6 @@
 //! What stands on a device.
 
-ghost use Rattle.std.specs.Prelude.{◌≡◌, ◌≤◌, ◌<◌, ◌^◌, ℕ, Bool, List, [], take, IfOk, IfErr, IfSome, IfNone};
+ghost use Rattle.std.specs.Prelude.{◌≡◌, ◌≤◌, ◌<◌, ◌^◌, ℕ, Bool, List, [], length, take, IfOk, IfErr, IfSome, IfNone};
 ghost use Rattle.block_journal.specs.Records.{Counts, Stands};
 ghost use Rattle.petal_disk.specs.Disk.{Only};
 ghost use Rattle.device_faults.specs.Faults.{HasCause};
@@ -19,6 +19,7 @@ use crate::record_log::{JOURNAL_BASE, JOURNAL_RECORDS, RecordLog};
 use crate::replay::{Replay, read_records};
 use block_journal::Journal;
 use busy_marks::Marks;
+use device_gate::read_front;
 use petal_disk::{Disk, Failed};
 use slot_ledger::{DATA_START, Ledger, SLOT_BYTES};
 use std::alloc::Global;
@@ -85,6 +86,25 @@ fn end_of(slots: u32) -> u64
     DATA_START + SLOT_BYTES * u64::from(slots)
 }
 
+// What the first bytes of a device say, whose journal and slots fit it; None where they are no such header.
+fn fitting(head: &[u8], size: u64) -> Option<Header>
+    requires { length head.now ≡ 64 }
+    ensures found { IfSome result (λ said. head.now ≡ header said.slots said.fresh) }
+    ensures only { (slots : ℕ) (fresh : Bool) → IfSome result
+        (λ said. slots < 2 ^ 32 → head.now ≡ header slots fresh → (said.slots ≡ slots) × (said.fresh ≡ fresh)) }
+    ensures room { IfSome result (λ said. slot_start said.slots ≤ size) }
+    ensures small { IfSome result (λ said. said.slots < 2 ^ 32) }
+    ensures none { IfNone result ((slots : ℕ) (fresh : Bool) → slots < 2 ^ 32 → head.now ≡ header slots fresh → size < slot_start slots) }
+{
+    let Some(said) = header::read(head) else {
+        return None;
+    };
+    if size < end_of(said.slots) {
+        return None;
+    }
+    Some(said)
+}
+
 /// What the header of a device says, whose journal and slots fit it; None where there is no such header.
 fn read_header<D: Disk>(disk: &mut D) -> Result<Option<Header>, Failed>
     ensures found { IfOk result (λ o. IfSome o (λ said. D.told → take 64 (D.seen disk.old) ≡ header said.slots said.fresh)) }
@@ -98,19 +118,13 @@ fn read_header<D: Disk>(disk: &mut D) -> Result<Option<Header>, Failed>
     ensures cause { HasCause (D.faults disk.old) (D.faults disk.new) result }
     ensures run { D.came_to disk.old disk.new }
 {
-    if disk.len() < DATA_START {
+    let size = disk.len();
+    if size < DATA_START {
         return Ok(None);
     }
-    disk.sync()?;
     let mut head = [0; HEADER_BYTES];
-    disk.read(0, &mut head)?;
-    let Some(said) = header::read(&head) else {
-        return Ok(None);
-    };
-    if disk.len() < end_of(said.slots) {
-        return Ok(None);
-    }
-    Ok(Some(said))
+    read_front(disk, &mut head)?;
+    Ok(fitting(&head, size))
 }
 
 /// What stands on a device; None where it is blank.

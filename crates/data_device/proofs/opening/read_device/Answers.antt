@@ -1,7 +1,33 @@
-use Rattle.std.proofs.Common.{Bool, List, ℕ, sym, subst, arith}
-use Rattle.data_device.specs.Device.{StandsFor}
+use Rattle.std.proofs.Common.{Bool, List, ℕ, ◌∙◌, subst, arith}
+use Rattle.petal_disk.proofs.Keeping.{keeps_on}
+use Rattle.data_device.specs.Device.{Logs}
 use Rattle.data_device.specs.Reading.{IsBadOn}
+use Rattle.data_device.proofs.Devices.{stands_here}
 use Rattle.data_device.proofs.opening.read_device.Goals as goal
+
+pub returns-in-Ok-clause-same : goal.returns-in-Ok-clause-same
+returns-in-Ok-clause-same g c slots fresh records told lt stands =
+    let d = g.D.Disk in
+    let same = (rw c.in-Some.is at c.in_ok-said.ensures.only slots fresh) told lt stands.headed in
+    let here = stands_here _ _ _ _ _ _ records c.read_header.ensures.device.same_seen same.0 same.1 stands in
+    let only = (rw c.in-Some.is at c.in_ok-said.ensures.durable) told in
+    let found = c.in-Ok.ensures.found in (
+      found.slots_are ∙ same.0,
+      found.fresh_is ∙ same.1,
+      c.in-Ok.ensures.same records stands.spelled told here.stands,
+      subst (λ (n : ℕ). Logs n c.in-Ok.found.log (d.seen c.read_journal.new.disk) (d.may_leave c.read_journal.new.disk)) same.0
+          (c.in-Ok.ensures.logs records told only here),
+    )
+
+pub returns-in-Ok-clause-device : goal.returns-in-Ok-clause-device
+returns-in-Ok-clause-device g c =
+    let d = g.D.Disk in
+    keeps_on d.size d.seen d.may_leave d.moment d.left_since _ _ _ c.read_header.ensures.device c.read_journal.ensures.device
+
+pub returns-in-Err-clause-device : goal.returns-in-Err-clause-device
+returns-in-Err-clause-device g c =
+    let d = g.D.Disk in
+    keeps_on d.size d.seen d.may_leave d.moment d.left_since _ _ _ c.read_header.ensures.device c.read_journal.ensures.device
 
 pub returns-in-Err-clause-bad : goal.returns-in-Err-clause-bad
 returns-in-Err-clause-bad g c index slots fresh is told lt head =
@@ -14,13 +40,8 @@ returns-in-Err-clause-bad g c index slots fresh is told lt head =
 
 pub returns-in-Err-clause-good : goal.returns-in-Err-clause-good
 returns-in-Err-clause-good g c slots fresh records told lt stands =
-    let said = c.in-Some.said in
     let same = (rw c.in-Some.is at c.in_ok-said.ensures.only slots fresh) told lt stands.headed in
-    let here : StandsFor (g.D.Disk.seen c.read_header.new.disk) said.slots said.fresh records =
-    subst (λ (f : List ℕ). StandsFor f said.slots said.fresh records) (sym c.read_header.ensures.device.same_seen)
-    (subst (λ (b : Bool). StandsFor (g.D.Disk.seen c.args.disk.now) said.slots b records) (sym same.1)
-    (subst (λ (n : ℕ). StandsFor (g.D.Disk.seen c.args.disk.now) n fresh records) (sym same.0) stands)) in
-    c.in-Err.ensures.good records told here
+    c.in-Err.ensures.good records told (stands_here _ _ _ _ _ _ records c.read_header.ensures.device.same_seen same.0 same.1 stands)
 
 pub returns-in-Err-clause-bad_headed : goal.returns-in-Err-clause-bad_headed
 returns-in-Err-clause-bad_headed g c index is told blank =
