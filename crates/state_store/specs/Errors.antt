@@ -1,9 +1,9 @@
 -- What a journal's refusal means for the store.
+use Rattle.std.specs.Prelude.{◌≤◌, ◌<◌, ℕ, ⊤, Result, IsErrOf}
 use Rattle.block_journal.specs.declared.error.JournalError.{JournalError}
 use Rattle.block_journal.specs.declared.error.JournalError.TheVariants as journal
 use Rattle.state_store.specs.declared.error.StateError.{StateError}
 use Rattle.state_store.specs.declared.error.StateError.TheVariants.{Failed, Blank, BadRecord, JournalFull, NoMemory}
-use Rattle.std.specs.Prelude.{⊤}
 
 abbrev pub of_journal : JournalError → StateError
 of_journal journal.Failed = Failed
@@ -17,6 +17,14 @@ IsReadError Blank = ⊥
 IsReadError (BadRecord index) = ⊤
 IsReadError JournalFull = ⊥
 IsReadError NoMemory = ⊤
+
+-- the count of faults does not fall, `Failed` comes only where it has risen, and reading the journal ends neither at a blank device
+-- nor at a full journal
+pub record HasReadCause {T : Type 0} (before now : ℕ) (result : Result T StateError) : Type 0 where
+  pub later : before ≤ now
+  pub failed : IsErrOf result Failed → before < now
+  pub not_blank : ¬ IsErrOf result Blank
+  pub not_full : ¬ IsErrOf result JournalFull
 
 -- the refusals of an append
 abbrev pub IsAppendError : StateError → Type 0

@@ -1,13 +1,15 @@
 //! The device of a state store, with its journal of records.
 
 ghost use Rattle.std.specs.Prelude.{◌≡◌, ◌⊎◌, ◌≤◌, ◌<◌, ◌↔◌, ◌++◌, [], ◌∷◌, ℕ, List, OnOk, IfOk, IfErr, OnErr, IsErrOf, take, ◌≢◌, Some, None, false};
+ghost use Rattle.std.specs.Bool.{OnFalse, OnTrue};
 ghost use Rattle.petal_disk.specs.Plans.{beneath, plan_state};
 ghost use Rattle.petal_disk.specs.Disk.{LeavesOnly, Only};
+ghost use Rattle.device_faults.specs.Faults.{HasCause};
 ghost use Rattle.petal_disk.specs.Keeping.{KeepsDevice};
 ghost use Rattle.device_gate.specs.Gate.{IsShut};
 ghost use Rattle.block_journal.specs.Records.{Counts, Stands};
 ghost use Rattle.state_store.specs.Device.{header, bodies_of, AreSpelled, Holds, WithOrWithout, StandsFor, LeftByFormat, IsBadOn};
-ghost use Rattle.state_store.specs.Errors.{IsAppendError};
+ghost use Rattle.state_store.specs.Errors.{IsAppendError, HasReadCause};
 ghost use Rattle.petal_paxos.specs.Kept.{row_of, inc_of};
 ghost use Rattle.state_record.specs.Rows.{row_at};
 ghost use Rattle.petal_paxos.specs.declared.record.StateRecord.{StateRecord};
@@ -16,11 +18,11 @@ ghost use Rattle.state_store.specs.declared.error.StateError.TheVariants as erro
 
 use crate::error::StateError;
 use crate::register::{Register, read_records};
-use block_journal::{Journal, JournalError};
-use device_gate::write_header;
+use block_journal::Journal;
+use device_gate::{read_front, write_header};
 use ghost_list::GhostList;
 use petal_base::Inc;
-use petal_disk::{Disk, Plan, Planned};
+use petal_disk::{Disk, Failed, Plan, Planned};
 use state_record::{Places, StateRecord, body_of};
 use std::alloc::Global;
 use std::marker::Model;
@@ -173,15 +175,9 @@ impl<D: Disk> Device<D> {
         ensures later { D.faults self.old.disk ≤ D.faults self.new.disk }
         ensures run { D.came_to self.old.disk self.new.disk }
     {
-        match self.journal.append(&mut self.disk, &body_of(entry)) {
-            Ok(()) => {
-                self.history = self.history.with(entry);
-                Ok(())
-            },
-            Err(JournalError::Full) => Err(StateError::JournalFull),
-            Err(JournalError::Failed) => Err(StateError::Failed),
-            Err(JournalError::NoMemory) => Err(StateError::Failed),
-        }
+        self.journal.append(&mut self.disk, &body_of(entry))?;
+        self.history = self.history.with(entry);
+        Ok(())
     }
 
     /// The device.
@@ -239,6 +235,50 @@ fn write_first<D: Disk>(disk: &mut D, inc: Inc) -> Result<Journal<128>, StateErr
     Ok(journal)
 }
 
+/// Whether the header of a state device stands there; then a crash leaves what a read gives.
+fn has_header<D: Disk>(disk: &mut D) -> Result<bool, Failed>
+    ensures size { IfOk result (λ found. OnTrue found (8392704 ≤ D.size disk.old)) }
+    ensures headed { IfOk result (λ found. OnTrue found (D.told → take 64 (D.seen disk.old) ≡ header)) }
+    ensures blank { IfOk result (λ found. OnFalse found (D.told → 8392704 ≤ D.size disk.old → take 64 (D.seen disk.old) ≢ header)) }
+    ensures durable { IfOk result (λ found. OnTrue found (D.told → Only (D.seen disk.new) (D.may_leave disk.new))) }
+    ensures device { KeepsDevice D.size D.seen D.may_leave D.moment D.left_since disk.old disk.new }
+    ensures cause { HasCause (D.faults disk.old) (D.faults disk.new) result }
+{
+    if disk.len() < DEVICE_BYTES {
+        return Ok(false);
+    }
+    let mut head = [0; 64];
+    read_front(disk, &mut head)?;
+    Ok(head == HEADER)
+}
+
+/// Reads the journal of a device that has a header.
+fn read_journal<D: Disk>(
+    alloc: Global,
+    disk: &mut D,
+) -> Result<(Journal<128>, Register), StateError>
+    requires { 8392704 ≤ D.size disk.old }
+    ensures region { IfOk result (λ o. (o.0.base ≡ 4096) × (o.0.limit ≡ 65536)) }
+    ensures counts { IfOk result (λ o. D.told → Counts 128 4096 65536 (D.seen disk.old) (bodies_of o.1.history.items)) }
+    ensures spelled { IfOk result (λ o. AreSpelled o.1.history.items) }
+    ensures same { (records : List StateRecord) → IfOk result (λ o. D.told → StandsFor (D.seen disk.old) records → o.1.history.items ≡ records) }
+    ensures holds { (records : List StateRecord)
+        → IfOk result (λ o. D.told → Only (D.seen disk.old) (D.may_leave disk.old) → StandsFor (D.seen disk.old) records
+        → Holds o.0 (D.seen disk.new) (D.may_leave disk.new) o.1.history.items) }
+    ensures rows { IfOk result (λ o. (place : ℕ) → row_at o.1.places place ≡ row_of o.1.history.items place) }
+    ensures inc { IfOk result (λ o. o.1.inc ≡ inc_of o.1.history.items) }
+    ensures bad { (index : ℕ) → IfErr result (λ e. e ≡ error.BadRecord index → D.told → IsBadOn (D.seen disk.old) index) }
+    ensures cause { HasReadCause (D.faults disk.old) (D.faults disk.new) result }
+    ensures device { KeepsDevice D.size D.seen D.may_leave D.moment D.left_since disk.old disk.new }
+{
+    let (journal, bodies) = Journal::open(alloc, disk, JOURNAL_BASE, JOURNAL_RECORDS)?;
+    let _count = journal.count();
+    match read_records(alloc, &bodies) {
+        Ok(register) => Ok((journal, register)),
+        Err(error) => Err(error),
+    }
+}
+
 /// Reads the header and the journal.
 fn read_device<D: Disk>(alloc: Global, disk: &mut D) -> Result<(Journal<128>, Register), StateError>
     ensures region { IfOk result (λ o. (o.0.base ≡ 4096) × (o.0.limit ≡ 65536)) }
@@ -259,21 +299,10 @@ fn read_device<D: Disk>(alloc: Global, disk: &mut D) -> Result<(Journal<128>, Re
     ensures not_full { ¬ IsErrOf result error.JournalFull }
     ensures device { KeepsDevice D.size D.seen D.may_leave D.moment D.left_since disk.old disk.new }
 {
-    if disk.len() < DEVICE_BYTES {
+    if !has_header(disk)? {
         return Err(StateError::Blank);
     }
-    disk.sync()?;
-    let mut head = [0; 64];
-    disk.read(0, &mut head)?;
-    if head != HEADER {
-        return Err(StateError::Blank);
-    }
-    let (journal, bodies) = Journal::open(alloc, disk, JOURNAL_BASE, JOURNAL_RECORDS)?;
-    let _count = journal.count();
-    match read_records(alloc, &bodies) {
-        Ok(register) => Ok((journal, register)),
-        Err(error) => Err(error),
-    }
+    read_journal(alloc, disk)
 }
 
 impl<E: Disk> Device<Planned<E>> {

@@ -10,11 +10,13 @@ loop-first-preserved g c =
     let d = g.D.Disk in
     let more : c.in_ok-read_piece.field-0 ≡ true = search rules in
     let laws = g.met.D.Disk g.world.𝓛 g.world.𝓜 g.world.𝓡 ((λ s x. x), (λ x. x), (λ x. x), λ x. x) in
+    let next = λ (told : d.told).
+    piece_more _ _ _ _ _ _ _ _ _ c.requires.wide inv.device.same_seen (inv.all told) (inv.counts told) (c.in_ok-read_piece.ensures.took told) in
     record {
       within = search rules;
       count = search rules;
-      counts = λ told. (piece_more _ _ _ _ _ _ _ _ _ c.requires.wide inv.device.same_seen (inv.all told) (inv.counts told) (c.in_ok-read_piece.ensures.took told)).0;
-      all = λ told. (piece_more _ _ _ _ _ _ _ _ _ c.requires.wide inv.device.same_seen (inv.all told) (inv.counts told) (c.in_ok-read_piece.ensures.took told)).1 more;
+      counts = λ told. (next told).0;
+      all = λ told. (next told).1 more;
       device = keeps_on d.size d.seen d.may_leave d.moment d.left_since _ _ _ inv.device c.read_piece.ensures.device;
       later = omega (arith, inv.later, c.read_piece.ensures.cause.later);
       run = laws.goes_on _ _ _ inv.run c.read_piece.ensures.run;
