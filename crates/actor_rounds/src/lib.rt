@@ -5,9 +5,6 @@
 //! sees a server only through `Host`.
 #![tactic(auto)]
 
-mod caller;
-mod patience;
-mod post;
 mod rounds;
 
 pub use rounds::Rounds;

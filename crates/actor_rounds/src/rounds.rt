@@ -5,9 +5,7 @@ ghost use Rattle.actor_rounds.specs.Going.{WentOn};
 ghost use Rattle.world_desks.specs.Desks.{first_sites};
 ghost use Rattle.world_desks.specs.Playable.{AreNumbered, AreOrdered};
 
-use crate::caller::{Caller, Due, callers_of};
-use crate::patience::Patience;
-use crate::post::{Handing, Post};
+use actor_notes::{Due, Handing, Notes};
 use client_core::Order;
 use petal_base::{CLIENTS, ClientId, NoMemory, OPERATOR, Sequence, ServerId};
 use petal_msg::{Actor, Body, Letter, SharedLetter};
@@ -26,16 +24,13 @@ const SPAN: u32 = 8;
 /// that the server is back, so that lines of the next phase find it so.
 const AFTER_BOOT: u32 = 128;
 
-/// A world in the middle of a run: the letters that are on their way, what each client has still to call, how long each server
-/// waits to be ticked, the phase, how many of its lines have no answer yet, for how many rounds it goes on at least, and whether it
-/// has only begun.
+/// A world in the middle of a run: what is kept of its actors, the phase, how many of its lines have no answer yet, for how many
+/// rounds it goes on at least, and whether it has only begun.
 #[derive(Drop)]
 pub struct Rounds<H: Host> {
     pub world: World<H>,
     servers: u8,
-    post: Post,
-    callers: Vec<Caller>,
-    patience: Vec<Patience>,
+    notes: Notes,
     phase: u32,
     left: usize,
     rounds_left: u32,
@@ -73,19 +68,11 @@ impl<H: Host> Rounds<H> {
         ensures records { IfOk result (λ rounds. rounds.world.records ≡ []) }
     {
         let servers = script.servers;
-        let places = servers as usize + 2 * CLIENTS as usize;
-        let mut patience = Vec::new(alloc);
-        for _ in 0..servers {
-            patience.push(Patience::new())?;
-        }
-        let post = Post::new(alloc, places, script.lose, script.twice)?;
-        let callers = callers_of(alloc, CLIENTS, &script)?;
+        let notes = Notes::new(alloc, &script)?;
         Ok(Rounds {
             world: World::start(alloc, script, hosts)?,
             servers,
-            post,
-            callers,
-            patience,
+            notes,
             phase: 0,
             left: 0,
             rounds_left: 0,
@@ -119,7 +106,7 @@ impl<H: Host> Rounds<H> {
     {
         for letter in letters {
             let place = self.place_for(letter.get());
-            self.post.send(place, letter.share()?)?;
+            self.notes.post.send(place, letter.share()?)?;
         }
         Ok(())
     }
@@ -130,7 +117,7 @@ impl<H: Host> Rounds<H> {
     {
         self.left = self.left.saturating_sub(1);
         let settles = match actor {
-            Actor::Client(client) => match self.callers.get_mut(client as usize) {
+            Actor::Client(client) => match self.notes.callers.get_mut(client as usize) {
                 Some(caller) => caller.answered(),
                 None => false,
             },
@@ -180,7 +167,7 @@ impl<H: Host> Rounds<H> {
     {
         let brings_on = self.brings_on(body);
         if let Actor::Server(server) = actor {
-            if let Some(patience) = self.patience.get_mut(server as usize) {
+            if let Some(patience) = self.notes.patience.get_mut(server as usize) {
                 if brings_on {
                     patience.renew();
                 } else if is_of_copy(body) {
@@ -199,7 +186,7 @@ impl<H: Host> Rounds<H> {
     ) -> Result<bool, NoMemory>
         ensures { WentOn self.old.world self.new.world }
     {
-        let handing = self.post.next_handing(&letter.get().body);
+        let handing = self.notes.post.next_handing(&letter.get().body);
         if handing == Handing::Lost {
             return Ok(false);
         }
@@ -216,11 +203,11 @@ impl<H: Host> Rounds<H> {
     fn turn_box(&mut self, place: usize) -> Result<(), NoMemory>
         ensures { self.new.world ≡ self.old.world }
     {
-        let waiting = self.post.waiting(place);
+        let waiting = self.notes.post.waiting(place);
         if !self.after_loss || waiting == 0 {
             return Ok(());
         }
-        self.post.turn(place, self.count as usize % waiting)
+        self.notes.post.turn(place, self.count as usize % waiting)
     }
 
     // The actor gets each letter that waits for it.
@@ -229,8 +216,8 @@ impl<H: Host> Rounds<H> {
     {
         let place = self.place_of(actor);
         self.turn_box(place)?;
-        for _ in 0..self.post.waiting(place) {
-            if let Some(letter) = self.post.take(place) {
+        for _ in 0..self.notes.post.waiting(place) {
+            if let Some(letter) = self.notes.post.take(place) {
                 self.hand_over(alloc, actor, letter)?;
             }
         }
@@ -243,8 +230,8 @@ impl<H: Host> Rounds<H> {
         ensures { WentOn self.old.world self.new.world }
     {
         let place = self.second_place(client);
-        for _ in 0..self.post.waiting(place) {
-            if let Some(letter) = self.post.take(place) {
+        for _ in 0..self.notes.post.waiting(place) {
+            if let Some(letter) = self.notes.post.take(place) {
                 if self.hand_over(alloc, Actor::Client(client), letter)? {
                     break;
                 }
@@ -254,13 +241,13 @@ impl<H: Host> Rounds<H> {
     }
 
     fn next_call(&self, client: ClientId) -> Option<Due> {
-        self.callers.get(client as usize)?.next(self.phase)
+        self.notes.callers.get(client as usize)?.next(self.phase)
     }
 
     fn note_call(&mut self, client: ClientId)
         ensures { self.new.world ≡ self.old.world }
     {
-        if let Some(caller) = self.callers.get_mut(client as usize) {
+        if let Some(caller) = self.notes.callers.get_mut(client as usize) {
             caller.called();
         }
     }
@@ -344,7 +331,7 @@ impl<H: Host> Rounds<H> {
     {
         let at_once = self.at_once(client, CLIENTS);
         let rev = self.world.rev(Actor::Client(client));
-        match self.callers.get_mut(client as usize) {
+        match self.notes.callers.get_mut(client as usize) {
             Some(caller) if caller.is_open() => {
                 caller.patience.at_rev(rev);
                 caller.patience.ticks(at_once)
@@ -400,7 +387,7 @@ impl<H: Host> Rounds<H> {
     {
         let at_once = self.at_once(server, self.servers);
         let rev = self.world.rev(Actor::Server(server));
-        match self.patience.get_mut(server as usize) {
+        match self.notes.patience.get_mut(server as usize) {
             Some(patience) => {
                 patience.at_rev(rev);
                 patience.ticks(at_once)
@@ -451,7 +438,7 @@ impl<H: Host> Rounds<H> {
     {
         self.count = self.count.wrapping_add(1);
         self.rounds_left = self.rounds_left.saturating_sub(1);
-        self.after_loss = self.post.take_loss();
+        self.after_loss = self.notes.post.take_loss();
         for client in 0..CLIENTS {
             self.client_turn(alloc, client)?;
         }

@@ -7,13 +7,15 @@ use script_lines::{Line, Request, Script};
 use std::alloc::Global;
 use std::collections::VecDeque;
 
-/// A line that is to be called, its phase, what it asks of a server, where it does that, and whether it is a settle.
+/// A line that is to be called.
 #[derive(Clone, Copy, Debug, PartialEq, Eq)]
-pub(crate) struct Due {
-    pub(crate) number: u32,
-    pub(crate) phase: u32,
-    pub(crate) order: Option<(Order, ServerId)>,
-    pub(crate) settles: bool,
+pub struct Due {
+    pub number: u32,
+    pub phase: u32,
+    /// What it asks of a server, where it does that.
+    pub order: Option<(Order, ServerId)>,
+    /// Whether it is a settle.
+    pub settles: bool,
 }
 
 /// Whether the request is a settle.
@@ -26,14 +28,15 @@ fn is_settle(request: &Request) -> bool {
 
 /// A client: the lines that it has not called yet, and the one that it called and that is not answered.
 #[derive(Drop)]
-pub(crate) struct Caller {
+pub struct Caller {
     due: VecDeque<Due>,
     open: Option<Due>,
-    pub(crate) patience: Patience,
+    pub patience: Patience,
 }
 
 impl Caller {
-    pub(crate) fn new(alloc: Global) -> Caller {
+    /// A client without lines.
+    pub fn new(alloc: Global) -> Caller {
         Caller {
             due: VecDeque::new(alloc),
             open: None,
@@ -42,7 +45,7 @@ impl Caller {
     }
 
     /// The line is one more to be called.
-    pub(crate) fn add(&mut self, line: &Line) -> Result<(), NoMemory> {
+    pub fn add(&mut self, line: &Line) -> Result<(), NoMemory> {
         self.due.push_back(Due {
             number: line.number,
             phase: line.phase,
@@ -53,12 +56,12 @@ impl Caller {
     }
 
     /// Whether a line that it called is not answered.
-    pub(crate) fn is_open(&self) -> bool {
+    pub fn is_open(&self) -> bool {
         self.open.is_some()
     }
 
     /// The line that is to be called in this phase, where nothing is open.
-    pub(crate) fn next(&self, phase: u32) -> Option<Due> {
+    pub fn next(&self, phase: u32) -> Option<Due> {
         if self.is_open() {
             return None;
         }
@@ -69,13 +72,13 @@ impl Caller {
     }
 
     /// The next line was called.
-    pub(crate) fn called(&mut self) {
+    pub fn called(&mut self) {
         self.open = self.due.pop_front();
         self.patience.renew();
     }
 
     /// The open line was answered. Gives whether it was a settle.
-    pub(crate) fn answered(&mut self) -> bool {
+    pub fn answered(&mut self) -> bool {
         self.patience.renew();
         match self.open.take() {
             Some(due) => due.settles,

@@ -7,14 +7,15 @@ const LONGEST: u32 = 12;
 
 /// Counts the ticks that come to an actor and how many were passed on to it, since it last got on.
 #[derive(Drop)]
-pub(crate) struct Patience {
+pub struct Patience {
     came: u32,
     passed: u32,
     rev: Option<Rev>,
 }
 
 impl Patience {
-    pub(crate) fn new() -> Patience {
+    /// No tick came yet.
+    pub fn new() -> Patience {
         Patience {
             came: 0,
             passed: 0,
@@ -23,7 +24,7 @@ impl Patience {
     }
 
     /// The actor is at this revision. It got on where it was at another one before.
-    pub(crate) fn at_rev(&mut self, rev: Option<Rev>) {
+    pub fn at_rev(&mut self, rev: Option<Rev>) {
         if rev != self.rev {
             self.rev = rev;
             self.renew();
@@ -31,13 +32,13 @@ impl Patience {
     }
 
     /// The actor got on: the next tick is passed on at once.
-    pub(crate) fn renew(&mut self) {
+    pub fn renew(&mut self) {
         self.came = 0;
         self.passed = 0;
     }
 
     /// The actor got on, and what it sent in this turn is answered by the next: the tick after that is passed on.
-    pub(crate) fn wait_again(&mut self) {
+    pub fn wait_again(&mut self) {
         self.came = 0;
         self.passed = 1;
     }
@@ -56,7 +57,7 @@ impl Patience {
 
     /// How many ticks are passed on in a turn: so many where some are passed on at once, and else one where the actor has waited
     /// for it long enough.
-    pub(crate) fn ticks(&mut self, at_once: u32) -> u32 {
+    pub fn ticks(&mut self, at_once: u32) -> u32 {
         if at_once == 0 {
             return u32::from(self.passes());
         }

@@ -7,7 +7,7 @@ use std::collections::VecDeque;
 
 /// For each box the letters that were sent to it and not yet handed over, in the order of sending.
 #[derive(Drop)]
-pub(crate) struct Post {
+pub struct Post {
     boxes: Vec<VecDeque<SharedLetter>>,
     handed: u32,
     // Whether a letter was lost since that was last asked.
@@ -18,7 +18,7 @@ pub(crate) struct Post {
 
 /// How often a letter is handed over.
 #[derive(Clone, Copy, Debug, PartialEq, Eq)]
-pub(crate) enum Handing {
+pub enum Handing {
     Lost,
     Once,
     Twice,
@@ -32,7 +32,8 @@ fn is_due(every: Option<u32>, count: u32) -> bool {
 }
 
 impl Post {
-    pub(crate) fn new(
+    /// So many empty boxes. Every `lose`-th letter is lost, and every `twice`-th is handed over twice.
+    pub fn new(
         alloc: Global,
         places: usize,
         lose: Option<u32>,
@@ -52,7 +53,7 @@ impl Post {
     }
 
     /// A letter is on its way to the box at this place.
-    pub(crate) fn send(&mut self, place: usize, letter: SharedLetter) -> Result<(), NoMemory> {
+    pub fn send(&mut self, place: usize, letter: SharedLetter) -> Result<(), NoMemory> {
         if let Some(mail) = self.boxes.get_mut(place) {
             mail.push_back(letter)?;
         }
@@ -60,7 +61,7 @@ impl Post {
     }
 
     /// How many letters are in the box at this place.
-    pub(crate) fn waiting(&self, place: usize) -> usize {
+    pub fn waiting(&self, place: usize) -> usize {
         match self.boxes.get(place) {
             Some(mail) => mail.len(),
             None => 0,
@@ -68,12 +69,12 @@ impl Post {
     }
 
     /// The next letter of the box at this place.
-    pub(crate) fn take(&mut self, place: usize) -> Option<SharedLetter> {
+    pub fn take(&mut self, place: usize) -> Option<SharedLetter> {
         self.boxes.get_mut(place)?.pop_front()
     }
 
     /// Puts so many of the first letters of the box at this place after its others.
-    pub(crate) fn turn(&mut self, place: usize, count: usize) -> Result<(), NoMemory> {
+    pub fn turn(&mut self, place: usize, count: usize) -> Result<(), NoMemory> {
         for _ in 0..count {
             if let Some(letter) = self.take(place) {
                 self.send(place, letter)?;
@@ -84,7 +85,7 @@ impl Post {
 
     /// What becomes of the next letter that is to be handed over. A letter that is lost is not doubled. That a server has stopped,
     /// and what the operator saw of it, comes exactly once, since nobody says it again.
-    pub(crate) fn next_handing(&mut self, body: &Body) -> Handing {
+    pub fn next_handing(&mut self, body: &Body) -> Handing {
         if let Body::Down { .. } | Body::Seen { .. } = body {
             return Handing::Once;
         }
@@ -100,7 +101,7 @@ impl Post {
     }
 
     /// Whether a letter was lost since this was last asked.
-    pub(crate) fn take_loss(&mut self) -> bool {
+    pub fn take_loss(&mut self) -> bool {
         let lost = self.has_lost;
         self.has_lost = false;
         lost
