@@ -4,13 +4,11 @@ use petal_base::{Block, Sequence, SharedBlock};
 use petal_command::{Ballot, ClientNumber, Command, Pax};
 use petal_msg::{Actor, Body, Letter, SharedLetter};
 use std::alloc::Global;
-use std::process::Abort;
 use std::test::Fail;
 
-#[test]
-fn letters_are_shared_and_compared(rt: HostRuntime) -> Result<(), Fail> {
-    let bytes = SharedBlock::new(rt.alloc(), Block::fill(rt.alloc(), 7)?)?;
-    let letter = Letter {
+/// A letter with a block of sevens.
+fn data(alloc: Global) -> Result<Letter, Fail> {
+    Ok(Letter {
         from: Actor::Server(1),
         inc: 1,
         to: Actor::Client(0),
@@ -19,16 +17,32 @@ fn letters_are_shared_and_compared(rt: HostRuntime) -> Result<(), Fail> {
         nth: 0,
         body: Body::Data {
             seq: 3,
-            bytes: bytes.share()?,
+            bytes: SharedBlock::new(alloc, Block::fill(alloc, 7)?)?,
         },
-    };
-    let shared = SharedLetter::new(rt.alloc(), letter)?;
-    let other = shared.share()?;
-    assert!(rt; other == shared);
-    assert!(rt; other.get() == shared.get());
-    assert!(rt; other.get().body != Body::Written { seq: 3 });
-    let third = shared.clone()?;
-    assert!(rt; third == other);
+    })
+}
+
+fn is_shared(letter: &SharedLetter) -> Result<bool, Fail> {
+    let other = letter.share()?;
+    Ok(other == *letter && other.get() == letter.get())
+}
+
+fn is_cloned(letter: &SharedLetter) -> Result<bool, Fail> {
+    Ok(letter.clone()? == *letter)
+}
+
+fn is_written(letter: &Letter) -> bool {
+    letter.body == Body::Written { seq: 3 }
+}
+
+fn is_compared(letter: &SharedLetter) -> Result<bool, Fail> {
+    Ok(is_shared(letter)? && is_cloned(letter)? && !is_written(letter.get()))
+}
+
+#[test]
+fn letters_are_shared_and_compared(rt: HostRuntime) -> Result<(), Fail> {
+    let letter = SharedLetter::new(rt.alloc(), data(rt.alloc())?)?;
+    assert!(rt; is_compared(&letter)?);
     Ok(())
 }
 
@@ -52,27 +66,34 @@ fn news(alloc: Global) -> Result<Body, Fail> {
     Ok(Body::News { after: 4, commands })
 }
 
-fn compared(rt: &impl Abort, body: &Body, again: &Body, other: &Body) {
-    assert!(rt; again == body);
-    assert!(rt; again != other);
-}
-
-#[test]
-fn letters_of_the_log_are_compared(rt: HostRuntime) -> Result<(), Fail> {
-    let ask = Body::Ask { rev: 4 };
+fn prepare() -> Body {
     let ballot = Ballot {
         round: 1,
         server: 2,
     };
-    compared(&rt, &ask, &Body::Ask { rev: 4 }, &Body::Ask { rev: 5 });
-    compared(&rt, &news(rt.alloc())?, &news(rt.alloc())?, &ask);
-    compared(&rt, &proposed()?, &proposed()?, &ask);
-    let prepare = Body::Pax(Pax::Prepare { place: 1, ballot });
-    compared(
-        &rt,
-        &prepare,
-        &Body::Pax(Pax::Prepare { place: 1, ballot }),
-        &ask,
-    );
+    Body::Pax(Pax::Prepare { place: 1, ballot })
+}
+
+/// Whether a body equals one that is made alike, and not an Ask.
+fn is_told_apart(body: Body, again: Body) -> bool {
+    body == again && again != Body::Ask { rev: 4 }
+}
+
+fn asks_are_told_apart() -> bool {
+    let ask = Body::Ask { rev: 4 };
+    ask == Body::Ask { rev: 4 } && ask != Body::Ask { rev: 5 }
+}
+
+fn news_are_told_apart(alloc: Global) -> Result<bool, Fail> {
+    let again = news(alloc)?;
+    Ok(is_told_apart(news(alloc)?, again))
+}
+
+#[test]
+fn letters_of_the_log_are_compared(rt: HostRuntime) -> Result<(), Fail> {
+    assert!(rt; asks_are_told_apart());
+    assert!(rt; news_are_told_apart(rt.alloc())?);
+    assert!(rt; is_told_apart(proposed()?, proposed()?));
+    assert!(rt; is_told_apart(prepare(), prepare()));
     Ok(())
 }

@@ -43,7 +43,6 @@ enum Ending {
 }
 
 /// A step of client 0 of three servers, and what comes of it.
-#[derive(Clone, Copy)]
 enum Step {
     /// It calls the line, and proposes the entry.
     Proposes(Line, Entry),
@@ -66,19 +65,22 @@ enum Step {
 }
 
 /// What the steps of a client show, and the steps before them.
-#[derive(Clone, Copy)]
 struct Row {
     shows: &'static str,
     before: &'static [Step],
     steps: &'static [Step],
 }
 
+fn named(text: &[u8]) -> Result<Name, Fail> {
+    Ok(Name::read(text).ok_or("a name")?)
+}
+
 fn vol() -> Result<Name, Fail> {
-    Ok(Name::read(b"vol").ok_or("a name")?)
+    named(b"vol")
 }
 
 fn one() -> Result<Name, Fail> {
-    Ok(Name::read(b"one").ok_or("a name")?)
+    named(b"one")
 }
 
 fn tuple() -> Result<Tuple, Fail> {
@@ -209,8 +211,8 @@ fn call(alloc: Global, client: &mut ClientCore, line: Line) -> Result<Reaction, 
     Ok(client.call(alloc, 5, request_of(line)?)?)
 }
 
-fn hear(alloc: Global, client: &mut ClientCore, rev: Rev, body: Body) -> Result<Reaction, Fail> {
-    let letter = Letter {
+fn letter_of(rev: Rev, body: Body) -> Letter {
+    Letter {
         from: Actor::Server(1),
         inc: 1,
         to: Actor::Client(0),
@@ -218,8 +220,11 @@ fn hear(alloc: Global, client: &mut ClientCore, rev: Rev, body: Body) -> Result<
         stamp: 9,
         nth: 0,
         body,
-    };
-    Ok(client.deliver(alloc, &letter)?)
+    }
+}
+
+fn hear(alloc: Global, client: &mut ClientCore, rev: Rev, body: Body) -> Result<Reaction, Fail> {
+    Ok(client.deliver(alloc, &letter_of(rev, body))?)
 }
 
 /// It hears of an entry after so many.
@@ -233,6 +238,17 @@ fn learn(
     hear(alloc, client, 3, Body::News { after, commands })
 }
 
+fn add(commands: &mut Sequence<Command>, entry: Entry) -> Result<(), Fail> {
+    let command = command_of(entry)?;
+    Ok(commands.push(command)?)
+}
+
+fn commands_of(alloc: Global, first: Entry, second: Entry) -> Result<Sequence<Command>, Fail> {
+    let mut commands = Sequence::one(alloc, command_of(first)?)?;
+    add(&mut commands, second)?;
+    Ok(commands)
+}
+
 /// It hears of the first two entries.
 fn learn_both(
     alloc: Global,
@@ -240,8 +256,7 @@ fn learn_both(
     first: Entry,
     second: Entry,
 ) -> Result<Reaction, Fail> {
-    let mut commands = Sequence::one(alloc, command_of(first)?)?;
-    commands.push(command_of(second)?)?;
+    let commands = commands_of(alloc, first, second)?;
     hear(alloc, client, 3, Body::News { after: 0, commands })
 }
 
@@ -254,16 +269,9 @@ fn is_shown(alloc: Global, client: &mut ClientCore) -> Result<bool, Fail> {
     Ok(shows_block(&hear(alloc, client, 1, found)?, &bytes))
 }
 
-/// Whether that comes of the step.
-fn is_so(alloc: Global, client: &mut ClientCore, step: Step) -> Result<bool, Fail> {
-    match step {
-        Step::Proposes(line, entry) => {
-            let command = command_of(entry)?;
-            Ok(is_proposed(&call(alloc, client, line)?, &command))
-        }
-        Step::SendsTo(line, server) => Ok(is_sent_to(&call(alloc, client, line)?, server)),
-        Step::AsksFor(line, epoch) => Ok(asks_for(&call(alloc, client, line)?, epoch)),
-        Step::ResendsTo(server) => Ok(is_sent_to(&client.tick(alloc)?, server)),
+/// Whether that comes of a step in which it hears of one thing.
+fn is_told_so(alloc: Global, client: &mut ClientCore, step: &Step) -> Result<bool, Fail> {
+    match *step {
         Step::Told(after, entry, ending) => {
             Ok(ending_of(&learn(alloc, client, after, entry)?) == ending)
         }
@@ -271,31 +279,56 @@ fn is_so(alloc: Global, client: &mut ClientCore, step: Step) -> Result<bool, Fai
             learn(alloc, client, after, entry)?;
             Ok(client.rev() == rev)
         }
+        Step::Written(rev, seq, ending) => {
+            Ok(ending_of(&hear(alloc, client, rev, Body::Written { seq })?) == ending)
+        }
+        _ => Ok(false),
+    }
+}
+
+/// Whether that comes of a step in which it calls, or hears of one thing.
+fn is_called_so(alloc: Global, client: &mut ClientCore, step: &Step) -> Result<bool, Fail> {
+    match *step {
+        Step::Proposes(line, entry) => {
+            let reaction = call(alloc, client, line)?;
+            Ok(is_proposed(&reaction, &command_of(entry)?))
+        }
+        Step::SendsTo(line, server) => Ok(is_sent_to(&call(alloc, client, line)?, server)),
+        Step::AsksFor(line, epoch) => Ok(asks_for(&call(alloc, client, line)?, epoch)),
+        _ => is_told_so(alloc, client, step),
+    }
+}
+
+/// Whether that comes of the step. It is in three, since a match of many arms is slow to prove.
+fn is_so(alloc: Global, client: &mut ClientCore, step: &Step) -> Result<bool, Fail> {
+    match *step {
+        Step::ResendsTo(server) => Ok(is_sent_to(&client.tick(alloc)?, server)),
         Step::WritesTo(first, second, server, rev) => {
             let reaction = learn_both(alloc, client, first, second)?;
             Ok(is_written_to(&reaction, server, rev))
         }
-        Step::Written(rev, seq, ending) => {
-            let reaction = hear(alloc, client, rev, Body::Written { seq })?;
-            Ok(ending_of(&reaction) == ending)
-        }
         Step::Shown => is_shown(alloc, client),
+        _ => is_called_so(alloc, client, step),
     }
 }
 
 fn play(alloc: Global, client: &mut ClientCore, row: &Row) -> Result<(), Fail> {
     for (at, step) in row.before.iter().chain(row.steps).enumerate() {
-        if !is_so(alloc, client, *step)? {
+        if !is_so(alloc, client, step)? {
             return Err(Fail::new(format_args!("{}: step {at}", row.shows)));
         }
     }
     Ok(())
 }
 
+fn play_row(alloc: Global, row: &Row) -> Result<(), Fail> {
+    let mut client = ClientCore::new(alloc, 0, 3)?;
+    play(alloc, &mut client, row)
+}
+
 fn play_all(alloc: Global, rows: &[Row]) -> Result<(), Fail> {
     for row in rows {
-        let mut client = ClientCore::new(alloc, 0, 3)?;
-        play(alloc, &mut client, row)?;
+        play_row(alloc, row)?;
     }
     Ok(())
 }

@@ -1,10 +1,10 @@
 //! What a tick sends again.
 
-ghost use Rattle.std.specs.Prelude.{◌≡◌, ◌+◌, ◌++◌, length, IfOk, Some};
+ghost use Rattle.std.specs.Prelude.{◌≡◌, ◌+◌, ◌++◌, List, length, IfOk, Some};
 ghost use Rattle.petal_disk.specs.Keeping.{KeepsDevice};
 ghost use Rattle.petal_msg.specs.declared.copying.CopyAction.TheVariants as copy_action;
 ghost use Rattle.petal_rules.specs.Copies as copies;
-ghost use Rattle.petal_rules.specs.Server.{letters_of, sender};
+ghost use Rattle.petal_rules.specs.Server.{Post, letters_of, sender};
 ghost use Rattle.petal_rules.specs.State.{other_in};
 ghost use Rattle.kept_chains.specs.Kept.{store_of};
 ghost use Rattle.kept_chains.specs.Reading.{IsReadFault};
@@ -101,6 +101,24 @@ fn pages_after<D: Disk>(
     Ok(letters)
 }
 
+/// The letters of the step so far with that of one copy more, if it waits for an answer, and the number of the next letter.
+fn with_awaited<D: Disk>(
+    here: &Here,
+    store: &mut Store<D>,
+    cell: Cell,
+    copy: Copying,
+    letters: Sequence<Letter>,
+    nth: u32,
+) -> Result<(Sequence<Letter>, u32), DeviceError>
+    ensures letters { IfOk result (λ more. D.told → (side : Sides) → (posts : List Post)
+        → posts ≡ copies.copy_awaited here.now (own_of side store.old) cell copy (copies.copy_stage (store_of store.old) cell copy)
+        → (more.0 ≡ letters ++ letters_of (sender here.now) nth posts) × (more.1 ≡ nth + length posts)) }
+    ensures look { IsLook D.Disk store.old store.new result }
+{
+    let found = awaited(here, store, cell, copy)?;
+    Ok(with_letter(here, letters, nth, found)?)
+}
+
 /// Letters of the step, and after them those of the copies that are not yet answered.
 fn copies_after<D: Disk>(
     here: &Here,
@@ -117,8 +135,7 @@ fn copies_after<D: Disk>(
     };
     let mut letters = before;
     for (cell, copy) in side.copies.iter() {
-        let found = awaited(here, store, *cell, *copy)?;
-        let more = with_letter(here, letters, nth, found)?;
+        let more = with_awaited(here, store, *cell, *copy, letters, nth)?;
         letters = more.0;
         nth = more.1;
     }

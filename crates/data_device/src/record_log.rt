@@ -3,7 +3,7 @@
 ghost use Rattle.std.specs.Prelude.{◌≡◌, ◌≤◌, ◌<◌, ◌==◌, ◌↔◌, ◌++◌, ◌∷◌, [], ℕ, List, OnOk, OnErr, IfOk, IfErr, IsErrOf};
 ghost use Rattle.petal_disk.specs.Disk.{LeavesOnly, Torn, Follows};
 ghost use Rattle.data_device.specs.Device.{Logs, WithOrWithout};
-ghost use Rattle.data_device.specs.Errors.{IsFormatError, IsCommitError, HasFault};
+ghost use Rattle.data_device.specs.Errors.{IsCommitError, HasFault};
 ghost use Rattle.data_device.specs.Kept.{Fits, kept_of};
 ghost use Rattle.data_device.specs.Reading.{LeftByFormat};
 
@@ -47,11 +47,10 @@ impl RecordLog {
         requires { 4198400 ≤ D.size disk.old }
         ensures ok { IfOk result (λ log. (log.fresh ≡ said.fresh) × (log.records ≡ [])) }
         ensures logs { IfOk result (λ log. D.told → Logs said.slots log (D.seen disk.new) (D.may_leave disk.new)) }
-        ensures errors { IfErr result IsFormatError }
+        ensures errors { IfErr result (λ e. e ≡ StoreError.Failed) }
         ensures any_moment { D.told
             → LeavesOnly D.moment D.left_since disk.old disk.new (LeftByFormat (D.may_leave disk.old) (D.size disk.old) said.slots said.fresh) }
         ensures either { D.told → LeftByFormat (λ file. file ≡ D.seen disk.old) (D.size disk.old) said.slots said.fresh (D.seen disk.new) }
-        ensures memory { IsErrOf result StoreError.NoMemory → disk.new ≡ disk.old }
         ensures cause { HasFault (D.faults disk.old) (D.faults disk.new) result }
         ensures size { D.size disk.new ≡ D.size disk.old }
         ensures run { D.came_to disk.old disk.new }

@@ -1,5 +1,5 @@
 -- What each stage of an operation leaves is what the rules say.
-use Rattle.std.proofs.Common.{◌≡◌, ℕ, ◌+◌, Bool, true, false, not, List, [], ◌∷◌, Option, Some, None, Ok, refl, sym, subst, ap, ◌∙◌}
+use Rattle.std.proofs.Common.{◌≡◌, ℕ, ◌+◌, Bool, true, false, not, List, [], ◌∷◌, Option, Some, None, Result, Ok, refl, sym, subst, ap, ◌∙◌}
 use Rattle.std.specs.Prelude.{if◌then◌else◌, IfSome}
 use Rattle.std.specs.List.Sorted.{IsStrictlySortedBy}
 use Rattle.std.specs.Map.{keys_of}
@@ -8,6 +8,7 @@ use Rattle.busy_marks.specs.declared.marks.MarkKind.TheVariants.{Busy, Stale}
 use Rattle.petal_base.specs.declared.cell.Cell.{Cell}
 use Rattle.petal_disk.specs.declared.disk.Disk.{Ghosts}
 use Rattle.petal_table.specs.Table.{Table, at, put, without}
+use Rattle.petal_msg.specs.declared.operation.Action.{Action}
 use Rattle.petal_msg.specs.declared.operation.Action.TheVariants as action
 use Rattle.petal_msg.specs.declared.operation.Ending.TheVariants.{Written}
 use Rattle.petal_msg.specs.declared.operation.Pending.{Pending}
@@ -26,8 +27,10 @@ use Rattle.kept_chains.specs.Marking.{IsCommit}
 use Rattle.kept_chains.proofs.Puts.{put_over, put_same, without_put}
 use Rattle.pair_side.specs.declared.done.Done.{Done}
 use Rattle.pair_side.specs.declared.done.FollowUp.TheVariants as follow
+use Rattle.pair_side.specs.declared.error.WorkError.{WorkError}
 use Rattle.pair_side.specs.Side.{Side, HasTickets, HasTicketsAt, needs_own, own_of}
 use Rattle.pair_side.specs.Done.{IsBy, IsDone, IsSaid, only}
+use Rattle.pair_side.proofs.Said.{said_done}
 use Rattle.pair_side.proofs.Tickets as tickets
 use Rattle.lead_stages.specs.Moved.{IsMoved}
 use Rattle.lead_stages.proofs.Ending.{ends_pending, ends_with, own_with}
@@ -232,3 +235,13 @@ goes_none here own cell is = sym (ap (goes_on_with here own) is)
 pub own_is : (o : Option Pending) (cell : Cell) (op : Pending) → o ≡ Some op → IfSome o (λ p. p.cell ≡ cell) → op.cell ≡ cell
 own_is None cell op is own = absurd (cc)
 own_is (Some p) cell op is own = let same : p ≡ op = cc in ap (λ (q : Pending). q.cell) (sym same) ∙ own
+
+-- an action without a call of the device, where it is the next one
+pub said_acts : {D : Type 0} (device : Ghosts D) (stays : (d : D) → device.came_to d d)
+    (only_now : (d : D) (c : List ℕ) → device.left_since d (device.moment d) c → device.may_leave d c)
+    (here : Here) (own : Own) (op : Pending) (old new : Side) (before after : Holdings D) (answer : Result Done WorkError) (next is : Action)
+    → next ≡ is → IsSaid here old new before after answer (acts here own op is)
+    → IsDone device here old new before after answer (acts here own op next)
+said_acts device stays only_now here own op old new before after answer next is same said =
+    subst (λ (a : Action). IsDone device here old new before after answer (acts here own op a)) (sym same)
+    (said_done device stays only_now here old new before after answer _ said)

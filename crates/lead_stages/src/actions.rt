@@ -16,6 +16,25 @@ use petal_disk::Disk;
 use petal_msg::{Action, Body, Pending};
 use server_store::Store;
 
+/// The second server is asked for a slot.
+fn reserves<D: Disk>(
+    here: &Here,
+    side: &mut Side,
+    store: &Store<D>,
+    op: &Pending,
+) -> Result<Done, WorkError>
+    requires tickets { HasTicketsAt side.old store.now }
+    requires moved { IsMoved side.old.pending op.now }
+    ensures { IsSaid here.now side.old side.new store.now store.now result
+        (writes.acts here.now (writes.with_pending (own_of side.old store.now) op.now) op.now action.Reserve) }
+{
+    let body = Body::Reserve {
+        op: op.op,
+        cell: op.cell,
+    };
+    waits(here, side, store, op, body)
+}
+
 /// The second server is sent its copy.
 fn replicates<D: Disk>(
     here: &Here,
@@ -52,13 +71,7 @@ pub fn acts<D: Disk>(
     ensures same { result ≡ Err error.NoMemory → store.new ≡ store.old }
 {
     match next_stage(here, op) {
-        Action::Reserve => {
-            let body = Body::Reserve {
-                op: op.op,
-                cell: op.cell,
-            };
-            waits(here, side, store, op, body)
-        }
+        Action::Reserve => reserves(here, side, store, op),
         Action::Mark(kind) => flags(here, side, store, op, kind, true),
         Action::Put => puts(here, side, store, op),
         Action::Replicate => replicates(here, side, store, op),

@@ -1,13 +1,9 @@
 -- A write, and a fill, that is neither refused nor there is opened.
 use Rattle.std.proofs.Common.{◌≡◌, Bool, true, false, nat_lt, refl, sym, ap, ◌∙◌}
-use Rattle.petal_base.specs.declared.cell.Cell.{Cell}
-use Rattle.petal_base.specs.Cells.{cell_of}
 use Rattle.petal_msg.specs.declared.operation.Pending.{Pending}
-use Rattle.petal_rules.specs.Fills.{Moving, fill_operation, has_epoch, on_fill, opens_fill}
-use Rattle.petal_rules.specs.Progress.{has_proposed}
+use Rattle.petal_rules.specs.Fills.{Moving, fill_operation, opens_fill}
 use Rattle.petal_rules.specs.Server.{Here, Own}
-use Rattle.petal_rules.specs.State.{is_lead}
-use Rattle.petal_rules.specs.Store.{chain_in, free_of}
+use Rattle.petal_rules.specs.Store.{free_of}
 use Rattle.petal_rules.specs.Writes.{Newer, Wanted, is_kept_back, is_pending_for, is_under_way, opens, operation, pending_on, takes}
 use Rattle.lead_write.specs.Opened.{begun}
 
@@ -26,11 +22,7 @@ module _ (here : Here) (own : Own) (op : Pending) where
   fill_begun moving room = elim room
       as (λ b. begun here own (fill_operation here own.pairs.next moving) b ≡ opens_fill here own moving b) [ true ↦ refl | false ↦ refl ]
 
-  pub fill_is : (moving : Moving) (cell : Cell) → cell ≡ cell_of moving.key → op ≡ fill_operation here own.pairs.next moving
-      → is_lead here.state here.me cell ≡ true → is_under_way own cell ≡ false
-      → has_epoch (chain_in own.store.chains (cell_of moving.key)) moving.key.epoch ≡ false → has_proposed here.state own cell ≡ false
-      → begun here own op (nat_lt 0 (free_of own.store)) ≡ on_fill here own moving
-  unfolding on_fill
-  fill_is moving cell at_cell is leads busy has back =
+  pub fill_is : (moving : Moving) → op ≡ fill_operation here own.pairs.next moving
+      → begun here own op (nat_lt 0 (free_of own.store)) ≡ opens_fill here own moving (nat_lt 0 (free_of own.store))
+  fill_is moving is =
       ap (λ (o : Pending). begun here own o (nat_lt 0 (free_of own.store))) is ∙ fill_begun moving (nat_lt 0 (free_of own.store))
-      ∙ sym (rw (rw at_cell at leads, rw at_cell at busy, has, rw at_cell at back) refl)

@@ -1,14 +1,16 @@
 //! A client's write at the lead.
 
-ghost use Rattle.std.specs.Prelude.{◌≡◌, ◌||◌, Err, IfOk};
+ghost use Rattle.std.specs.Prelude.{◌≡◌, ◌||◌, nat_lt, None, Err, IfOk};
 ghost use Rattle.petal_table.specs.Table.{at};
 ghost use Rattle.petal_rules.specs.State.{held};
-ghost use Rattle.petal_rules.specs.Store.{cell_cmp};
+ghost use Rattle.petal_rules.specs.Store.{cell_cmp, free_of};
 ghost use Rattle.petal_rules.specs.Writes as writes;
+ghost use Rattle.kept_chains.specs.Kept.{store_of};
 ghost use Rattle.pair_side.specs.declared.error.WorkError.TheVariants as error;
 ghost use Rattle.pair_side.specs.Side.{own_of, HasTicketsAt};
 ghost use Rattle.copy_memory.specs.Copies.{has_proposed_in};
 ghost use Rattle.pair_side.specs.Done.{HasVersions, IsDone};
+ghost use Rattle.lead_write.specs.Opened.{begun};
 ghost use Rattle.lead_write.specs.Wanted.{wanted};
 
 use crate::open::opens;
@@ -79,6 +81,24 @@ fn is_kept_back(here: &Here, side: &Side, cell: Cell) -> bool
     is_writes_held(here.held(cell)) || side.copies.has_proposed(here, cell)
 }
 
+/// Nothing is under way on the write's block, and its operation is opened under the next number.
+fn opens_write<D: Disk>(
+    here: &Here,
+    side: &mut Side,
+    store: &mut Store<D>,
+    want: &Wanted,
+) -> Result<Done, WorkError>
+    requires tickets { HasTicketsAt side.old store.old }
+    requires versions { HasVersions store.old }
+    requires none { at cell_cmp side.old.pending want.now.cell ≡ None }
+    ensures job { IsDone D.Disk here.now side.old side.new store.old store.new result
+        (begun here.now (own_of side.old store.old) (writes.operation here.now side.old.next (wanted want.now)) (nat_lt 0 (free_of (store_of store.old)))) }
+    ensures same { result ≡ Err error.NoMemory → store.new ≡ store.old }
+{
+    let op = operation(here, side.next, want)?;
+    opens(here, side, store, &op)
+}
+
 /// A write that is not finished. What is kept back, or waits for what is under way on its block, is refused, and ends nothing.
 fn takes_newer<D: Disk>(
     here: &Here,
@@ -102,8 +122,7 @@ fn takes_newer<D: Disk>(
     if side.is_under_way(want.cell) {
         return says(here, side, store, client, Body::BlockBusy { seq: want.seq });
     }
-    let op = operation(here, side.next, want)?;
-    opens(here, side, store, &op)
+    opens_write(here, side, store, want)
 }
 
 /// A write is taken by the cell's lead, once.

@@ -1,6 +1,6 @@
 //! Entries of the log that are known, and that are applied.
 
-ghost use Rattle.std.specs.Prelude.{◌≡◌, ◌++◌, ◌∷◌, [], option_map, IfOk, IfSome, OnOk, OnErr};
+ghost use Rattle.std.specs.Prelude.{◌≡◌, ◌+◌, ◌++◌, ◌∷◌, [], length, option_map, IfOk, IfSome, OnOk, OnErr};
 ghost use Rattle.petal_rules.specs.Entries as rules;
 ghost use Rattle.petal_rules.specs.Log.{Log, known, next_place};
 ghost use Rattle.petal_state.specs.Command.{after};
@@ -43,20 +43,23 @@ fn state_with(alloc: Global, state: &GlobalState, entry: &Command) -> Result<Glo
     state.next(alloc, entry)
 }
 
-/// One entry more: the state with it, and it among those applied. Gives the state before.
+/// One entry more: the state with it, and it among those applied. Gives it, with the state before.
 fn enter(
     state: &mut GlobalState,
     applied: &mut Sequence<Command>,
-    entry: &Command,
-    next: GlobalState,
-) -> Result<GlobalState, NoMemory>
-    ensures before { IfOk result (λ before. before ≡ state.old) }
-    ensures state { OnOk result (state.new ≡ next) }
-    ensures applied { OnOk result (applied.new ≡ applied.old ++ entry.now ∷ []) }
+    next: Next,
+) -> Result<Entered, NoMemory>
+    ensures entry { IfOk result (λ entered. entered.entry ≡ next.entry) }
+    ensures before { IfOk result (λ entered. entered.before ≡ state.old) }
+    ensures state { OnOk result (state.new ≡ next.state) }
+    ensures applied { OnOk result (applied.new ≡ applied.old ++ next.entry ∷ []) }
     ensures err { OnErr result ((state.new ≡ state.old) × (applied.new ≡ applied.old)) }
 {
-    applied.push(entry.again())?;
-    Ok(std::mem::replace(state, next))
+    applied.push(next.entry.again())?;
+    Ok(Entered {
+        entry: next.entry,
+        before: std::mem::replace(state, next.state),
+    })
 }
 
 /// The commands known for this place and those after it, up to the first that is not known, and so many at most.
@@ -84,6 +87,13 @@ pub fn known_run<D: Disk>(
 }
 
 impl LogSide {
+    /// The place after that of the next entry.
+    fn place_after_next(&self) -> Result<u32, NoMemory>
+        ensures { IfOk result (λ place. place ≡ length self.now.applied + 2) }
+    {
+        self.next_place()?.checked_add(1).ok_or(NoMemory)
+    }
+
     /// The next entry, where it is known, with the state that it makes.
     ///
     /// # Errors
@@ -124,27 +134,20 @@ impl LogSide {
         ensures before { IfOk result (λ out. IfSome out.1 (λ entered. entered.before ≡ state_of self.old)) }
         ensures err { OnErr result (self.new ≡ self.old) }
     {
-        let place = self.next_place()?;
-        let Some(
-            Next {
-                entry,
-                state: with_it,
-            },
-        ) = found
-        else {
+        let Some(found) = found else {
             return Ok((only(Sequence::new(alloc)), None));
         };
-        let next = place.checked_add(1).ok_or(NoMemory)?;
-        let before = enter(&mut self.state, &mut self.applied, &entry, with_it)?;
+        let next = self.place_after_next()?;
+        let entered = enter(&mut self.state, &mut self.applied, found)?;
         self.proposer.phase = Phase::Idle;
         self.refused = 0;
         let wants = std::mem::replace(&mut self.wants, Sequence::new(alloc));
-        self.wants = but(&entry, wants);
+        self.wants = but(&entered.entry, wants);
         let done = LogDone {
             letters: Sequence::new(alloc),
             apply: state.chosen(next).is_some(),
             again: None,
         };
-        Ok((done, Some(Entered { entry, before })))
+        Ok((done, Some(entered)))
     }
 }

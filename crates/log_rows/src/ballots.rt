@@ -46,33 +46,52 @@ fn accepted(ballot: Ballot) -> Pax {
     Pax::Accepted { place: 1, ballot }
 }
 
-// Server 1's proposer has started with another command, and server 0 reports the first one.
-fn hear_reports(rt: &impl Abort, proposer: &mut Proposer) {
+fn is_nothing(heard: &Heard) -> bool {
+    matches!(heard, Heard::Nothing)
+}
+
+fn is_asked(heard: &Heard) -> bool {
+    matches!(heard, Heard::Send(letter) if *letter == accept(SECOND))
+}
+
+// Server 1's proposer starts with another command than the one that is reported to it.
+fn start(rt: &impl Abort, proposer: &mut Proposer) {
     let prepare = Pax::Prepare {
         place: 1,
         ballot: SECOND,
     };
     assert!(rt; proposer.start(1, 1, leave(2)) == prepare);
+}
+
+fn hear_reports(rt: &impl Abort, proposer: &mut Proposer) {
     let reports = promise(SECOND, Some((FIRST, leave(1))));
-    assert!(rt; matches!(&proposer.hear(0, &reports), Heard::Nothing));
-    assert!(rt; matches!(&proposer.hear(0, &reports), Heard::Nothing));
-    assert!(rt; matches!(&proposer.hear(3, &promise(SECOND, None)), Heard::Nothing));
-    let asked = proposer.hear(1, &promise(SECOND, None));
-    assert!(rt; matches!(&asked, Heard::Send(letter) if *letter == accept(SECOND)));
+    assert!(rt; is_nothing(&proposer.hear(0, &reports)));
+    assert!(rt; is_nothing(&proposer.hear(0, &reports)));
+}
+
+fn hear_promises(rt: &impl Abort, proposer: &mut Proposer) {
+    let promises = promise(SECOND, None);
+    assert!(rt; is_nothing(&proposer.hear(3, &promises)));
+    assert!(rt; is_asked(&proposer.hear(1, &promises)));
+}
+
+fn is_chosen(heard: &Heard) -> bool {
+    matches!(heard, Heard::Chosen { place: 1, command } if *command == leave(1))
 }
 
 fn hear_acceptances(rt: &impl Abort, proposer: &mut Proposer) {
     let accepted = accepted(SECOND);
-    assert!(rt; matches!(&proposer.hear(1, &accepted), Heard::Nothing));
-    let chosen = proposer.hear(2, &accepted);
-    assert!(rt; matches!(&chosen, Heard::Chosen { place: 1, command } if *command == leave(1)));
-    assert!(rt; matches!(&proposer.hear(0, &accepted), Heard::Nothing));
+    assert!(rt; is_nothing(&proposer.hear(1, &accepted)));
+    assert!(rt; is_chosen(&proposer.hear(2, &accepted)));
+    assert!(rt; is_nothing(&proposer.hear(0, &accepted)));
 }
 
 #[test]
 fn reported_value_is_proposed_again(rt: HostRuntime) {
     let mut proposer = Proposer::new(1, 3);
+    start(&rt, &mut proposer);
     hear_reports(&rt, &mut proposer);
+    hear_promises(&rt, &mut proposer);
     hear_acceptances(&rt, &mut proposer);
 }
 
@@ -105,6 +124,10 @@ fn store(alloc: Global) -> Result<StateStore<MemDisk>, Fail> {
     }
 }
 
+fn promises_the_first<D: Disk>(store: &mut StateStore<D>) -> bool {
+    on_prepare(store, 1, FIRST) == Ok(promise(FIRST, None))
+}
+
 // Server 0 starts its ballot with one command; 0 and 2 promise, and 0 alone accepts.
 fn first_ballot<D: Disk>(
     rt: &impl Abort,
@@ -112,9 +135,30 @@ fn first_ballot<D: Disk>(
     two: &mut StateStore<D>,
 ) -> Result<(), Fail> {
     zero.promise(1, FIRST)?;
-    assert!(rt; on_prepare(zero, 1, FIRST) == Ok(promise(FIRST, None)));
-    assert!(rt; on_prepare(two, 1, FIRST) == Ok(promise(FIRST, None)));
+    assert!(rt; promises_the_first(zero));
+    assert!(rt; promises_the_first(two));
     assert!(rt; on_accept(zero, 1, FIRST, &leave(1)) == Ok(accepted(FIRST)));
+    Ok(())
+}
+
+fn report<D: Disk>(
+    rt: &impl Abort,
+    zero: &mut StateStore<D>,
+    proposer: &mut Proposer,
+) -> Result<(), Fail> {
+    let report = on_prepare(zero, 1, SECOND)?;
+    assert!(rt; report == promise(SECOND, Some((FIRST, leave(1)))));
+    assert!(rt; is_nothing(&proposer.hear(0, &report)));
+    Ok(())
+}
+
+fn own_promise<D: Disk>(
+    rt: &impl Abort,
+    one: &mut StateStore<D>,
+    proposer: &mut Proposer,
+) -> Result<(), Fail> {
+    let own = on_prepare(one, 1, SECOND)?;
+    assert!(rt; is_asked(&proposer.hear(1, &own)));
     Ok(())
 }
 
@@ -124,17 +168,11 @@ fn second_ballot<D: Disk>(
     zero: &mut StateStore<D>,
     one: &mut StateStore<D>,
 ) -> Result<(), Fail> {
-    let mut proposer = Proposer::new(1, 3);
     one.promise(1, SECOND)?;
+    let mut proposer = Proposer::new(1, 3);
     let _ = proposer.start(1, 1, leave(2));
-    let report = on_prepare(zero, 1, SECOND)?;
-    assert!(rt; report == promise(SECOND, Some((FIRST, leave(1)))));
-    assert!(rt; matches!(&proposer.hear(0, &report), Heard::Nothing));
-    let own = on_prepare(one, 1, SECOND)?;
-    assert!(rt;
-        matches!(&proposer.hear(1, &own), Heard::Send(letter) if *letter == accept(SECOND))
-    );
-    Ok(())
+    report(rt, zero, &mut proposer)?;
+    own_promise(rt, one, &mut proposer)
 }
 
 fn late_letter<D: Disk>(rt: &impl Abort, zero: &mut StateStore<D>) {
@@ -146,14 +184,24 @@ fn late_letter<D: Disk>(rt: &impl Abort, zero: &mut StateStore<D>) {
     assert!(rt; on_accept(zero, 1, FIRST, &leave(1)) == Ok(refuse));
 }
 
-fn two_ballots<D: Disk>(
-    rt: &impl Abort,
-    zero: &mut StateStore<D>,
-    one: &mut StateStore<D>,
-    two: &mut StateStore<D>,
-) -> Result<(), Fail> {
-    first_ballot(rt, zero, two)?;
-    second_ballot(rt, zero, one)?;
+// Each store is lent and dropped before its owner leaves: the prover pays for it at each exit that drops it.
+fn with_two(rt: &impl Abort, alloc: Global, zero: &mut StateStore<MemDisk>) -> Result<(), Fail> {
+    let mut two = store(alloc)?;
+    let told = first_ballot(rt, zero, &mut two);
+    drop(two);
+    told
+}
+
+fn with_one(rt: &impl Abort, alloc: Global, zero: &mut StateStore<MemDisk>) -> Result<(), Fail> {
+    let mut one = store(alloc)?;
+    let told = second_ballot(rt, zero, &mut one);
+    drop(one);
+    told
+}
+
+fn two_ballots(rt: &impl Abort, alloc: Global, zero: &mut StateStore<MemDisk>) -> Result<(), Fail> {
+    with_two(rt, alloc, zero)?;
+    with_one(rt, alloc, zero)?;
     late_letter(rt, zero);
     Ok(())
 }
@@ -161,7 +209,7 @@ fn two_ballots<D: Disk>(
 #[test]
 fn late_ballot_is_refused(rt: HostRuntime) -> Result<(), Fail> {
     let mut zero = store(rt.alloc())?;
-    let mut one = store(rt.alloc())?;
-    let mut two = store(rt.alloc())?;
-    two_ballots(&rt, &mut zero, &mut one, &mut two)
+    let told = two_ballots(&rt, rt.alloc(), &mut zero);
+    drop(zero);
+    told
 }

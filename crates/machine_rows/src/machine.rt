@@ -41,15 +41,37 @@ fn one_disk(alloc: Global) -> Result<Machine, Fail> {
     Ok(machine)
 }
 
-fn write_sevens(rt: &impl Abort, alloc: Global, machine: &mut Machine) -> Result<(), Fail> {
-    machine.apply(alloc, look(alloc, None, 0)?)?;
-    machine.apply(alloc, Event::Begin(write(alloc, 0, 7)?))?;
-    let early = machine.apply(alloc, Event::End(write(alloc, 0, 7)?, WriteEnd::Ok));
-    assert!(rt; early == Err(EventError::NotAllowed));
-    machine.apply(alloc, Event::Take(write(alloc, 0, 7)?))?;
-    machine.apply(alloc, Event::End(write(alloc, 0, 7)?, WriteEnd::Ok))?;
-    machine.apply(alloc, look(alloc, None, 7)?)?;
+fn begin(alloc: Global, machine: &mut Machine, client: u8, x: u8) -> Result<(), Fail> {
+    machine.apply(alloc, Event::Begin(write(alloc, client, x)?))?;
     Ok(())
+}
+
+fn take(alloc: Global, machine: &mut Machine, client: u8, x: u8) -> Result<(), Fail> {
+    machine.apply(alloc, Event::Take(write(alloc, client, x)?))?;
+    Ok(())
+}
+
+fn end(alloc: Global, machine: &mut Machine, x: u8) -> Result<Result<(), EventError>, Fail> {
+    let event = Event::End(write(alloc, 0, x)?, WriteEnd::Ok);
+    Ok(machine.apply(alloc, event))
+}
+
+fn see(alloc: Global, machine: &mut Machine, snap: Option<Name>, x: u8) -> Result<(), Fail> {
+    machine.apply(alloc, look(alloc, snap, x)?)?;
+    Ok(())
+}
+
+fn end_of_sevens(alloc: Global, machine: &mut Machine) -> Result<bool, Fail> {
+    let early = end(alloc, machine, 7)?;
+    take(alloc, machine, 0, 7)?;
+    Ok(early == Err(EventError::NotAllowed) && end(alloc, machine, 7)?.is_ok())
+}
+
+fn write_sevens(rt: &impl Abort, alloc: Global, machine: &mut Machine) -> Result<(), Fail> {
+    see(alloc, machine, None, 0)?;
+    begin(alloc, machine, 0, 7)?;
+    assert!(rt; end_of_sevens(alloc, machine)?);
+    see(alloc, machine, None, 7)
 }
 
 #[test]
@@ -59,14 +81,13 @@ fn a_block_of_sevens(rt: HostRuntime) -> Result<(), Fail> {
 }
 
 fn write_at_once(alloc: Global, machine: &mut Machine) -> Result<(), Fail> {
-    machine.apply(alloc, Event::Begin(write(alloc, 0, 1)?))?;
-    machine.apply(alloc, Event::Begin(write(alloc, 1, 2)?))?;
-    machine.apply(alloc, Event::Take(write(alloc, 0, 1)?))?;
-    machine.apply(alloc, Event::Take(write(alloc, 1, 2)?))?;
+    begin(alloc, machine, 0, 1)?;
+    begin(alloc, machine, 1, 2)?;
+    take(alloc, machine, 0, 1)?;
+    take(alloc, machine, 1, 2)?;
     // The first write was held once, which is enough for its answer.
-    machine.apply(alloc, Event::End(write(alloc, 0, 1)?, WriteEnd::Ok))?;
-    machine.apply(alloc, look(alloc, None, 2)?)?;
-    Ok(())
+    end(alloc, machine, 1)??;
+    see(alloc, machine, None, 2)
 }
 
 #[test]
@@ -75,18 +96,25 @@ fn two_clients_write_one_block(rt: HostRuntime) -> Result<(), Fail> {
     write_at_once(rt.alloc(), &mut machine)
 }
 
-fn freeze_and_write(alloc: Global, machine: &mut Machine) -> Result<(), Fail> {
-    let snap = Name::read(b"s1").ok_or("a name")?;
-    let freeze = Event::Freeze {
+fn s1() -> Result<Name, Fail> {
+    Ok(Name::read(b"s1").ok_or("a name")?)
+}
+
+fn freeze(alloc: Global, machine: &mut Machine) -> Result<(), Fail> {
+    let event = Event::Freeze {
         disk: vol()?,
-        snap: snap.again(),
+        snap: s1()?,
     };
-    machine.apply(alloc, freeze)?;
-    machine.apply(alloc, Event::Begin(write(alloc, 0, 1)?))?;
-    machine.apply(alloc, Event::Take(write(alloc, 0, 1)?))?;
-    machine.apply(alloc, look(alloc, Some(snap), 0)?)?;
-    machine.apply(alloc, look(alloc, None, 1)?)?;
+    machine.apply(alloc, event)?;
     Ok(())
+}
+
+fn freeze_and_write(alloc: Global, machine: &mut Machine) -> Result<(), Fail> {
+    freeze(alloc, machine)?;
+    begin(alloc, machine, 0, 1)?;
+    take(alloc, machine, 0, 1)?;
+    see(alloc, machine, Some(s1()?), 0)?;
+    see(alloc, machine, None, 1)
 }
 
 #[test]

@@ -5,16 +5,21 @@ use petal_table::Table;
 use std::process::Abort;
 use std::test::Fail;
 
-fn put_and_remove(rt: &impl Abort, table: &mut Table<u64, u8>) -> Result<(), NoMemory> {
+fn put_three(table: &mut Table<u64, u8>) -> Result<(), NoMemory> {
     table.put(5, 50)?;
     table.put(3, 30)?;
-    table.put(5, 51)?;
+    table.put(5, 51)
+}
+
+fn find(rt: &impl Abort, table: &Table<u64, u8>) {
     assert_eq!(rt; table.len(), 2);
     assert_eq!(rt; table.get(&5).copied(), Some(51));
     assert_eq!(rt; table.get(&4).copied(), None);
+}
+
+fn remove(rt: &impl Abort, table: &mut Table<u64, u8>) {
     assert_eq!(rt; table.remove(&5), Some(51));
     assert_eq!(rt; table.remove(&5), None);
-    Ok(())
 }
 
 fn insert(rt: &impl Abort, table: &mut Table<u64, u8>) {
@@ -26,27 +31,33 @@ fn insert(rt: &impl Abort, table: &mut Table<u64, u8>) {
 #[test]
 fn rows_come_and_go(rt: HostRuntime) -> Result<(), Fail> {
     let mut table: Table<u64, u8> = Table::new(rt.alloc());
-    put_and_remove(&rt, &mut table)?;
+    put_three(&mut table)?;
+    find(&rt, &table);
+    remove(&rt, &mut table);
     insert(&rt, &mut table);
     Ok(())
 }
 
-fn replace(rt: &impl Abort, table: &mut Table<u64, u8>) -> Result<(), NoMemory> {
+fn replace(table: &mut Table<u64, u8>) -> Result<(), NoMemory> {
     table.put(3, 30)?;
     table.put(5, 50)?;
     if table.get(&5).is_some() {
         table.replace(5, 51);
     }
+    Ok(())
+}
+
+fn find_replaced(rt: &impl Abort, table: &Table<u64, u8>) {
     assert_eq!(rt; table.get(&5).copied(), Some(51));
     assert_eq!(rt; table.get(&3).copied(), Some(30));
     assert_eq!(rt; table.len(), 2);
-    Ok(())
 }
 
 #[test]
 fn a_row_is_replaced(rt: HostRuntime) -> Result<(), Fail> {
     let mut table: Table<u64, u8> = Table::new(rt.alloc());
-    replace(&rt, &mut table)?;
+    replace(&mut table)?;
+    find_replaced(&rt, &table);
     Ok(())
 }
 

@@ -1,12 +1,13 @@
 //! A server and its two stores.
 
-ghost use Rattle.std.specs.Prelude.{◌≡◌, ◌∷◌, ◌&&◌, [], true, IfOk, OnOk, OnErr};
+ghost use Rattle.std.specs.Prelude.{◌≡◌, ◌∷◌, ◌&&◌, [], true, false, IfOk, OnOk, OnErr};
 ghost use Rattle.log_side.specs.Done as logs;
 ghost use Rattle.petal_paxos.specs.declared.record.StateRecord.TheVariants.{Inc};
 ghost use Rattle.petal_rules.specs.Server.{first_server};
 ghost use Rattle.petal_rules.specs.declared.step.Step.TheVariants.{Blank, Boot, Stop, Tick, Work};
 ghost use Rattle.world_desks.specs.Desks.{IsFault, acted_at, as_end, boot_end, end_in, ended, job_ended, may_take};
 ghost use Rattle.world_desks.specs.declared.step_end.StepEnd.TheVariants.{Done};
+ghost use Rattle.server_store.specs.Shown.{Holds};
 ghost use Rattle.server_store.specs.Slots.{slot_start};
 ghost use Rattle.server_recovery.specs.Server.{HasFailed, left_at, site_of, whole_after, whole_of};
 
@@ -79,6 +80,26 @@ fn first_state(alloc: Global) -> Result<StateStore<Device>, NoMemory>
     }
 }
 
+/// The store on a blank device that has exactly the bytes that so many slots need.
+fn first_store(alloc: Global, slots: u32) -> Result<Store<Device>, NoMemory>
+    ensures blank { IfOk result (λ store. store ≡ record {
+      entries = [];
+      tickets = [];
+      marks = [];
+      slots = slots;
+      fresh = false;
+      log = record { fresh = false; records = []; region = store.log.region };
+      disk = store.disk;
+    }) }
+    ensures holds { IfOk result (λ store. Holds store (⟦<Planned<MemDisk> as Disk>⟧.seen store.disk) (⟦<Planned<MemDisk> as Disk>⟧.may_leave store.disk)) }
+    ensures size { IfOk result (λ store. ⟦<Planned<MemDisk> as Disk>⟧.size store.disk ≡ slot_start slots) }
+{
+    match Store::format(alloc, blank_device(alloc, slots)?, slots, false) {
+        Ok(store) => Ok(store),
+        Err(_) => Err(NoMemory),
+    }
+}
+
 impl MemServer {
     /// The first incarnation of one of so many servers, with a blank device that has exactly the bytes that so many slots need,
     /// and a state device of its own.
@@ -95,9 +116,7 @@ impl MemServer {
         ensures device { IfOk result (λ server. ⟦<Planned<MemDisk> as Disk>⟧.size server.store.disk ≡ slot_start slots) }
     {
         let state = first_state(alloc)?;
-        let Ok(store) = Store::format(alloc, blank_device(alloc, slots)?, slots, false) else {
-            return Err(NoMemory);
-        };
+        let store = first_store(alloc, slots)?;
         // made last, since nothing can fail any more then
         let core = ServerCore::start(alloc, me, servers)?;
         Ok(MemServer {

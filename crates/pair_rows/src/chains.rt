@@ -60,9 +60,13 @@ fn set_two_apart<D: Disk>(store: &mut Store<D>) -> Result<(bool, bool), NoMemory
     Ok((set_apart(store)?.is_some(), set_apart(store)?.is_some()))
 }
 
+// The same of a new store.
+fn set_two_of_new_apart(alloc: Global) -> Result<(bool, bool), Fail> {
+    Ok(set_two_apart(&mut store(alloc)?)?)
+}
+
 #[test]
 fn sets_the_last_slot_apart(rt: HostRuntime) -> Result<(), Fail> {
-    let mut store = store(rt.alloc())?;
-    assert!(rt; set_two_apart(&mut store)? == (true, false));
+    assert!(rt; set_two_of_new_apart(rt.alloc())? == (true, false));
     Ok(())
 }

@@ -11,7 +11,12 @@ const NEAR: Cell = Cell { map: 0, block: 5 };
 
 const OTHER: Cell = Cell { map: 1, block: 130 };
 
+fn sevens(alloc: Global) -> Result<SharedBlock, NoMemory> {
+    SharedBlock::new(alloc, Block::fill(alloc, 7)?)
+}
+
 fn pending(alloc: Global, op: u64, kind: OpKind, cell: Cell) -> Result<Pending, NoMemory> {
+    let bytes = sevens(alloc)?;
     Ok(Pending {
         op,
         kind,
@@ -34,7 +39,7 @@ fn pending(alloc: Global, op: u64, kind: OpKind, cell: Cell) -> Result<Pending, 
         client: 0,
         seq: 1,
         rev: 1,
-        bytes: SharedBlock::new(alloc, Block::fill(alloc, 7)?)?,
+        bytes,
     })
 }
 

@@ -16,14 +16,28 @@ fn put<D: Disk>(
     store.put(ticket, key, version, block)
 }
 
+fn put_sevens<D: Disk>(
+    alloc: Global,
+    store: &mut Store<D>,
+    key: Key,
+    version: u64,
+) -> Result<(), Fail> {
+    let sevens = Block::fill(alloc, 7)?;
+    put(store, key, version, &sevens)?;
+    Ok(())
+}
+
+fn two_slots(alloc: Global) -> Result<Store<MemDisk>, Fail> {
+    let disk = MemDisk::new(alloc, 4_329_472)?;
+    match Store::format(alloc, disk, 2, false) {
+        Ok(store) => Ok(store),
+        Err((_, error)) => Err(error.into()),
+    }
+}
+
 /// Two slots, and in one of them sevens as this version of this entry.
 pub fn with_sevens(alloc: Global, key: Key, version: u64) -> Result<Store<MemDisk>, Fail> {
-    let sevens = Block::fill(alloc, 7)?;
-    let disk = MemDisk::new(alloc, 4_329_472)?;
-    let mut store = match Store::format(alloc, disk, 2, false) {
-        Ok(store) => store,
-        Err((_, error)) => return Err(error.into()),
-    };
-    put(&mut store, key, version, &sevens)?;
+    let mut store = two_slots(alloc)?;
+    put_sevens(alloc, &mut store, key, version)?;
     Ok(store)
 }

@@ -98,26 +98,27 @@ fn told<'a>(words: &'a [&'a str]) -> Result<Act<'a>, usize> {
     Ok(Act::Told(words))
 }
 
-// `fill 1` or `fill 1|2`.
-fn fill(word: &str) -> Result<Want, usize> {
-    match word.split_once('|') {
-        None => Ok(Want::Fill(byte(word, 4)?)),
-        Some((one, other)) => Ok(Want::Either(byte(one, 4)?, byte(other, 4)?)),
+// What is said of an answer in one word.
+fn want_by(word: &str) -> Option<Want> {
+    match word {
+        "ok" => Some(Want::Ok),
+        "nospace" => Some(Want::NoSpace),
+        "nodisk" => Some(Want::NoDisk),
+        "nosnap" => Some(Want::NoSnap),
+        "unavailable" => Some(Want::Unavailable),
+        "exists" => Some(Want::Exists),
+        "moving" => Some(Want::Moving),
+        "failed" => Some(Want::DoesNotRun),
+        "open" => Some(Want::Open),
+        _ => None,
     }
 }
 
 fn want_of(words: &[&str]) -> Result<Want, usize> {
     match *words {
-        ["ok"] => Ok(Want::Ok),
-        ["nospace"] => Ok(Want::NoSpace),
-        ["nodisk"] => Ok(Want::NoDisk),
-        ["nosnap"] => Ok(Want::NoSnap),
-        ["unavailable"] => Ok(Want::Unavailable),
-        ["exists"] => Ok(Want::Exists),
-        ["moving"] => Ok(Want::Moving),
-        ["failed"] => Ok(Want::DoesNotRun),
-        ["open"] => Ok(Want::Open),
-        ["fill", word] => fill(word),
+        [word] => want_by(word).ok_or(3),
+        ["fill", byte_word] => Ok(Want::Fill(byte(byte_word, 4)?)),
+        ["fill", one, "or", other] => Ok(Want::Either(byte(one, 4)?, byte(other, 6)?)),
         ["as", line] => Ok(Want::As(number(line, 4)?)),
         _ => Err(3),
     }
@@ -195,8 +196,32 @@ fn marks<'a>(who: &str, map: &str, blocks: &'a [&'a str]) -> Result<Act<'a>, usi
     Ok(Act::Holds(server(who, 1)?, Holding::Marks(number(map, 3)?, blocks)))
 }
 
-// A step of one actor, or what a server has: what follows its name.
-fn step_of<'a>(who: &str, words: &'a [&'a str]) -> Result<Act<'a>, usize> {
+// A step of one actor that is told in one word.
+fn step_by<'a>(who: &str, verb: &str) -> Result<Act<'a>, usize> {
+    let server = server(who, 1);
+    match verb {
+        "works" => Ok(Act::Work(server?)),
+        "ticks" => Ok(Act::Tick(actor(who, 1)?)),
+        "stops" => Ok(Act::Stop(server?)),
+        "blanks" => Ok(Act::Blank(server?)),
+        "boots" => Ok(Act::Boot(server?)),
+        _ => Err(2),
+    }
+}
+
+// A step of one actor that is told in two words.
+fn step_with<'a>(who: &str, verb: &str, word: &str) -> Result<Act<'a>, usize> {
+    match verb {
+        "calls" => Ok(Act::Call(client(who, 1)?, number(word, 3)?)),
+        "works" if word == "off" => Ok(Act::WorkOff(server(who, 1)?)),
+        "disarms" => Ok(Act::Arm(server(who, 1)?, device(word, 3)?, None)),
+        "shows" => Ok(Act::Show(server(who, 1)?, number(word, 3)?, 0)),
+        _ => Err(2),
+    }
+}
+
+// What a server has, or shows in a later round.
+fn longer_step<'a>(who: &str, words: &[&str]) -> Result<Act<'a>, usize> {
     match *words {
         ["has", word, "fill", fill] => {
             let held = Holding::Fill(cell(word, 3)?, byte(fill, 5)?);
@@ -206,17 +231,6 @@ fn step_of<'a>(who: &str, words: &'a [&'a str]) -> Result<Act<'a>, usize> {
             server(who, 1)?,
             Holding::Entries(number(entries, 3)?),
         )),
-        ["marks", map, ..] => marks(who, map, &words[2..]),
-        ["calls", line] => Ok(Act::Call(client(who, 1)?, number(line, 3)?)),
-        ["works"] => Ok(Act::Work(server(who, 1)?)),
-        ["works", "off"] => Ok(Act::WorkOff(server(who, 1)?)),
-        ["ticks"] => Ok(Act::Tick(actor(who, 1)?)),
-        ["stops"] => Ok(Act::Stop(server(who, 1)?)),
-        ["blanks"] => Ok(Act::Blank(server(who, 1)?)),
-        ["boots"] => Ok(Act::Boot(server(who, 1)?)),
-        ["arms", which, kind, at, ..] => armed(who, which, kind, at, &words[4..]),
-        ["disarms", which] => Ok(Act::Arm(server(who, 1)?, device(which, 3)?, None)),
-        ["shows", line] => Ok(Act::Show(server(who, 1)?, number(line, 3)?, 0)),
         ["shows", line, "in", round] => Ok(Act::Show(
             server(who, 1)?,
             number(line, 3)?,
@@ -226,22 +240,47 @@ fn step_of<'a>(who: &str, words: &'a [&'a str]) -> Result<Act<'a>, usize> {
     }
 }
 
+// A step of one actor, or what a server has: what follows its name.
+fn step_of<'a>(who: &str, words: &'a [&'a str]) -> Result<Act<'a>, usize> {
+    match *words {
+        [verb] => step_by(who, verb),
+        ["marks", map, ..] => marks(who, map, &words[2..]),
+        ["arms", which, kind, at, ..] => armed(who, which, kind, at, &words[4..]),
+        [verb, word] => step_with(who, verb, word),
+        _ => longer_step(who, words),
+    }
+}
+
+// Two words that begin with no actor.
+fn two_words<'a>(verb: &'a str, word: &'a str) -> Result<Act<'a>, usize> {
+    match verb {
+        "play" if word == "out" => Ok(Act::PlayOut),
+        "made" => Ok(Act::Made(number(word, 2)?)),
+        "failed" => Ok(Act::Failed(number(word, 2)?)),
+        "stopped" => Ok(Act::Stopped(number(word, 2)?)),
+        "committed" => Ok(Act::Committed(number(word, 2)?)),
+        kind => Ok(Act::Hand(mail_of(kind, word, 1)?)),
+    }
+}
+
+// Words of all that is no step of one actor.
+fn general<'a>(words: &'a [&'a str]) -> Result<Act<'a>, usize> {
+    match *words {
+        ["wait"] => Ok(Act::Wait),
+        ["agree"] => Ok(Act::Agree(None)),
+        [verb, word] => two_words(verb, word),
+        ["go", "on", count] => Ok(Act::GoOn(number(count, 3)?)),
+        ["agree", "without", who] => Ok(Act::Agree(Some(actor(who, 3)?))),
+        _ => longer(words),
+    }
+}
+
 /// What the words of a step ask for, or the place of the first word that is none of the form.
 pub fn act_of<'a>(words: &'a [&'a str]) -> Result<Act<'a>, usize> {
     match *words {
         ["told", ..] => told(&words[1..]),
-        ["wait"] => Ok(Act::Wait),
-        ["play", "out"] => Ok(Act::PlayOut),
-        ["go", "on", count] => Ok(Act::GoOn(number(count, 3)?)),
-        ["agree"] => Ok(Act::Agree(None)),
-        ["agree", "without", who] => Ok(Act::Agree(Some(actor(who, 3)?))),
-        ["made", count] => Ok(Act::Made(number(count, 2)?)),
-        ["failed", count] => Ok(Act::Failed(number(count, 2)?)),
-        ["stopped", count] => Ok(Act::Stopped(number(count, 2)?)),
-        ["committed", count] => Ok(Act::Committed(number(count, 2)?)),
         [who, ..] if actor(who, 1).is_ok() => step_of(who, &words[1..]),
-        [kind, way] => Ok(Act::Hand(mail_of(kind, way, 1)?)),
-        _ => longer(words),
+        _ => general(words),
     }
 }
 

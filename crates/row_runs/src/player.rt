@@ -131,27 +131,29 @@ impl<H: Host> Player<H> {
 
     // The server works until its queue is empty. Gives whether it had a job.
     fn work_off(&mut self, alloc: Global, server: ServerId) -> Result<bool, NoMemory> {
-        let mut had = false;
-        for _ in 0..MOST_JOBS {
+        for jobs in 0..MOST_JOBS {
             if !self.run.work(alloc, server)? {
-                return Ok(had);
+                return Ok(0 < jobs);
             }
-            had = true;
         }
         Ok(false)
+    }
+
+    // Whether a letter to one of these is on its way there.
+    fn waits_for(&self, at: usize, actors: &[Actor]) -> bool {
+        match self.run.sent.get(at) {
+            Some(letter) => actors.contains(&letter.get().to) && !self.is_gone(at),
+            None => false,
+        }
     }
 
     // Each letter to one of these that is on its way is handed over.
     fn hand_all(&mut self, alloc: Global, actors: &[Actor]) -> Result<(), NoMemory> {
         for at in 0..self.run.sent.len() {
-            if self.is_gone(at) {
-                continue;
-            }
-            if let Some(letter) = self.letter(Some(at))? {
-                if actors.contains(&letter.get().to) {
-                    self.remove(at)?;
-                    self.run.deliver(alloc, letter)?;
-                }
+            if self.waits_for(at, actors) {
+                self.remove(at)?;
+                let letter = self.letter(Some(at))?;
+                self.deliver(alloc, letter)?;
             }
         }
         Ok(())

@@ -32,7 +32,7 @@
 //! |---|---|
 //! | `line 3 ok`, `line 3 nospace`, `line 3 nodisk`, `line 3 nosnap`, `line 3 unavailable`, `line 3 exists`, `line 3 moving`, `line 3 failed` | the line has this answer |
 //! | `line 3 open` | the line has no answer yet |
-//! | `line 5 fill 7`, `line 5 fill 1\|2` | it is answered with a block of this byte, or of one of the two |
+//! | `line 5 fill 7`, `line 5 fill 1 or 2` | it is answered with a block of this byte, or of one of the two |
 //! | `line 8 as 7` | it is answered with the same block as line 7 |
 //! | `told begin take end` | of all that the plain machine is told so far, but for the disks that are made, these are the events |
 //! | `made 2` | the plain machine is told so far that so many disks are made |
@@ -81,8 +81,8 @@ enum Fault {
 
 /// The words after `not`, where they begin with it.
 fn denied<'a>(words: &'a [&'a str]) -> Option<&'a [&'a str]> {
-    match words.split_first() {
-        Some((first, rest)) if *first == "not" => Some(rest),
+    match *words {
+        ["not", ..] => Some(&words[1..]),
         _ => None,
     }
 }

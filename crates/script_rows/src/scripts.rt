@@ -9,21 +9,19 @@ use std::alloc::{AllocError, Global};
 use std::process::Abort;
 use std::test::*;
 
-/// What becomes of a script: `accepted`, or the number and cause of its refused line.
-fn verdict(alloc: Global, text: &[u8]) -> Result<String, Fail> {
-    match read_script(alloc, text) {
-        Ok(_) => Ok(String::from_str(alloc, "accepted")?),
-        Err(ScriptError::Refused { line, cause }) => {
-            let cause = cause.text();
-            Ok(format!(in alloc; "{line}: {cause}")?)
-        }
-        Err(ScriptError::NoMemory) => Err("out of memory".into()),
-    }
+fn is_refused(alloc: Global, line: u32, cause: Cause, want: &str) -> Result<bool, Fail> {
+    let cause = cause.text();
+    let told = format!(in alloc; "{line}: {cause}")?;
+    Ok(told.as_str() == want)
 }
 
-/// Whether this becomes of a script.
+/// Whether this becomes of a script: `accepted`, or the number and cause of its refused line.
 fn is_told(alloc: Global, text: &[u8], want: &str) -> Result<bool, Fail> {
-    Ok(verdict(alloc, text)?.as_str() == want)
+    match read_script(alloc, text).err() {
+        None => Ok(want == "accepted"),
+        Some(ScriptError::Refused { line, cause }) => is_refused(alloc, line, cause, want),
+        Some(ScriptError::NoMemory) => Err("out of memory".into()),
+    }
 }
 
 /// Whole scripts: lines, ends of lines, words, and the first line that counts.
@@ -178,11 +176,20 @@ fn spelled(alloc: Global, before: &str, text: &str) -> Result<Vec<u8>, AllocErro
     Ok(bytes)
 }
 
+fn row_is_told(alloc: Global, before: &str, text: &str, want: &str) -> Result<bool, Fail> {
+    let bytes = spelled(alloc, before, text)?;
+    is_told(alloc, &bytes, want)
+}
+
+fn check_row(rt: &impl Abort, alloc: Global, before: &str, row: &str) -> Result<(), Fail> {
+    let (text, want) = row.split_once(" | ").ok_or("a row")?;
+    assert!(rt; row_is_told(alloc, before, text, want)?, "at {text}");
+    Ok(())
+}
+
 fn check_rows(rt: &impl Abort, alloc: Global, before: &str, rows: &str) -> Result<(), Fail> {
     for row in rows.split('\n') {
-        let (text, want) = row.split_once(" | ").ok_or("a row")?;
-        let bytes = spelled(alloc, before, text)?;
-        assert!(rt; is_told(alloc, &bytes, want)?, "at {text}");
+        check_row(rt, alloc, before, row)?;
     }
     Ok(())
 }
@@ -203,10 +210,17 @@ fn repeated(alloc: Global, line: &str, count: u32, want: &str) -> Result<bool, F
     is_told(alloc, text.as_str().as_bytes(), want)
 }
 
+/// Whether so many of the line are accepted, and this is told of one more.
+fn ends_at(alloc: Global, line: &str, most: u16, want: &str) -> Result<bool, Fail> {
+    let most = u32::from(most);
+    let accepted = repeated(alloc, line, most, "accepted")?;
+    Ok(repeated(alloc, line, most + 1, want)? && accepted)
+}
+
 /// Each kind of line as often as a script may have it, and what is told of one more.
 #[test]
 fn as_many_as_may_be(rt: HostRuntime) -> Result<(), Fail> {
-    let cases: [(&str, u32, &str); 6] = [
+    let cases: [(&str, u16, &str); 6] = [
         ("a read v 0\n", 1024, "1026: too many"),
         ("a disk v on 0 1\n", 16, "18: too many"),
         ("a snap v t\n", 64, "66: too many"),
@@ -215,11 +229,7 @@ fn as_many_as_may_be(rt: HostRuntime) -> Result<(), Fail> {
         ("op blank 1\nop start 1\n", 32, "66: too many"),
     ];
     for (line, most, want) in cases {
-        assert!(rt; repeated(rt.alloc(), line, most, "accepted")?, "at {line}");
-        assert!(rt;
-            repeated(rt.alloc(), line, most + 1, want)?,
-            "one more at {line}"
-        );
+        assert!(rt; ends_at(rt.alloc(), line, most, want)?, "at {line}");
     }
     Ok(())
 }
@@ -234,15 +244,23 @@ fn long_line(alloc: Global) -> Result<Vec<u8>, AllocError> {
     Ok(text)
 }
 
+fn end_is_not_counted(alloc: Global, text: &mut Vec<u8>) -> Result<bool, Fail> {
+    text.extend_from_slice(b"\r\nx\n")?;
+    is_told(alloc, text, "3: bad line")
+}
+
+/// Whether this becomes of the text with one more byte.
+fn byte_is_told(alloc: Global, text: &mut Vec<u8>, byte: u8, want: &str) -> Result<bool, Fail> {
+    text.push(byte)?;
+    is_told(alloc, text, want)
+}
+
 fn line_is_refused_past_its_length(alloc: Global, text: &mut Vec<u8>) -> Result<bool, Fail> {
     let as_long = is_told(alloc, text, "accepted")?;
-    text.extend_from_slice(b"\r\nx\n")?;
-    let with_end = is_told(alloc, text, "3: bad line")?;
+    let with_end = end_is_not_counted(alloc, text)?;
     text.truncate(274);
-    text.push(b'#')?;
-    let longer = is_told(alloc, text, "2: too long")?;
-    text.push(0x80)?;
-    let not_ascii = is_told(alloc, text, "2: not ascii")?;
+    let longer = byte_is_told(alloc, text, b'#', "2: too long")?;
+    let not_ascii = byte_is_told(alloc, text, 0x80, "2: not ascii")?;
     Ok(as_long && with_end && longer && not_ascii)
 }
 

@@ -1,5 +1,5 @@
 -- The first job of a server's queue, with both of its devices.
-use Rattle.std.specs.Prelude.{◌≡◌, ◌↔◌, [], List, Option, None, Result, Ok, Err, IfOk, OnOk, OnErr}
+use Rattle.std.specs.Prelude.{◌≡◌, ◌↔◌, [], List, Option, None, Some, Result, Ok, Err, IfOk, OnOk, OnErr}
 use Rattle.kept_chains.specs.Kept.{store_of}
 use Rattle.kept_chains.specs.Standing.{StandsAsEither}
 use Rattle.log_side.specs.Done as logs
@@ -14,6 +14,11 @@ use Rattle.server_store.specs.Holdings.{Holdings}
 use Rattle.server_ticks.specs.Core.{Core, HasFaults, IsWork, left_by_first}
 use Rattle.server_ticks.specs.Work.{IsFullWork}
 use Rattle.state_store.specs.Device.{Keeping, StandsForEither}
+
+-- the letters of a job that was there
+abbrev pub as_some : Result (List Letter) WorkError → Result (Option (List Letter)) WorkError
+as_some (Ok letters) = Ok (Some letters)
+as_some (Err e) = Err e
 
 -- the first job is done, as the rule says where both devices tell their bytes and show the stores; None comes exactly where there is
 -- none. Where a device showed its store, now and after any crash, it shows the store after the job; a crash at any moment leaves

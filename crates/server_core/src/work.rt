@@ -3,7 +3,7 @@
 ghost use Rattle.std.specs.Prelude.{◌≡◌, false};
 ghost use Rattle.kept_chains.specs.Kept.{store_of};
 ghost use Rattle.pair_side.specs.Side.{HasTicketsAt};
-ghost use Rattle.server_core.specs.Works.{IsFirstJob};
+ghost use Rattle.server_core.specs.Works.{IsFirstJob, as_some};
 ghost use Rattle.server_ticks.specs.Core.{is_spent};
 
 use crate::server::ServerCore;
@@ -15,6 +15,18 @@ use server_store::Store;
 use server_ticks::Kind;
 use state_store::StateStore;
 use std::alloc::Global;
+
+/// The letters of a job that was there.
+fn as_some(
+    worked: Result<Sequence<Letter>, WorkError>,
+) -> Result<Option<Sequence<Letter>>, WorkError>
+    ensures { result ≡ as_some worked }
+{
+    match worked {
+        Ok(letters) => Ok(Some(letters)),
+        Err(error) => Err(error),
+    }
+}
 
 impl ServerCore {
     /// Does the first job of the queue, with at most one commit, and gives its letters, with the stamp 0; None exactly where there
@@ -40,9 +52,9 @@ impl ServerCore {
             return Ok(None);
         };
         match first {
-            Kind::OfPairs => Ok(Some(self.parts.work_pair(alloc, store, state)?)),
-            Kind::OfLog => Ok(Some(self.parts.work_log(alloc, store, state)?)),
-            Kind::Applies => Ok(Some(self.parts.work_apply(alloc, store, state)?)),
+            Kind::OfPairs => as_some(self.parts.work_pair(alloc, store, state)),
+            Kind::OfLog => as_some(self.parts.work_log(alloc, store, state)),
+            Kind::Applies => as_some(self.parts.work_apply(alloc, store, state)),
         }
     }
 }

@@ -100,10 +100,15 @@ fn is_so(alloc: Global, client: &mut ClientCore, row: &Row) -> Result<bool, Fail
     Ok(answered_by(alloc, client, row)? == row.answered)
 }
 
+/// Whether a new client's settle ends as the row says.
+fn is_so_from_the_start(alloc: Global, row: &Row) -> Result<bool, Fail> {
+    let mut client = ClientCore::new(alloc, OPERATOR, 3)?;
+    is_so(alloc, &mut client, row)
+}
+
 fn are_so(alloc: Global, rows: &[Row]) -> Result<(), Fail> {
     for row in rows {
-        let mut client = ClientCore::new(alloc, OPERATOR, 3)?;
-        if !is_so(alloc, &mut client, row)? {
+        if !is_so_from_the_start(alloc, row)? {
             return Err(Fail::new(row.shows));
         }
     }

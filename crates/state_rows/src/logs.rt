@@ -44,21 +44,21 @@ fn caught(link: u8, holder: u8, other: u8, other_inc: Inc) -> Command {
     }
 }
 
-fn make(seq: Seq, name: &Name, tuple: &Tuple) -> Command {
+fn make(seq: Seq, name: Name, tuple: Tuple) -> Command {
     Command::MakeDisk {
         client: ClientNumber::new(0),
         seq,
-        name: name.again(),
-        tuple: tuple.again(),
+        name,
+        tuple,
     }
 }
 
-fn snap(seq: Seq, disk: &Name, name: &Name) -> Command {
+fn snap(seq: Seq, disk: Name, name: Name) -> Command {
     Command::Snap {
         client: ClientNumber::new(0),
         seq,
-        disk: disk.again(),
-        name: name.again(),
+        disk,
+        name,
     }
 }
 
@@ -137,13 +137,19 @@ fn vol() -> Result<Name, Fail> {
     Ok(Name::read(b"vol").ok_or("a name")?)
 }
 
-/// Five servers, and the disk `vol` on all of them.
-fn disk_over_five(alloc: Global) -> Result<GlobalState, Fail> {
-    let vol = vol()?;
-    let tuple = Tuple::new(&[0, 1, 2, 3, 4], 5).ok_or("a tuple")?;
-    let mut state = GlobalState::new(alloc, 5)?;
-    run(alloc, &mut state, &[make(1, &vol, &tuple)])?;
-    Ok(state)
+fn snapshot_name() -> Result<Name, Fail> {
+    Ok(Name::read(b"s1").ok_or("a name")?)
+}
+
+fn tuple(ids: &[ServerId], servers: u8) -> Result<Tuple, Fail> {
+    Ok(Tuple::new(ids, servers).ok_or("a tuple")?)
+}
+
+/// The disk `vol` on all of the five servers.
+fn disk_over_five(alloc: Global, state: &mut GlobalState) -> Result<(), Fail> {
+    let disk = make(1, vol()?, tuple(&[0, 1, 2, 3, 4], 5)?);
+    run(alloc, state, &[disk])?;
+    Ok(())
 }
 
 // A blank server loses what it alone held, and has to be given all of what its neighbour holds.
@@ -176,28 +182,47 @@ fn are_a_pair(state: &GlobalState, cell: Cell) -> bool {
         && state.leads_link(2, cell)
 }
 
-fn leave_and_join(alloc: Global, state: &mut GlobalState) -> Result<bool, NoMemory> {
+fn leaves(alloc: Global, state: &mut GlobalState) -> Result<bool, NoMemory> {
     run(alloc, state, &[leave(1, 1), leave(2, 1)])?;
-    let left = are_left(state);
-    blank_and_back(alloc, state)?;
-    let blank = are_blank(state);
-    run(alloc, state, &[caught(2, 3, 2, 2)])?;
-    let cell = Cell { map: 0, block: 2 };
-    Ok(left && blank && is_both(state, 2) && are_a_pair(state, cell) && state.readable(2, cell))
+    Ok(are_left(state))
 }
 
+fn joins_blank(alloc: Global, state: &mut GlobalState) -> Result<bool, NoMemory> {
+    blank_and_back(alloc, state)?;
+    Ok(are_blank(state))
+}
+
+fn catches_up(alloc: Global, state: &mut GlobalState) -> Result<bool, NoMemory> {
+    run(alloc, state, &[caught(2, 3, 2, 2)])?;
+    let cell = Cell { map: 0, block: 2 };
+    Ok(is_both(state, 2) && are_a_pair(state, cell) && state.readable(2, cell))
+}
+
+fn leave_and_join(alloc: Global, state: &mut GlobalState) -> Result<bool, NoMemory> {
+    let left = leaves(alloc, state)?;
+    let blank = joins_blank(alloc, state)?;
+    Ok(catches_up(alloc, state)? && left && blank)
+}
+
+fn disk_outlives_leaves(alloc: Global, state: &mut GlobalState) -> Result<bool, Fail> {
+    disk_over_five(alloc, state)?;
+    Ok(leave_and_join(alloc, state)?)
+}
+
+// The tests lend their state and drop it before they leave: the prover pays for a state at each exit that drops it.
 #[test]
 fn servers_leave_and_join(rt: HostRuntime) -> Result<(), Fail> {
-    let mut state = disk_over_five(rt.alloc())?;
-    assert!(rt; leave_and_join(rt.alloc(), &mut state)?);
+    let mut state = GlobalState::new(rt.alloc(), 5)?;
+    let seen = disk_outlives_leaves(rt.alloc(), &mut state);
+    drop(state);
+    assert!(rt; seen?);
     Ok(())
 }
 
 /// The snapshot is asked for, server 0 reports, and server 4 leaves, so that server 0 has to report again.
-fn ask_for_a_snapshot(alloc: Global, state: &mut GlobalState, s1: &Name) -> Result<(), Fail> {
-    let vol = vol()?;
-    let log = [snap(2, &vol, s1), drained(0, 1), leave(4, 1)];
-    run(alloc, state, &log)?;
+fn ask_for_a_snapshot(alloc: Global, state: &mut GlobalState) -> Result<(), Fail> {
+    let asked = snap(2, vol()?, snapshot_name()?);
+    run(alloc, state, &[asked, drained(0, 1), leave(4, 1)])?;
     Ok(())
 }
 
@@ -208,22 +233,32 @@ fn report_one_by_one(alloc: Global, state: &mut GlobalState) -> Result<bool, NoM
     Ok(waits && is_told(state, 2, Verdict::Ok))
 }
 
+fn has_snapshot(state: &GlobalState) -> Result<bool, Fail> {
+    Ok(state.snapshot(0, &snapshot_name()?) == Some(0))
+}
+
+fn snapshot_is_made(alloc: Global, state: &mut GlobalState) -> Result<bool, Fail> {
+    disk_over_five(alloc, state)?;
+    ask_for_a_snapshot(alloc, state)?;
+    let told = report_one_by_one(alloc, state)?;
+    Ok(told && has_snapshot(state)?)
+}
+
 #[test]
 fn a_snapshot_waits_for_reports(rt: HostRuntime) -> Result<(), Fail> {
-    let s1 = Name::read(b"s1").ok_or("a name")?;
-    let mut state = disk_over_five(rt.alloc())?;
-    ask_for_a_snapshot(rt.alloc(), &mut state, &s1)?;
-    assert!(rt; report_one_by_one(rt.alloc(), &mut state)?);
-    assert!(rt; state.snapshot(0, &s1) == Some(0));
+    let mut state = GlobalState::new(rt.alloc(), 5)?;
+    let seen = snapshot_is_made(rt.alloc(), &mut state);
+    drop(state);
+    assert!(rt; seen?);
     Ok(())
 }
 
-fn start_move(seq: Seq, disk: &Name, tuple: &Tuple) -> Command {
+fn start_move(seq: Seq, disk: Name, tuple: Tuple) -> Command {
     Command::StartMove {
         client: ClientNumber::new(0),
         seq,
-        disk: disk.again(),
-        tuple: tuple.again(),
+        disk,
+        tuple,
     }
 }
 
@@ -240,19 +275,24 @@ fn pass_region(alloc: Global, state: &mut GlobalState, region: u8) -> Result<(),
     run(alloc, state, &[moved(region, 0), moved(region, 1)])
 }
 
-/// The disk `vol` of two servers, on the move, and asked to move again.
-fn disk_on_the_move(alloc: Global) -> Result<GlobalState, Fail> {
-    let vol = vol()?;
-    let there = Tuple::new(&[0, 1], 2).ok_or("a tuple")?;
-    let back = Tuple::new(&[1, 0], 2).ok_or("a tuple")?;
-    let log = [
-        make(1, &vol, &there),
-        start_move(2, &vol, &back),
-        start_move(3, &vol, &there),
-    ];
-    let mut state = GlobalState::new(alloc, 2)?;
-    run(alloc, &mut state, &log)?;
-    Ok(state)
+/// The disk `vol` on the two servers.
+fn disk_over_two(alloc: Global, state: &mut GlobalState) -> Result<(), Fail> {
+    let disk = make(1, vol()?, tuple(&[0, 1], 2)?);
+    run(alloc, state, &[disk])?;
+    Ok(())
+}
+
+fn move_to(alloc: Global, state: &mut GlobalState, seq: Seq, ids: &[ServerId]) -> Result<(), Fail> {
+    let asked = start_move(seq, vol()?, tuple(ids, 2)?);
+    run(alloc, state, &[asked])?;
+    Ok(())
+}
+
+/// The disk `vol` of the two servers, on the move, and asked to move again.
+fn disk_on_the_move(alloc: Global, state: &mut GlobalState) -> Result<(), Fail> {
+    disk_over_two(alloc, state)?;
+    move_to(alloc, state, 2, &[1, 0])?;
+    move_to(alloc, state, 3, &[0, 1])
 }
 
 fn passes_its_first_region(alloc: Global, state: &mut GlobalState) -> Result<bool, NoMemory> {
@@ -262,11 +302,18 @@ fn passes_its_first_region(alloc: Global, state: &mut GlobalState) -> Result<boo
     Ok(before && passed && leads(state, 0, 0, 8))
 }
 
+fn first_move_goes_on(alloc: Global, state: &mut GlobalState) -> Result<bool, Fail> {
+    disk_on_the_move(alloc, state)?;
+    let told = is_told(state, 3, Verdict::Moving);
+    Ok(passes_its_first_region(alloc, state)? && told)
+}
+
 #[test]
 fn a_second_move_is_refused(rt: HostRuntime) -> Result<(), Fail> {
-    let mut state = disk_on_the_move(rt.alloc())?;
-    assert!(rt; is_told(&state, 3, Verdict::Moving));
-    assert!(rt; passes_its_first_region(rt.alloc(), &mut state)?);
+    let mut state = GlobalState::new(rt.alloc(), 2)?;
+    let seen = first_move_goes_on(rt.alloc(), &mut state);
+    drop(state);
+    assert!(rt; seen?);
     Ok(())
 }
 
@@ -284,10 +331,17 @@ fn has_ended(state: &GlobalState) -> bool {
         && state.fence().is_none()
 }
 
+fn move_ends(alloc: Global, state: &mut GlobalState) -> Result<bool, Fail> {
+    disk_on_the_move(alloc, state)?;
+    end_a_move(alloc, state)?;
+    Ok(has_ended(state))
+}
+
 #[test]
 fn a_move_ends_with_its_last_region(rt: HostRuntime) -> Result<(), Fail> {
-    let mut state = disk_on_the_move(rt.alloc())?;
-    end_a_move(rt.alloc(), &mut state)?;
-    assert!(rt; has_ended(&state));
+    let mut state = GlobalState::new(rt.alloc(), 2)?;
+    let seen = move_ends(rt.alloc(), &mut state);
+    drop(state);
+    assert!(rt; seen?);
     Ok(())
 }

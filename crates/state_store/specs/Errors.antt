@@ -20,7 +20,7 @@ IsReadError NoMemory = ⊤
 
 -- the count of faults does not fall, `Failed` comes only where it has risen, and reading the journal ends neither at a blank device
 -- nor at a full journal
-pub record HasReadCause {T : Type 0} (before now : ℕ) (result : Result T StateError) : Type 0 where
+pub record HasJournalCause {T : Type 0} (before now : ℕ) (result : Result T StateError) : Type 0 where
   pub later : before ≤ now
   pub failed : IsErrOf result Failed → before < now
   pub not_blank : ¬ IsErrOf result Blank

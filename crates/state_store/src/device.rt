@@ -9,7 +9,7 @@ ghost use Rattle.petal_disk.specs.Keeping.{KeepsDevice};
 ghost use Rattle.device_gate.specs.Gate.{IsShut};
 ghost use Rattle.block_journal.specs.Records.{Counts, Stands};
 ghost use Rattle.state_store.specs.Device.{header, bodies_of, AreSpelled, Holds, WithOrWithout, StandsFor, LeftByFormat, IsBadOn};
-ghost use Rattle.state_store.specs.Errors.{IsAppendError, HasReadCause};
+ghost use Rattle.state_store.specs.Errors.{IsAppendError, HasJournalCause};
 ghost use Rattle.petal_paxos.specs.Kept.{row_of, inc_of};
 ghost use Rattle.state_record.specs.Rows.{row_at};
 ghost use Rattle.petal_paxos.specs.declared.record.StateRecord.{StateRecord};
@@ -68,13 +68,12 @@ impl<D: Disk> Device<D> {
         requires { 8392704 ≤ D.size disk }
         ensures ok { IfOk result (λ d. (d.records ≡ kind.Inc inc ∷ []) × (d.region.count ≡ 1)) }
         ensures holds { IfOk result (λ d. D.told → Holds d.region (D.seen d.disk) (D.may_leave d.disk) d.records) }
-        ensures errors { IfErr result (λ e. (e.1 ≡ error.Failed) ⊎ (e.1 ≡ error.NoMemory)) }
+        ensures errors { IfErr result (λ e. e.1 ≡ error.Failed) }
         ensures any_moment { IfOk result (λ d. D.told → LeavesOnly D.moment D.left_since disk d.disk (LeftByFormat (D.may_leave disk) inc)) }
         ensures err_any_moment { IfErr result (λ e. D.told → LeavesOnly D.moment D.left_since disk e.0 (LeftByFormat (D.may_leave disk) inc)) }
         ensures err_either { IfErr result (λ e. D.told → LeftByFormat (λ file. file ≡ D.seen disk) inc (D.seen e.0)) }
         ensures err_size { IfErr result (λ e. D.size e.0 ≡ D.size disk) }
-        ensures memory { IfErr result (λ e. e.1 ≡ error.NoMemory → e.0 ≡ disk) }
-        ensures failed { IfErr result (λ e. e.1 ≡ error.Failed → D.faults disk < D.faults e.0) }
+        ensures failed { IfErr result (λ e. D.faults disk < D.faults e.0) }
         ensures later { IfOk result (λ d. D.faults disk ≤ D.faults d.disk) }
         ensures run { IfOk result (λ d. D.came_to disk d.disk) }
         ensures err_run { IfErr result (λ e. D.came_to disk e.0) }
@@ -200,11 +199,10 @@ fn write_format<D: Disk>(disk: &mut D, inc: Inc) -> Result<Journal<128>, StateEr
     requires { 8392704 ≤ D.size disk.old }
     ensures region { IfOk result (λ j. (j.base ≡ 4096) × (j.limit ≡ 65536) × (j.count ≡ 1)) }
     ensures holds { IfOk result (λ j. D.told → Holds j (D.seen disk.new) (D.may_leave disk.new) (kind.Inc inc ∷ [])) }
-    ensures errors { IfErr result (λ e. (e ≡ error.Failed) ⊎ (e ≡ error.NoMemory)) }
+    ensures errors { IfErr result (λ e. e ≡ error.Failed) }
     ensures any_moment { D.told → LeavesOnly D.moment D.left_since disk.old disk.new (LeftByFormat (D.may_leave disk.old) inc) }
     ensures either { D.told → LeftByFormat (λ file. file ≡ D.seen disk.old) inc (D.seen disk.new) }
-    ensures memory { IsErrOf result error.NoMemory → disk.new ≡ disk.old }
-    ensures failed { IsErrOf result error.Failed → D.faults disk.old < D.faults disk.new }
+    ensures failed { OnErr result (D.faults disk.old < D.faults disk.new) }
     ensures later { D.faults disk.old ≤ D.faults disk.new }
     ensures size { D.size disk.new ≡ D.size disk.old }
     ensures run { D.came_to disk.old disk.new }
@@ -221,11 +219,10 @@ fn write_first<D: Disk>(disk: &mut D, inc: Inc) -> Result<Journal<128>, StateErr
     ensures stands { IfOk result (λ j. D.told → Stands 128 4096 65536 (D.seen disk.new) (bodies_of (kind.Inc inc ∷ []))) }
     ensures durable { OnOk result (D.told → Only (D.seen disk.new) (D.may_leave disk.new)) }
     ensures shut { OnOk result (D.told → IsShut (D.seen disk.new)) }
-    ensures errors { IfErr result (λ e. (e ≡ error.Failed) ⊎ (e ≡ error.NoMemory)) }
+    ensures errors { IfErr result (λ e. e ≡ error.Failed) }
     ensures any_moment { D.told → LeavesOnly D.moment D.left_since disk.old disk.new (λ c. D.may_leave disk.old c ⊎ IsShut c) }
     ensures either { D.told → (D.seen disk.new ≡ D.seen disk.old) ⊎ IsShut (D.seen disk.new) }
-    ensures memory { IsErrOf result error.NoMemory → disk.new ≡ disk.old }
-    ensures failed { IsErrOf result error.Failed → D.faults disk.old < D.faults disk.new }
+    ensures failed { OnErr result (D.faults disk.old < D.faults disk.new) }
     ensures later { D.faults disk.old ≤ D.faults disk.new }
     ensures size { D.size disk.new ≡ D.size disk.old }
     ensures run { D.came_to disk.old disk.new }
@@ -268,7 +265,7 @@ fn read_journal<D: Disk>(
     ensures rows { IfOk result (λ o. (place : ℕ) → row_at o.1.places place ≡ row_of o.1.history.items place) }
     ensures inc { IfOk result (λ o. o.1.inc ≡ inc_of o.1.history.items) }
     ensures bad { (index : ℕ) → IfErr result (λ e. e ≡ error.BadRecord index → D.told → IsBadOn (D.seen disk.old) index) }
-    ensures cause { HasReadCause (D.faults disk.old) (D.faults disk.new) result }
+    ensures cause { HasJournalCause (D.faults disk.old) (D.faults disk.new) result }
     ensures device { KeepsDevice D.size D.seen D.may_leave D.moment D.left_since disk.old disk.new }
 {
     let (journal, bodies) = Journal::open(alloc, disk, JOURNAL_BASE, JOURNAL_RECORDS)?;

@@ -50,20 +50,18 @@ impl<D: Disk> StateStore<D> {
     /// it might have left before, a blank device, or this store.
     ///
     /// # Errors
-    /// `NoMemory`, before any call of the device, which is handed back as it was; `Failed`, where the device failed. The device
-    /// is handed back.
+    /// `Failed`, where the device failed. The device is handed back.
     pub fn format(alloc: Global, disk: D, inc: Inc) -> Result<StateStore<D>, (D, StateError)>
         requires { 8392704 ≤ D.size disk }
         ensures ok { IfOk result (λ s. s.records ≡ kind.Inc inc ∷ []) }
         ensures count { IfOk result (λ s. D.told → s.region.count ≡ 1) }
         ensures holds { IfOk result (λ s. D.told → Holds s.region (D.seen s.disk) (D.may_leave s.disk) s.records) }
-        ensures errors { IfErr result (λ e. (e.1 ≡ error.Failed) ⊎ (e.1 ≡ error.NoMemory)) }
+        ensures errors { IfErr result (λ e. e.1 ≡ error.Failed) }
         ensures any_moment { IfOk result (λ s. D.told → LeavesOnly D.moment D.left_since disk s.disk (LeftByFormat (D.may_leave disk) inc)) }
         ensures err_any_moment { IfErr result (λ e. D.told → LeavesOnly D.moment D.left_since disk e.0 (LeftByFormat (D.may_leave disk) inc)) }
         ensures err_either { IfErr result (λ e. D.told → LeftByFormat (λ file. file ≡ D.seen disk) inc (D.seen e.0)) }
         ensures err_size { IfErr result (λ e. D.size e.0 ≡ D.size disk) }
-        ensures memory { IfErr result (λ e. e.1 ≡ error.NoMemory → e.0 ≡ disk) }
-        ensures failed { IfErr result (λ e. e.1 ≡ error.Failed → D.faults disk < D.faults e.0) }
+        ensures failed { IfErr result (λ e. D.faults disk < D.faults e.0) }
         ensures later { IfOk result (λ s. D.faults disk ≤ D.faults s.disk) }
         ensures run { IfOk result (λ s. D.came_to disk s.disk) }
         ensures err_run { IfErr result (λ e. D.came_to disk e.0) }

@@ -45,10 +45,13 @@ fn puts_and_reads<D: Disk>(alloc: Global, store: &mut Store<D>) -> Result<bool, 
     Ok(before == 0 && last_byte(store, alloc, 5)? == 7 && store.free() == 1)
 }
 
+// The tests lend their store and drop it before they leave: the prover pays for a store at each exit that drops it.
 #[test]
 fn a_put_is_read(rt: HostRuntime) -> Result<(), Fail> {
     let mut store = two_slots(rt.alloc(), false)?;
-    assert!(rt; puts_and_reads(rt.alloc(), &mut store)?);
+    let seen = puts_and_reads(rt.alloc(), &mut store);
+    drop(store);
+    assert!(rt; seen?);
     Ok(())
 }
 
@@ -66,12 +69,16 @@ fn fill<D: Disk>(alloc: Global, store: &mut Store<D>) -> Result<Result<(), Store
     Ok(put(store, 8, &zeros))
 }
 
+fn gives_back_and_fills<D: Disk>(alloc: Global, store: &mut Store<D>) -> Result<bool, Fail> {
+    Ok(give_back(store)? == 2 && fill(alloc, store)? == Err(StoreError::NoSpace))
+}
+
 #[test]
 fn a_full_store(rt: HostRuntime) -> Result<(), Fail> {
     let mut store = two_slots(rt.alloc(), false)?;
-    assert!(rt; give_back(&mut store)? == 2);
-    assert!(rt; fill(rt.alloc(), &mut store)? == Err(StoreError::NoSpace));
+    let seen = gives_back_and_fills(rt.alloc(), &mut store);
     let _ = store.into_disk();
+    assert!(rt; seen?);
     Ok(())
 }
 
@@ -94,13 +101,27 @@ fn drops<D: Disk>(store: &mut Store<D>) -> Result<bool, StoreError> {
     Ok(store.next_block(0, None) == None && store.free() == 2)
 }
 
+fn has_one<D: Disk>(alloc: Global, store: &Store<D>) -> Result<bool, Fail> {
+    Ok(store.chain(alloc, CELL)?.len() == 1)
+}
+
+fn put_zeros<D: Disk>(alloc: Global, store: &mut Store<D>) -> Result<(), Fail> {
+    let zeros = Block::zero(alloc)?;
+    put(store, 5, &zeros)?;
+    Ok(())
+}
+
+fn finds_and_drops<D: Disk>(alloc: Global, store: &mut Store<D>) -> Result<bool, Fail> {
+    put_zeros(alloc, store)?;
+    Ok(finds(store) && has_one(alloc, store)? && drops(store)?)
+}
+
 #[test]
 fn entries(rt: HostRuntime) -> Result<(), Fail> {
     let mut store = two_slots(rt.alloc(), false)?;
-    put(&mut store, 5, &Block::zero(rt.alloc())?)?;
-    assert!(rt; finds(&store), "finds");
-    assert!(rt; store.chain(rt.alloc(), CELL)?.len() == 1, "chain");
-    assert!(rt; drops(&mut store)?, "drops");
+    let seen = finds_and_drops(rt.alloc(), &mut store);
+    drop(store);
+    assert!(rt; seen?);
     Ok(())
 }
 
@@ -124,11 +145,16 @@ fn drops_and_reopens<D: Disk>(alloc: Global, store: &mut Store<D>) -> Result<boo
     )
 }
 
+fn stays_dropped<D: Disk>(alloc: Global, store: &mut Store<D>) -> Result<bool, Fail> {
+    Ok(put_two(alloc, store)? && drops_and_reopens(alloc, store)?)
+}
+
 #[test]
 fn a_dropped_entry_stays_dropped(rt: HostRuntime) -> Result<(), Fail> {
     let mut store = two_slots(rt.alloc(), false)?;
-    assert!(rt; put_two(rt.alloc(), &mut store)?, "puts");
-    assert!(rt; drops_and_reopens(rt.alloc(), &mut store)?, "drops");
+    let seen = stays_dropped(rt.alloc(), &mut store);
+    drop(store);
+    assert!(rt; seen?);
     Ok(())
 }
 
@@ -147,10 +173,15 @@ fn settles<D: Disk>(store: &mut Store<D>) -> Result<bool, StoreError> {
     Ok(fresh && !store.fresh())
 }
 
+fn marks_and_settles<D: Disk>(store: &mut Store<D>) -> Result<bool, StoreError> {
+    Ok(marks_and_unmarks(store)? && settles(store)?)
+}
+
 #[test]
 fn marks(rt: HostRuntime) -> Result<(), Fail> {
     let mut store = two_slots(rt.alloc(), true)?;
-    assert!(rt; marks_and_unmarks(&mut store)?, "marks");
-    assert!(rt; settles(&mut store)?, "is fresh");
+    let seen = marks_and_settles(&mut store);
+    drop(store);
+    assert!(rt; seen?);
     Ok(())
 }

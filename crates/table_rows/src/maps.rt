@@ -20,14 +20,22 @@ fn two_maps(rt: &impl Abort, alloc: Global) -> Result<Maps, Fail> {
     Ok(maps)
 }
 
-fn look(rt: &impl Abort, maps: &Maps) -> Result<(), Fail> {
+fn look_at_disks(rt: &impl Abort, maps: &Maps) {
     assert_eq!(rt; maps.count(), 2);
     assert_eq!(rt; maps.disk(1), Some(7));
     assert_eq!(rt; maps.disk(2), None);
+}
+
+fn look_at_tuples(rt: &impl Abort, maps: &Maps) -> Result<(), Fail> {
     let tuple = maps.tuple(1).ok_or("a tuple")?;
     assert_eq!(rt; tuple.ids(), [4, 2, 0].as_slice());
     assert!(rt; maps.tuple(2).is_none());
     Ok(())
+}
+
+fn look(rt: &impl Abort, maps: &Maps) -> Result<(), Fail> {
+    look_at_disks(rt, maps);
+    look_at_tuples(rt, maps)
 }
 
 #[test]

@@ -52,7 +52,7 @@ const MOVES: &[Row] = &[
     Row {
         shows: "a disk with a snapshot moves, and is read before and after by both names; what the old map had is swept",
         script: WITH_A_SNAPSHOT,
-        steps: "play out; line 11 fill 1; line 12 fill 2; line 13 fill 3; line 14 fill 2; line 16 ok; line 17 ok; line 18 fill 2|9; line 19 fill 2;
+        steps: "play out; line 11 fill 1; line 12 fill 2; line 13 fill 3; line 14 fill 2; line 16 ok; line 17 ok; line 18 fill 2 or 9; line 19 fill 2;
             line 21 ok; line 23 fill 1; line 24 fill 2; line 25 fill 3; line 26 fill 9; line 27 fill 0;
             go on 100; 0 has 0 entries; 1 has 4 entries; 2 has 4 entries; 1 has 1/0 fill 3; 2 has 1/8 fill 9; 2 marks 1 none",
     },

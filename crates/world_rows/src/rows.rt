@@ -55,7 +55,7 @@ const TWICE: &[Row] = &[
     Row {
         shows: "two clients write one block",
         script: "servers 3 slots 4\na disk vol on 0 1 2\nwait\na write vol 5 fill 1\nb write vol 5 fill 2\nwait\na read vol 5\nb read vol 5\n",
-        steps: "a calls 2; agree; play out; line 2 ok; line 4 ok; line 5 ok; line 7 fill 1|2; line 8 as 7",
+        steps: "a calls 2; agree; play out; line 2 ok; line 4 ok; line 5 ok; line 7 fill 1 or 2; line 8 as 7",
     },
     // Blocks 0 and 2 fill the two slots of server 0, which is second to server 2 for block 2: that server has a slot left.
     Row {

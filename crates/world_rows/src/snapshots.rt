@@ -32,7 +32,7 @@ const SNAPSHOTS: &[Row] = &[
         shows: "three clients snap one disk in one phase, two of them by one name",
         script: "servers 3 slots 8\na disk vol on 0 1 2\nwait\na write vol 0 fill 1\nb snap vol one\nc snap vol two\nd snap vol two\nwait
 a read vol 0\nb read vol@one 0\nc read vol@two 0\n",
-        steps: "play out; line 4 ok; line 5 ok; line 9 fill 1; line 10 fill 0|1; line 11 fill 0|1; not line 6 open; not line 7 open",
+        steps: "play out; line 4 ok; line 5 ok; line 9 fill 1; line 10 fill 0 or 1; line 11 fill 0 or 1; not line 6 open; not line 7 open",
     },
 ];
 

@@ -36,7 +36,7 @@ const STOPS: &[Row] = &[
         shows: "two clients write and read while a server stops",
         script: "servers 3 slots 4\na disk vol on 0 1 2\nwait\na write vol 0 fill 1\nb write vol 0 fill 2\na write vol 1 fill 3\nb write vol 2 fill 4
 op stop 0\nwait\na read vol 0\nb read vol 0\na read vol 1\nb read vol 2\n",
-        steps: "play out; line 4 ok; line 5 ok; line 6 ok; line 7 ok; line 8 ok; line 10 fill 1|2; line 11 as 10; line 12 fill 3; line 13 fill 4",
+        steps: "play out; line 4 ok; line 5 ok; line 6 ok; line 7 ok; line 8 ok; line 10 fill 1 or 2; line 11 as 10; line 12 fill 3; line 13 fill 4",
     },
 ];
 

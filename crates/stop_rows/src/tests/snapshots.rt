@@ -40,13 +40,13 @@ const SNAPSHOTS: &[Row] = &[
         shows: "snapshots are taken while a server is brought up to date",
         script: DURING_A_CATCH_UP,
         steps: "play out; line 13 ok; line 14 ok; line 15 ok; line 16 ok; line 17 ok; line 18 ok;
-            line 22 fill 4|6; line 23 fill 5|7; line 24 fill 6; line 25 fill 7",
+            line 22 fill 4 or 6; line 23 fill 5 or 7; line 24 fill 6; line 25 fill 7",
     },
     Row {
         shows: "the day's use of two disks",
         script: TWO_DISKS,
         steps: "play out; line 10 ok; line 17 ok; line 18 ok; line 19 ok; line 20 fill 1; line 22 ok; line 26 ok; line 31 fill 1; line 32 fill 2;
-            line 33 fill 5; line 34 fill 7; line 35 fill 10; line 36 fill 7; line 37 fill 4|8; line 38 fill 6; line 39 fill 9; line 40 fill 8",
+            line 33 fill 5; line 34 fill 7; line 35 fill 10; line 36 fill 7; line 37 fill 4 or 8; line 38 fill 6; line 39 fill 9; line 40 fill 8",
     },
     Row {
         // Server 1 reports while the lead's copy is on its way to it, does not hear that its report is chosen, and takes the copy after

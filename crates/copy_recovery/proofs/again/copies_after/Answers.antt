@@ -1,8 +1,8 @@
-use Rattle.std.proofs.Common.{◌≡◌, ◌+◌, ◌++◌, List, length, ap, ◌∙◌}
+use Rattle.std.proofs.Common.{◌≡◌, List, sym, ap}
 use Rattle.petal_base.specs.declared.cell.Cell.{Cell}
 use Rattle.petal_msg.specs.declared.copying.Copying.{Copying}
 use Rattle.petal_rules.specs.Copies.{copy_awaited, copy_stage}
-use Rattle.petal_rules.specs.Server.{Post, letters_of, sender}
+use Rattle.petal_rules.specs.Server.{Post, sender}
 use Rattle.petal_rules.specs.Store.{Store}
 use Rattle.server_store.specs.Holdings.{Holdings}
 use Rattle.kept_chains.specs.Kept.{store_of}
@@ -22,15 +22,12 @@ loop-cell-preserved g c =
     let copy = c.in-Some.copy.now in
     let seen = c.loop-cell.invariant.seen in
     record {
-      seen = seen_then g.D.Disk law.stays law.goes_on first c.loop-cell.store c.awaited.new.store c.awaited.result seen c.awaited.ensures.look;
+      seen = seen_then g.D.Disk law.stays law.goes_on first c.loop-cell.store c.with_awaited.new.store c.with_awaited.result seen c.with_awaited.ensures.look;
       letters = λ told.
           let same : store_of c.loop-cell.store ≡ store_of first = ap (λ (s : Holdings _). store_of s) seen.same in
-          let letter = c.in_ok-found.ensures.letter told side
-          ∙ ap (λ (s : Store). copy_awaited here (side_own side s) cell copy (copy_stage s cell copy)) same in
-          next_letters (sender here) (λ (row : Cell × Copying). copy_awaited here (own_of side first) row.0 row.1 (copy_stage (store_of first) row.0 row.1))
-          c.loop-cell.letters c.in_ok-more.more.0 _ c.loop-cell.nth c.in_ok-more.more.1
-          (cell, copy) c.loop-cell.cell-iterator c.next.new.self c.in-Some.ensures.steps
-          (c.in_ok-more.ensures.0 ∙ ap (λ (ps : List Post). c.loop-cell.letters ++ letters_of (sender here) c.loop-cell.nth ps) letter)
-          (c.in_ok-more.ensures.1 ∙ ap (λ (ps : List Post). c.loop-cell.nth + length ps) letter)
-          (c.loop-cell.invariant.letters told);
+          let f : Cell × Copying → List Post = λ row. copy_awaited here (own_of side first) row.0 row.1 (copy_stage (store_of first) row.0 row.1) in
+          let more = c.in_ok-more.ensures.letters told side (f (cell, copy))
+          (sym (ap (λ (s : Store). copy_awaited here (side_own side s) cell copy (copy_stage s cell copy)) same)) in
+          next_letters (sender here) f c.loop-cell.letters c.in_ok-more.more.0 _ c.loop-cell.nth c.in_ok-more.more.1
+          (cell, copy) c.loop-cell.cell-iterator c.next.new.self c.in-Some.ensures.steps more.0 more.1 (c.loop-cell.invariant.letters told);
     }

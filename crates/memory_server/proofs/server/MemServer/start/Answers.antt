@@ -10,9 +10,9 @@ use Rattle.memory_server.proofs.server.MemServer.start.Goals as goal
 pub invariant_of-result : goal.invariant_of-result
 invariant_of-result c = record {
   stands = λ _ _. record {
-    tickets = λ _. blank c.in_ok-core.core.side c.in-Ok.store (ap (λ (core : Core). core.side) c.in_ok-core.ensures)
-        (ap (λ (store : Holdings (Planned MemDisk)). store.tickets) c.in-Ok.ensures.ok);
-    store = c.in-Ok.ensures.holds tt;
+    tickets = λ _. blank c.in_ok-core.core.side c.in_ok-store.store (ap (λ (core : Core). core.side) c.in_ok-core.ensures)
+        (ap (λ (store : Holdings (Planned MemDisk)). store.tickets) c.in_ok-store.ensures.blank);
+    store = c.in_ok-store.ensures.holds;
     state = c.in_ok-state.ensures.holds;
   };
   rests = λ no. absurd (cc);
