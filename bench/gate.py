@@ -1,5 +1,6 @@
 #!/usr/bin/env python3
-"""Measures the gate: clones the repository into a temporary folder, runs `rt ci` there, and prints a table of seconds by crate.
+"""Measures the gate from nothing: clones the repository into a temporary folder, runs `rt ci --anew` there, which takes nothing from
+earlier runs on the machine, and prints a table of seconds by crate.
 
 usage: bench/gate.py [REPOSITORY]    the repository of this file, or another one
        bench/gate.py --pid PID       an `rt ci` that is running already, from now to its end
@@ -116,12 +117,12 @@ def fresh(repository):
     with tempfile.TemporaryDirectory(prefix="gate-") as room:
         subprocess.run(["git", "clone", "--quiet", repository, f"{room}/clone"], check=True)
         with open(f"{room}/said", "wb") as said:
-            child = subprocess.Popen(["rt", "ci"], cwd=f"{room}/clone", stdin=subprocess.DEVNULL, stdout=said, stderr=said)
+            child = subprocess.Popen(["rt", "ci", "--anew"], cwd=f"{room}/clone", stdin=subprocess.DEVNULL, stdout=said, stderr=said)
             watched = watch(child.pid, lambda: child.poll() is not None)
             child.wait()
         times = os.times()
         report(watched, max(watched.total, times.children_user + times.children_system))
-        print("rt ci: " + read(f"{room}/said").decode(errors="replace").rstrip("\n").rpartition("\n")[2])
+        print("rt ci --anew: " + read(f"{room}/said").decode(errors="replace").rstrip("\n").rpartition("\n")[2])
         return child.returncode
 
 def main(words):
