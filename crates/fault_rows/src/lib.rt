@@ -3,6 +3,4 @@
 #![tactic(auto)]
 
 #[cfg(test)]
-mod boot_faults;
-#[cfg(test)]
 mod faults;

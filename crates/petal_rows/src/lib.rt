@@ -3,8 +3,4 @@
 #![tactic(auto)]
 
 #[cfg(test)]
-mod call;
-#[cfg(test)]
-mod letters;
-#[cfg(test)]
 mod rows;

@@ -1,6 +1,6 @@
 //! Scripts and what the program writes, worked by hand.
 
-use crate::call::{Fault, Letters, Row, are_so};
+use call_rows::{Fault, Letters, Row, are_so};
 use std::test::Fail;
 
 const DISK: &str = "servers 5 slots 16\na disk vol on 0 1 2 3 4\nwait\n";

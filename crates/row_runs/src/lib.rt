@@ -4,7 +4,6 @@
 //! blocks.
 #![tactic(auto)]
 
-mod player;
 mod schedule;
 
 pub use row_wants::{FirstHosts, Run};

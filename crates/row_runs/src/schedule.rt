@@ -54,10 +54,10 @@
 //! At the end of each row the plain machine takes all that it is told. A row that fails names itself, the step and, where a
 //! word is none of these, the word and its place in the step.
 
-use crate::player::Player;
 use petal_base::NoMemory;
 use petal_world::Host;
 use row_acts::{Act, act_of};
+use row_players::Player;
 use row_wants::{FirstHosts, Run};
 use std::alloc::Global;
 use std::test::Fail;
