@@ -13,14 +13,15 @@ use Rattle.petal_history.specs.Legal.{IsLegalFrom, Follows, InPhase, CallsInPhas
 use Rattle.petal_history.specs.declared.record.Record.{Record}
 use Rattle.client_seats.specs.Core.{is_spent}
 use Rattle.client_seats.specs.declared.seat.Seat.{Seat}
-use Rattle.petal_world.specs.declared.stepped.Stepped.{Stepped}
+use Rattle.world_actors.specs.declared.stepped.Stepped.{Stepped}
 use Rattle.world_desks.specs.Desks.{desk_of, ended}
 use Rattle.world_desks.specs.declared.step_end.StepEnd.{StepEnd}
-use Rattle.petal_world.specs.Play.{Play, IsKept, LeavesIn, Can, world_of, stamp_of, phase_of, phase_for, record_of, played, told_by}
+use Rattle.petal_world.specs.Play.{Play, IsKept, world_of, record_of, played, told_by}
+use Rattle.world_actors.specs.Steps.{LeavesIn, Can, stamp_of, phase_of, phase_for}
 use Rattle.world_desks.specs.Playable.{AreOrdered}
 use Rattle.client_seats.specs.Seats.{CanTake, seat_of}
-use Rattle.petal_world.specs.Actors.{Actors, Shows}
-use Rattle.petal_world.proofs.Ending.{may_ended, stamp_ended, phase_ended}
+use Rattle.world_actors.specs.Actors.{Actors, Shows}
+use Rattle.world_actors.proofs.Ending.{may_ended, stamp_ended, phase_ended}
 use Rattle.world_desks.proofs.Ranges.{get_range}
 
 -- ### What is kept can take an allowed step

@@ -5,17 +5,12 @@
 //! server keeps its blocks.
 #![tactic(auto)]
 
-mod actors;
-mod control;
-mod deciding;
 mod error;
-mod stepped;
-mod taking;
 mod world;
 
 pub use error::WorldError;
 pub use petal_history::{History, Record};
 pub use petal_rules::{CommitEnd, Step, WorkEnd};
-pub use stepped::Stepped;
 pub use world::World;
+pub use world_actors::Stepped;
 pub use world_desks::{Host, StepEnd, are_in_order};

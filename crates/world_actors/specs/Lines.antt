@@ -1,0 +1,66 @@
+-- The operator's open line, by what it asks for.
+use Rattle.std.specs.Prelude.{◌≡◌, ◌⊎◌, ℕ, true, false, Option, Some, None}
+use Rattle.script_lines.specs.declared.request.Request.{Request}
+use Rattle.script_lines.specs.declared.request.Request.TheVariants as request
+use Rattle.petal_rules.specs.Clients.{Asked}
+use Rattle.petal_rules.specs.Jobs.{operator}
+use Rattle.petal_rules.specs.World.{Deed, Stopped, Blanked, Booted, IsOpenLine, World}
+use Rattle.open_request.specs.declared.order.Order.{Order}
+use Rattle.open_request.specs.declared.order.Order.TheVariants.{Stop, Start, Blank}
+use Rattle.world_actors.specs.declared.control.Given.{Given}
+use Rattle.world_actors.specs.declared.control.Given.TheVariants as given
+
+-- the deed by which a server does what it was given
+abbrev pub deed_of : Given → Deed
+deed_of given.Stop = Stopped
+deed_of given.Blank = Blanked
+deed_of given.Boot = Booted
+
+-- the server at the operator's hand
+abbrev pub hand_of : Option (ℕ × Given) → Option (ℕ × Deed)
+hand_of None = None
+hand_of (Some held) = Some (held.0, deed_of held.1)
+
+-- the request that gives this server this order
+abbrev pub asking : Order → ℕ → Request
+asking Stop n = request.Stop n
+asking Start n = request.Start n
+asking Blank n = request.Blank n
+
+-- the operator's open line gives this server this order, and was not glanced at
+pub record IsGivenBy (w : World) (order : Order) (n line : ℕ) : Type 0 where
+  pub asked : Asked
+  pub opened : IsOpenLine w asked
+  pub line_is : asked.line ≡ line
+  pub request_is : asked.request ≡ asking order n
+
+-- a line gives it this order
+abbrev pub IsGiven : World → Order → ℕ → Type 0
+IsGiven w order n = (line : ℕ) × IsGivenBy w order n line
+
+-- a line stops it first, as it does to blank it, too
+abbrev pub IsToStop : World → ℕ → Type 0
+IsToStop w n = IsGiven w Stop n ⊎ IsGiven w Blank n
+
+-- it stops the server, which does not run
+pub record HasStopped (w : World) (n line : ℕ) : Type 0 where
+  pub by : IsGivenBy w Stop n line
+  pub rests : (w.servers n).life.running ≡ false
+
+-- it starts the server, which runs, or has booted
+pub record HasStarted (w : World) (n line : ℕ) : Type 0 where
+  pub by : IsGivenBy w Start n line
+  pub shows : ((w.servers n).life.running ≡ true) ⊎ (w.control.hand ≡ Some (n, Booted))
+
+-- it blanks the server, which has booted since
+pub record HasBlanked (w : World) (n line : ℕ) : Type 0 where
+  pub by : IsGivenBy w Blank n line
+  pub booted : w.control.hand ≡ Some (n, Booted)
+
+-- the operator's open line is this settle, in this round
+pub record IsSettling (w : World) (line round : ℕ) : Type 0 where
+  pub asked : Asked
+  pub is : (w.clients operator).asked ≡ Some asked
+  pub line_is : asked.line ≡ line
+  pub round_is : asked.round ≡ round
+  pub request_is : asked.request ≡ request.Settle

@@ -1,0 +1,94 @@
+//! What a world keeps beside its records.
+
+ghost use Rattle.std.specs.Prelude.{◌≡◌, ◌<◌, false, None, Some, length, slice_get, IfOk, IfSome};
+ghost use Rattle.client_seats.specs.Core.{is_spent};
+ghost use Rattle.world_desks.specs.Desks.{Desk, end_in, ended};
+ghost use Rattle.world_desks.specs.declared.step_end.StepEnd.TheVariants.{Done};
+ghost use Rattle.client_seats.specs.Seats.{CanTake, reacted_at};
+ghost use Rattle.world_actors.specs.Actors.{client_letters, server_letters, with_client, with_server};
+ghost use Rattle.client_seats.specs.declared.seat.Seat.{Seat};
+
+use crate::control::Control;
+use crate::stepped::Stepped;
+use client_seats::Seats;
+use petal_base::{ClientId, NoMemory, ServerId, Stamp};
+use petal_rules::Step;
+use std::alloc::Global;
+use std::marker::Model;
+use world_desks::desks::Desks;
+use world_desks::sent::Sent;
+use world_desks::stamping::stamped;
+use world_desks::waiting::Waiting;
+use world_desks::{Host, StepEnd};
+
+/// All clients and servers, the letters ever sent, the lines without an answer, and what was done of the operator's last line.
+#[derive(Drop)]
+pub struct Actors<H: Host> {
+    pub seats: Seats,
+    pub desks: Desks<H>,
+    pub sent: Sent,
+    pub waiting: Waiting,
+    pub control: Control,
+}
+
+impl<H: Host> Model for Actors<H> {
+    ghost use Rattle.world_actors.specs.Actors.{Actors};
+
+    ghost Value = { Actors };
+
+    ghost view = { λ s. record { seats = s.seats; desks = s.desks; sent = s.sent; waiting = s.waiting; control = s.control } };
+}
+
+impl<H: Host> Actors<H> {
+    /// A client takes a step that it can take, with this stamp.
+    pub fn react(
+        &mut self,
+        alloc: Global,
+        client: ClientId,
+        step: &Step,
+        stamp: Stamp,
+    ) -> Result<Stepped, NoMemory>
+        requires within { client < length self.old.seats }
+        requires can { IfSome (slice_get self.old.seats client) (λ seat. CanTake step.now seat.core.client) }
+        requires goes_on { IfSome (slice_get self.old.seats client) (λ seat. is_spent seat.core.client ≡ false) }
+        ensures { IfOk result (λ stepped. (seat : Seat) → slice_get self.old.seats client ≡ Some seat
+            → (stepped ≡ record { letters = client_letters seat step.now stamp; answer = (reacted_at seat step.now).1.answer; end = Done })
+            × (self.new ≡ with_client self.old client seat step.now stamp)) }
+    {
+        let reaction = self.seats.step(alloc, client, step, stamp)?;
+        let letters = stamped(alloc, reaction.letters, stamp)?;
+        self.sent.add_all(letters.as_slice())?;
+        if let Some((line, _answer)) = &reaction.answer {
+            self.waiting.answered(*line);
+        }
+        Ok(Stepped {
+            letters,
+            answer: reaction.answer,
+            end: StepEnd::Done,
+        })
+    }
+
+    /// A server takes a step, with this stamp. How a job or a boot ends is for the devices to say.
+    pub fn serve(
+        &mut self,
+        alloc: Global,
+        server: ServerId,
+        step: &Step,
+        stamp: Stamp,
+    ) -> Result<Stepped, NoMemory>
+        requires { server < length self.old.desks }
+        ensures { IfOk result (λ stepped. (desk : Desk) → slice_get self.old.desks server ≡ Some desk
+            → (stepped ≡ record { letters = server_letters desk (ended step.now stepped.end) stamp; answer = None; end = end_in (ended step.now stepped.end) })
+            × (self.new ≡ with_server self.old server desk (ended step.now stepped.end) stamp)) }
+    {
+        let taken = self.desks.step(alloc, server, step, stamp)?;
+        let letters = stamped(alloc, taken.letters, stamp)?;
+        self.sent.add_all(letters.as_slice())?;
+        self.control.note(server, step);
+        Ok(Stepped {
+            letters,
+            answer: None,
+            end: taken.end,
+        })
+    }
+}
