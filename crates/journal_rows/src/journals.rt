@@ -39,16 +39,37 @@ fn last_there<D: Disk>(alloc: Global, disk: &mut D) -> Result<(u32, Vec<u8>), Fa
     Ok((opened.count(), last))
 }
 
+// Whether the first record is its gate and its body, and the second one is closed.
+fn has_first<D: Disk>(disk: &mut D) -> bool
+    requires { 12 ≤ D.size disk.old }
+    ensures { D.size disk.new ≡ D.size disk.old }
+{
+    let mut bytes = [9; 12];
+    disk.read(0, &mut bytes).is_ok() && bytes == *b"\0\0\0\0\xa5abc\0\0\0\0"
+}
+
+fn has_both<D: Disk>(alloc: Global, disk: &mut D) -> Result<bool, Fail>
+    requires { 12 ≤ D.size disk.old }
+{
+    let (count, last) = last_there(alloc, disk)?;
+    Ok(count == 2 && last.as_slice() == b"def".as_slice())
+}
+
+fn takes_two<D: Disk>(alloc: Global, disk: &mut D) -> Result<bool, Fail>
+    requires { 12 ≤ D.size disk.old }
+{
+    let mut journal = one_of_two(disk)?;
+    let first = has_first(disk);
+    let filled = fills(&mut journal, disk);
+    Ok(has_both(alloc, disk)? && first && filled)
+}
+
 #[test]
 fn a_record_is_a_gate_and_a_body(rt: HostRuntime) -> Result<(), Fail> {
     let mut disk = MemDisk::new(rt.alloc(), 12)?;
-    let mut journal = one_of_two(&mut disk)?;
-    let mut bytes = [9; 12];
-    assert_eq!(rt; disk.read(0, &mut bytes), Ok(()));
-    assert_eq!(rt; &bytes, b"\0\0\0\0\xa5abc\0\0\0\0");
-    assert!(rt; fills(&mut journal, &mut disk));
-    let (count, last) = last_there(rt.alloc(), &mut disk)?;
-    assert_eq!(rt; (count, last.as_slice()), (2, b"def".as_slice()));
+    let seen = takes_two(rt.alloc(), &mut disk);
+    drop(disk);
+    assert!(rt; seen?);
     Ok(())
 }
 
