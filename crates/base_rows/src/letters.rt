@@ -24,15 +24,15 @@ fn data(alloc: Global) -> Result<Letter, Fail> {
 
 fn is_shared(letter: &SharedLetter) -> Result<bool, Fail> {
     let other = letter.share()?;
-    Ok(other == *letter && other.get() == letter.get())
+    Ok(other.get().is_same(letter.get()))
 }
 
 fn is_cloned(letter: &SharedLetter) -> Result<bool, Fail> {
-    Ok(letter.clone()? == *letter)
+    Ok(letter.clone()?.get().is_same(letter.get()))
 }
 
 fn is_written(letter: &Letter) -> bool {
-    letter.body == Body::Written { seq: 3 }
+    letter.body.is_same(&Body::Written { seq: 3 })
 }
 
 fn is_compared(letter: &SharedLetter) -> Result<bool, Fail> {
@@ -76,12 +76,12 @@ fn prepare() -> Body {
 
 /// Whether a body equals one that is made alike, and not an Ask.
 fn is_told_apart(body: Body, again: Body) -> bool {
-    body == again && again != Body::Ask { rev: 4 }
+    body.is_same(&again) && !again.is_same(&Body::Ask { rev: 4 })
 }
 
 fn asks_are_told_apart() -> bool {
     let ask = Body::Ask { rev: 4 };
-    ask == Body::Ask { rev: 4 } && ask != Body::Ask { rev: 5 }
+    ask.is_same(&Body::Ask { rev: 4 }) && !ask.is_same(&Body::Ask { rev: 5 })
 }
 
 fn news_are_told_apart(alloc: Global) -> Result<bool, Fail> {

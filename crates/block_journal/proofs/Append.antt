@@ -46,14 +46,14 @@ module _ (r : ℕ) (region : Region) (bodies : List (List ℕ)) (body : List ℕ
   other_gate : (i : ℕ) → i ≢ region.count → Outside place 1 (region.base + r * i) 1
   other_gate i other = elim (cases_eq (i - region.count) 0) [
     | inl before ↦ inl (let lt : i < region.count = omega (arith, other) in omega (arith, apart r i region.count lt, room.wide))
-    | inr behind ↦ inr (let lt : region.count < i = omega arith in omega (arith, apart r region.count i lt, room.wide))
+    | inr following ↦ inr (let lt : region.count < i = omega arith in omega (arith, apart r region.count i lt, room.wide))
   ]
 
   -- no gate lies in the body
   any_gate : (i : ℕ) → Outside (place + 1) (length body) (region.base + r * i) 1
   any_gate i = elim (cases_eq (i - region.count) 0) [
     | inl before ↦ inl (let le : i ≤ region.count = omega arith in omega (arith, up_to r i region.count le))
-    | inr behind ↦ inr (let lt : region.count < i = omega arith in omega (arith, apart r region.count i lt, room.wide, room.len))
+    | inr following ↦ inr (let lt : region.count < i = omega arith in omega (arith, apart r region.count i lt, room.wide, room.len))
   ]
 
   -- any bytes in the body of the first record that is closed change nothing

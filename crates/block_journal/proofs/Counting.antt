@@ -30,7 +30,7 @@ counts_joined r base n m file xs ys all front rest =
     record {
       few = omega (arith, longer, rest.few);
       counted = λ i lt. elim (cases_eq (n - i) 0) [
-        | inl behind ↦
+        | inl following ↦
             let le : n ≤ i = omega arith in
             let at : n + (i - n) ≡ i = omega arith in
             let here = rest.counted (i - n) (omega (arith, lt, longer, le)) in

@@ -22,9 +22,9 @@ pub stands_outside : (r base limit at n : ℕ) (x y : List ℕ) (bodies : List (
 stands_outside r base limit at n x y bodies wide away torn stands =
     stands_along r base limit x y bodies
     (λ i lt. same_byte at n (base + r * i) x y torn
-    (elim away [ inl before ↦ inl (omega (arith, apart r i limit lt)) | inr behind ↦ inr (omega (arith, apart r i limit lt)) ]))
+    (elim away [ inl before ↦ inl (omega (arith, apart r i limit lt)) | inr following ↦ inr (omega (arith, apart r i limit lt)) ]))
     (λ i lt. same_part at n (base + r * i + 1) (r - 1) x y torn (let le : r * i + r ≤ r * limit = apart r i limit (omega (arith, stands.few)) in
-    elim away [ inl before ↦ inl (omega arith) | inr behind ↦ inr (omega arith) ]))
+    elim away [ inl before ↦ inl (omega arith) | inr following ↦ inr (omega arith) ]))
     stands
 
 -- so the journal stays stored through a write there

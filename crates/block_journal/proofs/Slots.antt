@@ -22,11 +22,11 @@ same_byte at n k x y torn where_it_is = elim where_it_is [
       sym (get_or-take (k + 1) y k 0 (omega arith))
       ∙ ap (λ (l : List ℕ). get_or l k 0) (torn_front (k + 1) at n x y before torn)
       ∙ get_or-take (k + 1) x k 0 (omega arith)
-  | inr behind ↦
+  | inr following ↦
       let here : k + 0 ≡ k = omega arith in
       ap (λ (j : ℕ). get_or y j 0) (sym here)
       ∙ sym (get_or-drop k y 0 0)
-      ∙ ap (λ (l : List ℕ). get_or l 0 0) (torn_rest k at n x y behind torn)
+      ∙ ap (λ (l : List ℕ). get_or l 0 0) (torn_rest k at n x y following torn)
       ∙ get_or-drop k x 0 0
       ∙ ap (λ (j : ℕ). get_or x j 0) here
 ]
@@ -34,5 +34,5 @@ same_byte at n k x y torn where_it_is = elim where_it_is [
 pub same_part : (at n k m : ℕ) (x y : List ℕ) → Torn at n x y → Outside at n k m → part y k m ≡ part x k m
 same_part at n k m x y torn where_it_is = elim where_it_is [
   | inl before ↦ sym (drop-take k m y) ∙ ap (λ (l : List ℕ). drop k l) (torn_front (k + m) at n x y before torn) ∙ drop-take k m x
-  | inr behind ↦ ap (λ (l : List ℕ). take m l) (torn_rest k at n x y behind torn)
+  | inr following ↦ ap (λ (l : List ℕ). take m l) (torn_rest k at n x y following torn)
 ]

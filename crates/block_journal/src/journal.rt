@@ -65,13 +65,13 @@ impl<const R: usize> Journal<R> {
     ///
     /// # Errors
     /// The device failed.
-    pub fn format_behind_gate<D: Disk>(
+    pub fn format_after_gate<D: Disk>(
         disk: &mut D,
         base: u64,
         limit: u32,
     ) -> Result<Journal<R>, Failed>
         requires wide { 0 < R }
-        requires behind { 1 ≤ base }
+        requires following { 1 ≤ base }
         requires region { base + R * limit ≤ D.size disk.old }
         ensures region { IfOk result (λ journal. journal ≡ record { base = base; limit = limit; count = 0 }) }
         ensures stored { IfOk result (λ journal. D.told → Stored R journal (D.seen disk.new) (D.may_leave disk.new) []) }

@@ -59,7 +59,7 @@ fn failing_boot_of_blank(alloc: Global, plan: &str, committed: u32) -> Result<()
     )?;
     play_steps(
         alloc,
-        "a device fails in the boot behind a blank: the server stays stopped and tells nobody, and boots for the next line to be filled",
+        "a device fails in the boot after a blank: the server stays stopped and tells nobody, and boots for the next line to be filled",
         "servers 3 slots 4\nop blank 1\nop start 1\nwait\na disk vol on 0 1 2\nwait\na write vol 0 fill 7\nwait\nop settle\nop stop 0\nwait
 b read vol 0\n",
         steps.as_str(),
@@ -99,7 +99,7 @@ fn a_state_device_fails_in_the_boot_after_a_blank(rt: HostRuntime) -> Result<(),
     failing_boot_of_blank(rt.alloc(), "state sync 4 late", 1)
 }
 
-// Line 6 is the blank. Behind it the server is started twice, should it have stopped, and each time it is waited until it is filled.
+// Line 6 is the blank. After it the server is started twice, should it have stopped, and each time it is waited until it is filled.
 const FILLED: &str =
     "servers 3 slots 4\na disk vol on 0 1 2\nwait\na write vol 0 fill 7\nwait\nop blank 1\nop start 1\nop settle\nop start 1\nop settle\nop stop 0\nwait
 b read vol 0\n";
@@ -134,7 +134,7 @@ fn stops_late(alloc: Global, plan: &str) -> Result<(), Fail> {
     met_after_the_boot(alloc, plan, "failed 0; stopped 1; committed 1")
 }
 
-// Behind the calls that make the store, of which the last one opens its gate, and the two syncs as it is read again.
+// After the calls that make the store, of which the last one opens its gate, and the two syncs as it is read again.
 #[test]
 fn the_commit_of_its_own_join_is_cut_off(rt: HostRuntime) -> Result<(), Fail> {
     // what was not synced is lost: the commit is not made, and the next life finds the device as it was

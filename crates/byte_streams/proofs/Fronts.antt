@@ -27,8 +27,8 @@ pub more_taken : (left rest rest' old into new : List ℕ) (done count k : ℕ) 
 more_taken left rest rest' old into new done count k within wide so_far takes =
     let long : length (take done left) ≡ done = length-take-le done left so_far.enough in
     let front : take done into ≡ take done left = ap (λ (l : List ℕ). take done l) so_far.buffer ∙ take_at (take done left) (drop done old) done long in
-    let behind : drop done into ≡ drop done old = ap (λ (l : List ℕ). drop done l) so_far.buffer ∙ drop_at (take done left) (drop done old) done long in
-    let part : take k (drop done into) ≡ drop done old = take_all k (drop done into) (omega (arith, length-drop done into)) ∙ behind in
+    let following : drop done into ≡ drop done old = ap (λ (l : List ℕ). drop done l) so_far.buffer ∙ drop_at (take done left) (drop done old) done long in
+    let part : take k (drop done into) ≡ drop done old = take_all k (drop done into) (omega (arith, length-drop done into)) ∙ following in
     let none : post_of done k into ≡ [] = drop_all k (drop done into) (omega (arith, length-drop done into)) in
     let came : new ≡ take count (drop done left) ++ drop (done + count) old =
     takes.buffer

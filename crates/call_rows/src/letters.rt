@@ -6,7 +6,7 @@ use petal_rules::Step;
 
 fn is_delivery_of(record: &Record, letter: &SharedLetter) -> bool {
     match &record.step {
-        Step::Deliver { letter: delivered } => *delivered == *letter,
+        Step::Deliver { letter: delivered } => delivered.get().is_same(letter.get()),
         _ => false,
     }
 }

@@ -467,12 +467,12 @@ const EPOCHS: &[Row] = &[
         steps: &[Step::AsksFor(Line::OldRead, 0)],
     },
     Row {
-        shows: "a read asks for the epoch behind it",
+        shows: "a read asks for the epoch after it",
         before: SNAPPED,
         steps: &[Step::AsksFor(Line::Read, 1)],
     },
     Row {
-        shows: "a write asks for the epoch behind it",
+        shows: "a write asks for the epoch after it",
         before: SNAPPED,
         steps: &[Step::AsksFor(Line::Write, 1)],
     },

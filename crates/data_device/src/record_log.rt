@@ -55,7 +55,7 @@ impl RecordLog {
         ensures size { D.size disk.new ≡ D.size disk.old }
         ensures run { D.came_to disk.old disk.new }
     {
-        let journal = Journal::format_behind_gate(disk, JOURNAL_BASE, JOURNAL_RECORDS)?;
+        let journal = Journal::format_after_gate(disk, JOURNAL_BASE, JOURNAL_RECORDS)?;
         write_header(disk, &spell(said))?;
         Ok(RecordLog {
             journal,

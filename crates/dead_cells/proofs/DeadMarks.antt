@@ -217,34 +217,34 @@ module _ (alive : Cell → Bool) where
 -- ### The first of marks in order
 
 -- each of these marks comes after the first one
-abbrev Behind : Mark → List Mark → Type 0
-Behind m ms = AllByRecursion (λ k. mark_cmp m k ≡ Less) ms
+abbrev Following : Mark → List Mark → Type 0
+Following m ms = AllByRecursion (λ k. mark_cmp m k ≡ Less) ms
 
 le_of : (a b : ℕ) → nat_le a b ≡ true → a ≤ b
 le_of a b is = grind (arith, nat_tests, is)
 
-past_map : (m : Mark) (ms : List Mark) → Behind m ms → Past map_of any None m.cell.map ms
-past_map m [] behind = tt
-past_map m (k ∷ ms) behind = ((λ _. le_of m.cell.map k.cell.map (before m k behind.0).0), past_map m ms behind.1)
+past_map : (m : Mark) (ms : List Mark) → Following m ms → Past map_of any None m.cell.map ms
+past_map m [] following = tt
+past_map m (k ∷ ms) following = ((λ _. le_of m.cell.map k.cell.map (before m k following.0).0), past_map m ms following.1)
 
-past_block : (m : Mark) (ms : List Mark) → Behind m ms → Past block_of (on m.cell.map) None m.cell.block ms
-past_block m [] behind = tt
-past_block m (k ∷ ms) behind =
-    ((λ is. le_of m.cell.block k.cell.block ((before m k behind.0).1 (both_left (k.cell.map == m.cell.map) true is))), past_block m ms behind.1)
+past_block : (m : Mark) (ms : List Mark) → Following m ms → Past block_of (on m.cell.map) None m.cell.block ms
+past_block m [] following = tt
+past_block m (k ∷ ms) following =
+    ((λ is. le_of m.cell.block k.cell.block ((before m k following.0).1 (both_left (k.cell.map == m.cell.map) true is))), past_block m ms following.1)
 
 -- the first mark is on the least map that has one
-first_map : (m : Mark) (ms : List Mark) → Behind m ms → next_marked_map None (m ∷ ms) ≡ Some m.cell.map
-first_map m ms behind = map_least None (m ∷ ms) ∙ low map_of any None m.cell.map ms (past_map m ms behind)
+first_map : (m : Mark) (ms : List Mark) → Following m ms → next_marked_map None (m ∷ ms) ≡ Some m.cell.map
+first_map m ms following = map_least None (m ∷ ms) ∙ low map_of any None m.cell.map ms (past_map m ms following)
 
 -- and on the least block of that map
-first_block : (m : Mark) (ms : List Mark) → Behind m ms → next_marked m.cell.map None (m ∷ ms) ≡ Some m.cell.block
-first_block m ms behind =
+first_block : (m : Mark) (ms : List Mark) → Following m ms → next_marked m.cell.map None (m ∷ ms) ≡ Some m.cell.block
+first_block m ms following =
     rw (number_self m.cell.map)
     (ap (λ (o : Option ℕ). lesser (Some m.cell.block) o) (block_least m.cell.map None ms)
-    ∙ low block_of (on m.cell.map) None m.cell.block ms (past_block m ms behind))
+    ∙ low block_of (on m.cell.map) None m.cell.block ms (past_block m ms following))
 
-first_cell : (m : Mark) (ms : List Mark) → Behind m ms → first_marked (m ∷ ms) ≡ Some m.cell
-first_cell m ms behind = first_on (m ∷ ms) m.cell.map m.cell.block (first_map m ms behind) (first_block m ms behind)
+first_cell : (m : Mark) (ms : List Mark) → Following m ms → first_marked (m ∷ ms) ≡ Some m.cell
+first_cell m ms following = first_on (m ∷ ms) m.cell.map m.cell.block (first_map m ms following) (first_block m ms following)
 
 abbrev busy_at : Cell → Mark
 busy_at cell = record { kind = Busy; cell = cell }
@@ -256,14 +256,14 @@ not_busy c d Busy Busy less = grind (arith, nat_tests, less)
 not_busy c d Stale Busy less = grind (arith, nat_tests, less)
 not_busy c d j Stale less = refl
 
-none_busy : (m : Mark) (ms : List Mark) → Behind m ms → has_mark (busy_at m.cell) ms ≡ false
-none_busy m [] behind = refl
-none_busy m (k ∷ ms) behind = rw (not_busy m.cell k.cell m.kind k.kind behind.0) (none_busy m ms behind.1)
+none_busy : (m : Mark) (ms : List Mark) → Following m ms → has_mark (busy_at m.cell) ms ≡ false
+none_busy m [] following = refl
+none_busy m (k ∷ ms) following = rw (not_busy m.cell k.cell m.kind k.kind following.0) (none_busy m ms following.1)
 
 -- and is the first of its cell
-kind_is : (m : Mark) (ms : List Mark) → Behind m ms → first_kind (m ∷ ms) m.cell ≡ m.kind
-kind_is m ms behind = kind_by m.kind (m.cell.map == m.cell.map) (m.cell.block == m.cell.block) (has_mark (busy_at m.cell) ms) (number_self m.cell.map)
-    (number_self m.cell.block) (none_busy m ms behind)
+kind_is : (m : Mark) (ms : List Mark) → Following m ms → first_kind (m ∷ ms) m.cell ≡ m.kind
+kind_is m ms following = kind_by m.kind (m.cell.map == m.cell.map) (m.cell.block == m.cell.block) (has_mark (busy_at m.cell) ms) (number_self m.cell.map)
+    (number_self m.cell.block) (none_busy m ms following)
   where
     kind_by : (kind : MarkKind) (a b c : Bool) → a ≡ true → b ≡ true → c ≡ false → (if (same_kind kind Busy && a && b) || c then Busy else Stale) ≡ kind
     kind_by Busy a b c e f g = rw (e, f) refl
@@ -315,11 +315,11 @@ module _ (state : State) where
       → found_of ms (first_marked ds) ≡ top_of ds
   found_top ms [] is sorted each = refl
   found_top ms (d ∷ ds) is sorted each =
-      let behind : Behind d ds = sorted_head mark_cmp d ds sorted in
+      let following : Following d ds = sorted_head mark_cmp d ds sorted in
       let busy : has_mark (busy_at d.cell) ms ≡ has_mark (busy_at d.cell) (d ∷ ds) =
       sym (busy_dying (live state) d.cell ms each.0) ∙ ap (has_mark (busy_at d.cell)) is in
-      let kind : first_kind ms d.cell ≡ d.kind = ap (λ (b : Bool). if b then Busy else Stale) busy ∙ kind_is d ds behind in
-      ap (found_of ms) (first_cell d ds behind) ∙ ap (λ (k : MarkKind). Some (dead.Mark k d.cell)) kind
+      let kind : first_kind ms d.cell ≡ d.kind = ap (λ (b : Bool). if b then Busy else Stale) busy ∙ kind_is d ds following in
+      ap (found_of ms) (first_cell d ds following) ∙ ap (λ (k : MarkKind). Some (dead.Mark k d.cell)) kind
 
   -- where marks are in order, the first one of a dead cell is found by its map, its block and its kind
   pub found : (ms : List Mark) → IsStrictlySortedBy mark_cmp ms → found_of ms (first_marked (dead_marks state ms)) ≡ dead_mark state ms

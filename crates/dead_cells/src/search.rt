@@ -25,7 +25,7 @@ fn above_map(entries: &[Entry], map: MapId) -> &[Entry]
 
 /// Of the entries after one, those among which the first of a cell that is live no longer is found: none of the same map, where
 /// each cell of that map is live.
-fn left_behind<'a>(state: &GlobalState, entry: &Entry, later: &'a [Entry]) -> &'a [Entry]
+fn rest_after<'a>(state: &GlobalState, entry: &Entry, later: &'a [Entry]) -> &'a [Entry]
     requires { IsInOrder key_of (entry.now ∷ later.now) }
     ensures first { first_dead state.now result.now ≡ first_dead state.now later.now }
     ensures order { IsInOrder key_of result.now }
@@ -48,7 +48,7 @@ pub fn dead_entry(state: &GlobalState, entries: &[Entry]) -> Option<Key>
         if !state.live(entry.key.cell()) {
             return Some(entry.key);
         }
-        rest = left_behind(state, entry, later);
+        rest = rest_after(state, entry, later);
     }
     None
 }

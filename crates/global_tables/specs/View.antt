@@ -93,13 +93,13 @@ ready [] = None
 ready (fence ∷ fences) = if length fence.waiting == 0 then Some fence else None
 
 -- what is after the head, the first of which then waits for these servers
-abbrev pub behind : List ℕ → List Fence → List Fence
-behind servers [] = []
-behind servers (fence ∷ fences) = awaiting servers fences
+abbrev pub following : List ℕ → List Fence → List Fence
+following servers [] = []
+following servers (fence ∷ fences) = awaiting servers fences
 
 -- the head leaves the queue, and the next fence waits for the servers that are In
 abbrev pub passed : View → View
-passed view = record view { queue = behind (servers_in view.members) view.queue }
+passed view = record view { queue = following (servers_in view.members) view.queue }
 
 -- the head is taken, where it waits for nobody
 abbrev pub taken : View → View

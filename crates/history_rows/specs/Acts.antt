@@ -7,7 +7,7 @@ use Rattle.petal_rules.specs.declared.step.Step.{Step}
 use Rattle.petal_rules.specs.declared.step.Step.TheVariants.{Stop, Blank, Boot, Glance, Work}
 use Rattle.petal_rules.specs.declared.step.WorkEnd.{WorkEnd}
 use Rattle.petal_rules.specs.declared.step.WorkEnd.TheVariants.{Fault}
-use Rattle.petal_history.specs.Play.{Move, behind, plays, record_by}
+use Rattle.petal_history.specs.Play.{Move, following, plays, record_by}
 
 -- some moves of a run; a server stops; a stopped one is blanked; a server boots, or fails to; a server is glanced at for the line of
 -- this number, once or in this round; a device fails in a server's next job, before its commit or after it
@@ -22,7 +22,7 @@ pub data Act : Type 0 where
 
 -- the world after a server's step
 abbrev pub stepped_by : Setting → World → ℕ → Step → World
-stepped_by setting w server what = behind setting w (record_by setting w (actor.Server server) what ∷ [])
+stepped_by setting w server what = following setting w (record_by setting w (actor.Server server) what ∷ [])
 
 abbrev pub done_by : Setting → World → Act → World
 done_by setting w (Moves moves) = plays setting w moves

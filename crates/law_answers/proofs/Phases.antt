@@ -32,24 +32,24 @@ AreBelow table number = (row : ℕ × Answer) → In row table → row.0 < numbe
 greater : (n m : ℕ) → m < n → nat_cmp n m ≡ Greater
 greater n m lt = grind (arith, nat_tests)
 
-insert_behind : (a b : Table ℕ Answer) (number : ℕ) (answer : Answer) → AreBelow a number
+insert_after : (a b : Table ℕ Answer) (number : ℕ) (answer : Answer) → AreBelow a number
     → insert_entry nat_cmp (a ++ b) number answer ≡ a ++ insert_entry nat_cmp b number answer
 unfolding In
-insert_behind [] b number answer below = refl
-insert_behind (row ∷ rows) b number answer below =
+insert_after [] b number answer below = refl
+insert_after (row ∷ rows) b number answer below =
     let o : nat_cmp number row.0 ≡ Greater = greater number row.0 (below row (inl refl)) in
     ap (λ r. match_ordering r ((number, answer) ∷ row ∷ rows ++ b) ((row.0, answer) ∷ rows ++ b) (row ∷ insert_entry nat_cmp (rows ++ b) number answer)) o
-    ∙ ap (λ more. row ∷ more) (insert_behind rows b number answer (λ other i. below other (inr i)))
+    ∙ ap (λ more. row ∷ more) (insert_after rows b number answer (λ other i. below other (inr i)))
 
 -- an answer of a greater number is put after
-put_behind : (a b : Table ℕ Answer) (number : ℕ) (answer : Answer) → AreBelow a number → put nat_cmp (a ++ b) number answer ≡ a ++ put nat_cmp b number answer
+put_following : (a b : Table ℕ Answer) (number : ℕ) (answer : Answer) → AreBelow a number → put nat_cmp (a ++ b) number answer ≡ a ++ put nat_cmp b number answer
 unfolding put
-put_behind a b number answer below = insert_behind a b number answer below
+put_following a b number answer below = insert_after a b number answer below
 
-given_behind : (a b : Table ℕ Answer) (o : Option (ℕ × Answer)) → ((row : ℕ × Answer) → o ≡ Some row → AreBelow a row.0)
+given_after : (a b : Table ℕ Answer) (o : Option (ℕ × Answer)) → ((row : ℕ × Answer) → o ≡ Some row → AreBelow a row.0)
     → with_given (a ++ b) o ≡ a ++ with_given b o
-given_behind a b None below = refl
-given_behind a b (Some row) below = put_behind a b row.0 row.1 (below row refl)
+given_after a b None below = refl
+given_after a b (Some row) below = put_following a b row.0 row.1 (below row refl)
 
 -- a row's number is found
 row_found : (table : Table ℕ Answer) (row : ℕ × Answer) → In row table → is_some (at nat_cmp table row.0) ≡ true
@@ -75,10 +75,10 @@ module _ (setting : Setting) (rise : AreRising setting.lines) where
   abbrev IsBefore : Table ℕ Answer → World → Type 0
   IsBefore a w = (line : Line) → In line lines → (IsAnswered w.answers line.number → ⊥) → AreBelow a line.number
 
-  behind : (a b : Table ℕ Answer) (w : World) (records : List Record) → Ahead lines w → IsBefore a w → IsLegalFrom setting w records
+  following : (a b : Table ℕ Answer) (w : World) (records : List Record) → Ahead lines w → IsBefore a w → IsLegalFrom setting w records
       → fold (λ rows own. with_given rows own.answer) (a ++ b) records ≡ a ++ fold (λ rows own. with_given rows own.answer) b records
-  behind a b w [] ahead before legal = refl
-  behind a b w (own ∷ later) ahead before legal =
+  following a b w [] ahead before legal = refl
+  following a b w (own ∷ later) ahead before legal =
       let s = stepped_is setting rise w own ahead legal.0 in
       let v = (stepped setting w own).world in
       let below : (row : ℕ × Answer) → own.answer ≡ Some row → AreBelow a row.0 = λ row e.
@@ -88,8 +88,8 @@ module _ (setting : Setting) (rise : AreRising setting.lines) where
       λ line there none. before line there (λ h. none
       (subst (λ (given : List (ℕ × Answer)). IsAnswered given line.number) (sym s.answers)
       (answered_more (stepped setting w own).answer w.answers line.number h))) in
-      ap (λ rows. fold (λ rows own. with_given rows own.answer) rows later) (given_behind a b own.answer below)
-      ∙ behind a (with_given b own.answer) v later s.ahead still legal.1
+      ap (λ rows. fold (λ rows own. with_given rows own.answer) rows later) (given_after a b own.answer below)
+      ∙ following a (with_given b own.answer) v later s.ahead still legal.1
 
   -- where what is answered comes first, its table is before what has no answer
   comes_before : (front : List Record) → IsLegalFrom setting (start setting) front → AnsweredComeFirst lines front
@@ -115,7 +115,7 @@ module _ (setting : Setting) (rise : AreRising setting.lines) where
       let ahead = ahead_after setting rise (start setting) front (ahead_start setting rise) parts.0 in
       fold-append (λ rows own. with_given rows own.answer) [] front back
       ∙ ap (λ rows. fold (λ rows own. with_given rows own.answer) rows back) (sym (append_nil (answers_of front)))
-      ∙ behind (answers_of front) [] (world_after setting (start setting) front) back ahead (comes_before front parts.0 first) parts.1
+      ∙ following (answers_of front) [] (world_after setting (start setting) front) back ahead (comes_before front parts.0 first) parts.1
 
 pub answers_join : (script : Script) (front back : List Record) → AreRising script.lines → IsLegal script (front ++ back)
     → AnsweredComeFirst script.lines front → answers_of (front ++ back) ≡ answers_of front ++ answers_of back

@@ -298,5 +298,5 @@ pub settled_old : (s : State) (c seq : ℕ) → is_new seq (latest s c) ≡ fals
 settled_old s c seq old =
     kept_settled (λ verdicts. is_new seq (unwrap_or (slice_get verdicts c) None) ≡ false) (λ t d q v onward h. told_old t d c q seq v onward h) s old
 
-pub old_behind : (e : Command) (s : State) (c seq : ℕ) → asker e ≡ Some (c, seq) → c < length s.verdicts → is_new seq (latest (after s e) c) ≡ false
-old_behind e s c seq own low = settled_old (act e s) c seq (old_act e s c seq own low)
+pub old_following : (e : Command) (s : State) (c seq : ℕ) → asker e ≡ Some (c, seq) → c < length s.verdicts → is_new seq (latest (after s e) c) ≡ false
+old_following e s c seq own low = settled_old (act e s) c seq (old_act e s c seq own low)

@@ -107,13 +107,13 @@ module _ (script : Script) (records : List Record) (sound : IsSound script) (ris
 
   -- ### One step
 
-  module _ (front : List Record) (own : Record) (behind : List Record) (lies : records ≡ front ++ own ∷ behind)
+  module _ (front : List Record) (own : Record) (following : List Record) (lies : records ≡ front ++ own ∷ following)
       (kept : Kept (world_after setting (start setting) front)) where
     abbrev w : World
     w = world_after setting (start setting) front
 
     front_is_legal : IsLegal script front
-    front_is_legal = (front_legal setting (start setting) front (own ∷ behind) (subst (IsLegal script) lies legal)).0
+    front_is_legal = (front_legal setting (start setting) front (own ∷ following) (subst (IsLegal script) lies legal)).0
 
     opened : (c : ℕ) (asked : Asked) → (w.clients c).asked ≡ Some asked → IsOpenFor lines c asked
     opened = open_for script front sound front_is_legal
@@ -184,7 +184,7 @@ module _ (script : Script) (records : List Record) (sound : IsSound script) (ris
               let done = due.2 in
               let at = glanced_at o.line.request n m _ _ done named in
               record {
-                moment = record { front = front; own = own; behind = behind; is = lies };
+                moment = record { front = front; own = own; following = following; is = lies };
                 so = record {
                   asked = may.asked;
                   opened = line_of lines w may.asked o (record { is = may.is; first = due.1 });
@@ -256,7 +256,7 @@ module _ (script : Script) (records : List Record) (sound : IsSound script) (ris
           boots = asks;
           fresh = may.opened.first;
           fails = λ rests. record {
-            moment = record { front = front; own = own; behind = behind; is = lies };
+            moment = record { front = front; own = own; following = following; is = lies };
             server = n;
             asked = may.asked;
             line = o.line;

@@ -14,7 +14,7 @@ use Rattle.law_state.specs.Tables.{IsPlainState}
 use Rattle.law_state.proofs.Entries.{log_plain}
 use Rattle.law_state.proofs.Places.{get_within, in_get}
 use Rattle.law_causes.specs.Asked.{asker}
-use Rattle.law_causes.proofs.Folds.{many_after, none_past, old_after, old_behind}
+use Rattle.law_causes.proofs.Folds.{many_after, none_past, old_after, old_following}
 use Rattle.law_causes.proofs.Wanted.{plain_front, take_next}
 
 module _ (servers : ℕ) (log : List Command) (plain : IsPlainLog servers log) where
@@ -54,7 +54,7 @@ module _ (servers : ℕ) (log : List Command) (plain : IsPlainLog servers log) w
       → is_new seq (latest (at (suc i)) c) ≡ false
   own_old c seq i e is low own few =
       ap (λ (s : State). is_new seq (latest s c)) (at_next i e is)
-      ∙ old_behind e (at i) c seq own (let many = many_at i (omega arith) in omega arith)
+      ∙ old_following e (at i) c seq own (let many = many_at i (omega arith) in omega arith)
 
   -- who is answered is one of the clients
   pub judged_low : (c seq k : ℕ) (given : Answer) → k ≤ length log → verdict_for seq (latest (at k) c) ≡ Some given → c < 9

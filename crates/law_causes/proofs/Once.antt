@@ -25,7 +25,7 @@ use Rattle.law_causes.specs.Glances.{HasGlance}
 use Rattle.law_causes.proofs.Glances.{glanced_before, was_glanced}
 
 -- where an element of a list lies
-lies_in : (x : Record) (xs : List Record) → In x xs → (front : List Record) × (behind : List Record) × (xs ≡ front ++ x ∷ behind)
+lies_in : (x : Record) (xs : List Record) → In x xs → (front : List Record) × (following : List Record) × (xs ≡ front ++ x ∷ following)
 unfolding In
 lies_in x [] i = absurd i
 lies_in x (y ∷ ys) (inl e) = ([], ys, ap (λ k. k ∷ ys) (sym e))
@@ -90,13 +90,13 @@ module _ (script : Script) (sound : IsSound script) (rise : AreRising script.lin
   setting = setting_of script
 
   one_glance : (line : Line) (m : ℕ) → In line script.lines → (names line.request).server ≡ Some m → (front : List Record) (own : Record)
-      (middle : List Record) (other : Record) (behind : List Record) (round later : ℕ)
-      → IsLegal script (front ++ own ∷ (middle ++ other ∷ behind)) → own.step ≡ Glance line.number round
+      (middle : List Record) (other : Record) (following : List Record) (round later : ℕ)
+      → IsLegal script (front ++ own ∷ (middle ++ other ∷ following)) → own.step ≡ Glance line.number round
       → other.step ≡ Glance line.number later → ⊥
-  one_glance line m there named front own middle other behind round later legal is again =
+  one_glance line m there named front own middle other following round later legal is again =
       let done = front ++ own ∷ middle in
-      let parts = front_legal setting (start setting) done (other ∷ behind)
-      (subst (IsLegal script) (sym (append_assoc front (own ∷ middle) (other ∷ behind))) legal) in
+      let parts = front_legal setting (start setting) done (other ∷ following)
+      (subst (IsLegal script) (sym (append_assoc front (own ∷ middle) (other ∷ following))) legal) in
       let s = was_said setting line.number (start setting) front own middle round is parts.0 in
       let g = glances_at setting line.number other.actor other.step later
       (world_after setting (start setting) done) again parts.1.0.may.may in
@@ -110,15 +110,15 @@ module _ (script : Script) (sound : IsSound script) (rise : AreRising script.lin
       record {
         moment = g.moment;
         so = g.so;
-        once = λ other round i again. elim (in-append other g.front g.behind i) [
+        once = λ other round i again. elim (in-append other g.front g.following i) [
           | inl before ↦
               let r = lies_in other g.front before in
-              one_glance line n there named r.0 other r.1 g.own g.behind round 0
+              one_glance line n there named r.0 other r.1 g.own g.following round 0
               (subst (IsLegal script)
-              (g.is ∙ ap (λ xs. xs ++ g.own ∷ g.behind) r.2 ∙ append_assoc r.0 (other ∷ r.1) (g.own ∷ g.behind)) legal)
+              (g.is ∙ ap (λ xs. xs ++ g.own ∷ g.following) r.2 ∙ append_assoc r.0 (other ∷ r.1) (g.own ∷ g.following)) legal)
               again g.so.what
           | inr after ↦
-              let r = lies_in other g.behind after in
+              let r = lies_in other g.following after in
               one_glance line n there named g.front g.own r.0 other r.1 0 round
               (subst (IsLegal script) (g.is ∙ ap (λ xs. g.front ++ g.own ∷ xs) r.2) legal) g.so.what again
         ];

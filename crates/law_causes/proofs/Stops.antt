@@ -103,7 +103,7 @@ record Ceases (setting : Setting) (w : World) (records : List Record) (n : ℕ) 
   moment : IsMoment records
   open moment use *
   ran : ((world_after setting w front).servers n).life.running ≡ true
-  since : StaysDown setting (stepped setting (world_after setting w front) own).world behind n
+  since : StaysDown setting (stepped setting (world_after setting w front) own).world following n
 
 -- who stays down does not run at first
 down_now : (setting : Setting) (w : World) (records : List Record) (n : ℕ) → StaysDown setting w records n → (w.servers n).life.running ≡ false
@@ -142,8 +142,8 @@ stops_for_a_reason script records sound legal n low rests =
       | inl down ↦ true_false ran (down_now setting (start setting) records n down)
       | inr c ↦
           let w = world_after setting (start setting) c.front in
-          let parts = front_legal setting (start setting) c.front (c.own ∷ c.behind) (subst (IsLegal script) c.is legal) in
-          let down = down_now setting (stepped setting w c.own).world c.behind n c.since in
+          let parts = front_legal setting (start setting) c.front (c.own ∷ c.following) (subst (IsLegal script) c.is legal) in
+          let down = down_now setting (stepped setting w c.own).world c.following n c.since in
           let s = step_why setting w n (told_by_line script c.front sound parts.0 n) c.ran c.own.actor c.own.step c.own.stamp
           parts.1.0.may.may down in
           record {
@@ -176,29 +176,29 @@ all_run script records sound legal lines itself n low = by_bool (last.servers n)
     by : HasReasonToStop setting (start setting) records n → ⊥
     by h = elim h.why [
       | Was_told asked line step asks given ↦ no_line_stops line.request n asks (lines line given.there)
-      | Device_failed end step ↦ itself h.front h.own h.behind n h.is (record { stops = h.stops; works = ap is_of_a_job step })
-      | Device_stopped end step ↦ itself h.front h.own h.behind n h.is (record { stops = h.stops; works = ap is_of_a_job step })
-      | Journal_full first rest step queue full ↦ itself h.front h.own h.behind n h.is (record { stops = h.stops; works = ap is_of_a_job step })
+      | Device_failed end step ↦ itself h.front h.own h.following n h.is (record { stops = h.stops; works = ap is_of_a_job step })
+      | Device_stopped end step ↦ itself h.front h.own h.following n h.is (record { stops = h.stops; works = ap is_of_a_job step })
+      | Journal_full first rest step queue full ↦ itself h.front h.own h.following n h.is (record { stops = h.stops; works = ap is_of_a_job step })
     ]
 
 -- ### Where no server stops, none boots
 
-none_itself_before : (setting : Setting) (w : World) (front behind : List Record) → NoneStopsByItself setting w (front ++ behind)
+none_itself_before : (setting : Setting) (w : World) (front following : List Record) → NoneStopsByItself setting w (front ++ following)
     → NoneStopsByItself setting w front
-none_itself_before setting w front behind none one own other n is stops =
-    none one own (other ++ behind) n (ap (λ records. records ++ behind) is ∙ append_assoc one (own ∷ other) behind) stops
+none_itself_before setting w front following none one own other n is stops =
+    none one own (other ++ following) n (ap (λ records. records ++ following) is ∙ append_assoc one (own ∷ other) following) stops
 
 record IsPart (own : Record) (records : List Record) : Type 0 where
   front : List Record
-  behind : List Record
-  is : records ≡ front ++ own ∷ behind
+  following : List Record
+  is : records ≡ front ++ own ∷ following
 
 part_of : (own : Record) (records : List Record) → In own records → IsPart own records
 unfolding In
 part_of own [] there = absurd there
-part_of own (first ∷ later) (inl e) = record { front = []; behind = later; is = ap (λ r. r ∷ later) (sym e) }
+part_of own (first ∷ later) (inl e) = record { front = []; following = later; is = ap (λ r. r ∷ later) (sym e) }
 part_of own (first ∷ later) (inr there) =
-    let p = part_of own later there in record { front = first ∷ p.front; behind = p.behind; is = ap (λ rs. first ∷ rs) p.is }
+    let p = part_of own later there in record { front = first ∷ p.front; following = p.following; is = ap (λ rs. first ∷ rs) p.is }
 
 -- a server that boots did not run
 was_down : (setting : Setting) (w : World) (who : Actor) (end : WorkEnd) → MayActor who (Boot end) setting w
@@ -211,9 +211,9 @@ none_boots : (script : Script) (records : List Record) → IsSound script → Is
 none_boots script records sound legal lines itself own there end is =
     let setting = setting_of script in
     let p = part_of own records there in
-    let parts = front_legal setting (start setting) p.front (own ∷ p.behind) (subst (IsLegal script) p.is legal) in
+    let parts = front_legal setting (start setting) p.front (own ∷ p.following) (subst (IsLegal script) p.is legal) in
     let w = world_after setting (start setting) p.front in
-    let none = none_itself_before setting (start setting) p.front (own ∷ p.behind)
+    let none = none_itself_before setting (start setting) p.front (own ∷ p.following)
     (subst (NoneStopsByItself setting (start setting)) p.is itself) in
     let down = was_down setting w own.actor end (subst (λ what. MayActor own.actor what setting w) is parts.1.0.may.may) in
     true_false (all_run script p.front sound parts.0 lines none down.0 down.1) down.2

@@ -7,7 +7,7 @@ use Rattle.std.specs.Option.{option_map_or}
 use Rattle.std.proofs.lemmas.Option.{slice_get_within}
 use Rattle.std.specs.Prelude.{is_none, slice_get, unwrap_or}
 use Rattle.global_tables.specs.Disk.{named, row_frozen, row_moving, same_name, snapshot_named}
-use Rattle.global_tables.specs.View.{behind, passed, servers_in}
+use Rattle.global_tables.specs.View.{following, passed, servers_in}
 use Rattle.global_tables.specs.View.{queued as with_queued}
 use Rattle.global_tables.specs.declared.disk.DiskRow.{DiskRow}
 use Rattle.global_tables.specs.declared.disk.Snapshot.{Snapshot}
@@ -33,7 +33,7 @@ use Rattle.law_state.specs.Plain.{IsPlainLog}
 use Rattle.law_state.specs.Tables.{IsForRegion, IsForSnapshot, Of_disk, Of_region}
 use Rattle.law_state.proofs.Caughts.{act_caught}
 use Rattle.law_state.proofs.Entries.{acting}
-use Rattle.law_state.proofs.Fences.{Acted, IsRequeued, IsUnsettled, get_behind, head_get, ready_by, requeued_awaiting}
+use Rattle.law_state.proofs.Fences.{Acted, IsRequeued, IsUnsettled, get_after, head_get, ready_by, requeued_awaiting}
 use Rattle.law_state.proofs.Fences.{requeued_itself, requeued_reported}
 use Rattle.law_state.proofs.Passing.{one_passed, passed_here, passing, settled_keeps}
 use Rattle.law_state.proofs.Places.{get_last, get_within, text_itself}
@@ -178,12 +178,12 @@ module _ (servers : ℕ) (log : List Command) (plain : IsPlainLog servers log) w
         (text_itself active.name)
 
     -- the fences after it stood before
-    queue_behind : (s : State) (fence : Fence) (i : ℕ) (other : Fence) → slice_get (one_passed s fence).view.queue i ≡ Some other
+    queue_after : (s : State) (fence : Fence) (i : ℕ) (other : Fence) → slice_get (one_passed s fence).view.queue i ≡ Some other
         → OldOrWaits s (one_passed s fence) other
-    queue_behind s fence i other e =
-        let there : slice_get (behind (servers_in s.view.members) s.view.queue) i ≡ Some other =
+    queue_after s fence i other e =
+        let there : slice_get (following (servers_in s.view.members) s.view.queue) i ≡ Some other =
         sym (ap (λ (v : Rattle.global_tables.specs.View.View). slice_get v.queue i) (view-effect fence.kind _)) ∙ e in
-        let before = get_behind (servers_in s.view.members) s.view.queue i other there in
+        let before = get_after (servers_in s.view.members) s.view.queue i other there in
         inl (suc i, before.0, before.1, before.2)
 
     -- one for a region tells nobody
@@ -198,7 +198,7 @@ module _ (servers : ℕ) (log : List Command) (plain : IsPlainLog servers log) w
           tells = λ given e. inl (ap (verdict_for seq) (sym same) ∙ e);
           old = λ old. ap (is_new seq) same ∙ old;
           stays = λ given e. inl (ap (verdict_for seq) same ∙ e);
-        }) (queue_behind s fence) in
+        }) (queue_after s fence) in
         (acted.plain, next.0, next.1)
 
     disk_passes : (s : State) → IsUnsettled servers s → Has s → (fence : Fence) → slice_get s.view.queue 0 ≡ Some fence → IsForSnapshot s fence
@@ -220,7 +220,7 @@ module _ (servers : ℕ) (log : List Command) (plain : IsPlainLog servers log) w
           stays = λ given e. inl (passed_stays s fence active.disk active.name active.client c active.seq seq given active.kind
               (λ same number. (waiting same number).quiet given e) e);
         })
-        (queue_behind s fence) in
+        (queue_after s fence) in
         (acted.plain, next.0, next.1)
 
     passes_by : (s : State) → IsUnsettled servers s → Has s → (fence : Fence) → slice_get s.view.queue 0 ≡ Some fence
@@ -398,7 +398,7 @@ module _ (servers : ℕ) (log : List Command) (plain : IsPlainLog servers log) w
                 | inr late ↦ inr (λ disk text kind. late_waits disk text (sym (ap (λ (f : Fence). f.kind) late.1) ∙ kind))
               ])
 
-      -- a fence for a region is behind those that stood
+      -- a fence for a region is after those that stood
       region_queued_then : (t : State) (disk region : ℕ) → (i : ℕ) (fence : Fence)
           → slice_get (with_queued s.view (Region disk region)).queue i ≡ Some fence → OldOrWaits s t fence
       region_queued_then t disk region i fence e = elim (get_last s.view.queue _ i fence e) [

@@ -23,7 +23,7 @@ use Rattle.law_state.specs.Plain.{IsPlainLog}
 use Rattle.law_state.specs.Tables.{IsFence, IsGrown, IsLaterDisk, Of_disk, Of_region}
 use Rattle.law_state.proofs.Fences.{IsUnsettled, head_get, ready_by}
 use Rattle.law_state.proofs.Passing.{here_row, one_passed, passed_beside, passed_here, passing, region_beside, region_here, settled_keeps}
-use Rattle.law_state.proofs.Places.{find_behind, find_front, find_here, found_at, text_itself}
+use Rattle.law_state.proofs.Places.{find_after, find_front, find_here, found_at, text_itself}
 use Rattle.law_state.proofs.Owners.{disk_at_is}
 
 -- ### Fronts of a log
@@ -72,7 +72,7 @@ named_on servers s t p q g name row e =
 pub last_found : {A : Type 0} (p : A → Bool) (xs : List A) (y : A) → p y ≡ true → is_some (find p (xs ++ y ∷ [])) ≡ true
 last_found p xs y is = elim (some_or_none (find p xs)) [
   | inl found ↦ ap is_some (find_front p xs (y ∷ []) found.0 found.1)
-  | inr none ↦ ap is_some (find_behind p xs (y ∷ []) none) ∙ ap (λ (b : Bool). is_some (if b then Some y else None)) is
+  | inr none ↦ ap is_some (find_after p xs (y ∷ []) none) ∙ ap (λ (b : Bool). is_some (if b then Some y else None)) is
 ]
 
 pub still_found : {A : Type 0} (p : A → Bool) (xs ys : List A) → is_some (find p xs) ≡ true → is_some (find p (xs ++ ys)) ≡ true

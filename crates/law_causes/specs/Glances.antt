@@ -36,4 +36,4 @@ pub record HasGlance (setting : Setting) (w : World) (records : List Record) (li
   pub moment : IsMoment records
   pub open moment use *
   pub so : IsGlance setting (world_after setting w front) own line server given
-  pub once : (other : Record) (round : ℕ) → In other (front ++ behind) → other.step ≢ Glance line.number round
+  pub once : (other : Record) (round : ℕ) → In other (front ++ following) → other.step ≢ Glance line.number round

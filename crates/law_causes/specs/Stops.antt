@@ -46,7 +46,7 @@ pub record HasReasonToStop (setting : Setting) (w : World) (records : List Recor
   pub open moment use *
   pub stops : Stops setting (world_after setting w front) own n
   pub why : IsReasonToStop setting (world_after setting w front) n own.step
-  pub since : StaysDown setting (stepped setting (world_after setting w front) own).world behind n
+  pub since : StaysDown setting (stepped setting (world_after setting w front) own).world following n
 
 -- ### Where no server stops
 
@@ -74,5 +74,5 @@ pub record StopsByItself (setting : Setting) (w : World) (own : Record) (n : ℕ
 -- in none of these steps does a server stop by itself
 abbrev pub NoneStopsByItself : Setting → World → List Record → Type 0
 NoneStopsByItself setting w records =
-    (front : List Record) (own : Record) (behind : List Record) (n : ℕ) → records ≡ front ++ own ∷ behind
+    (front : List Record) (own : Record) (following : List Record) (n : ℕ) → records ≡ front ++ own ∷ following
     → StopsByItself setting (world_after setting w front) own n → ⊥

@@ -20,16 +20,16 @@ use Rattle.law_copies.specs.Pair.{HaveMarks}
 use Rattle.law_copies.specs.Visits.{Visits, with_stores}
 
 -- every server has applied entries of this log alone, now and at each world on the way
-pub record IsBehind (setting : Setting) (records : List Record) (top : List Command) (w : World) : Type 0 where
+pub record IsAfter (setting : Setting) (records : List Record) (top : List Command) (w : World) : Type 0 where
   pub now : (n : ℕ) → IsPrefix (w.servers n).log.applied top
   pub ever : (before later : List Record) → records ≡ before ++ later → (n : ℕ)
       → IsPrefix ((world_after setting (start setting) before).servers n).log.applied top
 
-pub behind_on : (setting : Setting) (records : List Record) (top more : List Command) (w : World) → IsPrefix top more → IsBehind setting records top w
-    → IsBehind setting records more w
-behind_on setting records top more w prefix behind = record {
-  now = λ n. front_on _ top more (behind.now n) prefix;
-  ever = λ before later is n. front_on _ top more (behind.ever before later is n) prefix;
+pub following_on : (setting : Setting) (records : List Record) (top more : List Command) (w : World) → IsPrefix top more → IsAfter setting records top w
+    → IsAfter setting records more w
+following_on setting records top more w prefix following = record {
+  now = λ n. front_on _ top more (following.now n) prefix;
+  ever = λ before later is n. front_on _ top more (following.ever before later is n) prefix;
 }
 
 -- what is kept of this front of the log, with these visits and places that count
@@ -62,7 +62,7 @@ pub record AtNext : Type 0 where
   pub old : ℕ → Store
   pub new : ℕ → Store
   pub good : Good setting records top (with_stores u old)
-  pub behind : IsBehind setting records top u
+  pub following : IsAfter setting records top u
   pub all : IsPlainLog setting.servers (top ++ entry ∷ [])
   pub started : (of link holder inc other other_inc : ℕ) → entry ≡ Caught of link holder inc other other_inc
       → WasStarted setting records holder inc top (record { map = of; link = link })

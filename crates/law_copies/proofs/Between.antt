@@ -55,7 +55,7 @@ module _ (setting : Setting) (n : ℕ) where
         j.inc,
         record {
           until = front;
-          behind = front_itself front;
+          following = front_itself front;
           stands = record { later = later; is = ap (λ c. front ++ c ∷ later) j.is ∙ sym (append_assoc front (Join n j.inc true ∷ []) later) };
           may = j.may;
         },
@@ -67,7 +67,7 @@ module _ (setting : Setting) (n : ℕ) where
         rest.0,
         record {
           until = rest.1.until;
-          behind = front_on front (front ++ entry ∷ []) rest.1.until (front_more front entry) rest.1.behind;
+          following = front_on front (front ++ entry ∷ []) rest.1.until (front_more front entry) rest.1.following;
           stands = subst (IsPrefix (rest.1.until ++ Join n rest.0 true ∷ [])) (sym whole) rest.1.stands;
           may = rest.1.may;
         },
@@ -128,9 +128,9 @@ module _ (setting : Setting) (records : List Record) (w : World) (stores : ℕ �
             let plain = front_plain setting.servers more chosen firm.plain two in
             let until_more = front_on j.until (j.until ++ Join holder h.0 true ∷ []) more (front_more j.until (Join holder h.0 true)) j.stands in
             let until_chosen = front_on j.until more chosen until_more two in
-            let mid = linked_between setting chosen firm.plain front j.until more cell row now j.behind until_more two is end in
+            let mid = linked_between setting chosen firm.plain front j.until more cell row now j.following until_more two is end in
             let mid_alive = alive_on setting chosen firm.plain j.until more cell until_more two alive in
-            elim (alone_or_flagged setting records w stores firm good started front j.until cell row mid.0 holder whole j.behind until_chosen is alone mid.1
+            elim (alone_or_flagged setting records w stores firm good started front j.until cell row mid.0 holder whole j.following until_chosen is alone mid.1
             mid_alive unseen) [
               | inl held ↦ (
                   let steady = log_steady setting.servers j.until (front_plain setting.servers j.until chosen firm.plain until_chosen) in
@@ -174,15 +174,15 @@ module _ (setting : Setting) (records : List Record) (w : World) (stores : ℕ �
         let plain = front_plain setting.servers more chosen firm.plain two in
         let joined_chosen = front_on joined more chosen j.stands two in
         let until_chosen = front_on j.until joined chosen (front_more j.until (Join o h.0 true)) joined_chosen in
-        let front_joined = front_on front j.until joined j.behind (front_more j.until (Join o h.0 true)) in
+        let front_joined = front_on front j.until joined j.following (front_more j.until (Join o h.0 true)) in
         let until_more = front_on j.until joined more (front_more j.until (Join o h.0 true)) j.stands in
-        let mid = linked_between setting chosen firm.plain front j.until more cell row now j.behind until_more two is end in
+        let mid = linked_between setting chosen firm.plain front j.until more cell row now j.following until_more two is end in
         let alive_then = alive_on setting chosen firm.plain more chosen cell two (front_itself chosen) alive in
-        let so_mid = rows_later setting chosen firm.plain front j.until cell row mid.0 j.behind until_chosen is mid.1 in
+        let so_mid = rows_later setting chosen firm.plain front j.until cell row mid.0 j.following until_chosen is mid.1 in
         let has_mid : has_server o mid.0 ≡ true = one_before row mid.0 o so_mid ∙ other_is_one row k in
         let b = blanked_at setting more plain front o h.0 cell mid.0 j mid.1 has_mid in
         let more_o = joined_counts setting.servers front joined o h.0
-        (record { until = j.until; behind = j.behind; stands = front_itself joined; may = j.may }) in
+        (record { until = j.until; following = j.following; stands = front_itself joined; may = j.may }) in
         let later = joins_earlier setting chosen firm.plain front joined cell row (row_blanked o mid.0) o (firm.servers k) joined_chosen is b.linked
         (other_is_one row k) has_mid more_o in
         elim (since joined (row_blanked o mid.0) front_joined joined_chosen b.linked
@@ -198,7 +198,7 @@ module _ (setting : Setting) (records : List Record) (w : World) (stores : ℕ �
                 | inr (inl lost) ↦ alone_not_lost now k alone lost
                 | inr (inr u) ↦ (
                     let u_chosen = front_on u.until more chosen u.before two in
-                    let up = places_up setting chosen firm.plain joined u.until cell (row_blanked o mid.0) u.row u.behind u_chosen b.linked u.linked in
+                    let up = places_up setting chosen firm.plain joined u.until cell (row_blanked o mid.0) u.row u.following u_chosen b.linked u.linked in
                     let most = been_below setting records w stores firm good k (place_by setting u.until u.row) cell u.own row u.visited is in
                     absurd (omega arith))
               ])

@@ -165,7 +165,7 @@ module _ (it : AtJob) where
     | inr ne ↦ leaves_apart f n place cell ne
   ]
 
-  -- two fronts at one place of the link are behind as many Joins of each of its servers
+  -- two fronts at one place of the link are after as many Joins of each of its servers
   joins_here : (f : List Command) (cell : Cell) (row : LinkRow) (n : ℕ) → IsPrefix f top → IsLinked setting f cell row → IsLinked setting front cell row
       → place_by setting front row ≡ place_by setting f row → has_server n row ≡ true → blank_joins_in setting front n ≡ blank_joins_in setting f n
   joins_here f cell row n prefix is mine e has = joins_at setting top firm.plain front f cell row row n (firm.servers k) prefix mine is has has e
@@ -444,7 +444,7 @@ module _ (it : AtJob) where
               → HasFilled setting top visits f cell holder other_one
           by_caught more kept p u =
               let u_top = front_on u.until front top u.before (firm.servers k) in
-              let low = joins_grow setting.servers f u.until k u.behind in
+              let low = joins_grow setting.servers f u.until k u.following in
               let high = joins_grow setting.servers u.until top k u_top in
               filled_at u.until u.row u.own u_top u.linked (now_at u.until (omega (arith, now))) u.visited
 

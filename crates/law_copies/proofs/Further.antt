@@ -24,7 +24,7 @@ use Rattle.law_copies.specs.Good.{Good, store_of}
 use Rattle.law_copies.specs.Pair.{HaveMarks}
 use Rattle.law_copies.specs.Visits.{Visits, with_stores}
 use Rattle.law_copies.proofs.Growing.{grown_one}
-use Rattle.law_copies.proofs.AtNext.{AreRecounted, IsBehind, IsGrownTo, behind_on}
+use Rattle.law_copies.proofs.AtNext.{AreRecounted, IsAfter, IsGrownTo, following_on}
 use Rattle.law_copies.proofs.Later.{AllStarted}
 use Rattle.law_copies.proofs.Renewed.{blank_join, counts_more, counts_same}
 
@@ -46,7 +46,7 @@ module _ (setting : Setting) (records : List Record) (v : World) (first : List C
   abbrev joins : List Command → ℕ → ℕ
   joins log n = blank_joins_in setting log n
 
-  -- the stores that count by a front behind those first entries: once more Joins of a server count, its own
+  -- the stores that count by a front after those first entries: once more Joins of a server count, its own
   abbrev recounted_by : List Command → ℕ → Store
   recounted_by log n = if joins log n == joins first n then kept_by setting first v n else store_of v n
 
@@ -64,7 +64,7 @@ module _ (setting : Setting) (records : List Record) (v : World) (first : List C
       (store_of v n)))
 
   module _ (top : List Command) (entry : Command) (one : IsPrefix first top) (two : IsPrefix (top ++ entry ∷ []) chosen)
-      (behind : IsBehind setting records top v) (good : Good setting records top (with_stores v (recounted_by top))) where
+      (following : IsAfter setting records top v) (good : Good setting records top (with_stores v (recounted_by top))) where
     abbrev so_far : State
     so_far = state_after setting.servers top
 
@@ -90,11 +90,11 @@ module _ (setting : Setting) (records : List Record) (v : World) (first : List C
         let stands : IsPrefix (top ++ Join n j.inc true ∷ []) chosen = subst (λ c. IsPrefix (top ++ c ∷ []) chosen) j.is two in
         let plain = front_plain setting.servers (top ++ Join n j.inc true ∷ []) chosen further.firm.plain stands in
         let joined = joined_in setting.servers top (top ++ Join n j.inc true ∷ []) n j.inc true plain
-        (record { until = top; behind = front_itself top; stands = front_itself (top ++ Join n j.inc true ∷ []); may = j.may }) in
+        (record { until = top; following = front_itself top; stands = front_itself (top ++ Join n j.inc true ∷ []); may = j.may }) in
         let low = further.begun n j.inc (top ++ Join n j.inc true ∷ []) stands joined in
         true_false j.may
         (joined_once setting.servers (v.servers n).log.applied top n (v.servers n).life.inc
-        (front_plain setting.servers top chosen further.firm.plain (front_on top _ chosen (front_more top entry) two)) (behind.now n)
+        (front_plain setting.servers top chosen further.firm.plain (front_on top _ chosen (front_more top entry) two)) (following.now n)
         j.inc seat low))
         (λ out. out)
 
@@ -123,16 +123,16 @@ module _ (setting : Setting) (records : List Record) (v : World) (first : List C
         rested n on (inr none) = subst (HaveMarks (server_state setting v n) (v.servers n).own.pairs.pending)
             (own_by n none (joins top n == joins first n)) (good.marks n (inr none))
 
-  grow_by : (visits : Visits) (reached : Cell → ℕ) (more top : List Command) → chosen ≡ top ++ more → IsPrefix first top → IsBehind setting records top v
+  grow_by : (visits : Visits) (reached : Cell → ℕ) (more top : List Command) → chosen ≡ top ++ more → IsPrefix first top → IsAfter setting records top v
       → IsGrownTo setting records (with_stores v (recounted_by top)) visits reached top → IsGrownTo setting records
       (with_stores v (recounted_by chosen)) visits reached chosen
-  grow_by visits reached [] top e one behind grown =
+  grow_by visits reached [] top e one following grown =
       subst (λ log. IsGrownTo setting records (with_stores v (recounted_by log)) visits reached log) (sym (e ∙ append-nil top)) grown
-  grow_by visits reached (entry ∷ more) top e one behind grown =
+  grow_by visits reached (entry ∷ more) top e one following grown =
       let onward : chosen ≡ (top ++ entry ∷ []) ++ more = e ∙ sym (append_assoc top (entry ∷ []) more) in
       let prefix : IsPrefix (top ++ entry ∷ []) chosen = record { later = more; is = onward } in
       grow_by visits reached more (top ++ entry ∷ []) onward (front_on first top (top ++ entry ∷ []) one (front_more top entry))
-      (behind_on setting records top (top ++ entry ∷ []) v (front_more top entry) behind)
+      (following_on setting records top (top ++ entry ∷ []) v (front_more top entry) following)
       (grown_one (record {
         setting = setting;
         records = records;
@@ -142,17 +142,17 @@ module _ (setting : Setting) (records : List Record) (v : World) (first : List C
         old = recounted_by top;
         new = recounted_by (top ++ entry ∷ []);
         good = grown.good;
-        behind = behind;
+        following = following;
         all = front_plain setting.servers (top ++ entry ∷ []) chosen further.firm.plain prefix;
         started = λ of link holder inc other other_inc same. further.started top of link holder inc other other_inc
             (subst (λ (x : Command). IsPrefix (top ++ x ∷ []) chosen) same prefix);
-        recounts = recounted top entry one prefix behind grown.good;
+        recounts = recounted top entry one prefix following grown.good;
       }) visits reached grown.visits_are grown.reached_is)
 
   -- what is kept of a front of the chosen log that no server was beyond is kept of the whole, by the stores that count then
-  pub grow : (visits : Visits) (reached : Cell → ℕ) → IsPrefix first chosen → IsBehind setting records first v
+  pub grow : (visits : Visits) (reached : Cell → ℕ) → IsPrefix first chosen → IsAfter setting records first v
       → IsGrownTo setting records (counted_by setting first v) visits reached first → IsGrownTo setting records (counted setting v) visits reached chosen
-  grow visits reached prefix behind grown =
+  grow visits reached prefix following grown =
       subst (λ w. IsGrownTo setting records w visits reached chosen) (λ i. with_stores v (λ n. stores_chosen n i))
-      (grow_by visits reached prefix.later first prefix.is (front_itself first) behind
+      (grow_by visits reached prefix.later first prefix.is (front_itself first) following
       (subst (λ w. IsGrownTo setting records w visits reached first) (λ i. with_stores v (λ n. sym (stores_first n) i)) grown))

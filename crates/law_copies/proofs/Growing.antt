@@ -58,7 +58,7 @@ use Rattle.law_copies.proofs.NextEntry.{no_blank, no_caught, no_leave, old_store
 use Rattle.law_copies.proofs.NextEntry.{row_then, steady_top, still_empty, stores_so}
 
 module _ (it : AtNext) where
-  open it use {setting, records, top, entry, u, old, new, good, behind, all, started, recounts}
+  open it use {setting, records, top, entry, u, old, new, good, following, all, started, recounts}
   open next_of it use {next, here, then_state, v, stores}
 
   -- ### In Both
@@ -408,10 +408,10 @@ module _ (it : AtNext) where
         met = s.met;
       }
 
-  -- no server was behind the entry at a world on the way
+  -- no server was past the entry at a world on the way
   not_started : {B : Type 0} (holder inc : ℕ) (id : LinkId) → WasStarted setting records holder inc next id → B
   not_started holder inc id was =
-      let le = front_long _ top (behind.ever was.before was.later was.is holder) in
+      let le = front_long _ top (following.ever was.before was.later was.is holder) in
       absurd (omega (arith, ap length was.at, length-append top (entry ∷ [])))
 
   here_next : (n : ℕ) (cell : Cell) (row : LinkRow) → IsLinked setting (u.servers n).log.applied cell row

@@ -35,7 +35,7 @@ use Rattle.law_copies.specs.Visits.{is_at}
 use Rattle.law_copies.proofs.AtStep.{IsStep, at_step}
 use Rattle.law_copies.proofs.Framed.{store_itself}
 use Rattle.law_copies.proofs.Further.{IsFurther, grow}
-use Rattle.law_copies.proofs.AtNext.{IsBehind}
+use Rattle.law_copies.proofs.AtNext.{IsAfter}
 use Rattle.law_copies.proofs.Mute.{asked_mute}
 use Rattle.law_copies.proofs.Quiet as quiet
 use Rattle.law_copies.proofs.Quiet.{posts_mute}
@@ -167,8 +167,8 @@ module _ (script : Script) (records : List Record) (own : Record) (sound : IsSou
   legal_before = before_last script records own legal
 
   -- no server was beyond what was chosen before the last record
-  behind : ((n : ℕ) → IsPrefix (next.servers n).log.applied (chosen_log setting w)) → IsBehind setting all (chosen_log setting w) next
-  behind now = record {
+  following : ((n : ℕ) → IsPrefix (next.servers n).log.applied (chosen_log setting w)) → IsAfter setting all (chosen_log setting w) next
+  following now = record {
     now = now;
     ever = λ before rest is n. elim (split_last records own before rest is) [
       | inl whole ↦ subst (λ rs. IsPrefix ((world_after setting (start setting) rs).servers n).log.applied (chosen_log setting w)) (sym whole) (now n)
@@ -208,7 +208,7 @@ module _ (script : Script) (records : List Record) (own : Record) (sound : IsSou
       } in
       let goes = happens_goes before state next happens refl in
       let grown = grow setting all next (chosen_log setting w) further goes.good.visits goes.good.reached
-      (history_grows script all sound legal records (own ∷ []) refl) (behind goes.behind)
+      (history_grows script all sound legal records (own ∷ []) refl) (following goes.following)
       (record { good = goes.good; visits_are = λ n place cell. refl; reached_is = λ cell. refl }) in
       record {
         good = grown.good;

@@ -153,7 +153,7 @@ module _ (setting : Setting) (records : List Record) (w : World) (stores : ℕ �
   -- after these entries the holder's Caught was started, for which it has the link in mind; and the other server was there
   pub record IsCaughtUp (front more : List Command) (cell : Cell) (holder : ℕ) (whole : Bool) : Type 0 where
     pub until : List Command
-    pub behind : IsPrefix front until
+    pub following : IsPrefix front until
     pub before : IsPrefix until more
     pub row : LinkRow
     pub linked : IsLinked setting until cell row
@@ -186,7 +186,7 @@ module _ (setting : Setting) (records : List Record) (w : World) (stores : ℕ �
         let caught = copying.caught mind.0 mind.1 mind.2 in
         record {
           until = c.until;
-          behind = c.behind;
+          following = c.following;
           before = until_more;
           row = was;
           linked = c.was;
@@ -219,11 +219,11 @@ module _ (setting : Setting) (records : List Record) (w : World) (stores : ℕ �
         → place_by setting u.until u.row ≡ place_by setting front row
     not_later front more cell row holder whole one two is u unseen =
         let until_chosen = front_on u.until more chosen u.before two in
-        let up = places_up setting chosen firm.plain front u.until cell row u.row u.behind until_chosen is u.linked in
+        let up = places_up setting chosen firm.plain front u.until cell row u.row u.following until_chosen is u.linked in
         elim (at_most_or_above (place_by setting u.until u.row) (place_by setting front row)) [
           | inl le ↦ omega arith
           | inr lt ↦ (
-              let so = rows_later setting chosen firm.plain front u.until cell row u.row u.behind until_chosen is u.linked in
+              let so = rows_later setting chosen firm.plain front u.until cell row u.row u.following until_chosen is u.linked in
               true_false u.met (ap is_some (ap (λ n. good.visits n (place_by setting u.until u.row) cell) (other_later row u.row holder so)
               ∙ unseen (place_by setting u.until u.row) lt)))
         ]
@@ -326,7 +326,7 @@ module _ (setting : Setting) (records : List Record) (w : World) (stores : ℕ �
               | inr (inl lost) ↦ alone_not_lost now k (only_holder (state_after setting.servers more) k cell now end on).1 lost
               | inr (inr u) ↦ (
                   let until_chosen = front_on u.until more chosen u.before two in
-                  let up = places_up setting chosen firm.plain (own_front k) u.until cell row u.row u.behind until_chosen is u.linked in
+                  let up = places_up setting chosen firm.plain (own_front k) u.until cell row u.row u.following until_chosen is u.linked in
                   let most = been_below k (place_by setting u.until u.row) cell u.own row u.visited is in
                   let same : place_by setting u.until u.row ≡ place_by setting (own_front k) row = omega arith in
                   let one_is : u.row ≡ row =

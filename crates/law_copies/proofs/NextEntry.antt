@@ -32,7 +32,7 @@ use Rattle.law_copies.proofs.Places.{place_untouched, places_up, rows_later, sta
 use Rattle.law_copies.proofs.Renewed.{counts_more, no_blank_join, no_chains}
 
 module _ (it : AtNext) where
-  open it use {setting, top, entry, old, new, good, behind, all, recounts}
+  open it use {setting, top, entry, old, new, good, following, all, recounts}
   open next_of it use {next, here, then_state, stores}
 
   pub plain_top : IsPlainLog setting.servers top
@@ -57,15 +57,15 @@ module _ (it : AtNext) where
       → (row : LinkRow) × IsLinked setting top cell row
   been_linked n place cell own visited now end =
       let b = good.been n place cell own visited in
-      linked_between setting next all b.front top next cell b.row now (front_on b.front _ top b.within (behind.now n)) (front_more top entry)
+      linked_between setting next all b.front top next cell b.row now (front_on b.front _ top b.within (following.now n)) (front_more top entry)
       (front_itself next) b.linked end
 
-  -- and the place is not behind that by the entries so far
+  -- and the place is not past that by the entries so far
   been_below : (n place : ℕ) (cell : Cell) (own : Own) (row : LinkRow) → good.visits n place cell ≡ Some own → IsLinked setting top cell row
       → place ≤ place_by setting top row
   been_below n place cell own row visited is =
       let b = good.been n place cell own visited in
-      let up = places_up setting next all b.front top cell b.row row (front_on b.front _ top b.within (behind.now n)) (front_more top entry) b.linked is in
+      let up = places_up setting next all b.front top cell b.row row (front_on b.front _ top b.within (following.now n)) (front_more top entry) b.linked is in
       let at = b.at in
       omega arith
 
@@ -75,7 +75,7 @@ module _ (it : AtNext) where
   pub alive_before : (cell : Cell) → AliveIn then_state cell → AliveIn here cell
   alive_before cell alive = alive_on setting next all top next cell (front_more top entry) (front_itself next) alive
 
-  -- the last place is not behind that by the entries so far
+  -- the last place is not past that by the entries so far
   pub reached_below : (cell : Cell) (row : LinkRow) → IsLinked setting top cell row → good.reached cell ≤ place_by setting top row
   reached_below cell row is = elim (good.reaching.by cell) [
     | inl none ↦ omega (arith, none)

@@ -62,7 +62,7 @@ module _ (setting : Setting) (top : List Command) (entry : Command) (n : ℕ) wh
       let j = blank_join (state_after setting.servers top) entry n on in
       joined_counts setting.servers top (top ++ entry ∷ []) n j.inc (record {
         until = top;
-        behind = front_itself top;
+        following = front_itself top;
         stands = record { later = []; is = ap (λ c. top ++ c ∷ []) j.is ∙ sym (append-nil (top ++ Join n j.inc true ∷ [])) };
         may = j.may;
       })

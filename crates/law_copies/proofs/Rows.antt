@@ -39,8 +39,8 @@ module _ {X : Type 0} where
   above_head : (e : ℕ × X) (es : Table ℕ X) (k : ℕ) (x : X) → IsRising nat_cmp (e ∷ es) → at nat_cmp es k ≡ Some x → e.0 < k
   above_head e es k x h is = ranked e.0 k Less (sym (h.0 (k, x) (at_in es k x is)))
 
-  none_behind : (e : ℕ × X) (es : Table ℕ X) → IsRising nat_cmp (e ∷ es) → at nat_cmp es e.0 ≡ None
-  none_behind e es h = elim (some_or_none (at nat_cmp es e.0)) [
+  none_after : (e : ℕ × X) (es : Table ℕ X) → IsRising nat_cmp (e ∷ es) → at nat_cmp es e.0 ≡ None
+  none_after e es h = elim (some_or_none (at nat_cmp es e.0)) [
     | inl there ↦ (let lt = above_head e es e.0 there.0 h there.1 in absurd (omega arith))
     | inr none ↦ none
   ]
@@ -63,7 +63,7 @@ module _ {X : Type 0} where
     where
       tails : d.0 ≡ e.0 → (k : ℕ) → at nat_cmp ds k ≡ at nat_cmp es k
       tails key k = elim (same_or_apart k d.0) [
-        | inl is ↦ ap (at nat_cmp ds) is ∙ none_behind d ds g ∙ sym (none_behind e es h) ∙ ap (at nat_cmp es) (sym key ∙ sym is)
+        | inl is ↦ ap (at nat_cmp ds) is ∙ none_after d ds g ∙ sym (none_after e es h) ∙ ap (at nat_cmp es) (sym key ∙ sym is)
         | inr ne ↦ sym (at_there d ds k ne) ∙ same k ∙ at_there e es k (λ is. ne (is ∙ sym key))
       ]
 

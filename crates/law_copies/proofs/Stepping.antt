@@ -54,7 +54,7 @@ pub record GoesOn (setting : Setting) (records : List Record) (top next : List C
   pub good : Good setting (records ++ own ∷ []) next v
   pub visits : (n place : ℕ) (cell : Cell) → good.visits n place cell ≡ seen setting old.visits v n place cell
   pub reached : (cell : Cell) → old.reached cell ≤ good.reached cell
-  pub behind : (n : ℕ) → IsPrefix (v.servers n).log.applied top
+  pub following : (n : ℕ) → IsPrefix (v.servers n).log.applied top
 
 -- the server's own part, by its own state then
 pub record IsSoundOwn (setting : Setting) (top : List Command) (v : World) (k : ℕ) (server : Server) : Type 0 where
@@ -143,5 +143,5 @@ module _ (it : AtStep) where
     good = good_now own then_is flags sound keeps sent;
     visits = all_visited it;
     reached = counted_up it;
-    behind = all_servers (λ n (s : Server). IsPrefix s.log.applied top) step.before step.within;
+    following = all_servers (λ n (s : Server). IsPrefix s.log.applied top) step.before step.within;
   }

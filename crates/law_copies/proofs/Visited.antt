@@ -345,7 +345,7 @@ module _ (it : AtStep) where
       ∙ ap (λ b. if b then server.own.store else good.stores n joins) off)
       (λ apart. ap (λ b. if b && (joins == blank_joins_in setting top k) then server.own.store else good.stores n joins) apart))
 
-  -- by a front behind which the server has joined no more
+  -- by a front after which the server has joined no more
   pub stored_by : (f : List Command) → blank_joins_in setting f k ≡ blank_joins_in setting top k → store_by setting stored f k ≡ server.own.store
   stored_by f same = ap (stored k) same ∙ stored_here
 

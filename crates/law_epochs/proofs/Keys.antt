@@ -20,4 +20,4 @@ at_key {X} (e ∷ es) (suc i) row is =
     let later = at_key es i row is in
     by_bool (is_eq (nat_cmp row.0 e.0))
     (λ here. (e.1, ap (λ b. cond b (Some e.1) (lookup (is_at (nat_cmp row.0)) es)) here))
-    (λ behind. (later.0, ap (λ b. cond b (Some e.1) (lookup (is_at (nat_cmp row.0)) es)) behind ∙ later.1))
+    (λ following. (later.0, ap (λ b. cond b (Some e.1) (lookup (is_at (nat_cmp row.0)) es)) following ∙ later.1))

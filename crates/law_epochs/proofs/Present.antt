@@ -103,7 +103,7 @@ module _ (script : Script) (sound : IsSound script) (records : List Record) (leg
   -- as long as the server is In, the era rises only after a report of the server's, made on the way
   pub record IsReported (n inc : ℕ) (cell : Cell) (opened front : List Command) : Type 0 where
     pub until : List Command
-    pub behind : IsPrefix opened until
+    pub following : IsPrefix opened until
     pub before : IsPrefix until front
     pub seated : is_in (state_after script.servers until) n inc ≡ true
     pub holds : is_writes_held (held (state_after script.servers until) cell) ≡ true
@@ -122,7 +122,7 @@ module _ (script : Script) (sound : IsSound script) (records : List Record) (leg
             let reported = log_unheld script.servers opened front n inc cell plain more was now unfenced timely.born timely.stays (omega arith) in
             inr (record {
               until = reported.until;
-              behind = reported.behind;
+              following = reported.following;
               before = front_on reported.until _ front (front_more reported.until (Drained n inc reported.fence)) reported.stands;
               seated = reported.seated;
               holds = reported.holds;
@@ -150,7 +150,7 @@ module _ (script : Script) (sound : IsSound script) (records : List Record) (leg
         | inl timely ↦ timely
         | inr reported ↦ (
             let lt = opened_later n inc cell op reported.until reported.made reported.holds is clients in
-            let le = front_long o.opened reported.until reported.behind in
+            let le = front_long o.opened reported.until reported.following in
             let rev = o.long in
             absurd (omega arith))
       ]

@@ -91,7 +91,7 @@ module _ (it : History) (m : ℕ) where
               let known_of : IsPrefix reported.until own =
               subst (λ log. IsPrefix log own) {x = ((At script made.before).servers m).log.applied} made.at
               (grows script sound records legal made.before (made.own ∷ made.later) made.is m) in
-              let one = front_long left reported.until reported.behind in
+              let one = front_long left reported.until reported.following in
               let two = front_long reported.until own known_of in
               let three = front_long own mid onward in
               absurd (omega (arith, length-append mid (Leave other other_inc ∷ []))))

@@ -137,7 +137,7 @@ module _ (it : History) (had : HadWrite (end_of it).setting it.records) where
           } in
           let lt = opened_later script sound was.before legal_then n inc cell op r.until made r.holds pending_then clients in
           let long = o.long in
-          let below = front_long o.opened r.until r.behind in
+          let below = front_long o.opened r.until r.following in
           omega arith
 
       -- one that was made since: the server was at the place

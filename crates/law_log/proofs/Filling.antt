@@ -16,7 +16,7 @@ use Rattle.petal_msg.specs.declared.operation.Ending.TheVariants as ending
 use Rattle.petal_state.specs.CellState.{target}
 use Rattle.petal_table.specs.Table.{at}
 use Rattle.petal_table.proofs.Rows.{at-put}
-use Rattle.petal_rules.specs.Fills.{Moving, fill_of, fill_operation, fill_posts, fills_row, goes_behind, has_epoch, hears_fill, hears_fill_full, hears_filled}
+use Rattle.petal_rules.specs.Fills.{Moving, fill_of, fill_operation, fill_posts, fills_row, goes_after, has_epoch, hears_fill, hears_fill_full, hears_filled}
 use Rattle.petal_rules.specs.Fills.{is_next, link_before, on_fill, on_fill_full, on_filled, opens_fill, sends_key, sends_moving, with_filled}
 use Rattle.petal_rules.specs.Lists.{In as Among}
 use Rattle.petal_rules.specs.Progress.{has_proposed, with_full}
@@ -81,14 +81,14 @@ dated_rows here own (row ∷ rows) post i = elim (in-append post (fills_row here
 pub dated_fill_posts : (here : Here) (own : Own) (post : Post) → Among post (fill_posts here own) → IsDated post.body
 dated_fill_posts here own post i = dated_rows here own here.state.links post i
 
-calm_behind : (here : Here) (own to : Own) (row : LinkRow) → IsKept own to → IsCalm own (goes_behind here to row)
-calm_behind here own to row kept = record { quiet = record { posts = dated_row here to row; jobs = no_letter }; kept = kept }
+calm_following : (here : Here) (own to : Own) (row : LinkRow) → IsKept own to → IsCalm own (goes_after here to row)
+calm_following here own to row kept = record { quiet = record { posts = dated_row here to row; jobs = no_letter }; kept = kept }
 
 calm_hears_filled : (here : Here) (own : Own) (key : Key) (o : Option LinkRow) → IsCalm own (hears_filled here own key o)
 calm_hears_filled here own key None = calm_silent own
 calm_hears_filled here own key (Some row) =
     by_test (IsCalm own) (is_next (fill_of here.state here.me row own) key) _ _
-    (λ e. calm_behind here own (with_full (with_filled own row (record { map = row.map; block = key.block; epoch = key.epoch })) false) row
+    (λ e. calm_following here own (with_full (with_filled own row (record { map = row.map; block = key.block; epoch = key.epoch })) false) row
     (record { flags = λ id h. h }))
     (λ e. calm_silent own)
 

@@ -91,7 +91,7 @@ module _ (it : OneMore) (all : WereKnown it) where
       open second_place it s three use {place, visit, far_is}
 
       module _ (by : Own) (op : Pending) (there : visit row.primary ≡ Some by) (pending : at cell_cmp by.pairs.pending cell ≡ Some op)
-          (put : op.stage.put ≡ true) (behind : far_is < op.op + op.op + 1) where
+          (put : op.stage.put ≡ true) (following : far_is < op.op + op.op + 1) where
         was : WasThere setting records row.primary place cell by.pairs
         was = G.came row.primary place cell by there
 
@@ -167,7 +167,7 @@ module _ (it : OneMore) (all : WereKnown it) where
           | inr past ↦ past
           | inl putting ↦ elim (at_most_or_above (number + number + 1) far_is) [
             | inl past ↦ past
-            | inr behind ↦
+            | inr following ↦
                 let e = putting.number_is in
                 let t = op_there (visit row.primary) (store_by setting G.stores f row.primary) cell putting.op putting.is in
                 absurd (never t.0 putting.op t.1 t.2 putting.put (omega arith) born)

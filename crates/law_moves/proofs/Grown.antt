@@ -123,7 +123,7 @@ module _ (it : OneMore) where
       let c = still.found in
       let within = caught_within c.until c.entry _ (front_on (c.until ++ c.entry ∷ []) f whole c.stands lies) c.acts in
       let a = front_long c.until top within in
-      let b = front_long low c.until c.behind in
+      let b = front_long low c.until c.following in
       omega arith
 
   -- ### A server that serves the link later
@@ -154,14 +154,14 @@ module _ (it : OneMore) where
       until_whole = front_on j.until f whole until_f lies
 
       abbrev there : (r : LinkRow) × IsLinked setting j.until cell r
-      there = linked_between setting whole plain top j.until f cell row serving.row j.behind until_f lies is serving.is
+      there = linked_between setting whole plain top j.until f cell row serving.row j.following until_f lies is serving.is
 
       has : has_server n there.0 ≡ true
       has = sym (one_before there.0 serving.row n (rows_later setting whole plain j.until f cell there.0 serving.row until_f lies there.1 serving.is))
           ∙ serving.one_of
 
-      behind : length top < length joined
-      behind = let a = front_long top j.until j.behind in omega (arith, length-append j.until (Join n inc true ∷ []))
+      following : length top < length joined
+      following = let a = front_long top j.until j.following in omega (arith, length-append j.until (Join n inc true ∷ []))
 
       -- the link's row then
       by_row : (r : LinkRow) → IsLinked setting joined cell r
@@ -170,7 +170,7 @@ module _ (it : OneMore) where
       by_row r linked (inr one) = elim (log_alone script.servers joined f (plain_at f lies) j.stands cell r serving.row one.0 one.1 linked one.3 serving.is) [
         | inl still ↦ not_held one.0 one.2 still.1
         | inr (inl lost) ↦ not_lost lost.0
-        | inr (inr c) ↦ absurd (no_caught joined f cell r one.0 one.1 behind lies c)
+        | inr (inr c) ↦ absurd (no_caught joined f cell r one.0 one.1 following lies c)
       ]
 
       blanked : (has_it : Bool) (state : LinkState) → state ≢ Both
@@ -234,7 +234,7 @@ module _ (it : OneMore) where
 
       at_top : c.until ≡ top
       at_top = one_front c.until top top until_top (front_itself top)
-          (let a = front_long c.until top until_top in let b = front_long top c.until c.behind in omega arith)
+          (let a = front_long c.until top until_top in let b = front_long top c.until c.following in omega arith)
 
       until_alive : AliveIn (By c.until) cell
       until_alive = alive_on setting top (front_plain script.servers top whole plain top_whole) c.until top cell until_top (front_itself top) top_alive

@@ -155,7 +155,7 @@ module _ (it : History) (cell : Cell) (k : ℕ) (lead : LeadsAt (end_of it).sett
     pub linked : IsLinked setting mine cell now
     pub place : place_by setting chosen now ≡ place_by setting mine now
 
-  pub record IsBehind (now : LinkRow) : Type 0 where
+  pub record IsAfter (now : LinkRow) : Type 0 where
     pub both : now.state ≡ Both
     pub unseen : (good it).visits k (place_by setting chosen now) cell ≡ None
     pub one_of : has_server k now ≡ true
@@ -164,7 +164,7 @@ module _ (it : History) (cell : Cell) (k : ℕ) (lead : LeadsAt (end_of it).sett
   pub data IsLedAs (now : LinkRow) : Type 0 where
     As_first : IsFirstAt now → IsLedAs now
     Alone : (whole : Bool) → now.state ≡ Only k whole → IsLedAs now
-    Behind : IsBehind now → IsLedAs now
+    Following : IsAfter now → IsLedAs now
 
   pub led_as : (now : LinkRow) → IsLinked setting chosen cell now → IsLedAs now
   led_as now end = elim leading [
@@ -194,11 +194,11 @@ module _ (it : History) (cell : Cell) (k : ℕ) (lead : LeadsAt (end_of it).sett
             | inl on ↦ (
                 let a = alone_row (chosen_state setting w) k cell on in
                 Alone a.whole (ap (λ (r : LinkRow). r.state) (same_some (sym end ∙ a.is)) ∙ a.alone))
-            | inr caught ↦ behind h caught
+            | inr caught ↦ following h caught
           ]
         where
-          behind : IsHeldBy (server_state setting w k) cell k → HasOwnCaught setting w k mine chosen cell → IsLedAs now
-          behind h caught =
+          following : IsHeldBy (server_state setting w k) cell k → HasOwnCaught setting w k mine chosen cell → IsLedAs now
+          following h caught =
               let same : caught.now ≡ now = same_some (sym caught.since.same ∙ end) in
               let both : now.state ≡ Both = ap (λ (r : LinkRow). r.state) (sym same) ∙ caught.both in
               let le = places_up setting chosen (firm it).plain mine chosen cell h.row now mine_chosen (front_itself chosen) h.is end in
@@ -210,7 +210,7 @@ module _ (it : History) (cell : Cell) (k : ℕ) (lead : LeadsAt (end_of it).sett
                     h.is end (omega arith) in
                     let f : Only k h.whole ≡ Both = sym h.so ∙ ap (λ (r : LinkRow). r.state) (sym one) ∙ both in absurd cc)
               ] in
-              Behind (record {
+              Following (record {
                 both = both;
                 unseen = unseen_beyond setting records w stores (firm it) (good it) k cell h.row h.is
                     (place_by setting chosen now) lt;
@@ -283,8 +283,8 @@ module _ (it : History) (cell : Cell) (k : ℕ) (lead : LeadsAt (end_of it).sett
                 (alone_not_both (server_state setting w k) k cell alone_on)
           ]))
 
-      by_behind : IsBehind now → pending_on own cell ≡ None → (n : ℕ) → has_server n now ≡ true → HasIt n
-      by_behind b none n one = by_bool (now.primary == k)
+      by_after : IsAfter now → pending_on own cell ≡ None → (n : ℕ) → has_server n now ≡ true → HasIt n
+      by_after b none n one = by_bool (now.primary == k)
           (λ t.
           let is = same_numbers now.primary k t in
           let first : HasIt now.primary = subst HasIt (sym is) kept_mine in
@@ -298,8 +298,8 @@ module _ (it : History) (cell : Cell) (k : ℕ) (lead : LeadsAt (end_of it).sett
     spread n serving = elim (led_as serving.row serving.is) [
       | As_first f ↦ by_first serving.row serving.is f.both f n serving.one_of
       | Alone whole so ↦ subst HasIt (sym (serves_alone k n serving.row so serving.so)) kept_mine
-      | Behind b ↦ elim idle [
-        | Nothing none ↦ by_behind serving.row serving.is b.both b none n serving.one_of
+      | Following b ↦ elim idle [
+        | Nothing none ↦ by_after serving.row serving.is b.both b none n serving.one_of
         | Followed op is put paired on ↦ absurd (not_flagged op is b.flagged)
         | Holds op is alone_on ↦ absurd (not_flagged op is b.flagged)
       ]
@@ -324,7 +324,7 @@ module _ (it : History) (two : TwoLeads (end_of it).setting (end_of it).w) where
     pub now : LinkRow
     pub end : IsLinked this by_all cell now
     pub first : IsFirstAt it cell m one now
-    pub second : IsBehind it cell k other now
+    pub second : IsAfter it cell k other now
 
   pub are_apart : AreApart
   are_apart =
@@ -337,14 +337,14 @@ module _ (it : History) (two : TwoLeads (end_of it).setting (end_of it).w) where
         | As_first f ↦ elim (led_as it cell k other lives.row lives.is) [
           | As_first g ↦ absurd (apart (sym f.first ∙ g.first))
           | Alone whole so ↦ (let e : Only k whole ≡ Both = sym so ∙ f.both in absurd cc)
-          | Behind b ↦ record { now = lives.row; end = lives.is; first = f; second = b }
+          | Following b ↦ record { now = lives.row; end = lives.is; first = f; second = b }
         ]
         | Alone whole so ↦ elim (led_as it cell k other lives.row lives.is) [
           | As_first g ↦ (let e : Only m whole ≡ Both = sym so ∙ g.both in absurd cc)
           | Alone other also ↦ absurd (apart (same_only (sym so ∙ also)))
-          | Behind b ↦ (let e : Only m whole ≡ Both = sym so ∙ b.both in absurd cc)
+          | Following b ↦ (let e : Only m whole ≡ Both = sym so ∙ b.both in absurd cc)
         ]
-        | Behind b ↦ absurd (unheld m one_born op is b.flagged)
+        | Following b ↦ absurd (unheld m one_born op is b.flagged)
       ]
 
   pub other_idle : (o : Pending) → pending_on (u.servers k).own cell ≡ Some o → ⊥

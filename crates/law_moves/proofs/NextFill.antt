@@ -33,8 +33,8 @@ use Rattle.petal_rules.proofs.Tests.{both_true, by_bool, by_test, none_some, num
 abbrev pub IsBefore : Key → Key → Type 0
 IsBefore one other = (one.block < other.block) ⊎ ((one.block ≡ other.block) × (other.epoch < one.epoch))
 
-abbrev pub IsBehind : Key → Key → Type 0
-IsBehind one other = (other.block < one.block) ⊎ ((one.block ≡ other.block) × (one.epoch ≤ other.epoch))
+abbrev pub IsAfter : Key → Key → Type 0
+IsAfter one other = (other.block < one.block) ⊎ ((one.block ≡ other.block) × (one.epoch ≤ other.epoch))
 
 within_or_past : (a b : ℕ) → (a ≤ b) ⊎ (b < a)
 within_or_past a b = grind (arith, nat_tests)
@@ -71,50 +71,50 @@ is_before one other (inr h) =
     same = subst (λ k. (one.block == k) ≡ true) h.0 (number_itself one.block)
 
 -- one of two
-pub either_way : (one other : Key) → IsBefore one other ⊎ IsBehind one other
+pub either_way : (one other : Key) → IsBefore one other ⊎ IsAfter one other
 either_way one other = by (nat_lt one.block other.block) refl
   where
-    epochs : (b : Bool) → nat_lt other.epoch one.epoch ≡ b → one.block ≡ other.block → IsBefore one other ⊎ IsBehind one other
+    epochs : (b : Bool) → nat_lt other.epoch one.epoch ≡ b → one.block ≡ other.block → IsBefore one other ⊎ IsAfter one other
     epochs true e same = inl (inr (same, less_is other.epoch one.epoch e))
     epochs false e same = inr (inr (same, less_not other.epoch one.epoch e))
 
-    blocks : (b : Bool) → nat_lt other.block one.block ≡ b → other.block ≤ one.block → IsBefore one other ⊎ IsBehind one other
+    blocks : (b : Bool) → nat_lt other.block one.block ≡ b → other.block ≤ one.block → IsBefore one other ⊎ IsAfter one other
     blocks true e le = inr (inl (less_is other.block one.block e))
     blocks false e le = let low = less_not other.block one.block e in epochs (nat_lt other.epoch one.epoch) refl (omega arith)
 
-    by : (b : Bool) → nat_lt one.block other.block ≡ b → IsBefore one other ⊎ IsBehind one other
+    by : (b : Bool) → nat_lt one.block other.block ≡ b → IsBefore one other ⊎ IsAfter one other
     by true e = inl (inl (less_is one.block other.block e))
     by false e = blocks (nat_lt other.block one.block) refl (less_not one.block other.block e)
 
 -- not both
-never_both : {B : Type 0} (one other : Key) → IsBefore one other → IsBehind one other → B
+never_both : {B : Type 0} (one other : Key) → IsBefore one other → IsAfter one other → B
 never_both one other (inl lt) (inl past) = absurd (omega arith)
 never_both one other (inl lt) (inr h) = let e = h.0 in absurd (omega arith)
 never_both one other (inr h) (inl past) = let e = h.0 in absurd (omega arith)
 never_both one other (inr h) (inr k) = let a = h.1 in let b = k.1 in absurd (omega arith)
 
-pub behind_is : (one other : Key) → comes_before one other ≡ false → IsBehind one other
-behind_is one other e = elim (either_way one other) [ inl before ↦ true_false (is_before one other before) e | inr behind ↦ behind ]
+pub after_is : (one other : Key) → comes_before one other ≡ false → IsAfter one other
+after_is one other e = elim (either_way one other) [ inl before ↦ true_false (is_before one other before) e | inr following ↦ following ]
 
-pub is_behind : (one other : Key) → IsBehind one other → comes_before one other ≡ false
-is_behind one other behind = by_bool (comes_before one other) (λ e. never_both one other (before_is one other e) behind) (λ e. e)
+pub is_after : (one other : Key) → IsAfter one other → comes_before one other ≡ false
+is_after one other following = by_bool (comes_before one other) (λ e. never_both one other (before_is one other e) following) (λ e. e)
 
-behind_itself : (key : Key) → IsBehind key key
-behind_itself key = inr (refl, omega arith)
+after_itself : (key : Key) → IsAfter key key
+after_itself key = inr (refl, omega arith)
 
-pub behind_on : (one mid other : Key) → IsBehind one mid → IsBehind mid other → IsBehind one other
-behind_on one mid other (inl a) (inl b) = inl (omega arith)
-behind_on one mid other (inl a) (inr b) = let e = b.0 in inl (omega arith)
-behind_on one mid other (inr a) (inl b) = let e = a.0 in inl (omega arith)
-behind_on one mid other (inr a) (inr b) = inr (a.0 ∙ b.0, (let x = a.1 in let y = b.1 in omega arith))
+pub following_on : (one mid other : Key) → IsAfter one mid → IsAfter mid other → IsAfter one other
+following_on one mid other (inl a) (inl b) = inl (omega arith)
+following_on one mid other (inl a) (inr b) = let e = b.0 in inl (omega arith)
+following_on one mid other (inr a) (inl b) = let e = a.0 in inl (omega arith)
+following_on one mid other (inr a) (inr b) = inr (a.0 ∙ b.0, (let x = a.1 in let y = b.1 in omega arith))
 
-behind_before : (one other : Key) → IsBefore other one → IsBehind one other
-behind_before one other (inl lt) = inl lt
-behind_before one other (inr h) = inr (sym h.0, (let lt = h.1 in omega arith))
+after_before : (one other : Key) → IsBefore other one → IsAfter one other
+after_before one other (inl lt) = inl lt
+after_before one other (inr h) = inr (sym h.0, (let lt = h.1 in omega arith))
 
 -- of one map: a key that another one does not come before is that one, or comes before it
 pub here_or_before : (key last : Key) → key.map ≡ last.map → comes_before last key ≡ false → (key ≡ last) ⊎ (comes_before key last ≡ true)
-here_or_before key last map e = by (behind_is last key e)
+here_or_before key last map e = by (after_is last key e)
   where
     epochs : last.block ≡ key.block → (key.epoch ≤ last.epoch) ⊎ (last.epoch < key.epoch) → last.epoch ≤ key.epoch
         → (key ≡ last) ⊎ (comes_before key last ≡ true)
@@ -122,7 +122,7 @@ here_or_before key last map e = by (behind_is last key e)
         let epoch : key.epoch ≡ last.epoch = omega arith in inl (λ i. record { map = map i; block = sym block i; epoch = epoch i })
     epochs block (inr past) high = inr (is_before key last (inr (sym block, past)))
 
-    by : IsBehind last key → (key ≡ last) ⊎ (comes_before key last ≡ true)
+    by : IsAfter last key → (key ≡ last) ⊎ (comes_before key last ≡ true)
     by (inl lt) = inr (is_before key last (inl lt))
     by (inr h) = epochs h.0 (within_or_past key.epoch last.epoch) h.1
 
@@ -135,7 +135,7 @@ none_first (key ∷ keys) e = none_some e refl
 -- it is one of them, and none of them comes before it
 pub record IsFirst (keys : List Key) (first : Key) : Type 0 where
   pub among : In first keys
-  pub least : (key : Key) → In key keys → IsBehind key first
+  pub least : (key : Key) → In key keys → IsAfter key first
 
 first_is : (keys : List Key) (first : Key) → first_key keys ≡ Some first → IsFirst keys first
 unfolding In
@@ -147,7 +147,7 @@ first_is (key ∷ keys) first e = by (first_key keys) refl (λ one some. first_i
     by None none of_rest is = subst (IsFirst (key ∷ keys)) (same_some is) (record {
       among = inl refl;
       least = λ other i. elim i [
-        | inl same ↦ subst (λ k. IsBehind k key) (sym same) (behind_itself key)
+        | inl same ↦ subst (λ k. IsAfter k key) (sym same) (after_itself key)
         | inr later ↦ absurd (subst (In other) (none_first keys none) later)
       ];
     })
@@ -157,15 +157,15 @@ first_is (key ∷ keys) first e = by (first_key keys) refl (λ one some. first_i
         (λ before same. subst (IsFirst (key ∷ keys)) (same_some same) (record {
           among = inr rest.among;
           least = λ other i. elim i [
-            | inl here ↦ subst (λ k. IsBehind k one) (sym here) (behind_before key one (before_is one key before))
+            | inl here ↦ subst (λ k. IsAfter k one) (sym here) (after_before key one (before_is one key before))
             | inr later ↦ rest.least other later
           ];
         }))
-        (λ behind same. subst (IsFirst (key ∷ keys)) (same_some same) (record {
+        (λ following same. subst (IsFirst (key ∷ keys)) (same_some same) (record {
           among = inl refl;
           least = λ other i. elim i [
-            | inl here ↦ subst (λ k. IsBehind k key) (sym here) (behind_itself key)
-            | inr later ↦ behind_on other one key (rest.least other later) (behind_is one key behind)
+            | inl here ↦ subst (λ k. IsAfter k key) (sym here) (after_itself key)
+            | inr later ↦ following_on other one key (rest.least other later) (after_is one key following)
           ];
         })) is
 

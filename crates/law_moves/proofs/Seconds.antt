@@ -58,7 +58,7 @@ record IsToFill (setting : Setting) (records : List Record) (w : World) : Type 0
   there : WasThere setting records n (place_by setting (w.servers m).log.applied row) cell pairs
   is : at cell_cmp pairs.pending cell ≡ Some op
   fills : is_clients op.kind ≡ false
-  behind : progress (at cell_cmp (w.servers m).own.pairs.last cell) ≤ op.op + op.op
+  following : progress (at cell_cmp (w.servers m).own.pairs.last cell) ≤ op.op + op.op
   alive : stage_at (chosen_state setting w) cell ≤ 3
 
 module _ (it : History) (s : IsToFill (end_of it).setting it.records (end_of it).w) where
@@ -143,7 +143,7 @@ pub second_after : (script : Script) (records : List Record) → IsSound script 
     → at cell_cmp pairs.pending cell ≡ Some op → is_clients op.kind ≡ false
     → progress (at cell_cmp ((At script records).servers m).own.pairs.last cell) ≤ op.op + op.op
     → stage_at (chosen_state (setting_of script) (At script records)) cell ≤ 3 → stage_at (chosen_state (setting_of script) (At script records)) cell ≡ 1
-second_after script records sound legal n m cell pairs op row runs seat linked both first second there is fills behind alive =
+second_after script records sound legal n m cell pairs op row runs seat linked both first second there is fills following alive =
     on_way (record { script = script; sound = sound; records = records; legal = legal }) (record {
       n = n;
       m = m;
@@ -160,6 +160,6 @@ second_after script records sound legal n m cell pairs op row runs seat linked b
       there = there;
       is = is;
       fills = fills;
-      behind = behind;
+      following = following;
       alive = alive;
     })

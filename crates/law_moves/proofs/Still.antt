@@ -63,7 +63,7 @@ module _ (it : OneMore) (all : WereKnown it) where
         absurd (omega arith)
   ]
 
-  -- ### Behind what was chosen before the step
+  -- ### After what was chosen before the step
 
   abbrev chain_by : List Command → ℕ → Cell → Chain
   chain_by f n cell = chain_in (kept_by setting f v n).chains cell

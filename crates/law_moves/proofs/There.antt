@@ -1,5 +1,5 @@
 -- A step keeps that what was told to be at the new map is there; and what is told in the step is: its lead has it, with nothing under way or with its
--- second server behind it; or the region has moved on, and all of it was told before.
+-- second server after it; or the region has moved on, and all of it was told before.
 use Rattle.std.proofs.Common.{◌≡◌, ◌≤◌, ℕ, true, false, List, Option, Some, is_some, sym, ap, ◌∙◌, subst, inl, inr, arith}
 use Rattle.petal_base.specs.Cells.{cell_of}
 use Rattle.petal_base.specs.declared.cell.Cell.{Cell}

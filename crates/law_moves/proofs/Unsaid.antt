@@ -43,7 +43,7 @@ use Rattle.law_copies.proofs.Visited.{IsAt, at_by, is_at_so}
 use Rattle.law_moves.specs.Fills.{Has, IsFrozen, WasFilled}
 use Rattle.law_moves.proofs.Kept.{before}
 use Rattle.law_moves.proofs.Knows.{Known, WereKnown}
-use Rattle.law_moves.proofs.Leads.{Alone, As_first, Behind, IsBehind, led_as}
+use Rattle.law_moves.proofs.Leads.{Alone, As_first, Following, IsAfter, led_as}
 use Rattle.law_moves.proofs.Pending.{by_itself, posted_says}
 use Rattle.law_moves.proofs.Saying.{Asks_copy, Is_done, Is_done_alone, Is_neither, Is_there, Says, is_filled}
 use Rattle.law_moves.proofs.Steps.{IsPosted}
@@ -259,7 +259,7 @@ module _ (it : OneMore) (all : WereKnown it) where
             | inr h ↦ apart (same_only (sym h.so ∙ ap (λ (r : LinkRow). r.state) (sym (in_row h.row h.is)) ∙ so))
           ]
 
-          lacks : IsBehind prior cell k leads_now now
+          lacks : IsAfter prior cell k leads_now now
               → at nat_cmp (chain_in (w.servers k).own.store.chains cell) op.key.epoch ≡ None
           lacks b =
               let good_now = good prior in
@@ -284,7 +284,7 @@ module _ (it : OneMore) (all : WereKnown it) where
           not_other = elim (led_as prior cell k leads_now now linked_top.1) [
             | As_first g ↦ apart (sym (first_of g.both) ∙ g.first)
             | Alone is_whole so ↦ not_alone is_whole so
-            | Behind b ↦ elim leading.so [
+            | Following b ↦ elim leading.so [
               | Had_it o there ↦
                   let most = mine_low in
                   true_false b.flagged ((staged_now o cell there).unheld (stage_live (server_state setting w k) cell leading.born (omega arith)))

@@ -32,7 +32,7 @@ use Rattle.law_steps.proofs.Firms.{always_firm}
 use Rattle.law_steps.proofs.Fronts.{front_itself}
 use Rattle.law_steps.proofs.Histories.{rests_after, runs_at, start_rests}
 use Rattle.law_stores.specs.Waiting.{IsOwn}
-use Rattle.law_stores.proofs.Counts.{behind_front, stands_in}
+use Rattle.law_stores.proofs.Counts.{after_front, stands_in}
 use Rattle.law_stores.proofs.Histories.{in_own, kept_after}
 use Rattle.law_stores.proofs.Ways.{stays_filled}
 use Rattle.law_copies.specs.Good.{AreTwins, Good}
@@ -120,9 +120,9 @@ module _ (it : History) where
       → HasJoinedSince script.servers front chosen n (inc_of n) blank → IsOwn setting w n
   joined_own n runs blank front j = own_by (blank_joins_in setting chosen n) (w.before_blank n) (λ b is same.
       let old = (kept_after script records sound legal n).blanked b is in
-      elim (behind_front old.front j.until chosen (Join n (inc_of n) blank) old.stands j.stands) [
+      elim (after_front old.front j.until chosen (Join n (inc_of n) blank) old.stands j.stands) [
         | inl there ↦ over (old.over (inc_of n) blank there)
-        | inr behind ↦ by blank j old.front behind (sym old.joins ∙ same) (old.waits same)
+        | inr following ↦ by blank j old.front following (sym old.joins ∙ same) (old.waits same)
       ])
     where
       over : ((w.servers n).life.running ≡ false) × (inc_of n ≤ inc_of n) ⊎ (inc_of n < inc_of n) → ⊥
@@ -131,10 +131,10 @@ module _ (it : History) where
 
       by : (blank : Bool) → (j : HasJoinedSince script.servers front chosen n (inc_of n) blank) → (old : List Command) → IsPrefix old j.until
           → blank_joins_in setting old n ≡ blank_joins_in setting chosen n → (w.servers n).own.store.fresh ≡ true → ⊥
-      by true j old behind joins waits =
-          let more = joined_counts script.servers old chosen n (inc_of n) (record { until = j.until; behind = behind; stands = j.stands; may = j.may }) in
+      by true j old following joins waits =
+          let more = joined_counts script.servers old chosen n (inc_of n) (record { until = j.until; following = following; stands = j.stands; may = j.may }) in
           absurd (omega arith)
-      by false j old behind joins waits =
+      by false j old following joins waits =
           true_false waits (stays_filled script sound records legal n (inc_of n)
           (join_was_wanted script records sound legal n (inc_of n) false (stands_in j.until chosen (Join n (inc_of n) false) j.stands)) runs refl)
 

@@ -252,8 +252,8 @@ full_copy script records firm sound legal letter line round running inc full h s
     record {
       found = found;
       full = ended_full script at.front
-          (front_firm setting (start setting) at.front (at.own ∷ at.behind) (subst (AreFirm setting (start setting)) at.is firm)).0
-          (front_legal setting (start setting) at.front (at.own ∷ at.behind) (subst (IsLegal script) at.is legal)).0
+          (front_firm setting (start setting) at.front (at.own ∷ at.following) (subst (AreFirm setting (start setting)) at.is firm)).0
+          (front_legal setting (start setting) at.front (at.own ∷ at.following) (subst (IsLegal script) at.is legal)).0
           found.server found.runs found.full;
     }
 

@@ -21,7 +21,7 @@ nothing_held setting w lives asks reports n fence until runs stands cell along o
     let opened = asks.pending n cell op is clients in
     let front = opened.known.sent.at.front in
     let within = front_on front opened.upto (w.servers n).log.applied opened.opened opened.applied in
-    let behind = reports.later n fence until stands_so cell op is clients (along until (front_itself until) reached) in
+    let following = reports.later n fence until stands_so cell op is clients (along until (front_itself until) reached) in
     let long = opened.known.sent.at.long in
     let after : IsPrefix until front = front_within until front (w.servers n).log.applied reached within (omega arith) in
     true_false (along front after within) opened.unfenced

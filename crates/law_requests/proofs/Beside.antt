@@ -109,7 +109,7 @@ module _ (setting : Setting) (w : World) (firm : Firm setting w) (lives : Lives)
 
   -- the other server holds the link alone by these entries, after its own
   record IsLeftTo (log : List Command) : Type 0 where
-    behind : IsPrefix own log
+    following : IsPrefix own log
     alone : is_alone_on (At log) m want.cell ≡ true
 
   -- from the opening on the incarnation leads the cell, until that
@@ -122,10 +122,10 @@ module _ (setting : Setting) (w : World) (firm : Firm setting w) (lives : Lives)
           let two = places_grow setting.servers log own row before in
           inl (led_at_place setting.servers p.upto log (front_plain setting.servers log _ firm.plain all) late n inc want.cell row known
           (omega arith) (unleft log all) upto_led))
-      | inr behind ↦ elim (stays_both (running_fronts firm m runs (front_itself own) behind all seat) want.cell row there has
+      | inr following ↦ elim (stays_both (running_fronts firm m runs (front_itself own) following all seat) want.cell row there has
           (ap (serves m row) both ∙ has) (below_four log all) both) [
             | inl stays ↦ inl (led_on log late all stays)
-            | inr alone ↦ inr (record { behind = behind; alone = alone })
+            | inr alone ↦ inr (record { following = following; alone = alone })
           ]
     ]
   ]
@@ -140,7 +140,7 @@ module _ (setting : Setting) (w : World) (firm : Firm setting w) (lives : Lives)
       elim (leads_or_left log more all) [
         | inl led ↦ none_some none (is_the_one _ n led.leads)
         | inr left ↦ none_some none (alone_leads (At log) m want.cell (takes_on log more all) left.alone
-            (in_up (At log) m (w.servers m).life.inc (runs_at setting w firm own log left.behind all m runs seat)))
+            (in_up (At log) m (w.servers m).life.inc (runs_at setting w firm own log left.following all m runs seat)))
       ]
   not_late (Had_another log other more lies leads apart) =
       let all = front_on log _ chosen lies (firm.servers other) in
@@ -148,7 +148,7 @@ module _ (setting : Setting) (w : World) (firm : Firm setting w) (lives : Lives)
         | inl led ↦ true_false led.seated (apart (one_lead (At log) other n want.cell leads led.leads))
         | inr left ↦ (
             let other_is : other ≡ m = leader_alone (At log) (steady_at log all) other m want.cell leads left.alone in
-            let same : log ≡ own = one_log log own (subst (λ k. IsPrefix log (w.servers k).log.applied) other_is lies) left.behind in
+            let same : log ≡ own = one_log log own (subst (λ k. IsPrefix log (w.servers k).log.applied) other_is lies) left.following in
             true_false (subst (λ l. is_alone_on (At l) m want.cell ≡ true) same left.alone)
             (both_not_alone (At own) m want.cell (so_both (At own) want.cell row there both)))
       ]

@@ -32,8 +32,8 @@ any_at {K} {X} R p (e ∷ es) k x is so = by_bool (is_eq (R k e.0))
     let same : e.1 ≡ x = same_some (sym (ap (λ b. cond b (Some e.1) (lookup (is_at (R k)) es)) here) ∙ is) in
     let holds : p (e.0, e.1) ≡ true = subst (λ (y : X). p (e.0, y) ≡ true) (sym same) (so e.0 (tied (R k e.0) here)) in
     ap (λ b. b || list_any p es) holds)
-    (λ behind.
-    let later = any_at R p es k x (sym (ap (λ b. cond b (Some e.1) (lookup (is_at (R k)) es)) behind) ∙ is) so in
+    (λ following.
+    let later = any_at R p es k x (sym (ap (λ b. cond b (Some e.1) (lookup (is_at (R k)) es)) following) ∙ is) so in
     by_bool (p e) (λ on. ap (λ b. b || list_any p es) on) (λ off. ap (λ b. b || list_any p es) off ∙ later))
 
 pub held_write : (state : State) (own : Own) (cell : Cell) (op : Pending) → at cell_cmp own.pairs.pending cell ≡ Some op → is_clients op.kind ≡ true

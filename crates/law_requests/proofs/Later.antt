@@ -165,7 +165,7 @@ module _ (setting : Setting) (v u : Seen) (later : Later setting v u) where
       applied = applied;
       along = λ log from lies. elim (either_front log p.upto more lies on) [
         | inl before ↦ p.along log from before
-        | inr behind ↦ along log behind lies
+        | inr following ↦ along log following lies
       ];
       unfinished = le;
     },

@@ -280,5 +280,5 @@ module _ (servers : ℕ) (front whole : List Command) (plain : IsPlainLog server
             let steady = log_steady servers found.until (front_plain servers found.until whole plain until_whole) in
             true_false (caught_up (state_after servers found.until) (record row { state = Only holder c.later }) found.entry found.acts
             (steady.linked cell (record row { state = Only holder c.later }) found.was).served n has)
-            (out found.until found.behind until_whole))
+            (out found.until found.following until_whole))
       ]

@@ -104,7 +104,7 @@ module _ (setting : Setting) (w : World) (firm : Firm setting w) where
       elim (cases_lt (era_at was cell) (era_at now cell)) [
         | inl rises ↦ (
             let r = log_unheld setting.servers front log n inc cell plain more led.seated still unfenced at.0 at.1 rises in
-            absurd (unreported r.until r.fence r.behind (front_on _ log _ r.stands all) r.holds))
+            absurd (unreported r.until r.fence r.following (front_on _ log _ r.stands all) r.holds))
         | inr same ↦ by_bool (nat_le 3 (stage_at now cell))
             (λ left.
             let low = era_low (epoch_at was cell) (stage_at was cell) at.1 in
@@ -119,8 +119,8 @@ module _ (setting : Setting) (w : World) (firm : Firm setting w) where
       → is_writes_held (held (server_state setting w n) cell) ≡ false → IsUnleft setting w n (lives.ran n) cell
   unleft_now lives reports n cell led unfenced log more all still =
       let own = (w.servers n).log.applied in
-      stage_kept n (lives.ran n) cell own log led unfenced more all still (λ until fence behind stands holds.
-      let same : until ≡ own = one_log until own (reports.reached n fence until stands) behind in
+      stage_kept n (lives.ran n) cell own log led unfenced more all still (λ until fence following stands holds.
+      let same : until ≡ own = one_log until own (reports.reached n fence until stands) following in
       true_false holds (subst (λ l. is_writes_held (held (state_after setting.servers l) cell) ≡ false) (sym same) unfenced))
 
   -- one of which the server has a client's write pending
@@ -132,9 +132,9 @@ module _ (setting : Setting) (w : World) (firm : Firm setting w) where
       let front = p.known.sent.at.front in
       let on = subst (IsPrefix front) here p.opened in
       stage_kept n (lives.ran n) cell front log (p.along front (front_itself front) p.opened) p.unfenced (front_on front _ log on more) all still
-      (λ until fence behind stands holds.
+      (λ until fence following stands holds.
       let lt = reports.later n fence until stands cell op is clients holds in
-      let le = front_long front until behind in
+      let le = front_long front until following in
       let long = p.known.sent.at.long in
       omega arith)
 
@@ -170,7 +170,7 @@ module _ (setting : Setting) (w : World) (firm : Firm setting w) where
               let acts = found.acts in
               let until_log = front_on found.until _ log (front_more found.until found.entry) found.stands in
               let holder : acts.holder ≡ n = same_only (sym acts.alone) in
-              let seated = in_between own found.until log found.behind until_log all n inc seat still in
+              let seated = in_between own found.until log found.following until_log all n inc seat still in
               let inc_is : acts.inc ≡ inc = in_once (state_after setting.servers found.until) n acts.inc inc
               (subst (λ k. is_in (state_after setting.servers found.until) k acts.inc ≡ true) holder acts.holds) seated in
               let other = other_of acts.holder row in
@@ -180,7 +180,7 @@ module _ (setting : Setting) (w : World) (firm : Firm setting w) where
               (subst (λ (x : Command). IsPrefix (found.until ++ x ∷ []) (chosen_log setting w)) acts.is
               (front_on (found.until ++ found.entry ∷ []) log _ found.stands all))) in
               held_as_flag (server_state setting w n) (w.servers n).own cell row second.alone.is
-              ∙ remembers found.until row other acts.other_inc found.behind stands)
+              ∙ remembers found.until row other acts.other_inc found.following stands)
         ]
 
     -- it leads what it led, while the cell has not been left, or it has started the ballot for the Caught of the cell's link
@@ -251,7 +251,7 @@ module _ (setting : Setting) (w : World) (firm : Firm setting w) where
           → LedBy (state_after setting.servers log) n inc want.cell
       led_at log more all = elim (either_front log p.upto (chosen_log setting w) all upto_chosen) [
         | inl before ↦ p.along log more before
-        | inr behind ↦ along log behind all
+        | inr following ↦ along log following all
       ]
 
       not_late : IsLate setting.servers (seen lives w) front want.client want.seq want.cell n inc → ⊥

@@ -105,7 +105,7 @@ module _ (setting : Setting) (w : World) (firm : Firm setting w) (lives : Lives)
   led_at : (log : List Command) → IsPrefix front log → IsPrefix log chosen → is_in (At log) n inc ≡ true → LedBy (At log) n inc want.cell
   led_at log more all still = elim (either_front log own chosen all (firm.servers n)) [
     | inl before ↦ p.known.along log more (subst (IsPrefix log) (sym p.here) before)
-    | inr behind ↦ here_along setting w firm lives n want rev p remembers log behind all still
+    | inr following ↦ here_along setting w firm lives n want rev p remembers log following all still
   ]
 
   -- ### Once it is Out

@@ -216,7 +216,7 @@ module _ (g : Grounded) (n : ℕ) (runs : (g.w.servers n).life.running ≡ true)
       let c = copied_to in
       elim (fronts_meet (own_front n) (own_front p) chosen (firm.servers n) (firm.servers p)) [
         | inl before ↦ not_in_both c (own_front p) row before (firm.servers p) s.linked s.both
-        | inr behind ↦ absurd (further c behind)
+        | inr following ↦ absurd (further c following)
       ]
     where
       later_has : (later : LinkRow) → IsLater row later → has_server p later ≡ true
@@ -228,11 +228,11 @@ module _ (g : Grounded) (n : ℕ) (runs : (g.w.servers n).life.running ≡ true)
           (λ f. absurd (apart (sym (other_than c.holder p c.row c.holds has f) ∙ c.other)))
 
       further : (c : IsCopiedTo) → IsPrefix (own_front p) (own_front n) → ⊥
-      further c behind =
-          let up = places_up setting chosen firm.plain (own_front p) (own_front n) cell row c.row behind
+      further c following =
+          let up = places_up setting chosen firm.plain (own_front p) (own_front n) cell row c.row following
           (firm.servers n) s.linked c.linked in
           let has : has_server p c.row ≡ true = later_has c.row
-          (rows_later setting chosen firm.plain (own_front p) (own_front n) cell row c.row behind (firm.servers n) s.linked c.linked) in
+          (rows_later setting chosen firm.plain (own_front p) (own_front n) cell row c.row following (firm.servers n) s.linked c.linked) in
           let holder = holder_is c has in
           let been = been_below setting ground.records w (λ k. kept setting w k) firm ground.good p (place_by setting (own_front n) c.row) cell c.left.by row
           (subst (λ k. ground.good.visits k (place_by setting (own_front n) c.row) cell ≡ Some c.left.by) holder c.left.met) s.linked in

@@ -66,17 +66,17 @@ module _ (this : ServerStep) where
       → (j : HasJoinedSince this.setting.servers top end n inc true) → IsUncaught this.setting.servers end plain_end cell top n inc j
   uncaught cell link is alive n inc j row mid there touched now holder copied c =
       let entry = Join n inc true in
-      let behind = j.until ++ entry ∷ [] in
+      let following = j.until ++ entry ∷ [] in
       let f = c.found in
       let then : LinkRow = record mid { state = Only holder c.later } in
-      let visit = caught_visit behind cell mid holder copied c alive in
-      let until_end = front_on j.until behind end (front_more j.until entry) j.stands in
+      let visit = caught_visit following cell mid holder copied c alive in
+      let until_end = front_on j.until following end (front_more j.until entry) j.stands in
       let caught_end = front_on f.until (f.until ++ f.entry ∷ []) end (front_more f.until f.entry) f.stands in
       let le = been_within f.acts.holder (place_by this.setting f.until then) cell visit.0 link visit.1 is in
-      let one = places_up this.setting end plain_end top j.until cell link row j.behind until_end is there in
+      let one = places_up this.setting end plain_end top j.until cell link row j.following until_end is there in
       let two = place_touched this.setting j.until entry row touched in
-      let three = place_of_later this.setting end plain_end j.until behind behind cell row mid (front_more j.until entry) j.stands there now in
-      let four = places_up this.setting end plain_end behind f.until cell mid then f.behind caught_end now f.was in
+      let three = place_of_later this.setting end plain_end j.until following following cell row mid (front_more j.until entry) j.stands there now in
+      let four = places_up this.setting end plain_end following f.until cell mid then f.following caught_end now f.was in
       absurd (omega arith)
 
   -- ### Who serves the link

@@ -92,9 +92,9 @@ module _ (has : DiskRow → (epoch block : ℕ) → Bool) (contents : DiskRow �
   freeze_disk : (m : Plain) (row : DiskRow) → IsFrozenFrom row → IsMindful m → Holds m.disks (as_of row (done row)) (has row) (contents row)
       → Frozen row (has row) (contents row) m (freezes_of row) row.snaps
   freeze_disk m row f mindful h =
-      let behind : drop (length (done row)) row.snaps ≡ f.more =
+      let following : drop (length (done row)) row.snaps ≡ f.more =
       ap (drop (length (done row))) f.snaps ∙ drop-append_seam (done row) f.more in
-      subst (λ snaps. Frozen row (has row) (contents row) m (map (freeze_of row) snaps) row.snaps) (sym behind)
+      subst (λ snaps. Frozen row (has row) (contents row) m (map (freeze_of row) snaps) row.snaps) (sym following)
       (subst (Frozen row (has row) (contents row) m (map (freeze_of row) f.more)) (sym f.snaps)
       (freeze_all row (has row) (contents row) (length (done row)) f.still m (done row) f.more (omega arith)
       (next_by f.maps row f.place f.is (done row) f.more f.snaps) mindful h))

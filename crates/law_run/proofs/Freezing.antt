@@ -352,8 +352,8 @@ module _ (this : ServerStep) where
       let seen = look m3 follow in
       let ls = looks_here this in
       let m4 = replay m3 ls in
-      let behind = ms taken ++ fs taken in
-      let there : replay m1 behind ≡ m3 = replay-append m1 (ms taken) (fs taken) in
+      let following = ms taken ++ fs taken in
+      let there : replay m1 following ≡ m3 = replay-append m1 (ms taken) (fs taken) in
       let stores : Stores this.setting new_rows v m4 =
       record {
         known = λ row h.
@@ -363,11 +363,11 @@ module _ (this : ServerStep) where
         mindful = seen.mindful;
       } in
       record {
-        es = taken.es ++ (behind ++ ls);
+        es = taken.es ++ (following ++ ls);
         is = (λ i. told_with [] (taken.is i) (append-nil (sym (made_same more) i ++ fs taken ++ ls) i));
-        may = Obeys-append this.m taken.es (behind ++ ls) taken.may
-            (Obeys-append m1 behind ls (Obeys-append m1 (ms taken) (fs taken) made_now.may frozen.may) (subst (λ k. Obeys k ls) (sym there) seen.may));
+        may = Obeys-append this.m taken.es (following ++ ls) taken.may
+            (Obeys-append m1 following ls (Obeys-append m1 (ms taken) (fs taken) made_now.may frozen.may) (subst (λ k. Obeys k ls) (sym there) seen.may));
         follows = subst (Follow this.setting new_rows v)
-            (sym (replay-append this.m taken.es (behind ++ ls) ∙ replay-append m1 behind ls ∙ ap (λ k. replay k ls) there))
+            (sym (replay-append this.m taken.es (following ++ ls) ∙ replay-append m1 following ls ∙ ap (λ k. replay k ls) there))
             (follow_onward this.setting new_rows new_rows v m3 m4 follow seen.onward stores);
       }

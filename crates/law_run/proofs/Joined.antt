@@ -58,16 +58,16 @@ module _ (servers : ℕ) (whole : List Command) (all : IsPlainLog servers whole)
     abbrev entry : Command
     entry = Join n inc true
 
-    abbrev behind : List Command
-    behind = j.until ++ entry ∷ []
+    abbrev following : List Command
+    following = j.until ++ entry ∷ []
 
     until_whole : IsPrefix j.until whole
-    until_whole = front_on j.until behind whole (front_more j.until entry) j.stands
+    until_whole = front_on j.until following whole (front_more j.until entry) j.stands
 
     -- no Caught of the link stands after the Join
     abbrev pub IsUncaught : Type 0
-    IsUncaught = (row mid : LinkRow) → IsLinkedBy j.until row → touches (state_after servers j.until) entry row ≡ true → IsLinkedBy behind mid
-        → (holder : ℕ) (copied : Bool) → IsCaughtStill servers behind whole cell mid holder copied → ⊥
+    IsUncaught = (row mid : LinkRow) → IsLinkedBy j.until row → touches (state_after servers j.until) entry row ≡ true → IsLinkedBy following mid
+        → (holder : ℕ) (copied : Bool) → IsCaughtStill servers following whole cell mid holder copied → ⊥
 
     -- right after it the link is Lost, or the other server holds it alone
     pub data IsLeftSo (row : LinkRow) : Type 0 where
@@ -78,7 +78,7 @@ module _ (servers : ℕ) (whole : List Command) (all : IsPlainLog servers whole)
     touched_by row has = (λ i. j.may i && has i)
 
     -- what the Join makes of the row
-    joined_row : (row : LinkRow) → IsLinkedBy j.until row → has_server n row ≡ true → IsLinkedBy behind (row_blanked n row) × IsLeftSo row
+    joined_row : (row : LinkRow) → IsLinkedBy j.until row → has_server n row ≡ true → IsLinkedBy following (row_blanked n row) × IsLeftSo row
     joined_row row is has =
         let plain = front_plain servers j.until whole all until_whole in
         elim (log_touched servers j.until entry cell row plain tt is (touched_by row has)) [
@@ -89,7 +89,7 @@ module _ (servers : ℕ) (whole : List Command) (all : IsPlainLog servers whole)
               let same = same_join joined.is in
               let row_is : row_joined joined.server joined.blank row ≡ row_blanked n row =
               (λ i. row_joined (sym same.0 i) (sym same.1 i) row) in
-              let next : state_after servers behind ≡ after (state_after servers j.until) entry =
+              let next : state_after servers following ≡ after (state_after servers j.until) entry =
               fold-append after (start servers) j.until (entry ∷ []) in (
                 ap (λ (s : State). cell_link s cell) next ∙ at ∙ ap Some row_is,
                 elim ((log_steady servers j.until plain).linked cell row is).served [
@@ -110,16 +110,16 @@ module _ (servers : ℕ) (whole : List Command) (all : IsPlainLog servers whole)
         → serves n now now.state ≡ false
     serves_none never row now is end has =
         let until : HasLater (state_after servers front) (state_after servers j.until) cell row =
-        elim ((log_below servers front j.until (front_plain servers j.until whole all until_whole) j.behind).rows cell row is) [
+        elim ((log_below servers front j.until (front_plain servers j.until whole all until_whole) j.following).rows cell row is) [
           | inl later ↦ later
           | inr died ↦ none_some ((log_below servers j.until whole all until_whole).died cell died).0 end
         ] in
         let has_until : has_server n until.now ≡ true = one_before row until.now n until.so ∙ has in
         let left = joined_row until.now until.is has_until in
         elim left.1 [
-          | Nobody lost ↦ ap (serves n now) (log_lost servers behind whole all j.stands cell (row_blanked n until.now) now left.0 lost end)
+          | Nobody lost ↦ ap (serves n now) (log_lost servers following whole all j.stands cell (row_blanked n until.now) now left.0 lost end)
           | Another holder later alone other ↦
-              elim (log_alone servers behind whole all j.stands cell (row_blanked n until.now) now holder later left.0 alone end) [
+              elim (log_alone servers following whole all j.stands cell (row_blanked n until.now) now holder later left.0 alone end) [
                 | inl still ↦ ap (serves n now) still.1 ∙ other
                 | inr (inl lost) ↦ ap (serves n now) lost.0
                 | inr (inr caught) ↦

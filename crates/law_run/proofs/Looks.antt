@@ -171,7 +171,7 @@ module _ (setting : Setting) (state : State) where
       elim (some_first (accepts letter own.step own.answer) (accepted later letter) number e) [
         | inl now ↦ record_accepts w grounded.0 own.actor own.step letter own.stamp seq bytes number follows.may.may h says
             (subst (λ o. accepts letter own.step o ≡ Some number) follows.answer now)
-        | inr behind ↦ who_accepts next later grounded.2 legal.1 letter seq bytes number (sent_later w own.actor own.step own.stamp letter h) says behind
+        | inr following ↦ who_accepts next later grounded.2 legal.1 letter seq bytes number (sent_later w own.actor own.step own.stamp letter h) says following
       ]
 
 -- ### What is told of a letter

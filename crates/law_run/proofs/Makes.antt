@@ -19,7 +19,7 @@ use Rattle.petal_history.specs.Claims.{AreSnapshots, Holds}
 use Rattle.petal_history.specs.Contents.{content_at, has_content_at}
 use Rattle.petal_history.specs.Events.{make_of}
 use Rattle.law_state.proofs.Rows.{AreFresh}
-use Rattle.law_state.proofs.Places.{find_front, find_behind, get_in, none_find, text_itself}
+use Rattle.law_state.proofs.Places.{find_front, find_after, get_in, none_find, text_itself}
 use Rattle.law_run.specs.Onward.{Onward}
 use Rattle.law_run.specs.Follow.{Stores}
 use Rattle.law_run.proofs.Machine.{after_mindful, make_same, make_others, make_onward, new_disk, onward_itself, onward_joined}
@@ -51,9 +51,9 @@ none_new : (rows news : List DiskRow) (row : DiskRow) → ((name : List ℕ) →
 none_new rows news row same name none = elim (some_or_none (named rows name)) [
   | inl h ↦ none_some none (find_front (λ other. same_name other.name name) rows (row ∷ []) h.0 h.1)
   | inr gone ↦
-      find_behind (λ other. same_name other.name name) news (new_row row ∷ []) (same name gone)
+      find_after (λ other. same_name other.name name) news (new_row row ∷ []) (same name gone)
       ∙ by_bool (same_name row.name name)
-      (λ on. none_some none (find_behind (λ other. same_name other.name name) rows (row ∷ []) gone ∙ ap (λ b. cond b (Some row) None) on))
+      (λ on. none_some none (find_after (λ other. same_name other.name name) rows (row ∷ []) gone ∙ ap (λ b. cond b (Some row) None) on))
       (λ off. ap (λ b. cond b (Some (new_row row)) None) off)
 ]
 
@@ -105,7 +105,7 @@ module _ (setting : Setting) (v : World) where
     unknown = λ name none. elim (some_or_none (named rows name)) [
       | inl h ↦ none_some none (find_front (λ row. same_name row.name name) rows (row ∷ []) h.0 h.1)
       | inr gone ↦
-          make_others m row.name name (λ e. none_some none (find_behind (λ row. same_name row.name name) rows (row ∷ []) gone
+          make_others m row.name name (λ e. none_some none (find_after (λ row. same_name row.name name) rows (row ∷ []) gone
           ∙ ap (λ b. cond b (Some row) None) (ap (same_name row.name) e ∙ text_itself row.name))) ∙ stores.unknown name gone
     ];
     mindful = after_mindful m (Make row.name);

@@ -128,7 +128,7 @@ module _ (script : Script) (records : List Record) (sound : IsSound script) (leg
             (subst (λ (i : ℕ). IsPrefix (report.until ++ Drained n i report.fence ∷ []) (chosen_log setting w)) (sym ran) report.stands) in
             let same : report.until ≡ own =
             one_front report.until own own reached (front_itself own)
-            (let a = front_long report.until own reached in let b = front_long own report.until report.behind in omega arith) in
+            (let a = front_long report.until own reached in let b = front_long own report.until report.following in omega arith) in
             true_false (subst (λ log. is_all_held (held (state_after setting.servers log) cell) ≡ true) same report.holds) free
       ]
 

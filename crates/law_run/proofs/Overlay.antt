@@ -70,14 +70,14 @@ entry_top (row ∷ rows) epoch entry rises is = by_bool (nat_le row.0 epoch)
       | inl more ↦
           let k = entry_top rows epoch more.0 rises.1 more.1 in
           let same : more.0 ≡ entry = same_some (sym (ap (λ o. Some (or_else o row.1)) more.1) ∙ found) in
-          let low = behind_first k.at_epoch more.0 k.is in
+          let low = following_first k.at_epoch more.0 k.is in
           record {
             at_epoch = k.at_epoch;
-            is = behind k.at_epoch (λ e. omega (arith, low, e)) ∙ k.is ∙ ap Some same;
+            is = following k.at_epoch (λ e. omega (arith, low, e)) ∙ k.is ∙ ap Some same;
             low = k.low;
             most = λ other has below. elim (same_or_apart other row.0) [
               | inl e ↦ omega arith
-              | inr ne ↦ k.most other (ap is_some (sym (behind other ne)) ∙ has) below
+              | inr ne ↦ k.most other (ap is_some (sym (following other ne)) ∙ has) below
             ];
           }
       | inr none ↦
@@ -88,20 +88,20 @@ entry_top (row ∷ rows) epoch entry rises is = by_bool (nat_le row.0 epoch)
             low = le;
             most = λ other has below. elim (same_or_apart other row.0) [
               | inl e ↦ omega arith
-              | inr ne ↦ true_false (entry_there rows other epoch rises.1 (ap is_some (sym (behind other ne)) ∙ has) below) (ap is_some none)
+              | inr ne ↦ true_false (entry_there rows other epoch rises.1 (ap is_some (sym (following other ne)) ∙ has) below) (ap is_some none)
             ];
           }
     ])
     (λ f. none_some (ap (λ b. first_so b rows epoch row.1) f) is)
   where
     -- what is not of the first row is of those after it
-    behind : (other : ℕ) → other ≢ row.0 → at nat_cmp (row ∷ rows) other ≡ at nat_cmp rows other
-    behind other ne = by_bool (is_eq (nat_cmp other row.0))
+    following : (other : ℕ) → other ≢ row.0 → at nat_cmp (row ∷ rows) other ≡ at nat_cmp rows other
+    following other ne = by_bool (is_eq (nat_cmp other row.0))
         (λ t. absurd (ne (ranked other row.0 Equal (sym (equal_so (nat_cmp other row.0) t)))))
         (λ f. ap (λ b. cond b (Some row.1) (at nat_cmp rows other)) f)
 
-    behind_first : (other : ℕ) (x : Stored) → at nat_cmp rows other ≡ Some x → row.0 < other
-    behind_first other x there =
+    following_first : (other : ℕ) (x : Stored) → at nat_cmp rows other ≡ Some x → row.0 < other
+    following_first other x there =
         let found = row_at nat_cmp rows other x there in
         let same : other ≡ found.0.0 = ranked other found.0.0 Equal (sym found.2) in
         let lt : row.0 < found.0.0 = ranked row.0 found.0.0 Less (sym (rises.0 found.0 found.1)) in

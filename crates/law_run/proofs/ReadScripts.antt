@@ -9,7 +9,7 @@ use Rattle.script_words.specs.Number.{number_of}
 use Rattle.script_words.specs.Fields.{a_name, a_block, a_byte, a_tuple, a_server, a_call, a_device, a_kind, in_limits, numbers_of, version_of}
 use Rattle.petal_script.specs.Client.{spread_of, disk_of, move_of, filled_of, halves_of, write_by, write_of, read_of, snap_of, client_request}
 use Rattle.petal_script.specs.Operator.{stop_at, stop_of, fault_of, boot_of, operator_request}
-use Rattle.petal_script.specs.Script.{TextLine, script_of, text_lines, lines_behind, first_line, servers_line, net_line}
+use Rattle.petal_script.specs.Script.{TextLine, script_of, text_lines, lines_after, first_line, servers_line, net_line}
 use Rattle.script_words.specs.Text.{pieces, words_of}
 use Rattle.law_script.specs.Laws.{Does, skipped, nets, waits, asks, Asks, line_at, Follows}
 use Rattle.law_script.proofs.Doing.{is_accepted}
@@ -210,20 +210,20 @@ abbrev AreRising : List TextLine → Type 0
 AreRising [] = Unit {0}
 AreRising (told ∷ more) = AreAbove told.number more × AreRising more
 
-lines_above : (number reach : ℕ) (parts : List (List ℕ)) → AreAbove number (lines_behind number reach parts)
-unfolding lines_behind In
+lines_above : (number reach : ℕ) (parts : List (List ℕ)) → AreAbove number (lines_after number reach parts)
+unfolding lines_after In
 lines_above number reach [] told h = absurd h
 lines_above number reach (piece ∷ more) told (inl e) = let f : told.number ≡ number + 1 = ap (λ (t : TextLine). t.number) e in omega arith
 lines_above number reach (piece ∷ more) told (inr h) = let later = lines_above (number + 1) (reach + length piece) more told h in omega arith
 
-lines_rise : (number reach : ℕ) (parts : List (List ℕ)) → AreRising (lines_behind number reach parts)
-unfolding lines_behind
+lines_rise : (number reach : ℕ) (parts : List (List ℕ)) → AreRising (lines_after number reach parts)
+unfolding lines_after
 lines_rise number reach [] = tt
 lines_rise number reach (piece ∷ more) = (lines_above (number + 1) (reach + length piece) more, lines_rise (number + 1) (reach + length piece) more)
 
-behind_rises : (front : List TextLine) (told : TextLine) (behind : List TextLine) → AreRising (front ++ told ∷ behind) → AreRising behind
-behind_rises [] told behind h = h.1
-behind_rises (other ∷ front) told behind h = behind_rises front told behind h.1
+after_rises : (front : List TextLine) (told : TextLine) (following : List TextLine) → AreRising (front ++ told ∷ following) → AreRising following
+after_rises [] told following h = h.1
+after_rises (other ∷ front) told following h = after_rises front told following h.1
 
 -- ### The script so far
 
@@ -310,12 +310,12 @@ follows_so_far [] s t above follows high rises h =
 follows_so_far (told ∷ more) s t above follows high rises h =
     follows_so_far more follows.0 t told.number follows.2 rises.0 rises.1 (does_so_far s told follows.0 above follows.1 (high told (inl refl)) h)
 
-above_zero : (lines : List TextLine) → AreAbove 0 lines → (front : List TextLine) (told : TextLine) (behind : List TextLine)
-    → lines ≡ front ++ told ∷ behind → AreAbove 0 behind
+above_zero : (lines : List TextLine) → AreAbove 0 lines → (front : List TextLine) (told : TextLine) (following : List TextLine)
+    → lines ≡ front ++ told ∷ following → AreAbove 0 following
 unfolding In
-above_zero lines h front told behind e other i = h other (subst (In other) (sym e) (later front))
+above_zero lines h front told following e other i = h other (subst (In other) (sym e) (later front))
   where
-    later : (front : List TextLine) → In other (front ++ told ∷ behind)
+    later : (front : List TextLine) → In other (front ++ told ∷ following)
     later [] = inr i
     later (x ∷ xs) = inr (later xs)
 
@@ -326,9 +326,9 @@ read_sound text script e =
     let a = is_accepted text script e in
     let begun = ok_is IsBegun (first_line (words_of a.servers.text)) a.begun (begun_empty (words_of a.servers.text)) a.begins in
     let empty = begun.empty in
-    follows_so_far a.behind a.begun script 0 a.follows
-    (above_zero (text_lines text) (lines_above 0 0 (pieces text)) a.front a.servers a.behind a.lies)
-    (behind_rises a.front a.servers a.behind (subst AreRising a.lies (lines_rise 0 0 (pieces text))))
+    follows_so_far a.following a.begun script 0 a.follows
+    (above_zero (text_lines text) (lines_above 0 0 (pieces text)) a.front a.servers a.following a.lies)
+    (after_rises a.front a.servers a.following (subst AreRising a.lies (lines_rise 0 0 (pieces text))))
     (record {
       numbered = λ one other i j e. absurd (subst (In one) empty i);
       below = λ line i. absurd (subst (In line) empty i);

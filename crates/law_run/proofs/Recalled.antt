@@ -97,15 +97,15 @@ module _ (g : Grounded) (to : GoesTo g) where
   was_there front cell row n own prefix is both last visit op there clients =
       elim (fronts_meet front (chosen_log setting w) (chosen_log setting v) prefix grows) [
         | inl before ↦ ground.recalled front cell row n own op before is both last visit there clients
-        | inr behind ↦
+        | inr following ↦
             let been = ground.good.been n (place_by setting front row) cell own visit in
             let been_front = front_on been.front _ (chosen_log setting w) been.within (firm.servers n) in
             let old = linked_between setting (chosen_log setting v) then.plain been.front (chosen_log setting w) front cell been.row row
-            been_front behind prefix been.linked is in
+            been_front following prefix been.linked is in
             let up = places_up setting (chosen_log setting w) firm.plain been.front
             (chosen_log setting w) cell been.row old.0 been_front (front_itself (chosen_log setting w)) been.linked old.1 in
             let on_row = places_up setting (chosen_log setting v) then.plain
-            (chosen_log setting w) front cell old.0 row behind prefix old.1 is in
+            (chosen_log setting w) front cell old.0 row following prefix old.1 is in
             let at = been.at in
             let same : place_by setting front row ≡ place_by setting (chosen_log setting w) old.0 = omega arith in
             let one : old.0 ≡ row = one_row setting (chosen_log setting v) then.plain front

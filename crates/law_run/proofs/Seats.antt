@@ -79,17 +79,17 @@ place_joins setting whole all front cell row now prefix is end same n has = elim
   | inl joins ↦ joins
   | inr j ↦
       let until = j.1.until in
-      let behind = until ++ Join n j.0 true ∷ [] in
-      let until_whole = front_on until behind whole (front_more until (Join n j.0 true)) j.1.stands in
-      let mid = linked_between setting whole all front until whole cell row now j.1.behind until_whole (front_itself whole) is end in
-      let later = rows_later setting whole all front until cell row mid.0 j.1.behind until_whole is mid.1 in
+      let following = until ++ Join n j.0 true ∷ [] in
+      let until_whole = front_on until following whole (front_more until (Join n j.0 true)) j.1.stands in
+      let mid = linked_between setting whole all front until whole cell row now j.1.following until_whole (front_itself whole) is end in
+      let later = rows_later setting whole all front until cell row mid.0 j.1.following until_whole is mid.1 in
       let has_mid : has_server n mid.0 ≡ true = one_before row mid.0 n later ∙ has in
-      let next = linked_between setting whole all until behind whole cell mid.0 now (front_more until (Join n j.0 true)) j.1.stands
+      let next = linked_between setting whole all until following whole cell mid.0 now (front_more until (Join n j.0 true)) j.1.stands
       (front_itself whole) mid.1 end in
-      let one = places_up setting whole all front until cell row mid.0 j.1.behind until_whole is mid.1 in
+      let one = places_up setting whole all front until cell row mid.0 j.1.following until_whole is mid.1 in
       let two = place_touched setting until (Join n j.0 true) mid.0 (λ i. j.1.may i && has_mid i) in
-      let three = place_of_later setting whole all until behind behind cell mid.0 next.0 (front_more until (Join n j.0 true)) j.1.stands mid.1 next.1 in
-      let four = places_up setting whole all behind whole cell next.0 now j.1.stands (front_itself whole) next.1 end in
+      let three = place_of_later setting whole all until following following cell mid.0 next.0 (front_more until (Join n j.0 true)) j.1.stands mid.1 next.1 in
+      let four = places_up setting whole all following whole cell next.0 now j.1.stands (front_itself whole) next.1 end in
       absurd (omega arith)
 ]
 

@@ -212,7 +212,7 @@ module _ (this : ServerStep) (same_store : (new this).store.chains ≡ (owns_of 
             subst (λ k. visits this k (place_by this.setting f.until found) cell ≡ Some visit.0) holder_is visit.1 in
             let le = been_within this a (place_by this.setting f.until found) cell visit.0 link seen is in
             let until_end = front_on f.until (f.until ++ f.entry ∷ []) end (front_more f.until f.entry) f.stands in
-            let up = places_up this.setting end plain_end top f.until cell link found f.behind until_end is f.was in
+            let up = places_up this.setting end plain_end top f.until cell link found f.following until_end is f.was in
             let same : place_by this.setting top link ≡ place_by this.setting f.until found = omega arith in
             let beside = (middle.alone top cell link a whole (front_itself top) is held).beside alive_then (middle_last cell link is) in
             sym (middle_chain a cell)

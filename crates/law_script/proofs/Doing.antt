@@ -135,7 +135,7 @@ accepted_from (told ∷ more) s taken =
           record {
             front = told ∷ a.front;
             servers = a.servers;
-            behind = a.behind;
+            following = a.following;
             begun = a.begun;
             lies = ap (λ ls. told ∷ ls) a.lies;
             skipped_front = (h.0, a.skipped_front);
@@ -145,7 +145,7 @@ accepted_from (told ∷ more) s taken =
       | inr h ↦ record {
         front = [];
         servers = told;
-        behind = more;
+        following = more;
         begun = h.0;
         lies = refl;
         skipped_front = tt;

@@ -6,7 +6,7 @@ use Rattle.std.specs.List.{onto_first}
 use Rattle.script_words.specs.Text.{pieces, without_end}
 pub use Rattle.script_words.proofs.Pieces.{concat-pieces}
 use Rattle.script_lines.specs.declared.script.Script.{Script}
-use Rattle.petal_script.specs.Script.{lines_behind, TextLine, Refusal, line_verdict, script_from, script_of, text_lines, goes_on, ended}
+use Rattle.petal_script.specs.Script.{lines_after, TextLine, Refusal, line_verdict, script_from, script_of, text_lines, goes_on, ended}
 use Rattle.law_script.specs.Laws.{Taken, IsFirstRefused, IsWithoutLines, IsPiece, AreLines}
 use Rattle.script_words.specs.declared.cause.Cause.{Cause}
 use Rattle.script_words.specs.declared.cause.Cause.TheVariants.{NoServersLine}
@@ -15,9 +15,9 @@ use Rattle.script_words.specs.declared.cause.Cause.TheVariants.{NoServersLine}
 record RefusedFrom (lines : List TextLine) (start : Option Script) (r : Refusal) : Type 0 where
   front : List TextLine
   line : TextLine
-  behind : List TextLine
+  following : List TextLine
   before : Option Script
-  lies : lines ≡ front ++ line ∷ behind
+  lies : lines ≡ front ++ line ∷ following
   taken : Taken front start before
   wrong : line_verdict before line ≡ Err r.cause
   number : r.line ≡ line.number
@@ -52,7 +52,7 @@ refused_by line lines start r again (Ok next) verdict is = elim (again next is) 
   | inl h ↦ inl (record {
     front = line ∷ h.front;
     line = h.line;
-    behind = h.behind;
+    following = h.following;
     before = h.before;
     lies = ap (λ ls. line ∷ ls) h.lies;
     taken = (next, verdict, h.taken);
@@ -66,7 +66,7 @@ refused_by line lines start r again (Err cause) verdict is =
     inl (record {
       front = [];
       line = line;
-      behind = lines;
+      following = lines;
       before = start;
       lies = refl;
       taken = refl;
@@ -86,15 +86,15 @@ script_refused (line ∷ lines) start r is = refused_by line lines start r (λ n
 shown : (r : Refusal) (n : ℕ) (cause : Cause) → r.line ≡ n → r.cause ≡ cause → record { line = n; cause = cause } ≡ r
 shown r n cause line is = ap (λ m. record { line = m; cause = cause }) (sym line) ∙ ap (λ d. record { line = r.line; cause = d }) (sym is)
 
-refused_script : (front : List TextLine) (line : TextLine) (behind : List TextLine) (start before : Option Script) (r : Refusal)
-    → Taken front start before → line_verdict before line ≡ Err r.cause → r.line ≡ line.number → script_from (front ++ line ∷ behind) start ≡ Err r
+refused_script : (front : List TextLine) (line : TextLine) (following : List TextLine) (start before : Option Script) (r : Refusal)
+    → Taken front start before → line_verdict before line ≡ Err r.cause → r.line ≡ line.number → script_from (front ++ line ∷ following) start ≡ Err r
 unfolding script_from
-refused_script [] line behind start before r taken wrong number =
-    ap (λ b. goes_on (script_from behind) line.number (line_verdict b line)) taken
-    ∙ ap (goes_on (script_from behind) line.number) wrong
+refused_script [] line following start before r taken wrong number =
+    ap (λ b. goes_on (script_from following) line.number (line_verdict b line)) taken
+    ∙ ap (goes_on (script_from following) line.number) wrong
     ∙ ap Err (shown r line.number r.cause number refl)
-refused_script (first ∷ front) line behind start before r taken wrong number =
-    ap (goes_on (script_from (front ++ line ∷ behind)) first.number) taken.1 ∙ refused_script front line behind taken.0 before r taken.2 wrong number
+refused_script (first ∷ front) line following start before r taken wrong number =
+    ap (goes_on (script_from (front ++ line ∷ following)) first.number) taken.1 ∙ refused_script front line following taken.0 before r taken.2 wrong number
 
 bare_script : (lines : List TextLine) (start : Option Script) (r : Refusal) → Taken lines start None → r.line ≡ 1 → r.cause ≡ NoServersLine
     → script_from lines start ≡ Err r
@@ -108,11 +108,11 @@ is_script text s = (script_taken (text_lines text) None s, taken_script (text_li
 
 at_front : (lines : List TextLine) (r : Refusal) → RefusedFrom lines None r ⊎ EndsBare lines None r → IsFirstRefused lines r ⊎ IsWithoutLines lines r
 at_front lines r (inl h) =
-    inl (record { front = h.front; line = h.line; behind = h.behind; before = h.before; lies = h.lies; taken = h.taken; wrong = h.wrong; number = h.number })
+    inl (record { front = h.front; line = h.line; following = h.following; before = h.before; lies = h.lies; taken = h.taken; wrong = h.wrong; number = h.number })
 at_front lines r (inr h) = inr (record { taken = h.taken; line = h.line; cause = h.cause })
 
 from_front : (lines : List TextLine) (r : Refusal) → IsFirstRefused lines r ⊎ IsWithoutLines lines r → script_from lines None ≡ Err r
-from_front lines r (inl h) = ap (λ ls. script_from ls None) h.lies ∙ refused_script h.front h.line h.behind None h.before r h.taken h.wrong h.number
+from_front lines r (inl h) = ap (λ ls. script_from ls None) h.lies ∙ refused_script h.front h.line h.following None h.before r h.taken h.wrong h.number
 from_front lines r (inr h) = bare_script lines None r h.taken h.line h.cause
 
 pub is_refused : (text : List ℕ) (r : Refusal) → (script_of text ≡ Err r) ↔ (IsFirstRefused (text_lines text) r ⊎ IsWithoutLines (text_lines text) r)
@@ -153,8 +153,8 @@ pieces_are (b ∷ bs) =
       | inr ne ↦ rw (ne_eqb b 10 ne) (are_onto b (pieces bs) ne rest)
     ]
 
-numbered : (n reach : ℕ) (parts : List (List ℕ)) (k : ℕ) (line : TextLine) → slice_get (lines_behind n reach parts) k ≡ Some line → line.number ≡ n + k + 1
-unfolding lines_behind
+numbered : (n reach : ℕ) (parts : List (List ℕ)) (k : ℕ) (line : TextLine) → slice_get (lines_after n reach parts) k ≡ Some line → line.number ≡ n + k + 1
+unfolding lines_after
 numbered n reach [] k line is = absurd (cc)
 numbered n reach (piece ∷ more) zero line is = (let first : TextLine = record { number = n + 1; text = without_end piece; reach = reach + length piece } in
     let e : first ≡ line = cc in ap (λ l. l.number) (sym e) ∙ omega arith)

@@ -8,13 +8,13 @@ use Rattle.script_lines.specs.declared.run.Run.{Run}
 abbrev run_of : ℕ → ℕ → Run
 run_of b n = record { count = n; byte = b }
 
-one_behind : (b n : ℕ) (bytes : List ℕ) → replicate (n + 1) b ++ bytes ≡ b ∷ (replicate n b ++ bytes)
-one_behind b n bytes = let next : n + 1 ≡ suc n = omega arith in ap (λ k. replicate k b ++ bytes) next
+one_after : (b n : ℕ) (bytes : List ℕ) → replicate (n + 1) b ++ bytes ≡ b ∷ (replicate n b ++ bytes)
+one_after b n bytes = let next : n + 1 ≡ suc n = omega arith in ap (λ k. replicate k b ++ bytes) next
 
 lays_out : (b : ℕ) (rs : List Run) → flat_map run_bytes (onto_run b rs) ≡ b ∷ flat_map run_bytes rs
 lays_out b [] = refl
 lays_out b (r ∷ rs) = elim (cases_eq r.byte b) [
-  | inl e ↦ rw (eq-eqb r.byte b e) (one_behind b r.count (flat_map run_bytes rs) ∙ ap (λ c. b ∷ (replicate r.count c ++ flat_map run_bytes rs)) (sym e))
+  | inl e ↦ rw (eq-eqb r.byte b e) (one_after b r.count (flat_map run_bytes rs) ∙ ap (λ c. b ∷ (replicate r.count c ++ flat_map run_bytes rs)) (sym e))
   | inr ne ↦ rw (ne_eqb r.byte b ne) refl
 ]
 

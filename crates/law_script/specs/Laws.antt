@@ -20,9 +20,9 @@ Taken (line ∷ lines) before after = (next : Option Script) × (line_verdict be
 pub record IsFirstRefused (lines : List TextLine) (r : Refusal) : Type 0 where
   pub front : List TextLine
   pub line : TextLine
-  pub behind : List TextLine
+  pub following : List TextLine
   pub before : Option Script
-  pub lies : lines ≡ front ++ line ∷ behind
+  pub lies : lines ≡ front ++ line ∷ following
   pub taken : Taken front None before
   pub wrong : line_verdict before line ≡ Err r.cause
   pub number : r.line ≡ line.number
@@ -71,9 +71,9 @@ Follows s (told ∷ more) t = (next : Script) × Does s told next × Follows nex
 pub record IsAccepted (lines : List TextLine) (s : Script) : Type 0 where
   pub front : List TextLine
   pub servers : TextLine
-  pub behind : List TextLine
+  pub following : List TextLine
   pub begun : Script
-  pub lies : lines ≡ front ++ servers ∷ behind
+  pub lies : lines ≡ front ++ servers ∷ following
   pub skipped_front : AllByRecursion (λ told. is_skipped told.text ≡ true) front
   pub begins : first_line (words_of servers.text) ≡ Ok begun
-  pub follows : Follows begun behind s
+  pub follows : Follows begun following s

@@ -323,9 +323,9 @@ module _ (servers : ℕ) (front whole : List Command) (all : IsPlainLog servers 
   at_place before = fold-append after (start servers) front before
 
   -- an entry of those after the front, with all before it
-  behind_front : (before : List Command) (entry : Command) (rest : List Command) → prefix.later ≡ before ++ entry ∷ rest
+  after_front : (before : List Command) (entry : Command) (rest : List Command) → prefix.later ≡ before ++ entry ∷ rest
       → IsPrefix ((front ++ before) ++ entry ∷ []) whole
-  behind_front before entry rest lies = record {
+  after_front before entry rest lies = record {
     later = rest;
     is = prefix.is ∙ ap (λ xs. front ++ xs) lies ∙ sym (append_assoc front before (entry ∷ rest)) ∙ sym (append_assoc (front ++ before) (entry ∷ []) rest);
   }
@@ -334,8 +334,8 @@ module _ (servers : ℕ) (front whole : List Command) (all : IsPlainLog servers 
   caught_in cell row c = record {
     until = front ++ c.before;
     entry = c.entry;
-    behind = record { later = c.before; is = refl };
-    stands = behind_front c.before c.entry c.rest c.lies;
+    following = record { later = c.before; is = refl };
+    stands = after_front c.before c.entry c.rest c.lies;
     was = ap (λ (t : State). cell_link t cell) (at_place c.before) ∙ c.was;
     acts = subst (λ (t : State). IsCaughtBy t c.entry row) (sym (at_place c.before)) c.acts;
   }
@@ -375,8 +375,8 @@ module _ (servers : ℕ) (front whole : List Command) (all : IsPlainLog servers 
   lost_in holder c = record {
     until = front ++ c.before;
     inc = c.inc;
-    behind = record { later = c.before; is = refl };
-    stands = behind_front c.before (Join holder c.inc true) c.rest c.lies;
+    following = record { later = c.before; is = refl };
+    stands = after_front c.before (Join holder c.inc true) c.rest c.lies;
     may = ap (λ (t : State). may_join (slice_get t.view.members holder) c.inc) (at_place c.before) ∙ c.may;
   }
 

@@ -49,8 +49,8 @@ pub joined_counts : (servers : ℕ) (front whole : List Command) (n inc : ℕ) �
     → blank_joins_from (start servers) front n < blank_joins_from (start servers) whole n
 joined_counts servers front whole n inc joined =
     let s = state_after servers joined.until in
-    let before = joins_grow servers front joined.until n joined.behind in
-    let behind = joins_grow servers (joined.until ++ Join n inc true ∷ []) whole n joined.stands in
+    let before = joins_grow servers front joined.until n joined.following in
+    let following = joins_grow servers (joined.until ++ Join n inc true ∷ []) whole n joined.stands in
     let e = joins_on n (start servers) joined.until (Join n inc true ∷ []) in
     let one : blank_joins_from s (Join n inc true ∷ []) n ≡ 1 =
     ap (λ b. if b && may_join (slice_get s.view.members n) inc then 1 else 0) (number_itself n) ∙ ap (λ b. if b then 1 else 0) joined.may in

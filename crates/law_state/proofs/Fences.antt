@@ -18,7 +18,7 @@ use Rattle.global_tables.specs.declared.fence.Member.{Member}
 use Rattle.global_tables.specs.declared.link.LinkRow.{LinkRow}
 use Rattle.global_tables.specs.Disk.{disk_at, snapshot_named}
 use Rattle.global_tables.specs.Link.{link_at}
-use Rattle.global_tables.specs.View.{View, awaiting, behind, first_waiting, head, is_in, queued, ready, reported, servers_in, stands_in}
+use Rattle.global_tables.specs.View.{View, awaiting, following, first_waiting, head, is_in, queued, ready, reported, servers_in, stands_in}
 use Rattle.petal_state.specs.Command.{with_fence}
 use Rattle.petal_state.specs.State.{is_up}
 use Rattle.petal_rules.specs.Draining.{awaits}
@@ -202,14 +202,14 @@ head_awaiting waiting [] fence e = none_some refl e
 head_awaiting waiting (first ∷ rest) fence e = ap (λ (f : Fence). f.waiting) (sym (same_some e))
 
 -- of what is after the head the first one waits for these servers
-pub head_behind : (waiting : List ℕ) (queue : List Fence) (fence : Fence) → head (behind waiting queue) ≡ Some fence → fence.waiting ≡ waiting
-head_behind waiting [] fence e = none_some refl e
-head_behind waiting (first ∷ rest) fence e = head_awaiting waiting rest fence e
+pub head_after : (waiting : List ℕ) (queue : List Fence) (fence : Fence) → head (following waiting queue) ≡ Some fence → fence.waiting ≡ waiting
+head_after waiting [] fence e = none_some refl e
+head_after waiting (first ∷ rest) fence e = head_awaiting waiting rest fence e
 
-pub get_behind : (waiting : List ℕ) (queue : List Fence) (i : ℕ) (fence : Fence) → slice_get (behind waiting queue) i ≡ Some fence
+pub get_after : (waiting : List ℕ) (queue : List Fence) (i : ℕ) (fence : Fence) → slice_get (following waiting queue) i ≡ Some fence
     → (before : Fence) × (slice_get queue (suc i) ≡ Some before) × (fence.kind ≡ before.kind)
-get_behind waiting [] i fence e = none_some refl e
-get_behind waiting (first ∷ rest) i fence e = requeued_awaiting waiting rest i fence e
+get_after waiting [] i fence e = none_some refl e
+get_after waiting (first ∷ rest) i fence e = requeued_awaiting waiting rest i fence e
 
 -- the head after a report is the one before, which waits for one server less
 pub record IsReported (server : ℕ) (before fence : Fence) : Type 0 where

@@ -114,7 +114,7 @@ module _ (servers : ℕ) (front whole : List Command) (n inc : ℕ) (all : IsPla
     c.blank,
     record {
       until = front ++ c.before;
-      behind = record { later = c.before; is = refl };
+      following = record { later = c.before; is = refl };
       stands = record {
         later = c.rest;
         is = prefix.is ∙ ap (λ xs. front ++ xs) c.lies ∙ sym (append_assoc front c.before (Join n inc c.blank ∷ c.rest))

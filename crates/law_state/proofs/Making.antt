@@ -24,7 +24,7 @@ use Rattle.law_state.proofs.Ages.{no_less}
 use Rattle.law_state.proofs.Fences.{Acted, AreQueued, asked_on, snapshot_on, region_on}
 use Rattle.law_state.proofs.Grown.{later_disk_itself, same_row}
 use Rattle.law_state.proofs.Owners.{home, home_later, kept_by, no_owner, owner_is, row_at_on, stages_later}
-use Rattle.law_state.proofs.Places.{get_front, get_in, get_last, none_find, find_front, find_behind, text_itself}
+use Rattle.law_state.proofs.Places.{get_front, get_in, get_last, none_find, find_front, find_after, text_itself}
 use Rattle.law_state.proofs.Links.{link_new, link_other, new_served, row_in}
 
 pub map_front : (maps : List MapRow) (tuple other : List ℕ) (disk of : ℕ) → tuple_of maps of ≡ Some tuple → tuple_of (added maps other disk) of ≡ Some tuple
@@ -125,7 +125,7 @@ module _ (servers : ℕ) (s : State) (p : IsPlainState servers s) (tuple : List 
         ]
         | inr h ↦ record {
           row = new_row of ids (ups s) link;
-          is = find_behind (is_link of link) s.links late (p.unlinked of link (past_owner of (let f = h.0 in omega arith)))
+          is = find_after (is_link of link) s.links late (p.unlinked of link (past_owner of (let f = h.0 in omega arith)))
               ∙ (λ i. link_at (new_rows (sym h.0 i) (sym h.1 i) (ups s)) of link) ∙ link_new (ups s) of ids link lt;
           asked = record { map = refl; place = refl; primary = refl; secondary = refl; served = new_served s of ids link };
         }
@@ -133,7 +133,7 @@ module _ (servers : ℕ) (s : State) (p : IsPlainState servers s) (tuple : List 
 
       unlinked_now : (of link : ℕ) → owner mapped of ≡ None → link_at mapped.links of link ≡ None
       unlinked_now of link none =
-          find_behind (is_link of link) s.links late (p.unlinked of link (before (some_or_none (slice_get s.maps of))))
+          find_after (is_link of link) s.links late (p.unlinked of link (before (some_or_none (slice_get s.maps of))))
           ∙ link_other (ups s) (length s.maps) of tuple link (λ e. absurd (owned (ap (owner mapped) e ∙ none)))
         where
           before : ((m : MapRow) × (slice_get s.maps of ≡ Some m)) ⊎ (slice_get s.maps of ≡ None) → owner s of ≡ None
@@ -147,7 +147,7 @@ module _ (servers : ℕ) (s : State) (p : IsPlainState servers s) (tuple : List 
             let at = get_in late row new in
             let is = row_in (ups s) (length s.maps) tuple at.0 row at.1 in
             subst (λ r. link_at mapped.links r.map r.link ≡ Some r) (sym is.2)
-            (find_behind (is_link (length s.maps) is.0) s.links late (p.unlinked (length s.maps) is.0 (past_owner (length s.maps) (no_less (length s.maps))))
+            (find_after (is_link (length s.maps) is.0) s.links late (p.unlinked (length s.maps) is.0 (past_owner (length s.maps) (no_less (length s.maps))))
             ∙ link_new (ups s) (length s.maps) tuple is.0 is.1))
       ]
 

@@ -21,19 +21,19 @@ use Rattle.global_tables.specs.Disk.{fenced, frozen, move_fenced, row_fenced, ro
 use Rattle.global_tables.specs.Link.{link_at}
 use Rattle.global_tables.specs.Map.{tuple_of}
 use Rattle.global_tables.specs.Region.{link_of, region_of}
-use Rattle.global_tables.specs.View.{View, behind, inc_in, passed, ready, servers_in}
+use Rattle.global_tables.specs.View.{View, following, inc_in, passed, ready, servers_in}
 use Rattle.petal_state.specs.CellState.{cell_link, has_map}
 use Rattle.petal_state.specs.Fence.{confirmed, effect, let_through, settled}
 use Rattle.petal_state.specs.State.{inc_of, is_up_as, latest, leaves, told}
-use Rattle.petal_state.proofs.Passing.{length-behind, settled_none, settled_one, view-effect}
+use Rattle.petal_state.proofs.Passing.{length-following, settled_none, settled_one, view-effect}
 use Rattle.petal_rules.specs.State.{State}
 use Rattle.petal_rules.proofs.Tests.{by_bool, by_test, nat_lists_same, same_some, some_or_none, true_false}
 use Rattle.law_state.specs.Homes.{stage_of}
 use Rattle.law_state.specs.Tables.{IsForRegion, IsForSnapshot, IsLaterDisk, IsMove, IsRowAt, Of_disk, Of_region}
 use Rattle.law_state.proofs.Ages.{no_less}
-use Rattle.law_state.proofs.Fences.{Acted, AreQueued, IsUnsettled, get_behind, head_behind, head_get, ready_by, settles, untabled, waits_present}
+use Rattle.law_state.proofs.Fences.{Acted, AreQueued, IsUnsettled, get_after, head_after, head_get, ready_by, settles, untabled, waits_present}
 use Rattle.law_state.proofs.Grown.{Step, grown_itself, grown_on}
-use Rattle.law_state.proofs.Places.{find_behind, get_last, none_find, text_itself}
+use Rattle.law_state.proofs.Places.{find_after, get_last, none_find, text_itself}
 use Rattle.law_state.proofs.Rowed.{beside, fence_then, here, here_now, row_known, rowing}
 use Rattle.law_state.proofs.Stages.{moved_on, set_on, shape_set}
 
@@ -98,19 +98,19 @@ cell_settled s cell =
 -- ### What is after the head
 
 module _ (servers : ℕ) (s : State) (p : IsUnsettled servers s) where
-  behind_apart : (i j : ℕ) (one other : Fence) (disk client seq later again : ℕ) (name : List ℕ) → slice_get (passed s.view).queue i ≡ Some one
+  after_apart : (i j : ℕ) (one other : Fence) (disk client seq later again : ℕ) (name : List ℕ) → slice_get (passed s.view).queue i ≡ Some one
       → slice_get (passed s.view).queue j ≡ Some other → one.kind ≡ Whole disk name client seq → other.kind ≡ Whole disk name later again → i ≡ j
-  behind_apart i j one other disk client seq later again name e f kind like =
-      let a = get_behind (servers_in s.view.members) s.view.queue i one e in
-      let b = get_behind (servers_in s.view.members) s.view.queue j other f in
+  after_apart i j one other disk client seq later again name e f kind like =
+      let a = get_after (servers_in s.view.members) s.view.queue i one e in
+      let b = get_after (servers_in s.view.members) s.view.queue j other f in
       let same : suc i ≡ suc j = p.fences.apart (suc i) (suc j) a.0 b.0 disk client seq later again name a.1 b.1 (sym a.2 ∙ kind) (sym b.2 ∙ like) in
       omega arith
 
-  behind_once : (i j : ℕ) (one other : Fence) (disk region later : ℕ) → slice_get (passed s.view).queue i ≡ Some one
+  after_once : (i j : ℕ) (one other : Fence) (disk region later : ℕ) → slice_get (passed s.view).queue i ≡ Some one
       → slice_get (passed s.view).queue j ≡ Some other → one.kind ≡ Region disk region → other.kind ≡ Region disk later → i ≡ j
-  behind_once i j one other disk region later e f kind like =
-      let a = get_behind (servers_in s.view.members) s.view.queue i one e in
-      let b = get_behind (servers_in s.view.members) s.view.queue j other f in
+  after_once i j one other disk region later e f kind like =
+      let a = get_after (servers_in s.view.members) s.view.queue i one e in
+      let b = get_after (servers_in s.view.members) s.view.queue j other f in
       let same : suc i ≡ suc j = p.fences.once (suc i) (suc j) a.0 b.0 disk region later a.1 b.1 (sym a.2 ∙ kind) (sym b.2 ∙ like) in
       omega arith
 
@@ -176,11 +176,11 @@ module _ (servers : ℕ) (s : State) (p : IsUnsettled servers s) (fence : Fence)
   fences_now : AreQueued t
   fences_now = record {
     each = λ i f e.
-        let b = get_behind (servers_in s.view.members) s.view.queue i f e in
+        let b = get_after (servers_in s.view.members) s.view.queue i f e in
         fence_then servers s p active.disk active.row active.known (row_frozen active.name) (passed s.view).queue s.view.queued later_disk
         b.0 f b.2 (p.fences.each (suc i) b.0 b.1)
         (λ h same.
-        find_behind (λ (snap : Snapshot). same_name snap.name h.name) active.row.snaps (taken ∷ [])
+        find_after (λ (snap : Snapshot). same_name snap.name h.name) active.row.snaps (taken ∷ [])
         (ap (λ (r : DiskRow). snapshot_named r.snaps h.name) (row_known servers s p active.disk active.row active.known (row_frozen active.name) h.disk h.row
         same h.known) ∙ h.fresh)
         ∙ ap (λ b. cond b (Some taken) None) (by_bool (same_name active.name h.name)
@@ -193,9 +193,9 @@ module _ (servers : ℕ) (s : State) (p : IsUnsettled servers s) (fence : Fence)
         (λ h same.
         let is = row_known servers s p active.disk active.row active.known (row_frozen active.name) h.disk h.row same h.known in
         (h.move, ap (λ (r : DiskRow). r.moving) is ∙ h.moves, h.shape));
-    apart = behind_apart servers s p;
-    once = behind_once servers s p;
-    present = λ f n e waits. waits_present s.view.members f n (head_behind (servers_in s.view.members) s.view.queue f e) waits;
+    apart = after_apart servers s p;
+    once = after_once servers s p;
+    present = λ f n e waits. waits_present s.view.members f n (head_after (servers_in s.view.members) s.view.queue f e) waits;
   }
 
   freezing : Acted servers s t
@@ -298,7 +298,7 @@ module _ (servers : ℕ) (s : State) (p : IsUnsettled servers s) (fence : Fence)
   region_fences : AreQueued on_way
   region_fences = record {
     each = λ i f e.
-        let b = get_behind (servers_in s.view.members) s.view.queue i f e in
+        let b = get_after (servers_in s.view.members) s.view.queue i f e in
         fence_then servers s p active.disk active.row active.known fence_row (passed s.view).queue s.view.queued region_later
         b.0 f b.2 (p.fences.each (suc i) b.0 b.1)
         (λ h same. ap (λ (r : DiskRow). snapshot_named r.snaps h.name) (row_known servers s p active.disk active.row active.known fence_row h.disk h.row same
@@ -307,9 +307,9 @@ module _ (servers : ℕ) (s : State) (p : IsUnsettled servers s) (fence : Fence)
         let zero_too : 0 ≡ suc i = p.fences.once 0 (suc i) fence b.0 active.disk active.region h.region first b.1 active.kind
         (h.kind ∙ ap (λ k. Region k h.region) same) in
         absurd (omega arith));
-    apart = behind_apart servers s p;
-    once = behind_once servers s p;
-    present = λ f n e waits. waits_present s.view.members f n (head_behind (servers_in s.view.members) s.view.queue f e) waits;
+    apart = after_apart servers s p;
+    once = after_once servers s p;
+    present = λ f n e waits. waits_present s.view.members f n (head_after (servers_in s.view.members) s.view.queue f e) waits;
   }
 
   passing_region : Acted servers s (one_passed s fence)
@@ -340,15 +340,15 @@ passing servers s p fence first = elim (p.fences.each 0 fence first) [
 -- what waits after the head is one fence less
 fewer : (s : State) (fence : Fence) (n : ℕ) → ready s.view.queue ≡ Some fence → length s.view.queue ≤ suc n → length (one_passed s fence).view.queue ≤ n
 fewer s fence n is few =
-    let e = length-behind (servers_in s.view.members) s.view.queue fence is in
-    let f : length (one_passed s fence).view.queue ≡ length (behind (servers_in s.view.members) s.view.queue) =
+    let e = length-following (servers_in s.view.members) s.view.queue fence is in
+    let f : length (one_passed s fence).view.queue ≡ length (following (servers_in s.view.members) s.view.queue) =
     ap (λ (v : View). length v.queue) (view-effect fence.kind (record s { view = passed s.view })) in
     omega arith
 
 settling_by : (servers n : ℕ) (s : State) → IsUnsettled servers s → length s.view.queue ≤ n → Step servers s (settled s)
 settling_by servers zero s p few = elim (some_or_none (ready s.view.queue)) [
   | inr none ↦ subst (Step servers s) (sym (settled_none s none)) (record { plain = settles servers s p none; grown = grown_itself s })
-  | inl h ↦ let e = length-behind (servers_in s.view.members) s.view.queue h.0 h.1 in absurd (omega arith)
+  | inl h ↦ let e = length-following (servers_in s.view.members) s.view.queue h.0 h.1 in absurd (omega arith)
 ]
 settling_by servers (suc n) s p few = elim (some_or_none (ready s.view.queue)) [
   | inr none ↦ subst (Step servers s) (sym (settled_none s none)) (record { plain = settles servers s p none; grown = grown_itself s })

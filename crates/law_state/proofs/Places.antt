@@ -71,11 +71,11 @@ find_front p (y ∷ xs) ys x e = by_bool (p y)
     (λ is. ap (λ b. cond b (Some y) (find p (xs ++ ys))) is ∙ sym (ap (λ b. cond b (Some y) (find p xs)) is) ∙ e)
     (λ no. ap (λ b. cond b (Some y) (find p (xs ++ ys))) no ∙ find_front p xs ys x (sym (ap (λ b. cond b (Some y) (find p xs)) no) ∙ e))
 
-pub find_behind : {A : Type 0} (p : A → Bool) (xs ys : List A) → find p xs ≡ None → find p (xs ++ ys) ≡ find p ys
-find_behind p [] ys e = refl
-find_behind p (y ∷ xs) ys e = by_bool (p y)
+pub find_after : {A : Type 0} (p : A → Bool) (xs ys : List A) → find p xs ≡ None → find p (xs ++ ys) ≡ find p ys
+find_after p [] ys e = refl
+find_after p (y ∷ xs) ys e = by_bool (p y)
     (λ is. none_some e (ap (λ b. cond b (Some y) (find p xs)) is))
-    (λ no. ap (λ b. cond b (Some y) (find p (xs ++ ys))) no ∙ find_behind p xs ys (sym (ap (λ b. cond b (Some y) (find p xs)) no) ∙ e))
+    (λ no. ap (λ b. cond b (Some y) (find p (xs ++ ys))) no ∙ find_after p xs ys (sym (ap (λ b. cond b (Some y) (find p xs)) no) ∙ e))
 
 pub find_map : {A B : Type 0} (p : B → Bool) (q : A → Bool) (f : A → B) (xs : List A) → ((x : A) → p (f x) ≡ q x) → find p (map f xs) ≡ option_map f (find q xs)
 find_map p q f [] same = refl

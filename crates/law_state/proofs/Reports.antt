@@ -43,7 +43,7 @@ use Rattle.law_state.proofs.Caughts.{act_caught}
 use Rattle.law_state.proofs.Entries.{acting, entering, folding, log_plain}
 use Rattle.law_state.proofs.Eras.{HasRows, IsKept, era_low, fenced_apart, holds_before, kept_by_place, kept_by_stage, lives}
 use Rattle.law_state.proofs.Eras.{low_now, rows_of, stage_now, stage_was}
-use Rattle.law_state.proofs.Fences.{Acted, IsReady, IsUnsettled, head_awaiting, head_behind, head_get, head_queued, head_reported}
+use Rattle.law_state.proofs.Fences.{Acted, IsReady, IsUnsettled, head_awaiting, head_after, head_get, head_queued, head_reported}
 use Rattle.law_state.proofs.Fences.{none_ready, present_waits, ready_by, waits_still}
 use Rattle.law_state.proofs.Joins.{joined_by}
 use Rattle.law_state.proofs.Leaves.{left_by}
@@ -170,7 +170,7 @@ module _ (which : Hold → Bool) (every : which All ≡ true) (nothing : which N
           let viewed : t.view ≡ passed s.view = view-effect fence.kind (record s { view = passed s.view }) in
           let next = λ (f : Fence) (e : head t.view.queue ≡ Some f).
           present_waits s.view.members f n
-          (head_behind (servers_in s.view.members) s.view.queue f (sym (ap (λ (v : View). head v.queue) viewed) ∙ e)) up in
+          (head_after (servers_in s.view.members) s.view.queue f (sym (ap (λ (v : View). head v.queue) viewed) ∙ e)) up in
           let quiet : settled t ≡ t = settled_none t (none_ready t.view.queue (λ f e. waits_somebody f n (next f e))) in
           subst (IsStill s n cell) (sym (settled_one s fence is ∙ quiet)) (record {
             awaited = λ f e on. next f e;
@@ -462,7 +462,7 @@ module _ (which : Hold → Bool) (every : which All ≡ true) (nothing : which N
   later_report s entry entries n inc cell c =
       record { before = entry ∷ c.before; fence = c.fence; rest = c.rest; lies = ap (λ es. entry ∷ es) c.lies; seated = c.seated; holds = c.holds }
 
-  -- the cell is as it was behind these entries, or one of them is such a report
+  -- the cell is as it was after these entries, or one of them is such a report
   abbrev StillOrReport : State → List Command → (n inc : ℕ) → Cell → Type 0
   StillOrReport s entries n inc cell = IsStill s n cell (fold after s entries) ⊎ IsReportAmong s entries n inc cell
 
@@ -515,7 +515,7 @@ module _ (which : Hold → Bool) (every : which All ≡ true) (nothing : which N
         record {
           until = front ++ c.before;
           fence = c.fence;
-          behind = record { later = c.before; is = refl };
+          following = record { later = c.before; is = refl };
           stands = record {
             later = c.rest;
             is = prefix.is ∙ ap (λ xs. front ++ xs) c.lies ∙ sym (append_assoc front c.before (Drained n inc c.fence ∷ c.rest))

@@ -126,7 +126,7 @@ module _ (servers : ℕ) (s t : State) (p : IsPlainState servers s) (q : IsPlain
   pub old_or_new : (row : DiskRow) → In row t.disks.rows → ((was : DiskRow) × In was s.disks.rows × IsLaterDisk was row) ⊎ In row (later_rows s t)
   old_or_new row h =
       let at = get_in t.disks.rows row h in
-      elim (before_or_behind at.0 (length s.disks.rows)) [
+      elim (before_or_after at.0 (length s.disks.rows)) [
         | inl low ↦
             let was = get_within s.disks.rows at.0 low in
             let later = g.rows at.0 was.0 was.1 in
@@ -135,10 +135,10 @@ module _ (servers : ℕ) (s t : State) (p : IsPlainState servers s) (q : IsPlain
         | inr k ↦ inr (in_get (later_rows s t) k.0 row (drop_get (length s.disks.rows) t.disks.rows k.0 row (ap (slice_get t.disks.rows) (sym k.1) ∙ at.1)))
       ]
     where
-      before_or_behind : (i n : ℕ) → (i < n) ⊎ ((k : ℕ) × (i ≡ n + k))
-      before_or_behind i zero = inr (i, omega arith)
-      before_or_behind zero (suc n) = inl (omega arith)
-      before_or_behind (suc i) (suc n) = elim (before_or_behind i n) [ inl lt ↦ inl (omega arith) | inr k ↦ inr (k.0, let e = k.1 in omega arith) ]
+      before_or_after : (i n : ℕ) → (i < n) ⊎ ((k : ℕ) × (i ≡ n + k))
+      before_or_after i zero = inr (i, omega arith)
+      before_or_after zero (suc n) = inl (omega arith)
+      before_or_after (suc i) (suc n) = elim (before_or_after i n) [ inl lt ↦ inl (omega arith) | inr k ↦ inr (k.0, let e = k.1 in omega arith) ]
 
       drop_get : {A : Type 0} (n : ℕ) (xs : List A) (i : ℕ) (x : A) → slice_get xs (n + i) ≡ Some x → slice_get (drop n xs) i ≡ Some x
       drop_get zero xs i x e = subst (λ k. slice_get xs k ≡ Some x) (let f : 0 + i ≡ i = omega arith in f) e
@@ -150,14 +150,14 @@ module _ (servers : ℕ) (s t : State) (p : IsPlainState servers s) (q : IsPlain
 fresh_by : (servers : ℕ) (t : State) → IsPlainState servers t → (rows more : List DiskRow)
     → ((i : ℕ) (row : DiskRow) → slice_get rows i ≡ Some row → (now : DiskRow) × (slice_get t.disks.rows i ≡ Some now) × (now.name ≡ row.name))
     → ((i : ℕ) (row : DiskRow) → slice_get more i ≡ Some row → slice_get t.disks.rows (length rows + i) ≡ Some row) → AreFresh rows more
-fresh_by servers t q rows [] front behind = tt
-fresh_by servers t q rows (row ∷ more) front behind = (
+fresh_by servers t q rows [] front following = tt
+fresh_by servers t q rows (row ∷ more) front following = (
   elim (some_or_none (named rows row.name)) [
     | inl h ↦
         let at = found_at (λ other. same_name other.name row.name) rows h.0 h.1 in
         let now = front at.0 h.0 at.1 in
         let lt = slice_get_within rows at.0 h.0 at.1 in
-        let same = q.names at.0 (length rows + 0) now.0 row now.1 (behind 0 row refl) (now.2 ∙ nat_lists_same h.0.name row.name at.2) in
+        let same = q.names at.0 (length rows + 0) now.0 row now.1 (following 0 row refl) (now.2 ∙ nat_lists_same h.0.name row.name at.2) in
         absurd (omega arith)
     | inr none ↦ none
   ],
@@ -166,11 +166,11 @@ fresh_by servers t q rows (row ∷ more) front behind = (
         | inl old ↦ front i other old
         | inr new ↦ (
           row,
-          ap (slice_get t.disks.rows) (let f = new.0 in let g : i ≡ length rows + 0 = omega arith in g) ∙ behind 0 row refl,
+          ap (slice_get t.disks.rows) (let f = new.0 in let g : i ≡ length rows + 0 = omega arith in g) ∙ following 0 row refl,
           ap (λ (r : DiskRow). r.name) (sym new.1),
         )
       ])
-      (λ i other e. ap (slice_get t.disks.rows) (one_more i) ∙ behind (suc i) other e),
+      (λ i other e. ap (slice_get t.disks.rows) (one_more i) ∙ following (suc i) other e),
 )
   where
     one_more : (i : ℕ) → length (rows ++ row ∷ []) + i ≡ length rows + suc i

@@ -145,7 +145,7 @@ shape_set regions at was now h = record {
   old = λ i lt high. get_set_beside regions at i now (λ e. omega arith) ∙ h.old i lt high;
 }
 
--- once it is at the new map, the one behind it is next
+-- once it is at the new map, the one after it is next
 pub shape_next : (regions : List RegionState) (at : ℕ) → IsShape regions at New → at < 15 → IsShape regions (at + 1) Old
 shape_next regions at h low = record {
   many = h.many;

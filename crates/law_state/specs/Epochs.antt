@@ -15,7 +15,7 @@ pub use Rattle.law_state.specs.Homes.{epoch_at, era_at}
 pub record HasReportedBy (which : Hold → Bool) (servers : ℕ) (front whole : List Command) (n inc : ℕ) (cell : Cell) : Type 0 where
   pub until : List Command
   pub fence : ℕ
-  pub behind : IsPrefix front until
+  pub following : IsPrefix front until
   pub stands : IsPrefix (until ++ Drained n inc fence ∷ []) whole
   pub seated : is_in (state_after servers until) n inc ≡ true
   pub holds : which (held (state_after servers until) cell) ≡ true

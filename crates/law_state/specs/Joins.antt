@@ -10,7 +10,7 @@ use Rattle.petal_rules.specs.Blanked.{blank_joins_from}
 -- after this front of the log the server, which was Out, joins as this incarnation
 pub record HasJoinedSince (servers : ℕ) (front whole : List Command) (n inc : ℕ) (blank : Bool) : Type 0 where
   pub until : List Command
-  pub behind : IsPrefix front until
+  pub following : IsPrefix front until
   pub stands : IsPrefix (until ++ Join n inc blank ∷ []) whole
   pub may : may_join (slice_get (state_after servers until).view.members n) inc ≡ true
 

@@ -5,5 +5,5 @@ use Rattle.petal_history.specs.declared.record.Record.{Record}
 pub record IsMoment (records : List Record) : Type 0 where
   pub front : List Record
   pub own : Record
-  pub behind : List Record
-  pub is : records ≡ front ++ own ∷ behind
+  pub following : List Record
+  pub is : records ≡ front ++ own ∷ following

@@ -71,7 +71,7 @@ pub data IsTouchedBy (cell : Cell) (row : LinkRow) (state : State) (entry : Comm
 pub record IsCaughtIn (servers : ℕ) (front whole : List Command) (cell : Cell) (row : LinkRow) : Type 0 where
   pub until : List Command
   pub entry : Command
-  pub behind : IsPrefix front until
+  pub following : IsPrefix front until
   pub stands : IsPrefix (until ++ entry ∷ []) whole
   pub was : cell_link (state_after servers until) cell ≡ Some row
   pub acts : IsCaughtBy (state_after servers until) entry row
@@ -93,7 +93,7 @@ IsHeldStill holder whole now = (later : Bool) × (now ≡ Only holder later) × 
 pub record IsLostIn (servers : ℕ) (front whole : List Command) (holder : ℕ) : Type 0 where
   pub until : List Command
   pub inc : ℕ
-  pub behind : IsPrefix front until
+  pub following : IsPrefix front until
   pub stands : IsPrefix (until ++ Join holder inc true ∷ []) whole
   pub may : may_join (slice_get (state_after servers until).view.members holder) inc ≡ true
 

@@ -152,7 +152,7 @@ pub fn blank_joins_only_grow()
 {}
 
 /// A cell's era never falls. While a server stays In as one incarnation, the era of a cell that is live and not leaving rises only after its
-/// report to an active fence that holds the cell's writes: from a front on whose own active fence does not hold them, and from one behind
+/// report to an active fence that holds the cell's writes: from a front on whose own active fence does not hold them, and from one after
 /// which a server leaves, since the active fence then awaits all reports again.
 pub fn an_epoch_rises_after_reports()
     ensures grows { (servers : ℕ) (front whole : List Command) (cell : Cell) → IsPlainLog servers whole → IsPrefix front whole

@@ -263,16 +263,16 @@ module _ (setting : Setting) where
   firm_after w (own ∷ later) firm = firm_after (stepped setting w own).world later firm.2
 
   -- the parts of a history
-  pub front_legal : (w : World) (front behind : List Record) → IsLegalFrom setting w (front ++ behind)
-      → IsLegalFrom setting w front × IsLegalFrom setting (world_after setting w front) behind
-  front_legal w [] behind legal = (tt, legal)
-  front_legal w (own ∷ front) behind legal = let rest = front_legal (stepped setting w own).world front behind legal.1 in ((legal.0, rest.0), rest.1)
+  pub front_legal : (w : World) (front following : List Record) → IsLegalFrom setting w (front ++ following)
+      → IsLegalFrom setting w front × IsLegalFrom setting (world_after setting w front) following
+  front_legal w [] following legal = (tt, legal)
+  front_legal w (own ∷ front) following legal = let rest = front_legal (stepped setting w own).world front following legal.1 in ((legal.0, rest.0), rest.1)
 
-  pub front_firm : (w : World) (front behind : List Record) → AreFirm setting w (front ++ behind)
-      → AreFirm setting w front × AreFirm setting (world_after setting w front) behind
-  front_firm w [] behind firm = (firm_now setting w behind firm, firm)
-  front_firm w (own ∷ front) behind firm =
-      let rest = front_firm (stepped setting w own).world front behind firm.2 in ((firm.0, firm.1, rest.0), rest.1)
+  pub front_firm : (w : World) (front following : List Record) → AreFirm setting w (front ++ following)
+      → AreFirm setting w front × AreFirm setting (world_after setting w front) following
+  front_firm w [] following firm = (firm_now setting w following firm, firm)
+  front_firm w (own ∷ front) following firm =
+      let rest = front_firm (stepped setting w own).world front following firm.2 in ((firm.0, firm.1, rest.0), rest.1)
 
   pub world_more : (w : World) (done : List Record) (own : Record)
       → world_after setting w (done ++ own ∷ []) ≡ (stepped setting (world_after setting w done) own).world

@@ -217,7 +217,7 @@ module _ (setting : Setting) (w : World) (firm : Firm setting w) where
       let stands = front_on (found.until ++ found.entry ∷ []) more (chosen_log setting w) found.stands chosen in
       let mine : acts.holder ≡ n = same_only (sym acts.alone) in
       let until_chosen = front_on found.until _ _ (front_more found.until found.entry) stands in
-      let seated_then = runs_at (w.servers n).log.applied found.until found.behind until_chosen n runs seat in
+      let seated_then = runs_at (w.servers n).log.applied found.until found.following until_chosen n runs seat in
       let inc_is : acts.inc ≡ (w.servers n).life.inc =
       in_once (state_after setting.servers found.until) n acts.inc (w.servers n).life.inc
       (subst (λ k. is_in (state_after setting.servers found.until) k acts.inc ≡ true) mine acts.holds) seated_then in
@@ -228,7 +228,7 @@ module _ (setting : Setting) (w : World) (firm : Firm setting w) where
         | inl past ↦ absurd (omega (arith, inc_is))
         | inr flag ↦ (
             let reached = flag.1.reached in
-            let long = front_long (w.servers n).log.applied found.until found.behind in
+            let long = front_long (w.servers n).log.applied found.until found.following in
             held_as_flag (server_state setting w n) (w.servers n).own cell row is ∙ flag.1.flagged (omega arith))
       ]
     where

@@ -56,7 +56,7 @@ left_there state entry t cell x is =
     (sym (lies ∙ ap (λ b. cond (not b) (at cell_cmp t cell) None) off) ∙ is, neither.0, neither.1))
 
 -- a live cell that doesn't die by the entry is live after it
-still_live : (before behind : Bool) → (before && not behind) ≡ false → before ≡ true → behind ≡ true
+still_live : (before following : Bool) → (before && not following) ≡ false → before ≡ true → following ≡ true
 still_live before true e on = refl
 still_live true false e on = true_false refl e
 still_live false false e on = on
@@ -136,11 +136,11 @@ pub log_rests : (servers : ℕ) (log : List Command) (entry : Command) → IsPla
 unfolding In
 log_rests servers log entry plain me own r =
     let below = log_below servers log (log ++ entry ∷ []) plain (front_more log entry) in
-    let behind : state_after servers (log ++ entry ∷ []) ≡ after (state_after servers log) entry = fold-append after (start servers) log (entry ∷ []) in
-    subst (λ (t : State). AreResting t me (crossed (state_after servers log) entry own)) (sym behind)
+    let following : state_after servers (log ++ entry ∷ []) ≡ after (state_after servers log) entry = fold-append after (start servers) log (entry ∷ []) in
+    subst (λ (t : State). AreResting t me (crossed (state_after servers log) entry own)) (sym following)
     (crossed_rests servers (state_after servers log) (log_plain servers log (λ command i. plain command (in_former command log (entry ∷ []) i))) entry
     (plain entry (in_later entry log (entry ∷ []) (inl refl)))
-    (λ cell. subst (λ (t : State). stage_at (state_after servers log) cell ≤ stage_at t cell) behind (below.stages cell)) me own r)
+    (λ cell. subst (λ (t : State). stage_at (state_after servers log) cell ≤ stage_at t cell) following (below.stages cell)) me own r)
 
 -- ### The start
 

@@ -87,9 +87,9 @@ module _ (it : RunningFronts) (cell : Cell) (row : LinkRow) (is : cell_link (sta
       let stands = front_on (c.until ++ c.entry ∷ []) more (chosen_log setting w) c.stands chosen in
       let until_chosen = front_on c.until _ _ (front_more c.until c.entry) stands in
       let front_chosen = front_on front more _ prefix chosen in
-      let seated_then = runs_at setting w firm front c.until c.behind until_chosen n runs seat in
+      let seated_then = runs_at setting w firm front c.until c.following until_chosen n runs seat in
       let h : HasLater earlier (state_after setting.servers c.until) cell row =
-      elim ((log_below setting.servers front c.until (front_plain setting.servers c.until _ firm.plain until_chosen) c.behind).rows cell row is) [
+      elim ((log_below setting.servers front c.until (front_plain setting.servers c.until _ firm.plain until_chosen) c.following).rows cell row is) [
         | inl on ↦ on
         | inr died ↦ none_some died.0 c.was
       ] in
@@ -107,7 +107,7 @@ module _ (it : RunningFronts) (cell : Cell) (row : LinkRow) (is : cell_link (sta
         | inr flag ↦ (
             let reached = flag.1.reached in
             let one = front_long (w.servers n).log.applied front own in
-            let two = front_long front c.until c.behind in
+            let two = front_long front c.until c.following in
             let at : c.until ≡ front = one_front c.until front (chosen_log setting w) until_chosen front_chosen (omega arith) in
             let own_at : front ≡ (w.servers n).log.applied =
             one_front front (w.servers n).log.applied (chosen_log setting w) front_chosen (firm.servers n) (omega arith) in

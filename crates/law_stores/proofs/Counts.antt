@@ -27,7 +27,7 @@ joined_by servers n front (entry ∷ later) more = elim (counts_joins servers fr
         rest.0,
         record {
           until = rest.1.until;
-          behind = front_on front (front ++ entry ∷ []) rest.1.until (front_more front entry) rest.1.behind;
+          following = front_on front (front ++ entry ∷ []) rest.1.until (front_more front entry) rest.1.following;
           stands = subst (IsPrefix (rest.1.until ++ Join n rest.0 true ∷ [])) e rest.1.stands;
           may = rest.1.may;
         },
@@ -36,7 +36,7 @@ joined_by servers n front (entry ∷ later) more = elim (counts_joins servers fr
     joins.inc,
     record {
       until = front;
-      behind = front_itself front;
+      following = front_itself front;
       stands = record {
         later = later;
         is = ap (λ c. front ++ c ∷ later) joins.is ∙ sym (append_assoc front (Join n joins.inc true ∷ []) later);
@@ -59,9 +59,9 @@ stands_in front whole entry prefix =
     subst (In entry) (sym (prefix.is ∙ append_assoc front (entry ∷ []) prefix.later)) (in_later entry front (entry ∷ prefix.later) (inl refl))
 
 -- one that does not stand in a front stands after it
-pub behind_front : (front log whole : List Command) (entry : Command) → IsPrefix front whole → IsPrefix (log ++ entry ∷ []) whole
+pub after_front : (front log whole : List Command) (entry : Command) → IsPrefix front whole → IsPrefix (log ++ entry ∷ []) whole
     → In entry front ⊎ IsPrefix front log
-behind_front front log whole entry one two = elim (either (length front) (length log)) [
+after_front front log whole entry one two = elim (either (length front) (length log)) [
   | inl within ↦ inr (front_within front log whole one (front_on log (log ++ entry ∷ []) whole (front_more log entry) two) within)
   | inr past ↦ inl (stands_in log front entry (front_within (log ++ entry ∷ []) front whole two one (omega (arith, past, length-append log (entry ∷ [])))))
 ]
@@ -73,7 +73,7 @@ behind_front front log whole entry one two = elim (either (length front) (length
 pub joins_by_entry : (servers : ℕ) (log : List Command) (entry : Command) (n inc : ℕ) (blank : Bool)
     → HasJoinedSince servers log (log ++ entry ∷ []) n inc blank → entry ≡ Join n inc blank
 joins_by_entry servers log entry n inc blank joined =
-    let a = front_long log joined.until joined.behind in
+    let a = front_long log joined.until joined.following in
     let b = front_long (joined.until ++ Join n inc blank ∷ []) (log ++ entry ∷ []) joined.stands in
     let many : length log ≡ length joined.until = omega (arith, a, b, length-append log (entry ∷ []), length-append joined.until (Join n inc blank ∷ [])) in
     let whole = log ++ entry ∷ [] in

@@ -110,7 +110,7 @@ in_counts script records n front sound legal prefix seat =
           true_false found.1.may
           (joined_once script.servers front found.1.until n ((At script records).servers n).life.inc
           (until_plain script.servers found.1.until chosen (Join n found.0 true) (history_is_firm script records sound legal).plain found.1.stands)
-          found.1.behind found.0 seat begun)
+          found.1.following found.0 seat begun)
     ]
 
 -- ### A Join with an empty store
@@ -141,7 +141,7 @@ module _ (script : Script) (front : List Record) (own : Record) (n : ℕ) (sound
       let plain = (history_is_firm script front sound part).plain in
       let seat = joined_in script.servers log.0 (chosen_log setting w) n later true plain (record {
         until = log.0;
-        behind = record { later = []; is = sym (append-nil log.0) };
+        following = record { later = []; is = sym (append-nil log.0) };
         stands = stands;
         may = chosen_join_acts script front sound part log.0 n later true stands;
       }) in
@@ -149,7 +149,7 @@ module _ (script : Script) (front : List Record) (own : Record) (n : ℕ) (sound
       true_false joined.may
       (joined_once script.servers (log.0 ++ Join n later true ∷ []) joined.until n later
       (until_plain script.servers joined.until (chosen_log setting v) (Join n inc true) whole joined.stands)
-      (front_on (log.0 ++ Join n later true ∷ []) (chosen_log setting w) joined.until stands joined.behind) inc seat le)
+      (front_on (log.0 ++ Join n later true ∷ []) (chosen_log setting w) joined.until stands joined.following) inc seat le)
 
   module _ (more : blank_joins_in setting (chosen_log setting w) n ≢ blank_joins_in setting (chosen_log setting v) n) where
     found : (inc : ℕ) × HasJoinedSince script.servers (chosen_log setting w) (chosen_log setting v) n inc true

@@ -22,7 +22,7 @@ use Rattle.law_state.proofs.BlankJoins.{joined_counts, joins_grow}
 use Rattle.law_state.proofs.Incarnations.{joined_since}
 use Rattle.law_steps.proofs.Fronts.{front_itself, front_more, front_on}
 use Rattle.law_stores.specs.Waiting.{IsEmpty}
-use Rattle.law_stores.proofs.Counts.{behind_front, joins_by_entry, stands_in}
+use Rattle.law_stores.proofs.Counts.{after_front, joins_by_entry, stands_in}
 use Rattle.law_stores.proofs.Moves.{IsSame, Moves, Rests, Works, Enters, Settles, Raises}
 
 -- an incarnation is over
@@ -106,12 +106,12 @@ module _ (servers : ℕ) (chosen : List Command) (n : ℕ) (server : Server) (be
         → (b : BeforeBlank) → before ≡ Some b → b.joins ≢ blank_joins_from (start servers) chosen n
     settles runs stands b is same =
         let old = kept.blanked b is in
-        elim (behind_front old.front server.log.applied chosen (Join n server.life.inc true) old.stands stands) [
+        elim (after_front old.front server.log.applied chosen (Join n server.life.inc true) old.stands stands) [
           | inl there ↦ over (old.over server.life.inc true there)
-          | inr behind ↦
+          | inr following ↦
               let more = joined_counts servers old.front chosen n server.life.inc (record {
                 until = server.log.applied;
-                behind = behind;
+                following = following;
                 stands = stands;
                 may = acts server.log.applied server.life.inc true stands;
               }) in

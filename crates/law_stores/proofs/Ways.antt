@@ -29,8 +29,8 @@ abbrev pub At : Script → List Record → World
 At script records = world_after (setting_of script) (start (setting_of script)) records
 
 -- the part of a history before some of its records
-pub before_part : (script : Script) (front behind : List Record) → IsLegal script (front ++ behind) → IsLegal script front
-before_part script front behind legal = (front_legal (setting_of script) (start (setting_of script)) front behind legal).0
+pub before_part : (script : Script) (front following : List Record) → IsLegal script (front ++ following) → IsLegal script front
+before_part script front following legal = (front_legal (setting_of script) (start (setting_of script)) front following legal).0
 
 -- what each step keeps
 pub along : (script : Script) (P : World → Type 0)

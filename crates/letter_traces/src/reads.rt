@@ -53,7 +53,7 @@ fn upto(records: &[Record], at: usize) -> &[Record] {
 }
 
 /// The records after this one.
-fn behind(records: &[Record], at: usize) -> &[Record] {
+fn following(records: &[Record], at: usize) -> &[Record] {
     match records.get(at.saturating_add(1)..) {
         Some(later) => later,
         None => &[],
@@ -105,7 +105,7 @@ pub fn since_boot(records: &[Record], server: ServerId) -> &[Record] {
     let mut last = records;
     for (at, record) in records.iter().enumerate() {
         if is_boot(record, server) {
-            last = behind(records, at);
+            last = following(records, at);
         }
     }
     last
@@ -227,7 +227,7 @@ fn old_data_in<'a>(
         if let Body::Data { bytes, .. } = &sent.body {
             let same = sent.to == letter.to && replied_by(sent) == replied_by(letter);
             if same && sent.rev == letter.rev && is_by_old_map(records, at, sent) {
-                if let Some(line) = accepted(behind(records, at), sent) {
+                if let Some(line) = accepted(following(records, at), sent) {
                     return Some((line, bytes));
                 }
             }

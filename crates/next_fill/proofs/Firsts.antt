@@ -307,8 +307,8 @@ module _ (state : State) (row : LinkRow) (region : ℕ) (last : Option Key) wher
   ]
 
   -- only entries of the map from the last one's block on are left
-  behind_block : (k l : Key) → comes_before l k ≡ true → (l.block == 0) ≡ false → l.block - 1 < k.block
-  behind_block k l before some = grind (arith, nat_tests, before, some)
+  following_block : (k l : Key) → comes_before l k ≡ true → (l.block == 0) ≡ false → l.block - 1 < k.block
+  following_block k l before some = grind (arith, nat_tests, before, some)
 
   left_above : (o : Option Key) (k : Key) → (region_of k.block == region) ≡ true → comes_next region o k ≡ true → above (none_below region o) k.block ≡ true
   left_above None k here next = refl
@@ -317,7 +317,7 @@ module _ (state : State) (row : LinkRow) (region : ℕ) (last : Option Key) wher
         let before : comes_before l k ≡ true = rw same at next in
         elim (cases_Bool (l.block == 0)) [
           | inl zero ↦ rw (same, zero) refl
-          | inr some ↦ rw (same, some) (let less = behind_block k l before some in grind (arith, nat_tests, less))
+          | inr some ↦ rw (same, some) (let less = following_block k l before some in grind (arith, nat_tests, less))
         ]
     | inr other ↦ rw other refl
   ]

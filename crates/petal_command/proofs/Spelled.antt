@@ -11,7 +11,7 @@ use Rattle.petal_base.specs.Tuple.{is_tuple, tuple_of, distinct}
 use Rattle.petal_command.specs.declared.command.Command.{Command}
 use Rattle.petal_command.specs.declared.command.Command.TheVariants.{Join, Leave, Caught, MakeDisk, Snap, StartMove, Drained, Moved, Witness}
 use Rattle.petal_command.specs.Spelling.{spelling, HasSpelling, name_field, tuple_field}
-use Rattle.record_fields.proofs.Padded.{padded-behind, padded-total}
+use Rattle.record_fields.proofs.Padded.{padded-following, padded-total}
 
 and_left : (a b : Bool) → (a && b) ≡ true → a ≡ true
 and_left true b e = refl
@@ -44,7 +44,7 @@ tuple_of-tuple ids tuple e is = rw (e, is)
 -- the field after a name that begins at byte 6
 pub second_field : (name second rest bytes : List ℕ) → is_name name ≡ true → drop 6 bytes ≡ name_field name ++ second ++ rest → drop 23 bytes ≡ second ++ rest
 second_field name second rest bytes is e =
-    sym (drop-drop 17 6 bytes) ∙ ap (drop 17) (e ∙ append_assoc (name_field name) second rest) ∙ padded-behind 16 name (second ++ rest) (name-short name is)
+    sym (drop-drop 17 6 bytes) ∙ ap (drop 17) (e ∙ append_assoc (name_field name) second rest) ∙ padded-following 16 name (second ++ rest) (name-short name is)
 
 pub length-spelling : (command : Command) → HasSpelling command → length (spelling command) ≡ 64
 length-spelling (Join server inc blank) fits = refl

@@ -23,7 +23,7 @@ pub struct MemDisk {
     high: usize,
     ghost same_size: { length kept.items ≡ length now.items },
     ghost same_before: { take low kept.items ≡ take low now.items },
-    ghost same_behind: { drop high kept.items ≡ drop high now.items },
+    ghost same_after: { drop high kept.items ≡ drop high now.items },
     ghost high_within: { high ≤ length now.items },
     ghost within: { length now.items ≤ len },
     ghost room_now: { len ≤ vec_capacity now },
@@ -61,7 +61,7 @@ fn put_zeros(into: &mut Vec<u8>, at: usize, n: usize)
 fn bring_over(from: &Vec<u8>, to: &mut Vec<u8>, low: usize, high: usize)
     requires size { length to.old.items ≡ length from.now.items }
     requires before { take low to.old.items ≡ take low from.now.items }
-    requires behind { drop high to.old.items ≡ drop high from.now.items }
+    requires following { drop high to.old.items ≡ drop high from.now.items }
     requires high { high ≤ length from.now.items }
     ensures items { to.new.items ≡ from.now.items }
     ensures room { vec_capacity to.new ≡ vec_capacity to.old }

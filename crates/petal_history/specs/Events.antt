@@ -305,8 +305,8 @@ looks setting w next own later = flat_map (λ letter. look_of setting w next own
 -- ### All steps
 
 abbrev pub told_with : List Event → Option (List Event) → List Event → Option (List Event)
-told_with before None behind = None
-told_with before (Some taken_now) behind = Some (before ++ taken_now ++ behind)
+told_with before None following = None
+told_with before (Some taken_now) following = Some (before ++ taken_now ++ following)
 
 -- the events of one step, in the order begin, take, make, freeze, look, end
 abbrev pub told : Setting → World → Record → List Record → Option (List Event)

@@ -49,5 +49,5 @@ pub record IsOpenLine (lines : List Line) (records : List Record) (number : ℕ)
 
 -- these records stand at the front
 pub record IsFront (front whole : List Record) : Type 0 where
-  pub behind : List Record
-  pub is : whole ≡ front ++ behind
+  pub following : List Record
+  pub is : whole ≡ front ++ following

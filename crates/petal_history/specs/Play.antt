@@ -39,18 +39,18 @@ moved setting w (Works server) = record_by setting w (actor.Server server) (Work
 moved setting w (Ticks who) = record_by setting w who Tick ∷ []
 
 -- the world after a record
-abbrev pub behind : Setting → World → List Record → World
-behind setting w [] = w
-behind setting w (own ∷ later) = behind setting (step own.actor own.step setting w own.stamp).world later
+abbrev pub following : Setting → World → List Record → World
+following setting w [] = w
+following setting w (own ∷ later) = following setting (step own.actor own.step setting w own.stamp).world later
 
 -- the world after a list of moves
 abbrev pub plays : Setting → World → List Move → World
 plays setting w [] = w
-plays setting w (move ∷ moves) = plays setting (behind setting w (moved setting w move)) moves
+plays setting w (move ∷ moves) = plays setting (following setting w (moved setting w move)) moves
 
 -- the records of a list of moves
 abbrev pub records_of : Setting → World → List Move → List Record
 records_of setting w [] = []
 records_of setting w (move ∷ moves) =
     let now = moved setting w move in
-    now ++ records_of setting (behind setting w now) moves
+    now ++ records_of setting (following setting w now) moves

@@ -31,7 +31,7 @@ pub fn a_write_is_read_back()
     ensures content { content_at sevens (world_of sevens (make_moves ++ write_moves)) 0 0 5 ≡ fill_block 7 }
 {}
 
-/// While the write's lead has put and its second server was not told yet, the block is marked busy at the lead. Behind the
+/// While the write's lead has put and its second server was not told yet, the block is marked busy at the lead. After the
 /// write it is not. The lead's device then has three records: the mark, the put, and that the mark is gone.
 pub fn a_write_marks_its_block()
     ensures primary { chain_at (world_of sevens (make_moves ++ put_moves)) 1 5 ≡ one_entry 1 (fill_block 7) }

@@ -85,6 +85,15 @@ abbrev pub is_refused : Subject → Bool
 is_refused Refused = true
 is_refused _ = false
 
+-- from a client, or to one
+abbrev pub is_of_client : Subject → Bool
+is_of_client Glanced = true
+is_of_client Read_asked = true
+is_of_client Write_asked = true
+is_of_client Answered = true
+is_of_client Refused = true
+is_of_client _ = false
+
 -- between the servers of a pair
 abbrev pub is_paired : Subject → Bool
 is_paired Paired = true

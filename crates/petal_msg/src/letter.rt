@@ -12,7 +12,7 @@ pub enum Actor {
 }
 
 /// One letter. `(from, stamp, nth)` names it. It is shared and never copied.
-#[derive(PartialEq, Eq, Drop)]
+#[derive(Drop)]
 pub struct Letter {
     pub from: Actor,
     /// The sender's incarnation, 0 for a client.

@@ -1,6 +1,6 @@
 //! Letters between servers and clients, and the plain data of the operations that they drive.
 //!
-//! To the layer above it promises that letters are plain values: `==` says whether two are equal, contracts see a shared
+//! To the layer above it promises that letters are plain values: `is_same` says whether two are one, contracts see a shared
 //! letter as the letter and a block in it as its bytes, and no block is copied on the way. It knows nothing of when a
 //! letter is sent or what it does.
 #![tactic(auto)]
@@ -11,6 +11,7 @@ mod dead;
 mod letter;
 mod operation;
 mod owner;
+mod same;
 
 pub use body::Body;
 pub use copying::{CopyAction, Copying, LastCopy, LinkId, NextCopy, Progress};

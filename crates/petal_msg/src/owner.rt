@@ -53,20 +53,6 @@ impl<T: Drop> Shared<T> {
     }
 }
 
-impl<T: PartialEq + Drop> PartialEq for Shared<T> {
-    ghost eq = { T.eq };
-
-    ghost laws = { T.laws };
-
-    fn eq(&self, other: &Self) -> bool {
-        *self.get() == *other.get()
-    }
-}
-
-impl<T: Eq + Drop> Eq for Shared<T> {
-    ghost laws = { T.Eq.laws };
-}
-
 impl<T: Drop> Clone for Shared<T> {
     ghost use Rattle.std.specs.Prelude.{◌≡◌};
 

@@ -147,14 +147,14 @@ abbrev pub with_filled : Own → LinkRow → Key → Own
 with_filled own row key = record own { filled = put link_cmp own.filled (id_of row) key }
 
 -- the next one goes out at once
-abbrev pub goes_behind : Here → Own → LinkRow → Done
-goes_behind here own row = record { own = own; posts = fills_row here own row; jobs = [] }
+abbrev pub goes_after : Here → Own → LinkRow → Done
+goes_after here own row = record { own = own; posts = fills_row here own row; jobs = [] }
 
 abbrev pub hears_filled : Here → Own → Key → Option LinkRow → Done
 hears_filled here own key None = silent own
 hears_filled here own key (Some row) =
     if is_next (fill_of here.state here.me row own) key
-    then goes_behind here (with_full (with_filled own row (record { map = row.map; block = key.block; epoch = key.epoch })) false) row
+    then goes_after here (with_full (with_filled own row (record { map = row.map; block = key.block; epoch = key.epoch })) false) row
     else silent own
 
 -- the old link of a key of the new map

@@ -4,7 +4,7 @@ use Rattle.std.proofs.Common.{cond, codes, arith, Some, None, is_some, Result, O
 use Rattle.script_words.specs.Text.{pieces, without_end, words_of}
 use Rattle.script_words.specs.Words.{Word, ◌>>=◌, is_word, two_words, three_words}
 use Rattle.script_words.specs.Fields.{in_limits}
-use Rattle.petal_script.specs.Script.{TextLine, text_lines, lines_behind, first_line, servers_line, net_line}
+use Rattle.petal_script.specs.Script.{TextLine, text_lines, lines_after, first_line, servers_line, net_line}
 use Rattle.law_script.specs.Laws.{IsAccepted, Does, skipped, nets, waits, asks, Follows, line_at}
 use Rattle.script_words.specs.declared.cause.Cause.{Cause}
 use Rattle.script_words.specs.declared.cause.Cause.TheVariants.{BadLine, NoServersLine}
@@ -141,28 +141,28 @@ record Numbered (lines : List TextLine) : Type 0 where
   number : ℕ
   reach : ℕ
   text : List (List ℕ)
-  are : lines ≡ lines_behind number reach text
+  are : lines ≡ lines_after number reach text
 
 -- what follows a line of a text are lines of it too
-behind_numbered : (front : List TextLine) (line : TextLine) (behind : List TextLine) (number reach : ℕ) (text : List (List ℕ))
-    → lines_behind number reach text ≡ front ++ line ∷ behind → Numbered behind
-unfolding lines_behind
-behind_numbered [] line behind number reach [] is = absurd (cc)
-behind_numbered [] line behind number reach (piece ∷ more) is =
-    let e : lines_behind (number + 1) (reach + length piece) more ≡ behind = cc in
+after_numbered : (front : List TextLine) (line : TextLine) (following : List TextLine) (number reach : ℕ) (text : List (List ℕ))
+    → lines_after number reach text ≡ front ++ line ∷ following → Numbered following
+unfolding lines_after
+after_numbered [] line following number reach [] is = absurd (cc)
+after_numbered [] line following number reach (piece ∷ more) is =
+    let e : lines_after (number + 1) (reach + length piece) more ≡ following = cc in
     record { number = number + 1; reach = reach + length piece; text = more; are = sym e }
-behind_numbered (first ∷ front) line behind number reach [] is = absurd (cc)
-behind_numbered (first ∷ front) line behind number reach (piece ∷ more) is =
-    let e : lines_behind (number + 1) (reach + length piece) more ≡ front ++ line ∷ behind = cc in
-    behind_numbered front line behind (number + 1) (reach + length piece) more e
+after_numbered (first ∷ front) line following number reach [] is = absurd (cc)
+after_numbered (first ∷ front) line following number reach (piece ∷ more) is =
+    let e : lines_after (number + 1) (reach + length piece) more ≡ front ++ line ∷ following = cc in
+    after_numbered front line following (number + 1) (reach + length piece) more e
 
 record ReadUpTo (s : Script) : Type 0 where
   number : ℕ
   read : Read s.phases s.lines number
 
 follows_read : (text : List (List ℕ)) (number reach : ℕ) (s t : Script) → Read s.phases s.lines number
-    → Follows s (lines_behind number reach text) t → ReadUpTo t
-unfolding lines_behind
+    → Follows s (lines_after number reach text) t → ReadUpTo t
+unfolding lines_after
 follows_read [] number reach s t r same = record { number = number; read = rw same r }
 follows_read (piece ∷ more) number reach s t r goes =
     let told : TextLine = record { number = number + 1; text = without_end piece; reach = reach + length piece } in
@@ -201,10 +201,10 @@ first_no_lines (first ∷ words) s is =
 
 script-read : (text : List ℕ) (s : Script) → IsAccepted (text_lines text) s → ReadUpTo s
 script-read text s a =
-    let n = behind_numbered a.front a.servers a.behind 0 0 (pieces text) a.lies in
+    let n = after_numbered a.front a.servers a.following 0 0 (pieces text) a.lies in
     let f = first_no_lines (words_of a.servers.text) a.begun a.begins in
     let empty : Read a.begun.phases a.begun.lines n.number = rw (f.lines, f.phases) (none_read n.number) in
-    let on : Follows a.begun (lines_behind n.number n.reach n.text) s = subst (λ lines. Follows a.begun lines s) n.are a.follows in
+    let on : Follows a.begun (lines_after n.number n.reach n.text) s = subst (λ lines. Follows a.begun lines s) n.are a.follows in
     follows_read n.text n.number n.reach a.begun s empty on
 
 pub script-rises : (text : List ℕ) (s : Script) → IsAccepted (text_lines text) s → AreOrdered s.lines

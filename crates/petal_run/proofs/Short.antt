@@ -5,7 +5,7 @@ use Rattle.std.specs.List.{concat}
 use Rattle.script_words.specs.Text.{pieces, without_end}
 use Rattle.script_words.specs.declared.cause.Cause.{Cause}
 use Rattle.script_lines.specs.declared.script.Script.{Script}
-use Rattle.petal_script.specs.Script.{TextLine, Refusal, script_of, script_from, lines_behind, line_verdict, goes_on}
+use Rattle.petal_script.specs.Script.{TextLine, Refusal, script_of, script_from, lines_after, line_verdict, goes_on}
 
 verdict-short : (before : Option Script) (line : TextLine) (after : Option Script) → line_verdict before line ≡ Ok after → line.reach ≤ 1048576
 unfolding line_verdict
@@ -27,12 +27,12 @@ short-line rest number before line s is =
     cases verdict refl is
 
 short-from : (ps : List (List ℕ)) (number reach : ℕ) (before : Option Script) (s : Script) → reach ≤ 1048576
-    → script_from (lines_behind number reach ps) before ≡ Ok s → reach + length (concat ps) ≤ 1048576
-unfolding script_from lines_behind
+    → script_from (lines_after number reach ps) before ≡ Ok s → reach + length (concat ps) ≤ 1048576
+unfolding script_from lines_after
 short-from [] number reach before s short is = omega arith
 short-from (p ∷ ps) number reach before s short is =
     let line : TextLine = record { number = number + 1; text = without_end p; reach = reach + length p } in
-    let on = short-line (script_from (lines_behind (number + 1) (reach + length p) ps)) (number + 1) before line s is in
+    let on = short-line (script_from (lines_after (number + 1) (reach + length p) ps)) (number + 1) before line s is in
     let more = short-from ps (number + 1) (reach + length p) on.1.0 s on.0 on.1.1 in
     omega (arith, length-append p (concat ps), more)
 

@@ -66,14 +66,14 @@ pub wrote_before : (old new : Progress) (answers : Table ℕ Answer) → new.scr
 wrote_before old new answers same before e base taken w = record {
   ended = old.ended;
   phases = old.phases;
-  front = record { behind = e.phase ++ new.since; is = ap (λ r. r ++ new.since) e.ended ∙ append_assoc old.ended e.phase new.since };
+  front = record { following = e.phase ++ new.since; is = ap (λ r. r ++ new.since) e.ended ∙ append_assoc old.ended e.phase new.since };
   exactly = subst (λ (s : Script). AnswersPhases old.phases s.lines old.ended) (sym same) before.exactly;
   text = w;
 }
 
 pub wrote_so_far : (new : Progress) → GoesByPhases new → (base taken : List ℕ) → Wrote base new.ended taken → WrotePhases new.script (records_of new) base taken
 wrote_so_far new after base taken w =
-    record { phases = new.phases; ended = new.ended; front = record { behind = new.since; is = refl }; exactly = after.exactly; text = w }
+    record { phases = new.phases; ended = new.ended; front = record { following = new.since; is = refl }; exactly = after.exactly; text = w }
 
 -- what stands written where the text of the phase that ended is written in part
 pub wrote_last : (old new : Progress) (answers : Table ℕ Answer) → new.script ≡ old.script → GoesByPhases old → GoesByPhases new → Ends old new answers
@@ -99,11 +99,11 @@ pub adds_phases : (script : Script) (history : List Record) (old new : List ℕ)
     → IsLegal script history → WrotePhases script history old new → Adds old (text_of history) new
 adds_phases script history old new joins rising ordered legal w =
     let first = come_first w.phases script.lines w.ended ordered w.exactly in
-    let is : text_of history ≡ text_of w.ended ++ text_of w.front.behind = ap text_of w.front.is
-    ∙ joins w.ended w.front.behind rising (subst (IsLegal script) w.front.is legal) first in
+    let is : text_of history ≡ text_of w.ended ++ text_of w.front.following = ap text_of w.front.is
+    ∙ joins w.ended w.front.following rising (subst (IsLegal script) w.front.is legal) first in
     record {
       count = length (text_of w.ended);
-      new_is = w.text ∙ ap (λ t. old ++ t) (sym (take-append_seam (text_of w.ended) (text_of w.front.behind)) ∙ ap (take (length (text_of w.ended))) (sym is));
+      new_is = w.text ∙ ap (λ t. old ++ t) (sym (take-append_seam (text_of w.ended) (text_of w.front.following)) ∙ ap (take (length (text_of w.ended))) (sym is));
     }
 
 pub adds_last : (script : Script) (history : List Record) (old new : List ℕ) → JoinsText script → AreRising script.lines → AreOrdered script.lines
@@ -129,7 +129,7 @@ pub none_wrote : (script : Script) (old : List ℕ) → WrotePhases script [] ol
 none_wrote script old = record {
   phases = 0;
   ended = [];
-  front = record { behind = []; is = refl };
+  front = record { following = []; is = refl };
   exactly = λ line h. ap is_some (at-empty nat_cmp line.number) ∙ sym (none_below line.phase);
   text = sym (append_nil old);
 }

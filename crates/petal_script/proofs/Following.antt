@@ -2,12 +2,12 @@
 use Rattle.std.proofs.Common.{◌≡◌, ℕ, ◌+◌, ◌-◌, ◌≤◌, List, [], ◌∷◌, length, refl, ap, ◌∙◌, arith, Option, None, Ok, Err}
 use Rattle.script_words.specs.Text.{pieces, without_end}
 use Rattle.script_lines.specs.declared.script.Script.{Script}
-use Rattle.petal_script.specs.Script.{TextLine, lines_behind, script_from, script_of, line_verdict, goes_on, ended}
+use Rattle.petal_script.specs.Script.{TextLine, lines_after, script_from, script_of, line_verdict, goes_on, ended}
 use Rattle.script_words.specs.declared.cause.Cause.{Cause}
 
 -- what is still to be read after n lines of a text of so many bytes
 abbrev pub left : ℕ → ℕ → List ℕ → List TextLine
-left n total rest = lines_behind n (total - length rest) (pieces rest)
+left n total rest = lines_after n (total - length rest) (pieces rest)
 
 abbrev pub line_there : ℕ → ℕ → List ℕ → List ℕ → TextLine
 line_there n total piece after = record { number = n + 1; text = without_end piece; reach = total - length after }
@@ -15,7 +15,7 @@ line_there n total piece after = record { number = n + 1; text = without_end pie
 pub next_line : (n total : ℕ) (rest piece after : List ℕ) (draft : Option Script) → pieces rest ≡ piece ∷ pieces after
     → length piece + length after ≡ length rest → length rest ≤ total
     → script_from (left n total rest) draft ≡ goes_on (script_from (left (n + 1) total after)) (n + 1) (line_verdict draft (line_there n total piece after))
-unfolding lines_behind script_from
+unfolding lines_after script_from
 next_line n total rest piece after draft is parts room =
     let reach : total - length rest + length piece ≡ total - length after = omega arith in
     rw (is, reach) refl
@@ -33,7 +33,7 @@ refused n total rest piece after draft cause is parts room verdict = next_line n
     ∙ ap (goes_on (script_from (left (n + 1) total after)) (n + 1)) verdict
 
 pub at_end : (n total : ℕ) (rest : List ℕ) (draft : Option Script) → length rest ≡ 0 → script_from (left n total rest) draft ≡ ended draft
-unfolding lines_behind script_from
+unfolding lines_after script_from
 at_end n total [] draft none = refl
 at_end n total (b ∷ bs) draft none = absurd (omega arith)
 

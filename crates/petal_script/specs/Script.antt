@@ -85,7 +85,7 @@ line_by s number first words =
     else if is_word first (codes "op") then operator_request s.servers words >>= adds s number 8
     else client_of first >>= (λ client. client_request s.servers words >>= adds s number client)
 
--- Behind the servers line, and the first line that counts.
+-- After the servers line, and the first line that counts.
 unfoldable pub later_line : Script → ℕ → List Word → Result Script Cause
 later_line s number words = front_word words >>= (λ first. line_by s number first.0 first.1)
 
@@ -121,13 +121,13 @@ line_verdict before line =
     else if is_skipped line.text then Ok before
     else counted before line.number (words_of line.text) >>= (λ s. Ok (Some s))
 
-unfoldable pub lines_behind : ℕ → ℕ → List (List ℕ) → List TextLine
-lines_behind number reach [] = []
-lines_behind number reach (piece ∷ more) =
-    record { number = number + 1; text = without_end piece; reach = reach + length piece } ∷ lines_behind (number + 1) (reach + length piece) more
+unfoldable pub lines_after : ℕ → ℕ → List (List ℕ) → List TextLine
+lines_after number reach [] = []
+lines_after number reach (piece ∷ more) =
+    record { number = number + 1; text = without_end piece; reach = reach + length piece } ∷ lines_after (number + 1) (reach + length piece) more
 
 abbrev pub text_lines : List ℕ → List TextLine
-text_lines text = lines_behind 0 0 (pieces text)
+text_lines text = lines_after 0 0 (pieces text)
 
 pub record Refusal : Type 0 where
   pub line : ℕ

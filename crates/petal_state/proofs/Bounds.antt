@@ -21,7 +21,7 @@ use Rattle.petal_state.specs.Fence.{confirmed, effect, let_through, settled}
 use Rattle.petal_state.specs.Command.{act, after, caught, snap_target, snapped, move_target, move_begun, drained, note, moved_by, mover_in}
 use Rattle.petal_state.specs.Command.{after_region, with_map, with_disk, with_fence, with_move, move_of}
 use Rattle.petal_state.specs.Bound.{EpochsBelow, IsWithin}
-use Rattle.petal_state.proofs.Passing.{length-behind}
+use Rattle.petal_state.proofs.Passing.{length-following}
 
 -- less room is left, or more was queued
 epochs_weaker : (n m p q : ℕ) (rows : List DiskRow) → m + p ≤ n + q → EpochsBelow n p rows → EpochsBelow m q rows
@@ -200,10 +200,10 @@ pub passed_within : (r : ℕ) (s : State) (fence : Fence) → view.ready s.view.
 passed_within r s fence is h = by_kind fence.kind
   where
     rest : List Fence
-    rest = view.behind (view.servers_in s.view.members) s.view.queue
+    rest = view.following (view.servers_in s.view.members) s.view.queue
 
     one_less : length s.view.queue ≡ suc (length rest)
-    one_less = length-behind (view.servers_in s.view.members) s.view.queue fence is
+    one_less = length-following (view.servers_in s.view.members) s.view.queue fence is
 
     room : EpochsBelow (suc (length rest)) s.view.queued s.disks.rows
     room = subst (λ n. EpochsBelow n s.view.queued s.disks.rows) one_less h.epochs

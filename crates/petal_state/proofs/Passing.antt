@@ -5,7 +5,7 @@ use Rattle.global_tables.specs.declared.disk.Latest.{Latest}
 use Rattle.global_tables.specs.declared.fence.Fence.{Fence}
 use Rattle.global_tables.specs.declared.fence.FenceKind.{FenceKind}
 use Rattle.global_tables.specs.declared.fence.FenceKind.TheVariants.{Whole, Region}
-use Rattle.global_tables.specs.View.{View, ready, behind, awaiting, passed, servers_in}
+use Rattle.global_tables.specs.View.{View, ready, following, awaiting, passed, servers_in}
 use Rattle.petal_state.specs.State.{State, latest, told}
 use Rattle.petal_state.specs.Fence.{confirmed, effect, let_through, settled}
 
@@ -25,9 +25,9 @@ length-awaiting servers [] = refl
 length-awaiting servers (fence ∷ fences) = refl
 
 -- a fence that is ready leaves one fewer
-pub length-behind : (servers : List ℕ) (queue : List Fence) (fence : Fence) → ready queue ≡ Some fence → length queue ≡ suc (length (behind servers queue))
-length-behind servers [] fence is = cc
-length-behind servers (first ∷ fences) fence is = ap suc (sym (length-awaiting servers fences))
+pub length-following : (servers : List ℕ) (queue : List Fence) (fence : Fence) → ready queue ≡ Some fence → length queue ≡ suc (length (following servers queue))
+length-following servers [] fence is = cc
+length-following servers (first ∷ fences) fence is = ap suc (sym (length-awaiting servers fences))
 
 one_through : (n : ℕ) (s : State) (fence : Fence) → ready s.view.queue ≡ Some fence
     → let_through (suc n) s ≡ let_through n (effect fence.kind (record s { view = passed s.view }))
@@ -45,6 +45,6 @@ settled_none s is = none_through (length s.view.queue) s is
 pub settled_one : (s : State) (fence : Fence) → ready s.view.queue ≡ Some fence → settled s ≡ settled (effect fence.kind (record s { view = passed s.view }))
 settled_one s fence is =
     let t : State = effect fence.kind (record s { view = passed s.view }) in
-    ap (λ n. let_through n s) (length-behind (servers_in s.view.members) s.view.queue fence is)
-    ∙ one_through (length (behind (servers_in s.view.members) s.view.queue)) s fence is
+    ap (λ n. let_through n s) (length-following (servers_in s.view.members) s.view.queue fence is)
+    ∙ one_through (length (following (servers_in s.view.members) s.view.queue)) s fence is
     ∙ ap (λ (v : View). let_through (length v.queue) t) (sym (view-effect fence.kind (record s { view = passed s.view })))

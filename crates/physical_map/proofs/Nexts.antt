@@ -49,11 +49,11 @@ least-block after k (x ∷ xs) rest = elim (cases_Bool (x.key.map == k.map && ab
 ]
 
 no-block : (map : ℕ) (after : Option ℕ) (k : Key) (es : List Entry) → nat_lt map k.map ≡ true → IsAbove key_of k es → next_block_of map after es ≡ None
-no-block map after k [] behind rest = refl
-no-block map after k (x ∷ xs) behind rest =
+no-block map after k [] following rest = refl
+no-block map after k (x ∷ xs) following rest =
     let rises : key_below k x.key ≡ true = rest.0 in
     let other : (x.key.map == map) ≡ false = grind (arith, nat_tests) in
-    rw other (no-block map after k xs behind rest.1)
+    rw other (no-block map after k xs following rest.1)
 
 pub next-block : (map : ℕ) (after : Option ℕ) (es : List Entry) → IsInOrder key_of es
     → next_block_of map after es ≡ first_block map (drop (prefix_len (λ e. before_blocks map after e.key) es) es)
@@ -64,15 +64,15 @@ next-block map after (x ∷ xs) order = elim (cases_Bool (before_blocks map afte
       let one : 1 + further ≡ suc further = omega arith in
       let out : (x.key.map == map && above after x.key.block) ≡ false = grind (arith, nat_tests) in
       rw (out, before, one) (next-block map after xs order.1)
-  | inr behind ↦ elim (cases_Bool (x.key.map == map)) [
+  | inr following ↦ elim (cases_Bool (x.key.map == map)) [
     | inl here ↦
         let same : x.key.map ≡ map = grind (arith, nat_tests) in
         let counts : above after x.key.block ≡ true = grind (arith, nat_tests) in
-        rw (behind, here, counts)
+        rw (following, here, counts)
         (subst (λ (m : ℕ). lesser (Some x.key.block) (next_block_of m after xs) ≡ Some x.key.block) same (least-block after x.key xs order.0))
     | inr other ↦
         let past : nat_lt map x.key.map ≡ true = grind (arith, nat_tests) in
-        rw (behind, other) (no-block map after x.key xs past order.0)
+        rw (following, other) (no-block map after x.key xs past order.0)
   ]
 ]
 

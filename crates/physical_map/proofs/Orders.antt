@@ -41,8 +41,8 @@ below-other a b below = grind (arith, nat_tests)
 pub above-other : (a b : Key) → key_below b a ≡ true → same_key a b ≡ false
 above-other a b below = grind (arith, nat_tests)
 
-not-behind : (k a b : Key) → key_below a b ≡ true → not (key_below k b) ≡ true → not (key_below k a) ≡ true
-not-behind k a b ab kb = grind (arith, nat_tests)
+not-following : (k a b : Key) → key_below a b ≡ true → not (key_below k b) ≡ true → not (key_below k a) ≡ true
+not-following k a b ab kb = grind (arith, nat_tests)
 
 module _ {A : Type 0} (key : A → Key) where
   pub above-at : (k : Key) (xs : List A) (j : ℕ) (d : A) → IsAbove key k xs → j < length xs → key_below k (key (get_or xs j d)) ≡ true
@@ -97,10 +97,10 @@ module _ {A : Type 0} (key : A → Key) where
   ]
 
   -- and that of what stands at a key or before it
-  pub partitioned-behind : (xs : List A) (k : Key) → IsInOrder key xs → IsPartitionedBy (λ x. not (key_below k (key x))) xs
-  partitioned-behind xs k order i j d le within up = elim (cases_eq i j) [
+  pub partitioned-following : (xs : List A) (k : Key) → IsInOrder key xs → IsPartitionedBy (λ x. not (key_below k (key x))) xs
+  partitioned-following xs k order i j d le within up = elim (cases_eq i j) [
     | inl same ↦ subst (λ (n : ℕ). not (key_below k (key (get_or xs n d))) ≡ true) (sym same) up
-    | inr apart ↦ not-behind k (key (get_or xs i d)) (key (get_or xs j d)) (order-at xs i j d order (omega (arith, apart)) within) up
+    | inr apart ↦ not-following k (key (get_or xs i d)) (key (get_or xs j d)) (order-at xs i j d order (omega (arith, apart)) within) up
   ]
 
   pub nothing-above : (at : Key) (xs : List A) → IsAbove key at xs → newest key at xs ≡ None

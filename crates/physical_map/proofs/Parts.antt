@@ -27,8 +27,8 @@ module _ (map : ℕ) (after : Option ℕ) where
   before_out : (k : Key) → before_blocks map after k ≡ true → (k.map == map && above after k.block) ≡ false
   before_out k before = grind (arith, nat_tests)
 
-  behind_in : (k : Key) → before_blocks map after k ≡ false → nat_lt map k.map ≡ false → (k.map == map && above after k.block) ≡ true
-  behind_in k behind own = grind (arith, nat_tests)
+  after_in : (k : Key) → before_blocks map after k ≡ false → nat_lt map k.map ≡ false → (k.map == map && above after k.block) ≡ true
+  after_in k following own = grind (arith, nat_tests)
 
   later_out : (k l : Key) → nat_lt map k.map ≡ true → key_below k l ≡ true → (l.map == map && above after l.block) ≡ false
   later_out k l over rises = grind (arith, nat_tests)
@@ -36,9 +36,9 @@ module _ (map : ℕ) (after : Option ℕ) where
   over_out : (k : Key) → nat_lt map k.map ≡ true → (k.map == map && above after k.block) ≡ false
   over_out k over = grind (arith, nat_tests)
 
-  behind_later : (a : Option ℕ) (k l : Key) → before_blocks map a k ≡ false → key_below k l ≡ true → before_blocks map a l ≡ false
-  behind_later None k l behind rises = grind (arith, nat_tests)
-  behind_later (Some n) k l behind rises = grind (arith, nat_tests)
+  after_later : (a : Option ℕ) (k l : Key) → before_blocks map a k ≡ false → key_below k l ≡ true → before_blocks map a l ≡ false
+  after_later None k l following rises = grind (arith, nat_tests)
+  after_later (Some n) k l following rises = grind (arith, nat_tests)
 
   none_later : (k : Key) (es : List Entry) → nat_lt map k.map ≡ true → IsAbove key_of k es → map_entries map after es ≡ []
   none_later k [] over rises = refl
@@ -47,18 +47,18 @@ module _ (map : ℕ) (after : Option ℕ) where
   -- after those that come before, all up to the next map are the map's
   kept_cons : (x : Entry) (xs : List Entry) → before_blocks map after x.key ≡ false → IsAbove key_of x.key xs
       → map_entries map after xs ≡ take (front xs) xs → map_entries map after (x ∷ xs) ≡ take (front (x ∷ xs)) (x ∷ xs)
-  kept_cons x xs behind rises rest = elim (cases_Bool (nat_lt map x.key.map)) [
+  kept_cons x xs following rises rest = elim (cases_Bool (nat_lt map x.key.map)) [
     | inl over ↦ rw (over, over_out x.key over) (none_later x.key xs over rises)
     | inr own ↦
         let one : 1 + front xs ≡ suc (front xs) = omega arith in
-        rw (own, behind_in x.key behind own, one) (ap (λ (l : List Entry). x ∷ l) rest)
+        rw (own, after_in x.key following own, one) (ap (λ (l : List Entry). x ∷ l) rest)
   ]
 
   kept : (k : Key) (es : List Entry) → before_blocks map after k ≡ false → IsAbove key_of k es → IsInOrder key_of es
       → map_entries map after es ≡ take (front es) es
-  kept k [] behind rises order = refl
-  kept k (x ∷ xs) behind rises order =
-      let here = behind_later after k x.key behind rises.0 in
+  kept k [] following rises order = refl
+  kept k (x ∷ xs) following rises order =
+      let here = after_later after k x.key following rises.0 in
       kept_cons x xs here order.0 (kept x.key xs here order.0 order.1)
 
   pub part : (es : List Entry) → IsInOrder key_of es → map_entries map after es ≡ take (front (past es)) (past es)
@@ -68,5 +68,5 @@ module _ (map : ℕ) (after : Option ℕ) where
         let further = prefix_len (λ (e : Entry). before_blocks map after e.key) xs in
         let one : 1 + further ≡ suc further = omega arith in
         rw (before_out x.key before, before, one) (part xs order.1)
-    | inr behind ↦ rw behind (kept_cons x xs behind order.0 (kept x.key xs behind order.0 order.1))
+    | inr following ↦ rw following (kept_cons x xs following order.0 (kept x.key xs following order.0 order.1))
   ]

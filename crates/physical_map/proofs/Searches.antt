@@ -14,14 +14,14 @@ use Rattle.physical_map.proofs.Orders.{above-at, nothing-above}
 use Rattle.physical_map.proofs.Places.{further-above}
 
 -- How many entries stand at a key or before it.
-abbrev pub behind : Key → List Entry → ℕ
-behind at es = prefix_len (λ e. not (key_below at e.key)) es
+abbrev pub following : Key → List Entry → ℕ
+following at es = prefix_len (λ e. not (key_below at e.key)) es
 
-pub newest-none : (es : List Entry) (at : Key) → IsInOrder key_of es → behind at es ≡ 0 → newest key_of at es ≡ None
+pub newest-none : (es : List Entry) (at : Key) → IsInOrder key_of es → following at es ≡ 0 → newest key_of at es ≡ None
 newest-none [] at order none = refl
 newest-none (x ∷ xs) at order none = elim (cases_Bool (key_below at x.key)) [
   | inl above ↦ nothing-above key_of at (x ∷ xs) (above, further-above xs at x.key above order.0)
-  | inr before ↦ let some : 1 + behind at xs ≡ 0 = rw before at none in absurd (omega arith)
+  | inr before ↦ let some : 1 + following at xs ≡ 0 = rw before at none in absurd (omega arith)
 ]
 
 -- what a read finds in one entry
@@ -35,20 +35,20 @@ later-epoch : (at x e : Key) → key_below x e ≡ true → not (key_below at e)
 later-epoch at x e rises within seen = grind (arith, nat_tests)
 
 -- of the entries at a key and before it, a read sees the last or none
-pub newest-last : (es : List Entry) (at : Key) (n : ℕ) (d : Entry) → IsInOrder key_of es → n + 1 ≡ behind at es
+pub newest-last : (es : List Entry) (at : Key) (n : ℕ) (d : Entry) → IsInOrder key_of es → n + 1 ≡ following at es
     → newest key_of at es ≡ seen_in at (get_or es n d)
 newest-last [] at n d order is = absurd (omega arith)
 newest-last (x ∷ xs) at zero d order is = elim (cases_Bool (key_below at x.key)) [
   | inl above ↦ let none : 0 + 1 ≡ 0 = rw above at is in absurd (omega arith)
   | inr before ↦
-      let one : 0 + 1 ≡ 1 + behind at xs = rw before at is in
+      let one : 0 + 1 ≡ 1 + following at xs = rw before at is in
       rw (newest-none xs at order.1 (omega (arith, one))) refl
 ]
 newest-last (x ∷ xs) at (suc n) d order is = elim (cases_Bool (key_below at x.key)) [
   | inl above ↦ let none : suc n + 1 ≡ 0 = rw above at is in absurd (omega arith)
   | inr before ↦
-      let more : suc n + 1 ≡ 1 + behind at xs = rw before at is in
-      let here : n + 1 ≡ behind at xs = omega (arith, more) in
+      let more : suc n + 1 ≡ 1 + following at xs = rw before at is in
+      let here : n + 1 ≡ following at xs = omega (arith, more) in
       let e = get_or xs n d in
       let rises = above-at key_of x.key xs n d order.0 (omega (arith, here, prefix_len-le-length (λ (e : Entry). not (key_below at e.key)) xs)) in
       let within = prefix_len_passes (λ (e : Entry). not (key_below at e.key)) xs n d (omega (arith, here)) in

@@ -22,9 +22,9 @@ pub top-placed : (es : List Entry) (e : Entry) → IsInOrder key_of es → top_o
 top-placed [] e order = refl
 top-placed (x ∷ xs) e order = elim (cases_Bool (key_below x.key e.key)) [
   | inl before ↦ rw (before, below-other x.key e.key before) (omega (arith, top-placed xs e order.1))
-  | inr behind ↦ elim (cases_Bool (same_key x.key e.key)) [
-    | inl same ↦ rw (behind, same) refl
+  | inr following ↦ elim (cases_Bool (same_key x.key e.key)) [
+    | inl same ↦ rw (following, same) refl
     | inr other ↦
-        rw (behind, other, without-above xs e.key (further-above xs e.key x.key (beyond x.key e.key behind other) order.0)) refl
+        rw (following, other, without-above xs e.key (further-above xs e.key x.key (beyond x.key e.key following other) order.0)) refl
   ]
 ]

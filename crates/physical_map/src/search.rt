@@ -53,7 +53,7 @@ pub fn slot(entries: &[Entry], key: &Key) -> Option<u32>
 }
 
 /// How many entries stand at a key or before it, by binary search.
-fn rank_behind(entries: &[Entry], key: &Key) -> usize
+fn rank_after(entries: &[Entry], key: &Key) -> usize
     requires { IsInOrder key_of entries.now }
     ensures rank { result ≡ prefix_len (λ e. not (key_below key.now e.key)) entries.now }
     ensures within { result ≤ length entries.now }
@@ -66,11 +66,11 @@ pub fn newest_of(entries: &[Entry], at: &Key) -> Option<Entry>
     requires { IsInOrder key_of entries.now }
     ensures { result ≡ newest key_of at.now entries.now }
 {
-    let behind = rank_behind(entries, at);
-    if behind == 0 {
+    let following = rank_after(entries, at);
+    if following == 0 {
         return None;
     }
-    let entry = entries[behind - 1];
+    let entry = entries[following - 1];
     if is_seen(at, &entry.key) {
         Some(entry)
     } else {

@@ -163,14 +163,14 @@ run_phase phase (first ∷ lines) line h =
     ] refl h
 
 -- the lines after those of a phase are of later phases
-run_behind : (phase : ℕ) (lines : List Line) → AreRising lines → AreOrdered lines → ((line : Line) → In line lines → phase ≤ line.phase) → (line : Line)
+run_following : (phase : ℕ) (lines : List Line) → AreRising lines → AreOrdered lines → ((line : Line) → In line lines → phase ≤ line.phase) → (line : Line)
     → In line (drop (phase_run phase lines) lines) → phase < line.phase
 unfolding In
-run_behind phase [] rising ordered from line h = absurd h
-run_behind phase (first ∷ lines) rising ordered from line h =
+run_following phase [] rising ordered from line h = absurd h
+run_following phase (first ∷ lines) rising ordered from line h =
     elim (first.phase == phase)
     as (λ b. (first.phase == phase) ≡ b → In line (drop (cond b (suc (phase_run phase lines)) 0) (first ∷ lines)) → phase < line.phase) [
-      | true ↦ λ is i. run_behind phase lines rising.1 (λ one other j k. ordered one other (inr j) (inr k)) (λ other j. from other (inr j)) line i
+      | true ↦ λ is i. run_following phase lines rising.1 (λ one other j k. ordered one other (inr j) (inr k)) (λ other j. from other (inr j)) line i
       | false ↦ λ is i.
           let lt : phase < first.phase = above first.phase phase is (from first (inl refl)) in
           elim i [
@@ -182,9 +182,9 @@ run_behind phase (first ∷ lines) rising ordered from line h =
           ]
     ] refl h
 
-rising_behind : (front back : List Line) → AreRising (front ++ back) → AreRising back
-rising_behind [] back rising = rising
-rising_behind (first ∷ front) back rising = rising_behind front back rising.1
+rising_following : (front back : List Line) → AreRising (front ++ back) → AreRising back
+rising_following [] back rising = rising
+rising_following (first ∷ front) back rising = rising_following front back rising.1
 
 in_rest : (lines : List Line) (place : ℕ) (line : Line) → slice_get lines place ≡ Some line → In line (drop place lines)
 unfolding In
@@ -209,7 +209,7 @@ plays_next lines place phases rising ordered played to_play =
     let back = drop place lines in
     let count = phase_run phases back in
     let split : take place lines ++ back ≡ lines = take-append-drop place lines in
-    let rises : AreRising back = rising_behind (take place lines) back (subst AreRising (sym split) rising) in
+    let rises : AreRising back = rising_following (take place lines) back (subst AreRising (sym split) rising) in
     let lies : (line : Line) → In line back → In line lines = λ line h. subst (In line) split (in_later line (take place lines) back h) in
     record {
       played = λ line h. elim (in-append line (take place lines) (take count back) (subst (In line) (take-add place count lines) h)) [
@@ -217,7 +217,7 @@ plays_next lines place phases rising ordered played to_play =
         | inr now ↦ (let e = run_phase phases back line now in omega arith)
       ];
       to_play = λ line h.
-          let lt = run_behind phases back rises (λ one other j k. ordered one other (lies one j) (lies other k)) to_play line
+          let lt = run_following phases back rises (λ one other j k. ordered one other (lies one j) (lies other k)) to_play line
           (subst (In line) (sym (drop-drop count place lines)) h) in
           omega arith;
     }
@@ -279,7 +279,7 @@ grown : (script after : Script) (old new : List Record) (told more n m : ℕ) �
     → IsFront (records_of (progress_of script old told n)) (records_of (progress_of after new more m))
 grown script after old new told more n m on =
     let f = goes_front old new on in
-    record { behind = f.behind; is = take-append-drop more new ∙ f.is ∙ ap (λ r. r ++ f.behind) (sym (take-append-drop told old)) }
+    record { following = f.following; is = take-append-drop more new ∙ f.is ∙ ap (λ r. r ++ f.following) (sym (take-append-drop told old)) }
 
 -- the phase that ends answers the next lines
 places_more : (script : Script) (old new : List Record) (told place phases count : ℕ) → KeepsPlaces script old told place phases

@@ -12,7 +12,7 @@ append_nil (own ∷ later) = ap (λ more. own ∷ more) (append_nil later)
 
 -- all records are a front of themselves, and so of what goes on from them
 pub goes_front : (old new : List Record) → GoesOn old new → IsFront old new
-goes_front old new on = on old (record { behind = []; is = sym (append_nil old) })
+goes_front old new on = on old (record { following = []; is = sym (append_nil old) })
 
 -- the first so many records stay
 pub record IsStill (told : ℕ) (old new : List Record) : Type 0 where
@@ -21,9 +21,9 @@ pub record IsStill (told : ℕ) (old new : List Record) : Type 0 where
 
 pub still : (told : ℕ) (old new : List Record) → told ≤ length old → GoesOn old new → IsStill told old new
 still told old new le on =
-    let f = on (take told old) (record { behind = drop told old; is = sym (take-append-drop told old) }) in
+    let f = on (take told old) (record { following = drop told old; is = sym (take-append-drop told old) }) in
     let many : length (take told old) ≡ told = length-take-le told old le in
     record {
-      within = omega (arith, ap length f.is, length-append (take told old) f.behind);
-      same = ap (take told) f.is ∙ subst (λ (n : ℕ). take n (take told old ++ f.behind) ≡ take told old) many (take-append_seam (take told old) f.behind);
+      within = omega (arith, ap length f.is, length-append (take told old) f.following);
+      same = ap (take told) f.is ∙ subst (λ (n : ℕ). take n (take told old ++ f.following) ≡ take told old) many (take-append_seam (take told old) f.following);
     }

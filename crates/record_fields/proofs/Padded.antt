@@ -21,9 +21,9 @@ padded-items room xs rest bytes at is =
     ∙ take_at xs (replicate (room - length xs) 0 ++ rest) (length xs) refl
 
 -- what follows a padded list
-pub padded-behind : (room : ℕ) (xs rest : List ℕ) → length xs ≤ room → drop (room + 1) (padded room xs ++ rest) ≡ rest
+pub padded-following : (room : ℕ) (xs rest : List ℕ) → length xs ≤ room → drop (room + 1) (padded room xs ++ rest) ≡ rest
 unfolding padded
-padded-behind room xs rest fits =
+padded-following room xs rest fits =
     drop_at (padded room xs) rest (room + 1) (omega (arith, length-append xs (replicate (room - length xs) 0), length-replicate {A = ℕ} (room - length xs) 0))
 
 pub padded-total : (room : ℕ) (xs : List ℕ) → length xs ≤ room → length (padded room xs) ≡ room + 1

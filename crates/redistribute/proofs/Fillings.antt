@@ -9,7 +9,7 @@ use Rattle.petal_base.specs.declared.cell.Key.{Key}
 use Rattle.petal_base.specs.Cells.{cell_of, key_at}
 use Rattle.petal_table.specs.Table.{at, put}
 use Rattle.petal_table.proofs.Rows.{at-put}
-use Rattle.petal_rules.specs.Fills.{goes_behind, region_to_move, sends_key, sends_moving}
+use Rattle.petal_rules.specs.Fills.{goes_after, region_to_move, sends_key, sends_moving}
 use Rattle.petal_msg.specs.declared.body.Body.TheVariants as body
 use Rattle.petal_rules.specs.Server.{Here, Own, post_to}
 use Rattle.petal_rules.specs.State.{State, id_of, lead, link_cmp}
@@ -17,7 +17,7 @@ use Rattle.petal_rules.specs.Store.{Stored, chain_in}
 use Rattle.petal_state.specs.CellState.{target}
 use Rattle.pair_side.specs.Letters.{posts_of}
 use Rattle.copy_memory.proofs.ByLink.{link_cmp_total}
-use Rattle.redistribute.specs.Behind.{behind, filled_with, posts_behind}
+use Rattle.redistribute.specs.Following.{following, filled_with, posts_after}
 use Rattle.next_fill.specs.Next.{left_after}
 use Rattle.redistribute.specs.Sending.{destination, letter_with, with_lead}
 use Rattle.next_fill.proofs.FillOf.{fill_is}
@@ -28,12 +28,12 @@ last_there own row key =
     ∙ ap (λ o. cond (is_eq o) (Some key) (at link_cmp own.filled (id_of row))) (tied_itself link_cmp_total (id_of row))
 
 -- what goes out after a key
-pub behind_is : (here : Here) (own : Own) (row : LinkRow) (key : Key)
-    → filled_with own row key (posts_behind here own row key) ≡ goes_behind here (behind own row key) row
-behind_is here own row key =
+pub after_is : (here : Here) (own : Own) (row : LinkRow) (key : Key)
+    → filled_with own row key (posts_after here own row key) ≡ goes_after here (following own row key) row
+after_is here own row key =
     let left = left_after here.state row (region_to_move here.state here.me row) in
     ap (λ (o : Option Key). filled_with own row key (sends_key here.state own (left o own.store.chains))) (sym (last_there own row key))
-    ∙ ap (λ (o : Option Key). filled_with own row key (sends_key here.state own o)) (fill_is here.state here.me row (behind own row key))
+    ∙ ap (λ (o : Option Key). filled_with own row key (sends_key here.state own o)) (fill_is here.state here.me row (following own row key))
 
 abbrev bytes_in : Option Stored → Option (List ℕ)
 bytes_in o = option_map (λ (x : Stored). x.bytes) o

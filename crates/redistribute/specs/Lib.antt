@@ -1,3 +1,3 @@
 pub mod Sending
-pub mod Behind
+pub mod Following
 pub mod Wants

@@ -7,7 +7,7 @@ ghost use Rattle.petal_rules.specs.Fills as rules;
 ghost use Rattle.pair_side.specs.Done.{IsDone, IsSaid};
 ghost use Rattle.pair_side.specs.Letters.{posts_of};
 ghost use Rattle.pair_side.specs.Side.{own_of, HasTicketsAt};
-ghost use Rattle.redistribute.specs.Behind.{behind, filled_with};
+ghost use Rattle.redistribute.specs.Following.{following, filled_with};
 
 use crate::letters::fill_letter;
 use global_state::LinkRow;
@@ -60,7 +60,7 @@ fn fills<D: Disk>(
 }
 
 /// The new map has the key from now on, and the next entry goes out.
-fn goes_behind<D: Disk>(
+fn goes_after<D: Disk>(
     here: &Here,
     side: &mut Side,
     store: &mut Store<D>,
@@ -69,7 +69,7 @@ fn goes_behind<D: Disk>(
 ) -> Result<Done, WorkError>
     requires { HasTicketsAt side.old store.old }
     ensures { IsDone D.Disk here.now side.old side.new store.old store.new result
-        (rules.goes_behind here.now (behind (own_of side.old store.old) row.now key) row.now) }
+        (rules.goes_after here.now (following (own_of side.old store.old) row.now key) row.now) }
 {
     let next = left_after(here, store, row, &Some(key));
     match fill_letter(here, store, next) {
@@ -79,7 +79,7 @@ fn goes_behind<D: Disk>(
     }
 }
 
-/// The new map has the key: where it is the next one of its link, the one behind it goes out.
+/// The new map has the key: where it is the next one of its link, the one after it goes out.
 ///
 /// # Errors
 /// `Failed` where the device failed; `NoMemory`, which changed nothing.
@@ -99,7 +99,7 @@ pub fn on_filled<D: Disk>(
     if !is_next(&fill_of(here, side, store, row), &key) {
         return silent(here, side, store);
     }
-    goes_behind(here, side, store, row, own_key(row, key))
+    goes_after(here, side, store, row, own_key(row, key))
 }
 
 /// It is remembered that there was no slot.

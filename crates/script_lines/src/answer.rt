@@ -21,6 +21,6 @@ pub enum Answer {
     Exists,
     /// A move of the disk is under way.
     Moving,
-    /// Behind a start or blank the server doesn't run.
+    /// After a start or blank the server doesn't run.
     Failed,
 }

@@ -32,7 +32,7 @@ pub enum Cause {
     /// There are more requests, or requests of this kind, than a script may have.
     #[error("too many")]
     TooMany,
-    /// Behind this line fewer than a majority of the servers are surely running.
+    /// After this line fewer than a majority of the servers are surely running.
     #[error("no majority")]
     NoMajority,
 }

@@ -14,19 +14,19 @@ use Rattle.data_device.specs.Kept.{Kept, Fits, kept_of, kept_after, formatted}
 use Rattle.server_store.specs.Shown.{Picture, picture_in, picture_after, PutsNothing, Shows, Keeps, ShowsEither}
 use Rattle.data_device.specs.Slots.{slot_start, slot_bytes}
 use Rattle.data_device.proofs.Readings.{kept_more}
-use Rattle.server_store.proofs.Contents.{part-behind, held-apart, map-placed, map-without}
+use Rattle.server_store.proofs.Contents.{part-following, held-apart, map-placed, map-without}
 
 -- Slots lie after the journal.
 
-pub slot-behind : (slot : ℕ) (x y : List ℕ) → Torn 4096 4194304 x y → slot_bytes y slot ≡ slot_bytes x slot
-slot-behind slot x y torn = part-behind 4096 4194304 (slot_start slot) 65536 x y torn (omega arith)
+pub slot-following : (slot : ℕ) (x y : List ℕ) → Torn 4096 4194304 x y → slot_bytes y slot ≡ slot_bytes x slot
+slot-following slot x y torn = part-following 4096 4194304 (slot_start slot) 65536 x y torn (omega arith)
 
-pub held-behind : (es : List Entry) (x y : List ℕ) → Torn 4096 4194304 x y → map (held_in y) es ≡ map (held_in x) es
-held-behind [] x y torn = refl
-held-behind (e ∷ es) x y torn = rw (slot-behind e.slot x y torn, held-behind es x y torn) refl
+pub held-following : (es : List Entry) (x y : List ℕ) → Torn 4096 4194304 x y → map (held_in y) es ≡ map (held_in x) es
+held-following [] x y torn = refl
+held-following (e ∷ es) x y torn = rw (slot-following e.slot x y torn, held-following es x y torn) refl
 
 pub same_in : (kept : Kept) (x y : List ℕ) → Torn 4096 4194304 x y → picture_in y kept ≡ picture_in x kept
-same_in kept x y torn = ap (λ (hs : List Held). record { entries = hs; marks = kept.marks; fresh = kept.fresh }) (held-behind kept.entries x y torn)
+same_in kept x y torn = ap (λ (hs : List Held). record { entries = hs; marks = kept.marks; fresh = kept.fresh }) (held-following kept.entries x y torn)
 
 -- a record shows its change in this content
 abbrev pub ShowsChange : List ℕ → Kept → StoreRecord → List ℕ → Type 0

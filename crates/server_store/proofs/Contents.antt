@@ -18,13 +18,13 @@ part-apart : (at n low m : ℕ) (x y : List ℕ) → Torn at n x y → low + m �
 part-apart at n low m x y torn fits =
     sym (drop-take low m y) ∙ ap (λ (l : List ℕ). drop low l) (torn_front (low + m) at n x y fits torn) ∙ drop-take low m x
 
-pub part-behind : (at n low m : ℕ) (x y : List ℕ) → Torn at n x y → at + n ≤ low → part y low m ≡ part x low m
-part-behind at n low m x y torn fits = ap (λ (l : List ℕ). take m l) (torn_rest low at n x y fits torn)
+pub part-following : (at n low m : ℕ) (x y : List ℕ) → Torn at n x y → at + n ≤ low → part y low m ≡ part x low m
+part-following at n low m x y torn fits = ap (λ (l : List ℕ). take m l) (torn_rest low at n x y fits torn)
 
 pub slot-apart : (slot other : ℕ) (x y : List ℕ) → other ≢ slot → Torn (slot_start slot) 65536 x y → slot_bytes y other ≡ slot_bytes x other
 slot-apart slot other x y apart torn = elim (cases_lt other slot) [
   | inl before ↦ part-apart (slot_start slot) 65536 (slot_start other) 65536 x y torn (omega arith)
-  | inr behind ↦ part-behind (slot_start slot) 65536 (slot_start other) 65536 x y torn (let more : slot < other = omega (arith, apart) in omega arith)
+  | inr following ↦ part-following (slot_start slot) 65536 (slot_start other) 65536 x y torn (let more : slot < other = omega (arith, apart) in omega arith)
 ]
 
 -- contents stay where no entry has the slot

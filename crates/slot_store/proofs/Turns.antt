@@ -121,11 +121,11 @@ module _ (used : List Bool) (order place : List ℕ) (taken : ℕ) (turn : IsInT
 pub turn-taken_this : (used : List Bool) (order place : List ℕ) (taken slot : ℕ) → IsInTurn used order place taken → slot < length used
     → get_or used slot false ≡ false → IsInTurn (set used slot true) (exchanged order place taken slot) (exchanged place order slot taken) (taken + 1)
 turn-taken_this used order place taken slot turn within free =
-    let behind : nat_lt (get_or place slot 0) taken ≡ false = sym (turn.first slot within) ∙ free in
+    let following : nat_lt (get_or place slot 0) taken ≡ false = sym (turn.first slot within) ∙ free in
     let stood : get_or place slot 0 < length used = (turn.stands slot within).0 in
     let more : taken < length used = grind (arith, nat_tests) in
     let itself : nat_lt taken taken ≡ false = grind (arith, nat_tests) in
-    let turned = turn-exchanged used order place taken turn slot taken within more (behind ∙ sym itself) in
+    let turned = turn-exchanged used order place taken turn slot taken within more (following ∙ sym itself) in
     subst
     (λ (s : ℕ). IsInTurn (set used s true) (exchanged order place taken slot) (exchanged place order slot taken) (taken + 1))
     (stands-exchanged used order place taken turn slot taken within more)

@@ -227,7 +227,7 @@ fn write_first<D: Disk>(disk: &mut D, inc: Inc) -> Result<Journal<128>, StateErr
     ensures size { D.size disk.new ≡ D.size disk.old }
     ensures run { D.came_to disk.old disk.new }
 {
-    let mut journal = Journal::format_behind_gate(disk, JOURNAL_BASE, JOURNAL_RECORDS)?;
+    let mut journal = Journal::format_after_gate(disk, JOURNAL_BASE, JOURNAL_RECORDS)?;
     journal.append(disk, &body_of(&StateRecord::Inc { inc }))?;
     Ok(journal)
 }

@@ -6,7 +6,7 @@ use petal_base::{Cell, Key, Version};
 /// A record is spelled by so many bytes, after its gate.
 pub const RECORD_BYTES: usize = 63;
 
-/// One change of a store. Behind the gate, the 63 bytes of its spelling are, with numbers in big-endian order:
+/// One change of a store. After the gate, the 63 bytes of its spelling are, with numbers in big-endian order:
 ///
 /// | offset | field |
 /// |---|---|

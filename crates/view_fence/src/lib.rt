@@ -10,7 +10,7 @@ ghost use Rattle.std.specs.Prelude.{not, slice_get, slice_set, option_copied};
 ghost use Rattle.std.specs.List.{range_with_len};
 ghost use Rattle.global_tables.specs.declared.fence.Member.TheVariants.{Out};
 ghost use Rattle.global_tables.specs.View.{new_view, joined, left, queued, drained, taken, ready, head, awaiting, servers_in, stands_in};
-ghost use Rattle.global_tables.specs.View.{last_inc, first_waiting, reported, behind, out_of};
+ghost use Rattle.global_tables.specs.View.{last_inc, first_waiting, reported, following, out_of};
 
 pub use global_tables::{Fence, FenceKind, Member};
 use petal_base::{Inc, NoMemory, Sequence, ServerId};
@@ -275,7 +275,7 @@ fn is_ready(queue: &[Fence]) -> bool
 fn take_first(queue: &mut Vec<Fence>, waiting: Sequence<ServerId>) -> Fence
     requires { IsTrue (is_some (ready queue.old.items)) }
     ensures fence { Some result ≡ ready queue.old.items }
-    ensures queue { queue.new.items ≡ behind waiting queue.old.items }
+    ensures queue { queue.new.items ≡ following waiting queue.old.items }
 {
     let first = queue.remove(0);
     await_first(queue, waiting);

@@ -12,9 +12,9 @@ use Rattle.world_desks.specs.Desks.{Desk, desk_of}
 use Rattle.world_desks.specs.Desks as server
 use Rattle.world_desks.specs.Playable.{AreOrdered}
 use Rattle.client_seats.specs.Seats.{seat_of}
-use Rattle.world_desks.specs.Waiting.{AreBehind, AreRising}
+use Rattle.world_desks.specs.Waiting.{AreAfter, AreRising}
 use Rattle.world_actors.specs.Actors.{Actors, Shows}
-use Rattle.world_desks.proofs.Awaiting.{waiting_rise, before_from_behind, behind_from_before}
+use Rattle.world_desks.proofs.Awaiting.{waiting_rise, before_from_after, after_from_before}
 use Rattle.world_desks.proofs.Left.{left_spent}
 use Rattle.world_desks.proofs.Ranges.{IsAt, at_range, get_range}
 
@@ -28,9 +28,9 @@ same_some o x y a b = cc
 pub call_exact : (setting : Setting) (w : World) (actors : Actors) (c line : ℕ) (seat : Seat) (next : Line) (b : Bool) → AreOrdered setting.lines
     → Shows setting w actors → seat ≡ seat_of setting w c
     → slice_get seat.lines seat.core.client.seq ≡ Some next → seat.core.client.asked ≡ None → next.number ≡ line
-    → (AreRising actors.waiting → IsTrue b ↔ AreBehind actors.waiting next.phase) → IsTrue b ↔ MayCall setting w c line
+    → (AreRising actors.waiting → IsTrue b ↔ AreAfter actors.waiting next.phase) → IsTrue b ↔ MayCall setting w c line
 call_exact setting w actors c line seat next b ordered h is at free number test =
-    let behind = test (waiting_rise setting.lines w.answers actors.waiting h.waiting ordered) in
+    let following = test (waiting_rise setting.lines w.answers actors.waiting h.waiting ordered) in
     let own = ap (λ (s : Seat). slice_get s.lines s.core.client.seq) (sym is) ∙ at in
     let asked = ap (λ (s : Seat). s.core.client.asked) (sym is) ∙ free in (
       (λ t. record {
@@ -38,12 +38,12 @@ call_exact setting w actors c line seat next b ordered h is at free number test 
         line = next;
         next = own;
         is = number;
-        before = before_from_behind setting.lines w.answers actors.waiting h.waiting next.phase (behind.0 t);
+        before = before_from_after setting.lines w.answers actors.waiting h.waiting next.phase (following.0 t);
       }),
       (λ may.
           let same : may.line ≡ next = same_some _ may.line next may.next own in
           let phases : may.line.phase ≡ next.phase = ap (λ (l : Line). l.phase) same in
-          behind.1 (behind_from_before setting.lines w.answers actors.waiting h.waiting next.phase
+          following.1 (after_from_before setting.lines w.answers actors.waiting h.waiting next.phase
           (λ other m less. may.before other m (subst (λ p. other.phase < p) (sym phases) less)))),
     )
 

@@ -303,7 +303,7 @@ impl<H: Host> Actors<H> {
         if !seat.core.is_free() {
             return false;
         }
-        self.waiting.is_behind(next.phase)
+        self.waiting.is_after(next.phase)
     }
 
     fn may_react(&self, seat: &Seat, client: ClientId, step: &Step) -> bool

@@ -11,7 +11,7 @@ use Rattle.script_lines.specs.declared.request.Line.{Line}
 use Rattle.petal_rules.specs.Lists.{In}
 use Rattle.petal_rules.specs.World.{IsAnswered}
 use Rattle.petal_rules.proofs.ListLemmas.{in-append, in_former, in_later}
-use Rattle.world_desks.specs.Waiting.{Await, IsLine, AreRising, AreBehind}
+use Rattle.world_desks.specs.Waiting.{Await, IsLine, AreRising, AreAfter}
 use Rattle.world_desks.specs.Playable.{AreNumbered, AreOrdered}
 
 never : {P : Type 0} (o : Option ℕ) (x : ℕ) → o ≡ None → o ≡ Some x → P
@@ -123,14 +123,14 @@ module _ (lines : List Line) (given : List (ℕ × Answer)) (rows : Table ℕ �
       omega (arith, rise, one.phase_is, other.phase_is)
 
   -- no line of an earlier phase waits exactly where each of them has its answer
-  pub before_from_behind : (phase : ℕ) → AreBehind rows phase → (other : Line) → In other lines → other.phase < phase → IsAnswered given other.number
-  before_from_behind phase behind other m less = elim (h.each other m) [
+  pub before_from_after : (phase : ℕ) → AreAfter rows phase → (other : Line) → In other lines → other.phase < phase → IsAnswered given other.number
+  before_from_after phase following other m less = elim (h.each other m) [
     | inl is ↦ is
-    | inr there ↦ let le = behind other.number other.phase there in absurd (omega (arith, le))
+    | inr there ↦ let le = following other.number other.phase there in absurd (omega (arith, le))
   ]
 
-  pub behind_from_before : (phase : ℕ) → ((other : Line) → In other lines → other.phase < phase → IsAnswered given other.number) → AreBehind rows phase
-  behind_from_before phase before n p e = elim (cases_lt p phase) [
+  pub after_from_before : (phase : ℕ) → ((other : Line) → In other lines → other.phase < phase → IsAnswered given other.number) → AreAfter rows phase
+  after_from_before phase before n p e = elim (cases_lt p phase) [
     | inr le ↦ le
     | inl less ↦
         let own = h.only n p e in

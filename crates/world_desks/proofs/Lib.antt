@@ -1,4 +1,3 @@
-pub mod Same
 pub mod Names
 pub mod Letters
 pub mod Awaiting

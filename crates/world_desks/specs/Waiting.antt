@@ -24,5 +24,5 @@ abbrev pub AreRising : Table ℕ ℕ → Type 0
 AreRising rows = (n m p q : ℕ) → at nat_cmp rows n ≡ Some p → at nat_cmp rows m ≡ Some q → n ≤ m → p ≤ q
 
 -- no line of an earlier phase waits
-abbrev pub AreBehind : Table ℕ ℕ → ℕ → Type 0
-AreBehind rows phase = (n p : ℕ) → at nat_cmp rows n ≡ Some p → phase ≤ p
+abbrev pub AreAfter : Table ℕ ℕ → ℕ → Type 0
+AreAfter rows phase = (n p : ℕ) → at nat_cmp rows n ≡ Some p → phase ≤ p

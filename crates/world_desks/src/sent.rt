@@ -44,7 +44,7 @@ impl Sent {
     {
         match self.rows.get(&name_of(letter)) {
             None => false,
-            Some(found) => is_same(found.get(), letter),
+            Some(found) => found.get().is_same(letter),
         }
     }
 
@@ -65,11 +65,4 @@ impl Sent {
         }
         Ok(())
     }
-}
-
-fn is_same(one: &Letter, other: &Letter) -> bool
-    ensures same { IsTrue result → one.now ≡ other.now }
-    ensures equal { one.now ≡ other.now → IsTrue result }
-{
-    *one == *other
 }

@@ -3,7 +3,7 @@
 ghost use Rattle.std.specs.Prelude.{◌≡◌, ◌↔◌, [], IfOk, OnOk, OnErr, IsTrue};
 ghost use Rattle.std.specs.Ordering.{nat_cmp};
 ghost use Rattle.petal_table.specs.Table.{put, without};
-ghost use Rattle.world_desks.specs.Waiting.{AreBehind, AreRising, Await};
+ghost use Rattle.world_desks.specs.Waiting.{AreAfter, AreRising, Await};
 ghost use Rattle.world_desks.specs.Playable.{AreNumbered};
 
 use petal_base::NoMemory;
@@ -70,8 +70,8 @@ impl Waiting {
 
     /// Whether no line of a phase before this one waits. Phases rise with the numbers of lines.
     #[tactic(auto, unfolding(petal_table::specs::Table::at))]
-    pub fn is_behind(&self, phase: u32) -> bool
-        ensures { AreRising self.now → IsTrue result ↔ AreBehind self.now phase }
+    pub fn is_after(&self, phase: u32) -> bool
+        ensures { AreRising self.now → IsTrue result ↔ AreAfter self.now phase }
     {
         match self.rows.first_key_value() {
             None => true,

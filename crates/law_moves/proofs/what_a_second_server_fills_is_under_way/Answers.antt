@@ -3,5 +3,5 @@ use Rattle.law_moves.proofs.Seconds.{second_after}
 use Rattle.law_moves.proofs.what_a_second_server_fills_is_under_way.Goals as goal
 
 pub returns : goal.returns
-returns c script records sound legal n m cell pairs op row runs seat linked both first second there is fills behind alive =
-    second_after script records sound legal n m cell pairs op row runs seat linked both first second there is fills behind alive
+returns c script records sound legal n m cell pairs op row runs seat linked both first second there is fills following alive =
+    second_after script records sound legal n m cell pairs op row runs seat linked both first second there is fills following alive

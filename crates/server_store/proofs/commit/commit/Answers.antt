@@ -1,11 +1,11 @@
 use Rattle.std.proofs.Common.{[]}
 use Rattle.petal_disk.proofs.Moments.{weaker}
 use Rattle.data_device.specs.Kept.{kept_of}
-use Rattle.server_store.proofs.Commits.{held-behind, keeps_after, committed, logs_of, shows-other, fits-other, on_ok}
+use Rattle.server_store.proofs.Commits.{held-following, keeps_after, committed, logs_of, shows-other, fits-other, on_ok}
 use Rattle.server_store.proofs.commit.commit.Goals as goal
 
 pub returns-clause-contents : goal.returns-clause-contents
-returns-clause-contents g c told es = held-behind es _ _ (c.append.ensures.outside told)
+returns-clause-contents g c told es = held-following es _ _ (c.append.ensures.outside told)
 
 pub returns-clause-keeps : goal.returns-clause-keeps
 returns-clause-keeps g c told slots picture h =

@@ -6,7 +6,7 @@ use Rattle.store_record.specs.declared.record.StoreRecord.TheVariants as kind
 use Rattle.data_device.specs.Kept.{kept_of}
 use Rattle.server_store.specs.Shown.{ShowsEither}
 use Rattle.data_device.specs.Slots.{slot_start, slot_bytes}
-use Rattle.server_store.proofs.Commits.{held-behind, slot-behind, keeps_after, keeps-still, shows-still, committed, logs_of, shows-put, ShowsChange, on_ok}
+use Rattle.server_store.proofs.Commits.{held-following, slot-following, keeps_after, keeps-still, shows-still, committed, logs_of, shows-put, ShowsChange, on_ok}
 use Rattle.server_store.proofs.Contents.{held-apart, slot-written}
 use Rattle.server_store.proofs.commit.commit_put.Goals as goal
 
@@ -39,7 +39,7 @@ returns-clause-contents g c told es free =
     let slot = c.args.entry.now.slot in
     let torn : Torn (slot_start slot) 65536 (g.D.Disk.seen c.args.disk.now) (g.D.Disk.seen c.write.new.disk) =
     rw c.requires.base at c.write.ensures.torn told in
-    held-behind es _ _ (c.append.ensures.outside told) ∙ held-apart es slot _ _ free torn
+    held-following es _ _ (c.append.ensures.outside told) ∙ held-apart es slot _ _ free torn
 
 pub returns-clause-content : goal.returns-clause-content
 returns-clause-content g c =
@@ -51,7 +51,7 @@ returns-clause-content g c =
     on_ok c.append.result _ _ _ (λ records after told.
     let fits : slot_start slot + 65536 ≤ length x = omega (arith, laws.whole c.args.disk.now told, c.requires.slot, c.requires.room) in
     let now : y ≡ written x (slot_start slot) block = rw c.requires.base at c.in_ok-write.ensures.written told in
-    slot-behind slot _ _ (c.append.ensures.outside told) ∙ ap (λ f. slot_bytes f slot) now ∙ slot-written slot x block c.write.ensures.block fits)
+    slot-following slot _ _ (c.append.ensures.outside told) ∙ ap (λ f. slot_bytes f slot) now ∙ slot-written slot x block c.write.ensures.block fits)
     c.append.ensures.ok c.append.ensures.ok
 
 pub returns-clause-keeps : goal.returns-clause-keeps

@@ -9,9 +9,9 @@ returns-in_err-append-clause-any_moment g c told =
     let j = c.in_ok-journal.journal in
     let at : IsPlaced j = record { base = ap (λ r. r.base) c.in_ok-journal.ensures.region; limit = ap (λ r. r.limit) c.in_ok-journal.ensures.region } in
     let base = at.base in
-    first_record g.D.Disk.moment g.D.Disk.left_since c.args.disk.now c.format_behind_gate.new.disk c.append.new.disk _ _ _ c.body_of.result j
+    first_record g.D.Disk.moment g.D.Disk.left_since c.args.disk.now c.format_after_gate.new.disk c.append.new.disk _ _ _ c.body_of.result j
     at (c.in_ok-journal.ensures.durable told) (c.in_ok-journal.ensures.shut told)
-    (c.format_behind_gate.ensures.any_moment told) (c.append.ensures.any_moment told [] (c.in_ok-journal.ensures.stored told))
+    (c.format_after_gate.ensures.any_moment told) (c.append.ensures.any_moment told [] (c.in_ok-journal.ensures.stored told))
 
 pub returns-in_err-append-clause-either : goal.returns-in_err-append-clause-either
 returns-in_err-append-clause-either g c told =
@@ -25,9 +25,9 @@ returns-clause-any_moment g c told =
     let j = c.in_ok-journal.journal in
     let at : IsPlaced j = record { base = ap (λ r. r.base) c.in_ok-journal.ensures.region; limit = ap (λ r. r.limit) c.in_ok-journal.ensures.region } in
     let base = at.base in
-    first_record g.D.Disk.moment g.D.Disk.left_since c.args.disk.now c.format_behind_gate.new.disk c.append.new.disk _ _ _ c.body_of.result j
+    first_record g.D.Disk.moment g.D.Disk.left_since c.args.disk.now c.format_after_gate.new.disk c.append.new.disk _ _ _ c.body_of.result j
     at (c.in_ok-journal.ensures.durable told) (c.in_ok-journal.ensures.shut told)
-    (c.format_behind_gate.ensures.any_moment told) (c.append.ensures.any_moment told [] (c.in_ok-journal.ensures.stored told))
+    (c.format_after_gate.ensures.any_moment told) (c.append.ensures.any_moment told [] (c.in_ok-journal.ensures.stored told))
 
 pub returns-clause-either : goal.returns-clause-either
 returns-clause-either g c told =

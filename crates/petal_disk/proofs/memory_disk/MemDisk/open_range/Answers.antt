@@ -10,5 +10,5 @@ grown c = record { now_is = c.grow.ensures.items; kept_is = c.grow-2.ensures.ite
 pub invariant_of-self-clause-same_before : goal.invariant_of-self-clause-same_before
 invariant_of-self-clause-same_before c = let old = c.args.self.now in take_less _ old.low _ _ (omega arith) (grown_front (grown c) old.low old.same_before)
 
-pub invariant_of-self-clause-same_behind : goal.invariant_of-self-clause-same_behind
-invariant_of-self-clause-same_behind c = let old = c.args.self.now in drop_further old.high _ _ _ (omega arith) (grown_rest (grown c) old.high old.same_behind)
+pub invariant_of-self-clause-same_after : goal.invariant_of-self-clause-same_after
+invariant_of-self-clause-same_after c = let old = c.args.self.now in drop_further old.high _ _ _ (omega arith) (grown_rest (grown c) old.high old.same_after)

@@ -2,7 +2,7 @@ use Rattle.std.proofs.Common.{◌≡◌, ◌<◌, Some, arith, ap, length, subst
 use Rattle.global_tables.specs.View.{ready}
 use Rattle.petal_state.specs.State.{State}
 use Rattle.state_fold.specs.Room.{HasRoom}
-use Rattle.state_fold.proofs.Rooms.{epochs_fit, room_behind, shorter_behind}
+use Rattle.state_fold.proofs.Rooms.{epochs_fit, room_after, shorter_after}
 use Rattle.state_fold.proofs.tables.Tables.+settle.Goals as goal
 
 pub effect-requires : goal.effect-requires
@@ -30,9 +30,9 @@ settle-requires t c =
     } in
     let is : ready c.self.inside.view.queue ≡ Some c.in-Some.fence = sym c.in_ok-take.ensures.fence ∙ c.in-Some.is in
     let fewer : length c.effect.new.self.view.queue < length c.self.inside.view.queue =
-    shorter_behind s c.effect.new.self c.take.new.self c.in-Some.fence is c.in_ok-take.ensures.ok c.in_ok-effect-in-Some.ensures in
+    shorter_after s c.effect.new.self c.take.new.self c.in-Some.fence is c.in_ok-take.ensures.ok c.in_ok-effect-in-Some.ensures in
     let long : length c.self.inside.view.queue ≡ length c.args.self.now.view.queue = ap (λ (u : State). length u.view.queue) c.self.view_is in (
       omega (arith, fewer, long),
-      room_behind s c.effect.new.self c.take.new.self c.in-Some.fence is c.in_ok-take.ensures.ok c.in_ok-effect-in-Some.ensures
+      room_after s c.effect.new.self c.take.new.self c.in-Some.fence is c.in_ok-take.ensures.ok c.in_ok-effect-in-Some.ensures
           (subst HasRoom (sym c.self.view_is) c.requires),
     )

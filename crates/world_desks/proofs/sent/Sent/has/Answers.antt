@@ -24,4 +24,4 @@ pub returns-in-None : goal.returns-in-None
 returns-in-None c = nowhere _ _ _ _ c.self.view_is c.name_of.ensures c.in-None.ensures
 
 pub returns-in-Some : goal.returns-in-Some
-returns-in-Some c = there _ _ _ _ _ _ _ c.self.view_is c.name_of.ensures c.in-Some.ensures c.get-in-Some.ensures c.is_same.ensures.same c.is_same.ensures.equal
+returns-in-Some c = there _ _ _ _ _ _ _ c.self.view_is c.name_of.ensures c.in-Some.ensures c.get-in-Some.ensures c.is_same.ensures.0 c.is_same.ensures.1

@@ -6,9 +6,9 @@ use Rattle.server_store.specs.Holdings.{Holdings}
 use Rattle.pair_side.specs.Letters.{posts_of}
 use Rattle.pair_side.specs.Side.{own_of}
 use Rattle.pair_side.proofs.Reading.{after_read}
-use Rattle.redistribute.specs.Behind.{filled_with}
-use Rattle.redistribute.proofs.Fillings.{behind_is}
-use Rattle.redistribute.proofs.answer.goes_behind.Goals as goal
+use Rattle.redistribute.specs.Following.{filled_with}
+use Rattle.redistribute.proofs.Fillings.{after_is}
+use Rattle.redistribute.proofs.answer.goes_after.Goals as goal
 
 pub returns-in-Ok : goal.returns-in-Ok
 returns-in-Ok g c =
@@ -25,5 +25,5 @@ returns-in-Ok g c =
     ap (λ (s : Holdings _). filled_with (own_of side s) row c.args.key (posts_of c.in-Ok.found)) look.same
     ∙ ap (λ (ps : List Post). filled_with own row c.args.key ps)
     (c.in-Ok.ensures.letter told side ∙ ap (λ (k : Option Key). sends_key here.state own k) c.left_after-next.ensures)
-    ∙ behind_is here own row c.args.key)
+    ∙ after_is here own row c.args.key)
     c.fills.ensures

@@ -8,13 +8,13 @@ use Rattle.petal_rules.specs.Server.{Done, Here, Own, Post}
 use Rattle.next_fill.specs.Next.{left_after}
 
 -- it remembers the key, and that its last entry found a slot
-abbrev pub behind : Own → LinkRow → Key → Own
-behind own row key = with_full (with_filled own row key) false
+abbrev pub following : Own → LinkRow → Key → Own
+following own row key = with_full (with_filled own row key) false
 
 -- the entry after the key goes out
-abbrev pub posts_behind : Here → Own → LinkRow → Key → List Post
-posts_behind here own row key =
+abbrev pub posts_after : Here → Own → LinkRow → Key → List Post
+posts_after here own row key =
     sends_key here.state own (left_after here.state row (region_to_move here.state here.me row) (Some key) own.store.chains)
 
 abbrev pub filled_with : Own → LinkRow → Key → List Post → Done
-filled_with own row key posts = record { own = behind own row key; posts = posts; jobs = [] }
+filled_with own row key posts = record { own = following own row key; posts = posts; jobs = [] }

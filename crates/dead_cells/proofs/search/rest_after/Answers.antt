@@ -5,7 +5,7 @@ use Rattle.physical_map.specs.Keys.{IsInOrder}
 use Rattle.physical_map.proofs.Parts.{order-drop}
 use Rattle.dead_cells.specs.Swept.{first_dead}
 use Rattle.dead_cells.proofs.Rests.{passed, up_to}
-use Rattle.dead_cells.proofs.search.left_behind.Goals as goal
+use Rattle.dead_cells.proofs.search.rest_after.Goals as goal
 
 pub returns-then-is_live_map-clause-first : goal.returns-then-is_live_map-clause-first
 returns-then-is_live_map-clause-first c =
