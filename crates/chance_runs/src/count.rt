@@ -138,10 +138,22 @@ impl Count {
     }
 }
 
-fn steps<H: Host>(run: &Run<H>, step: &Step) -> usize {
+/// Whether both are stops, blanks, boots or jobs that ended alike.
+fn is_alike(step: &Step, wanted: &Step) -> bool {
+    match (step, wanted) {
+        (Step::Stop, Step::Stop) | (Step::Blank, Step::Blank) => true,
+        (Step::Boot(end), Step::Boot(other)) | (Step::Work(end), Step::Work(other)) => {
+            *end == *other
+        }
+        (Step::StopIn(end), Step::StopIn(other)) => *end == *other,
+        _ => false,
+    }
+}
+
+fn steps<H: Host>(run: &Run<H>, wanted: &Step) -> usize {
     run.records()
         .iter()
-        .filter(|record| record.step == *step)
+        .filter(|record| is_alike(&record.step, wanted))
         .count()
 }
 

@@ -269,18 +269,25 @@ fn is_shown(alloc: Global, client: &mut ClientCore) -> Result<bool, Fail> {
     Ok(shows_block(&hear(alloc, client, 1, found)?, &bytes))
 }
 
+/// Whether it ends its request so by what it hears.
+fn is_ended(told: Result<Reaction, Fail>, ending: Ending) -> Result<bool, Fail> {
+    Ok(ending_of(&told?) == ending)
+}
+
 /// Whether that comes of a step in which it hears of one thing.
 fn is_told_so(alloc: Global, client: &mut ClientCore, step: &Step) -> Result<bool, Fail> {
     match *step {
         Step::Told(after, entry, ending) => {
-            Ok(ending_of(&learn(alloc, client, after, entry)?) == ending)
+            let told = learn(alloc, client, after, entry);
+            is_ended(told, ending)
         }
         Step::IsAt(after, entry, rev) => {
             learn(alloc, client, after, entry)?;
             Ok(client.rev() == rev)
         }
         Step::Written(rev, seq, ending) => {
-            Ok(ending_of(&hear(alloc, client, rev, Body::Written { seq })?) == ending)
+            let told = hear(alloc, client, rev, Body::Written { seq });
+            is_ended(told, ending)
         }
         _ => Ok(false),
     }

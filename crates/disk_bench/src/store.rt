@@ -48,14 +48,29 @@ fn formatted(alloc: Global) -> Option<Store<MemDisk>> {
     }
 }
 
+// A store into which a block was put so often, over all its slots in turn.
+fn filled(alloc: Global, count: u32) -> Option<Store<MemDisk>> {
+    let block = Block::fill(alloc, 7).ok()?;
+    let mut store = formatted(alloc)?;
+    let put = put_all(&mut store, &block, count);
+    drop(block);
+    match put {
+        Ok(()) => Some(store),
+        Err(_) => None,
+    }
+}
+
+fn free_once_opened(alloc: Global, disk: MemDisk) -> Option<u32> {
+    Some(opened(alloc, disk)?.free())
+}
+
 /// Formats a store and puts a block so often, over all its slots in turn, and opens it again where it is asked to. Gives how many
 /// slots are free then.
 pub fn run(alloc: Global, count: u32, opens: bool) -> Option<u32> {
-    let mut store = formatted(alloc)?;
-    let block = Block::fill(alloc, 7).ok()?;
-    put_all(&mut store, &block, count).ok()?;
-    if !opens {
-        return Some(store.free());
+    let store = filled(alloc, count)?;
+    if opens {
+        free_once_opened(alloc, store.into_disk())
+    } else {
+        Some(store.free())
     }
-    Some(opened(alloc, store.into_disk())?.free())
 }

@@ -42,12 +42,13 @@ fn is_first(commands: &[Command], inc: u32) -> bool {
     commands.first() == Some(&leave(inc))
 }
 
+fn are_so_many(log: &ChosenLog) -> bool {
+    log.since(3).len() == 2 && log.since(5).is_empty() && log.since(9).is_empty()
+}
+
 fn look(rt: &impl Abort, log: &ChosenLog) {
-    assert!(rt; is_first(log.prefix(), 10));
-    assert!(rt; is_first(log.since(3), 40));
-    assert_eq!(rt; log.since(3).len(), 2);
-    assert_eq!(rt; log.since(5).len(), 0);
-    assert_eq!(rt; log.since(9).len(), 0);
+    assert!(rt; is_first(log.prefix(), 10) && is_first(log.since(3), 40));
+    assert!(rt; are_so_many(log));
 }
 
 // The log is dropped before the test leaves: the prover pays for it at each exit that drops it.

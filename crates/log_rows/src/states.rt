@@ -49,12 +49,18 @@ fn fill<D: Disk>(store: &mut StateStore<D>) -> Result<(), StateError> {
     Ok(())
 }
 
+fn has_voted<D: Disk>(store: &StateStore<D>) -> bool {
+    store.promised(7) == Some(HIGH) && store.accepted(7) == Some((LOW, leave()))
+}
+
+fn has_learnt<D: Disk>(store: &StateStore<D>) -> bool {
+    store.chosen(8) == Some(leave()) && store.chosen(7).is_none()
+}
+
 fn look<D: Disk>(rt: &impl Abort, store: &StateStore<D>) {
     assert_eq!(rt; store.inc(), 2);
-    assert!(rt; store.promised(7) == Some(HIGH));
-    assert!(rt; store.accepted(7) == Some((LOW, leave())));
-    assert!(rt; store.chosen(8) == Some(leave()));
-    assert!(rt; store.chosen(7).is_none());
+    assert!(rt; has_voted(store));
+    assert!(rt; has_learnt(store));
 }
 
 #[test]

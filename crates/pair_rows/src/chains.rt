@@ -21,10 +21,16 @@ fn store(alloc: Global) -> Result<Store<MemDisk>, Fail> {
     with_sevens(alloc, KEY, 3)
 }
 
+fn byte_of<D: Disk>(alloc: Global, store: &mut Store<D>, epoch: u32) -> Result<Option<u8>, Fail> {
+    let bytes = read_at(alloc, store, CELL, epoch)?;
+    Ok(bytes.bytes().first().copied())
+}
+
 fn first_byte(alloc: Global, epoch: u32) -> Result<Option<u8>, Fail> {
     let mut store = store(alloc)?;
-    let bytes = read_at(alloc, &mut store, CELL, epoch)?;
-    Ok(bytes.bytes().first().copied())
+    let byte = byte_of(alloc, &mut store, epoch);
+    drop(store);
+    byte
 }
 
 #[test]

@@ -7,7 +7,7 @@ use script_lines::Answer;
 
 /// One step: whose it was, its stamp, the phase in which it was taken, what it sent, and the answer that it gave with the
 /// number of its line.
-#[derive(PartialEq, Eq, Drop)]
+#[derive(Drop)]
 pub struct Record {
     pub actor: Actor,
     pub stamp: Stamp,
@@ -18,7 +18,7 @@ pub struct Record {
 }
 
 /// All steps of a run, in one order that agrees with every letter.
-#[derive(PartialEq, Eq, Drop)]
+#[derive(Drop)]
 pub struct History {
     pub records: Sequence<Record>,
 }

@@ -85,14 +85,12 @@ abbrev pub is_refused : Subject → Bool
 is_refused Refused = true
 is_refused _ = false
 
--- from a client, or to one
-abbrev pub is_of_client : Subject → Bool
-is_of_client Glanced = true
-is_of_client Read_asked = true
-is_of_client Write_asked = true
-is_of_client Answered = true
-is_of_client Refused = true
-is_of_client _ = false
+-- what a client is told, of its request or of a server at a glance
+abbrev pub is_told : Subject → Bool
+is_told Glanced = true
+is_told Answered = true
+is_told Refused = true
+is_told _ = false
 
 -- between the servers of a pair
 abbrev pub is_paired : Subject → Bool

@@ -1,10 +1,10 @@
 //! Whether two letters say the same.
 //!
-//! It is compared by hand, some kinds at a time: a derived `==` has an arm for each kind in one function, which takes
-//! three times as long to prove as all of these.
+//! They are compared some kinds at a time: a derived `==` would have an arm for each kind in one function, which is slow to
+//! prove, and its clause would say less.
 
-ghost use Rattle.std.specs.Prelude.{◌≡◌, ◌↔◌, IsTrue, true};
-ghost use Rattle.petal_msg.specs.Kinds.{Logged, Paired, Copied, Filling, subject_of, is_of_client};
+ghost use Rattle.std.specs.Prelude.{◌≡◌, ◌↔◌, IsTrue, true, None, is_some};
+ghost use Rattle.petal_msg.specs.Kinds.{Logged, Paired, Copied, Filling, about, subject_of, is_asked, is_told};
 
 use crate::{Body, Letter};
 
@@ -29,9 +29,11 @@ impl Body {
         ensures { IsTrue result ↔ (self.now ≡ other.now) }
     {
         is_same_of_log(self, other)
-            || is_same_of_client(self, other)
+            || is_same_request(self, other)
+            || is_same_reply(self, other)
             || is_same_of_pair(self, other)
             || is_same_of_copy(self, other)
+            || is_same_of_page(self, other)
             || is_same_of_move(self, other)
     }
 }
@@ -63,32 +65,12 @@ fn is_same_of_log(one: &Body, other: &Body) -> bool
     }
 }
 
-/// Two letters from a client, or to one.
-fn is_same_of_client(one: &Body, other: &Body) -> bool
+/// Two requests of clients.
+fn is_same_request(one: &Body, other: &Body) -> bool
     ensures same { IsTrue result → one.now ≡ other.now }
-    ensures equal { is_of_client (subject_of one.now) ≡ true → one.now ≡ other.now → IsTrue result }
+    ensures equal { is_asked (subject_of one.now) ≡ true → one.now ≡ other.now → IsTrue result }
 {
     match (one, other) {
-        (
-            Body::Seen {
-                line,
-                round,
-                running,
-                inc,
-                full,
-            },
-            Body::Seen {
-                line: its_line,
-                round: its_round,
-                running: its_running,
-                inc: its_inc,
-                full: its_full,
-            },
-        ) => *line == *its_line
-            && *round == *its_round
-            && *running == *its_running
-            && *inc == *its_inc
-            && *full == *its_full,
         (
             Body::Read {
                 client,
@@ -126,6 +108,36 @@ fn is_same_of_client(one: &Body, other: &Body) -> bool
             && *cell == *its_cell
             && *epoch == *its_epoch
             && *bytes == *its_bytes,
+        _ => false,
+    }
+}
+
+/// Two letters that tell a client of a request, or the operator of a server.
+fn is_same_reply(one: &Body, other: &Body) -> bool
+    ensures same { IsTrue result → one.now ≡ other.now }
+    ensures equal { is_told (subject_of one.now) ≡ true → one.now ≡ other.now → IsTrue result }
+{
+    match (one, other) {
+        (
+            Body::Seen {
+                line,
+                round,
+                running,
+                inc,
+                full,
+            },
+            Body::Seen {
+                line: its_line,
+                round: its_round,
+                running: its_running,
+                inc: its_inc,
+                full: its_full,
+            },
+        ) => *line == *its_line
+            && *round == *its_round
+            && *running == *its_running
+            && *inc == *its_inc
+            && *full == *its_full,
         (
             Body::Data { seq, bytes },
             Body::Data {
@@ -195,34 +207,12 @@ fn is_same_of_pair(one: &Body, other: &Body) -> bool
     }
 }
 
-/// Two letters of copies for a server that returned.
+/// Two letters of a copy for a server that returned.
 fn is_same_of_copy(one: &Body, other: &Body) -> bool
     ensures same { IsTrue result → one.now ≡ other.now }
-    ensures equal { subject_of one.now ≡ Copied → one.now ≡ other.now → IsTrue result }
+    ensures equal { subject_of one.now ≡ Copied → is_some (about one.now).op ≡ true → one.now ≡ other.now → IsTrue result }
 {
     match (one, other) {
-        (
-            Body::HelloAsk { map, link, after },
-            Body::HelloAsk {
-                map: its_map,
-                link: its_link,
-                after: its_after,
-            },
-        ) => *map == *its_map && *link == *its_link && *after == *its_after,
-        (
-            Body::Hello {
-                map,
-                link,
-                after,
-                block,
-            },
-            Body::Hello {
-                map: its_map,
-                link: its_link,
-                after: its_after,
-                block: its_block,
-            },
-        ) => *map == *its_map && *link == *its_link && *after == *its_after && *block == *its_block,
         (
             Body::Trim { op, cell, epochs },
             Body::Trim {
@@ -273,6 +263,38 @@ fn is_same_of_copy(one: &Body, other: &Body) -> bool
                 cell: its_cell,
             },
         ) => *op == *its_op && *cell == *its_cell,
+        _ => false,
+    }
+}
+
+/// Two letters of the pages of marks that such copies begin with.
+fn is_same_of_page(one: &Body, other: &Body) -> bool
+    ensures same { IsTrue result → one.now ≡ other.now }
+    ensures equal { subject_of one.now ≡ Copied → (about one.now).op ≡ None → one.now ≡ other.now → IsTrue result }
+{
+    match (one, other) {
+        (
+            Body::HelloAsk { map, link, after },
+            Body::HelloAsk {
+                map: its_map,
+                link: its_link,
+                after: its_after,
+            },
+        ) => *map == *its_map && *link == *its_link && *after == *its_after,
+        (
+            Body::Hello {
+                map,
+                link,
+                after,
+                block,
+            },
+            Body::Hello {
+                map: its_map,
+                link: its_link,
+                after: its_after,
+                block: its_block,
+            },
+        ) => *map == *its_map && *link == *its_link && *after == *its_after && *block == *its_block,
         _ => false,
     }
 }

@@ -4,7 +4,7 @@ use petal_base::Cell;
 use petal_msg::{LinkId, SharedLetter};
 
 /// One thing that a server does, with at most one commit to its devices.
-#[derive(PartialEq, Eq, Drop)]
+#[derive(Drop)]
 pub enum Job {
     /// A letter that was delivered.
     Letter(SharedLetter),

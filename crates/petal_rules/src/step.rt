@@ -22,7 +22,7 @@ pub enum WorkEnd {
 }
 
 /// One atomic step of a server or a client.
-#[derive(PartialEq, Eq, Drop)]
+#[derive(Drop)]
 pub enum Step {
     /// A client calls its next line.
     Call { line: u32 },

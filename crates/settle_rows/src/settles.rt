@@ -71,9 +71,16 @@ fn ending_of(reaction: &Reaction) -> Option<Ending> {
     }
 }
 
-/// How the settle is answered by such a letter, where it is.
-fn hear(alloc: Global, client: &mut ClientCore, glance: &Letter) -> Result<Option<Ending>, Fail> {
-    Ok(ending_of(&client.deliver(alloc, glance)?))
+/// How the settle is answered by such a glance, where it is.
+fn hear(
+    alloc: Global,
+    client: &mut ClientCore,
+    (server, round, shows): (ServerId, u32, Shows),
+) -> Result<Option<Ending>, Fail> {
+    let glance = letter(server, round, shows);
+    let reaction = client.deliver(alloc, &glance);
+    drop(glance);
+    Ok(ending_of(&reaction?))
 }
 
 /// Which glance answers the settle, and how.
@@ -83,8 +90,8 @@ fn answered_by(
     row: &Row,
 ) -> Result<Option<(usize, Ending)>, Fail> {
     let mut found = None;
-    for (at, (server, round, shows)) in row.glances.iter().enumerate() {
-        if let Some(answer) = hear(alloc, client, &letter(*server, *round, *shows))? {
+    for (at, glance) in row.glances.iter().enumerate() {
+        if let Some(answer) = hear(alloc, client, *glance)? {
             found = Some((at, answer));
         }
     }
