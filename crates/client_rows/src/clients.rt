@@ -293,15 +293,23 @@ fn is_told_so(alloc: Global, client: &mut ClientCore, step: &Step) -> Result<boo
     }
 }
 
+/// Whether a call makes it do so.
+fn reacts_so(reaction: &Reaction, step: &Step) -> Result<bool, Fail> {
+    match *step {
+        Step::Proposes(_, entry) => Ok(is_proposed(reaction, &command_of(entry)?)),
+        Step::SendsTo(_, server) => Ok(is_sent_to(reaction, server)),
+        Step::AsksFor(_, epoch) => Ok(asks_for(reaction, epoch)),
+        _ => Ok(false),
+    }
+}
+
 /// Whether that comes of a step in which it calls, or hears of one thing.
 fn is_called_so(alloc: Global, client: &mut ClientCore, step: &Step) -> Result<bool, Fail> {
     match *step {
-        Step::Proposes(line, entry) => {
+        Step::Proposes(line, _) | Step::SendsTo(line, _) | Step::AsksFor(line, _) => {
             let reaction = call(alloc, client, line)?;
-            Ok(is_proposed(&reaction, &command_of(entry)?))
+            reacts_so(&reaction, step)
         }
-        Step::SendsTo(line, server) => Ok(is_sent_to(&call(alloc, client, line)?, server)),
-        Step::AsksFor(line, epoch) => Ok(asks_for(&call(alloc, client, line)?, epoch)),
         _ => is_told_so(alloc, client, step),
     }
 }

@@ -68,7 +68,10 @@ fn set_two_apart<D: Disk>(store: &mut Store<D>) -> Result<(bool, bool), NoMemory
 
 // The same of a new store.
 fn set_two_of_new_apart(alloc: Global) -> Result<(bool, bool), Fail> {
-    Ok(set_two_apart(&mut store(alloc)?)?)
+    let mut store = store(alloc)?;
+    let apart = set_two_apart(&mut store);
+    drop(store);
+    Ok(apart?)
 }
 
 #[test]
