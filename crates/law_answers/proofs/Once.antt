@@ -17,7 +17,7 @@ use Rattle.petal_rules.specs.Clients.{Client, Asked, Reaction}
 use Rattle.petal_rules.specs.World.{Setting, World, Stepped, IsAnswered, MayActor, lines_of, next_line, client_step}
 use Rattle.petal_rules.specs.World.{client_state, step, start, setting_of, with_answer}
 use Rattle.petal_rules.specs.declared.step.Step.{Step}
-use Rattle.petal_history.specs.Legal.{Follows, IsLegal, IsLegalFrom, stepped, world_after}
+use Rattle.petal_history.specs.Steps.{Follows, AreSteps, AreStepsFrom, stepped, world_after}
 use Rattle.petal_history.specs.Text.{with_given}
 use Rattle.petal_history.specs.declared.record.Record.{Record}
 use Rattle.law_steps.specs.Happens.{Heard}
@@ -232,7 +232,7 @@ module _ (setting : Setting) (rise : AreRising setting.lines) where
   pub stepped_is : (w : World) (own : Record) → Ahead lines w → Follows setting w own → IsStepped lines w (stepped setting w own)
   stepped_is w own ahead follows = steps own.actor own.step w own.stamp ahead follows.may.may
 
-  pub ahead_after : (w : World) (records : List Record) → Ahead lines w → IsLegalFrom setting w records → Ahead lines (world_after setting w records)
+  pub ahead_after : (w : World) (records : List Record) → Ahead lines w → AreStepsFrom setting w records → Ahead lines (world_after setting w records)
   ahead_after w [] ahead legal = ahead
   ahead_after w (own ∷ later) ahead legal = ahead_after (stepped setting w own).world later (stepped_is w own ahead legal.0).ahead legal.1
 
@@ -264,7 +264,7 @@ module _ (setting : Setting) (rise : AreRising setting.lines) where
         lines_too = put_at_once table row (λ n. (line : Line) × In line lines × (line.number ≡ n)) (fresh.line, fresh.there, fresh.is) t.lines_too;
       }
 
-  pub told_after : (w : World) (table : Table ℕ Answer) (records : List Record) → Ahead lines w → IsTold w table → IsLegalFrom setting w records
+  pub told_after : (w : World) (table : Table ℕ Answer) (records : List Record) → Ahead lines w → IsTold w table → AreStepsFrom setting w records
       → IsTold (world_after setting w records) (fold (λ rows own. with_given rows own.answer) table records)
   told_after w table [] ahead t legal = t
   told_after w table (own ∷ later) ahead t legal =
@@ -284,7 +284,7 @@ module _ (setting : Setting) (rise : AreRising setting.lines) where
   pub told_start : IsTold (start setting) []
   told_start = record { given = λ n h. none_told n h; lines_too = λ n h. none_told n h }
 
-  pub open_line : (front : List Record) (own : Record) → IsLegalFrom setting (start setting) (front ++ own ∷ []) → (number : ℕ) (given : Answer)
+  pub open_line : (front : List Record) (own : Record) → AreStepsFrom setting (start setting) (front ++ own ∷ []) → (number : ℕ) (given : Answer)
       → own.answer ≡ Some (number, given) → IsOpenLine lines front number
   open_line front own legal number given e =
       let parts = front_legal setting (start setting) front (own ∷ []) legal in
@@ -299,6 +299,6 @@ module _ (setting : Setting) (rise : AreRising setting.lines) where
         open_yet = by_bool (is_answered front number) (λ yes. absurd (fresh.new (told.given number yes))) (λ no. no);
       }
 
-pub once : (script : Script) (front : List Record) (own : Record) → AreRising script.lines → IsLegal script (front ++ own ∷ [])
+pub once : (script : Script) (front : List Record) (own : Record) → AreRising script.lines → AreSteps script (front ++ own ∷ [])
     → (number : ℕ) (given : Answer) → own.answer ≡ Some (number, given) → IsOpenLine script.lines front number
 once script front own rise legal = open_line (setting_of script) rise front own legal

@@ -15,7 +15,7 @@ use Rattle.script_lines.specs.declared.request.Line.{Line}
 use Rattle.script_lines.specs.declared.script.Script.{Script}
 use Rattle.petal_rules.specs.Lists.{In}
 use Rattle.petal_rules.specs.World.{Setting, World, IsAnswered, start, setting_of}
-use Rattle.petal_history.specs.Legal.{IsLegal, IsLegalFrom, stepped, world_after}
+use Rattle.petal_history.specs.Steps.{AreSteps, AreStepsFrom, stepped, world_after}
 use Rattle.petal_history.specs.Text.{answers_of, text_of, with_given}
 use Rattle.petal_history.specs.declared.record.Record.{Record}
 use Rattle.law_steps.proofs.Histories.{front_legal}
@@ -75,7 +75,7 @@ module _ (setting : Setting) (rise : AreRising setting.lines) where
   abbrev IsBefore : Table ℕ Answer → World → Type 0
   IsBefore a w = (line : Line) → In line lines → (IsAnswered w.answers line.number → ⊥) → AreBelow a line.number
 
-  following : (a b : Table ℕ Answer) (w : World) (records : List Record) → Ahead lines w → IsBefore a w → IsLegalFrom setting w records
+  following : (a b : Table ℕ Answer) (w : World) (records : List Record) → Ahead lines w → IsBefore a w → AreStepsFrom setting w records
       → fold (λ rows own. with_given rows own.answer) (a ++ b) records ≡ a ++ fold (λ rows own. with_given rows own.answer) b records
   following a b w [] ahead before legal = refl
   following a b w (own ∷ later) ahead before legal =
@@ -92,7 +92,7 @@ module _ (setting : Setting) (rise : AreRising setting.lines) where
       ∙ following a (with_given b own.answer) v later s.ahead still legal.1
 
   -- where what is answered comes first, its table is before what has no answer
-  comes_before : (front : List Record) → IsLegalFrom setting (start setting) front → AnsweredComeFirst lines front
+  comes_before : (front : List Record) → AreStepsFrom setting (start setting) front → AnsweredComeFirst lines front
       → IsBefore (answers_of front) (world_after setting (start setting) front)
   comes_before front legal first line there none row i =
       let told = told_after setting rise (start setting) [] front (ahead_start setting rise)
@@ -108,7 +108,7 @@ module _ (setting : Setting) (rise : AreRising setting.lines) where
   append_nil [] = refl
   append_nil (row ∷ rows) = ap (λ more. row ∷ more) (append_nil rows)
 
-  joins : (front back : List Record) → IsLegalFrom setting (start setting) (front ++ back) → AnsweredComeFirst lines front
+  joins : (front back : List Record) → AreStepsFrom setting (start setting) (front ++ back) → AnsweredComeFirst lines front
       → answers_of (front ++ back) ≡ answers_of front ++ answers_of back
   joins front back legal first =
       let parts = front_legal setting (start setting) front back legal in
@@ -117,11 +117,11 @@ module _ (setting : Setting) (rise : AreRising setting.lines) where
       ∙ ap (λ rows. fold (λ rows own. with_given rows own.answer) rows back) (sym (append_nil (answers_of front)))
       ∙ following (answers_of front) [] (world_after setting (start setting) front) back ahead (comes_before front parts.0 first) parts.1
 
-pub answers_join : (script : Script) (front back : List Record) → AreRising script.lines → IsLegal script (front ++ back)
+pub answers_join : (script : Script) (front back : List Record) → AreRising script.lines → AreSteps script (front ++ back)
     → AnsweredComeFirst script.lines front → answers_of (front ++ back) ≡ answers_of front ++ answers_of back
 answers_join script front back rise legal first = joins (setting_of script) rise front back legal first
 
-pub text_joins : (script : Script) (front back : List Record) → AreRising script.lines → IsLegal script (front ++ back)
+pub text_joins : (script : Script) (front back : List Record) → AreRising script.lines → AreSteps script (front ++ back)
     → AnsweredComeFirst script.lines front → text_of (front ++ back) ≡ text_of front ++ text_of back
 text_joins script front back rise legal first =
     ap (λ rows. flat_map (λ row. answer_line row.0 row.1) rows) (answers_join script front back rise legal first)

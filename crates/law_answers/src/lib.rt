@@ -8,20 +8,20 @@
 ghost use Rattle.std.specs.Prelude.{◌≡◌, ◌++◌, ℕ, List, [], ◌∷◌, Some};
 ghost use Rattle.script_lines.specs.declared.answer.Answer.{Answer};
 ghost use Rattle.script_lines.specs.declared.script.Script.{Script};
-ghost use Rattle.petal_history.specs.Legal.{IsLegal};
+ghost use Rattle.petal_history.specs.Steps.{AreSteps};
 ghost use Rattle.petal_history.specs.Text.{text_of};
 ghost use Rattle.petal_history.specs.declared.record.Record.{Record};
 ghost use Rattle.petal_history.specs.Order.{AnsweredComeFirst, AreRising, IsOpenLine, JoinsAnswers};
 
 /// Each answer is of a line of the script that no earlier record answered.
 pub fn no_line_is_answered_twice()
-    ensures { (script : Script) (front : List Record) (own : Record) → AreRising script.lines → IsLegal script (front ++ own ∷ [])
+    ensures { (script : Script) (front : List Record) (own : Record) → AreRising script.lines → AreSteps script (front ++ own ∷ [])
         → (number : ℕ) (given : Answer) → own.answer ≡ Some (number, given) → IsOpenLine script.lines front number }
 {}
 
 /// Where the front of a history answers the first lines, its answers are a front of all answers, and so is its text.
 pub fn phases_come_one_after_the_other()
     ensures answers { (script : Script) → JoinsAnswers script }
-    ensures text { (script : Script) (front back : List Record) → AreRising script.lines → IsLegal script (front ++ back)
+    ensures text { (script : Script) (front back : List Record) → AreRising script.lines → AreSteps script (front ++ back)
         → AnsweredComeFirst script.lines front → text_of (front ++ back) ≡ text_of front ++ text_of back }
 {}

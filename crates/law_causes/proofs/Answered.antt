@@ -25,7 +25,7 @@ use Rattle.petal_state.specs.State.{start as first_state, latest}
 use Rattle.petal_state.specs.Command.{state_after}
 use Rattle.petal_history.specs.Causes.{HasWitness, HasVerdict, CauseOf, AreCaused, WasTold}
 use Rattle.petal_history.specs.Claims.{IsPrefix}
-use Rattle.petal_history.specs.Legal.{IsLegal, IsLegalFrom, stepped, world_after}
+use Rattle.petal_history.specs.Steps.{AreSteps, AreStepsFrom, stepped, world_after}
 use Rattle.petal_history.specs.Order.{AreRising}
 use Rattle.petal_history.specs.declared.record.Record.{Record}
 use Rattle.script_lines.specs.declared.script.Script.{Script}
@@ -413,7 +413,7 @@ sent_on setting w (own ∷ later) letter h =
 
 kept_after : (setting : Setting) (last : World) (plain : IsPlainLog setting.servers (chosen_log setting last))
     (commands : AreAsked setting.lines (chosen_log setting last))
-    (w : World) (records : List Record) → AreFirm setting w records → Rests setting w → IsLegalFrom setting w records
+    (w : World) (records : List Record) → AreFirm setting w records → Rests setting w → AreStepsFrom setting w records
     → IsPrefix (chosen_log setting (world_after setting w records)) (chosen_log setting last)
     → ((letter : Letter) → In letter (world_after setting w records).sent → In letter last.sent) → Kept setting last plain commands w
     → Kept setting last plain commands (world_after setting w records)
@@ -435,7 +435,7 @@ take_front (e ∷ log) zero = record { later = e ∷ log; is = refl }
 take_front (e ∷ log) (suc k) = let rest = take_front log k in record { later = rest.later; is = ap (λ xs. e ∷ xs) rest.is }
 
 -- in view of the log at a history's end
-module _ (script : Script) (records : List Record) (firm : AreFirm (setting_of script) (start (setting_of script)) records) (legal : IsLegal script records)
+module _ (script : Script) (records : List Record) (firm : AreFirm (setting_of script) (start (setting_of script)) records) (legal : AreSteps script records)
     (commands : AreAsked script.lines (chosen_log (setting_of script) (world_after (setting_of script) (start (setting_of script)) records))) where
   abbrev setting : Setting
   setting = setting_of script

@@ -7,7 +7,7 @@ use Rattle.script_lines.specs.declared.request.Request.TheVariants as request
 use Rattle.script_lines.specs.declared.script.Script.{Script}
 use Rattle.petal_command.specs.declared.command.Command.{Command}
 use Rattle.petal_command.specs.declared.command.Command.TheVariants.{Caught, Drained, Join, Leave, Moved}
-use Rattle.petal_history.specs.Legal.{IsLegal, world_after}
+use Rattle.petal_history.specs.Steps.{AreSteps, world_after}
 use Rattle.petal_history.specs.Sound.{IsSound}
 use Rattle.petal_history.specs.declared.record.Record.{Record}
 use Rattle.petal_rules.specs.Clients.{command_of}
@@ -43,7 +43,7 @@ not_wanted setting w (Drained server inc fence) c seq h named = none_some refl n
 not_wanted setting w (Moved of region link) c seq h named = none_some refl named
 not_wanted setting w _ c seq h named = absurd h.is
 
-pub commands_are_asked : (script : Script) (records : List Record) → IsSound script → IsLegal script records
+pub commands_are_asked : (script : Script) (records : List Record) → IsSound script → AreSteps script records
     → AreAsked script.lines (chosen_log (setting_of script) (world_after (setting_of script) (start (setting_of script)) records))
 commands_are_asked script records sound legal c seq command named there =
     let w = world_after (setting_of script) (start (setting_of script)) records in

@@ -26,7 +26,7 @@ use Rattle.petal_rules.specs.declared.step.Step.TheVariants.{Call, Deliver, Tick
 use Rattle.petal_rules.specs.declared.step.WorkEnd.{WorkEnd}
 use Rattle.petal_rules.proofs.ListLemmas.{in-append, put_apart, put_same}
 use Rattle.petal_rules.proofs.Tests.{all_put, by_test, none_some, same_some, true_false}
-use Rattle.petal_history.specs.Legal.{IsLegal, world_after}
+use Rattle.petal_history.specs.Steps.{AreSteps, world_after}
 use Rattle.petal_history.specs.Order.{AreRising}
 use Rattle.petal_history.specs.Sound.{IsSound}
 use Rattle.petal_history.specs.declared.record.Record.{Record}
@@ -50,7 +50,7 @@ use Rattle.law_causes.proofs.Failing.{told_by, boots_named, done_booted, boot_wh
 -- ### A history
 
 module _ (script : Script) (records : List Record) (sound : IsSound script) (rise : AreRising script.lines)
-    (legal : IsLegal script records) where
+    (legal : AreSteps script records) where
   abbrev setting : Setting
   setting = setting_of script
 
@@ -112,8 +112,8 @@ module _ (script : Script) (records : List Record) (sound : IsSound script) (ris
     abbrev w : World
     w = world_after setting (start setting) front
 
-    front_is_legal : IsLegal script front
-    front_is_legal = (front_legal setting (start setting) front (own ∷ following) (subst (IsLegal script) lies legal)).0
+    front_is_legal : AreSteps script front
+    front_is_legal = (front_legal setting (start setting) front (own ∷ following) (subst (AreSteps script) lies legal)).0
 
     opened : (c : ℕ) (asked : Asked) → (w.clients c).asked ≡ Some asked → IsOpenFor lines c asked
     opened = open_for script front sound front_is_legal
@@ -532,7 +532,7 @@ module _ (script : Script) (records : List Record) (sound : IsSound script) (ris
       → Kept (world_after setting (start setting) records)
   kept_after front [] is kept = subst (λ done. Kept (world_after setting (start setting) done)) (sym (is ∙ append-nil front)) kept
   kept_after front (own ∷ later) is kept =
-      let may = (front_legal setting (start setting) front (own ∷ later) (subst (IsLegal script) is legal)).1.0.may.may in
+      let may = (front_legal setting (start setting) front (own ∷ later) (subst (AreSteps script) is legal)).1.0.may.may in
       kept_after (front ++ own ∷ []) later (is ∙ sym (append_assoc front (own ∷ []) later))
       (subst Kept (sym (world_more setting (start setting) front own)) (record_keeps front own later is kept own.actor own.step refl refl may))
 

@@ -7,7 +7,7 @@ use Rattle.script_lines.specs.declared.script.Script.{Script}
 use Rattle.petal_rules.specs.Clients.{Asked}
 use Rattle.petal_rules.specs.Jobs.{operator}
 use Rattle.petal_rules.specs.World.{Boots, Deed, IsOpenLine, Stops, World, setting_of, start}
-use Rattle.petal_history.specs.Legal.{IsLegal, world_after}
+use Rattle.petal_history.specs.Steps.{AreSteps, world_after}
 use Rattle.petal_history.specs.Sound.{IsSound}
 use Rattle.petal_history.specs.declared.record.Record.{Record}
 use Rattle.law_answers.proofs.Places.{line_at}
@@ -17,7 +17,7 @@ use Rattle.law_causes.proofs.Answered.{IsOpenFor, open_after}
 use Rattle.law_causes.proofs.Asked.{commands_are_asked}
 
 -- an open request is that of a line
-pub open_for : (script : Script) (records : List Record) → IsSound script → IsLegal script records → (c : ℕ) (asked : Asked)
+pub open_for : (script : Script) (records : List Record) → IsSound script → AreSteps script records → (c : ℕ) (asked : Asked)
     → ((world_after (setting_of script) (start (setting_of script)) records).clients c).asked ≡ Some asked
     → IsOpenFor script.lines c asked
 open_for script records sound legal =

@@ -16,7 +16,7 @@ use Rattle.petal_rules.specs.declared.step.Step.{Step}
 use Rattle.petal_rules.specs.declared.step.Step.TheVariants.{Glance}
 use Rattle.petal_rules.proofs.ListLemmas.{in-append, in_later}
 use Rattle.petal_rules.proofs.Tests.{by_test}
-use Rattle.petal_history.specs.Legal.{IsLegal, IsLegalFrom, stepped, world_after}
+use Rattle.petal_history.specs.Steps.{AreSteps, AreStepsFrom, stepped, world_after}
 use Rattle.petal_history.specs.Order.{AreRising}
 use Rattle.petal_history.specs.Sound.{IsSound}
 use Rattle.petal_history.specs.declared.record.Record.{Record}
@@ -78,7 +78,7 @@ module _ (setting : Setting) (number : ℕ) where
 
   -- after a glance of the line a server was shown for it
   was_said : (w : World) (front : List Record) (own : Record) (later : List Record) (round : ℕ) → own.step ≡ Glance number round
-      → IsLegalFrom setting w (front ++ own ∷ later) → IsSaid (world_after setting w (front ++ own ∷ later)) number
+      → AreStepsFrom setting w (front ++ own ∷ later) → IsSaid (world_after setting w (front ++ own ∷ later)) number
   was_said w [] own later round is legal =
       said_after (stepped setting w own).world later (glance_says own.actor own.step round w own.stamp is legal.0.may.may)
   was_said w (x ∷ front) own later round is legal = was_said (stepped setting w x).world front own later round is legal.1
@@ -91,18 +91,18 @@ module _ (script : Script) (sound : IsSound script) (rise : AreRising script.lin
 
   one_glance : (line : Line) (m : ℕ) → In line script.lines → (names line.request).server ≡ Some m → (front : List Record) (own : Record)
       (middle : List Record) (other : Record) (following : List Record) (round later : ℕ)
-      → IsLegal script (front ++ own ∷ (middle ++ other ∷ following)) → own.step ≡ Glance line.number round
+      → AreSteps script (front ++ own ∷ (middle ++ other ∷ following)) → own.step ≡ Glance line.number round
       → other.step ≡ Glance line.number later → ⊥
   one_glance line m there named front own middle other following round later legal is again =
       let done = front ++ own ∷ middle in
       let parts = front_legal setting (start setting) done (other ∷ following)
-      (subst (IsLegal script) (sym (append_assoc front (own ∷ middle) (other ∷ following))) legal) in
+      (subst (AreSteps script) (sym (append_assoc front (own ∷ middle) (other ∷ following))) legal) in
       let s = was_said setting line.number (start setting) front own middle round is parts.0 in
       let g = glances_at setting line.number other.actor other.step later
       (world_after setting (start setting) done) again parts.1.0.may.may in
       glanced_before script done sound rise parts.0 line m there named s.letter s.round s.running s.inc s.full s.there s.is g.0 later g.1
 
-  pub has_glance : (records : List Record) → IsLegal script records → (line : Line) (n : ℕ) (given : Answer) → In line script.lines
+  pub has_glance : (records : List Record) → AreSteps script records → (line : Line) (n : ℕ) (given : Answer) → In line script.lines
       → (names line.request).server ≡ Some n → In (line.number, given) (world_after setting (start setting) records).answers
       → HasGlance setting (start setting) records line n given
   has_glance records legal line n given there named told =
@@ -114,12 +114,12 @@ module _ (script : Script) (sound : IsSound script) (rise : AreRising script.lin
           | inl before ↦
               let r = lies_in other g.front before in
               one_glance line n there named r.0 other r.1 g.own g.following round 0
-              (subst (IsLegal script)
+              (subst (AreSteps script)
               (g.is ∙ ap (λ xs. xs ++ g.own ∷ g.following) r.2 ∙ append_assoc r.0 (other ∷ r.1) (g.own ∷ g.following)) legal)
               again g.so.what
           | inr after ↦
               let r = lies_in other g.following after in
               one_glance line n there named g.front g.own r.0 other r.1 0 round
-              (subst (IsLegal script) (g.is ∙ ap (λ xs. g.front ++ g.own ∷ xs) r.2) legal) g.so.what again
+              (subst (AreSteps script) (g.is ∙ ap (λ xs. g.front ++ g.own ∷ xs) r.2) legal) g.so.what again
         ];
       }

@@ -13,7 +13,7 @@ use Rattle.petal_rules.specs.declared.job.Job.TheVariants as job
 use Rattle.petal_rules.specs.declared.step.Step.{Step}
 use Rattle.petal_rules.proofs.ListLemmas.{in-append}
 use Rattle.petal_rules.proofs.Tests.{true_false, by_test}
-use Rattle.petal_history.specs.Legal.{Follows, IsLegal, IsLegalFrom, stepped, world_after}
+use Rattle.petal_history.specs.Steps.{Follows, AreSteps, AreStepsFrom, stepped, world_after}
 use Rattle.petal_history.specs.declared.record.Record.{Record}
 use Rattle.script_lines.specs.declared.script.Script.{Script}
 use Rattle.law_state.proofs.Steady.{log_rev}
@@ -97,7 +97,7 @@ later_reason : (setting : Setting) (w : World) (own : Record) (later : List Reco
     → HasReason setting w (own ∷ later) letter seq
 later_reason setting w own later letter seq r = record { moment = moment_later own later r.moment; sent = r.sent; so = r.so }
 
-reasons_from : (setting : Setting) (w : World) (records : List Record) → AreFirm setting w records → Rests setting w → IsLegalFrom setting w records
+reasons_from : (setting : Setting) (w : World) (records : List Record) → AreFirm setting w records → Rests setting w → AreStepsFrom setting w records
     → (letter : Letter) (seq : ℕ)
     → In letter (world_after setting w records).sent → letter.body ≡ body.WrongRev seq → In letter w.sent ⊎ HasReason setting w records letter seq
 reasons_from setting w [] firm rests legal letter seq h e = inl h
@@ -116,7 +116,7 @@ reasons_from setting w (own ∷ later) firm rests legal letter seq h e =
       ]
     ]
 
-pub reason_after : (script : Script) (records : List Record) → AreFirm (setting_of script) (start (setting_of script)) records → IsLegal script records
+pub reason_after : (script : Script) (records : List Record) → AreFirm (setting_of script) (start (setting_of script)) records → AreSteps script records
     → (letter : Letter) (seq : ℕ)
     → In letter (world_after (setting_of script) (start (setting_of script)) records).sent → letter.body ≡ body.WrongRev seq
     → HasReason (setting_of script) (start (setting_of script)) records letter seq

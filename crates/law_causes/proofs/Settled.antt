@@ -33,7 +33,7 @@ use Rattle.petal_rules.specs.declared.step.Step.TheVariants.{Glance}
 use Rattle.petal_rules.proofs.ListLemmas.{in-append}
 use Rattle.petal_rules.proofs.Tests.{all_put, both_true, by_test, none_some, same_numbers, same_or_apart, same_some, true_false}
 use Rattle.petal_history.specs.Claims.{IsPrefix}
-use Rattle.petal_history.specs.Legal.{IsLegal, world_after}
+use Rattle.petal_history.specs.Steps.{AreSteps, world_after}
 use Rattle.petal_history.specs.Sound.{IsSound}
 use Rattle.petal_history.specs.declared.record.Record.{Record}
 use Rattle.law_answers.proofs.Places.{line_at}
@@ -264,7 +264,7 @@ module _ (script : Script) (sound : IsSound script) where
     settled_on number answer.NoSpace f = full_on number f
     settled_on number _ never = absurd never
 
-  module _ (done : List Record) (own : Record) (legal : IsLegal script done) (kept : Kept (W done) done) where
+  module _ (done : List Record) (own : Record) (legal : AreSteps script done) (kept : Kept (W done) done) where
     abbrev w : World
     w = W done
 
@@ -567,13 +567,13 @@ module _ (script : Script) (sound : IsSound script) where
 
   -- ### All records
 
-  kept_after : (done later : List Record) → IsLegal script (done ++ later) → Kept (W done) done → Kept (W (done ++ later)) (done ++ later)
+  kept_after : (done later : List Record) → AreSteps script (done ++ later) → Kept (W done) done → Kept (W (done ++ later)) (done ++ later)
   kept_after done [] legal kept = subst (λ all. Kept (W all) all) (sym (append-nil done)) kept
   kept_after done (own ∷ later) legal kept =
       let parts = front_legal setting (start setting) done (own ∷ later) legal in
       let next = record_keeps done own parts.0 kept own.actor own.step refl refl parts.1.0.may.may in
       subst (λ all. Kept (W all) all) (append_assoc done (own ∷ []) later)
-      (kept_after (done ++ own ∷ []) later (subst (IsLegal script) (sym (append_assoc done (own ∷ []) later)) legal)
+      (kept_after (done ++ own ∷ []) later (subst (AreSteps script) (sym (append_assoc done (own ∷ []) later)) legal)
       (subst (λ (v : World). Kept v (done ++ own ∷ [])) (sym (world_more setting (start setting) done own)) next))
 
   start_kept : Kept (start setting) []
@@ -586,14 +586,14 @@ module _ (script : Script) (sound : IsSound script) where
   }
 
   -- a letter that shows a copy without a slot comes of such a glance
-  pub shown_full : (records : List Record) → IsLegal script records
+  pub shown_full : (records : List Record) → AreSteps script records
       → (letter : Letter) (line round : ℕ) (running : Bool) (inc : ℕ) (full : Bool)
       → In letter (W records).sent → letter.body ≡ body.Seen line round running inc full → full ≡ true
       → HasFoundFull setting (start setting) records line
   shown_full records legal letter line round running inc full i e is =
       ((kept_after [] records legal start_kept).shows letter line round running inc full i e).found_full is
 
-  pub settled_by : (records : List Record) → IsLegal script records → (line : Line) (given : Answer) → In line lines
+  pub settled_by : (records : List Record) → AreSteps script records → (line : Line) (given : Answer) → In line lines
       → line.request ≡ request.Settle
       → In (line.number, given) (W records).answers → HasSettled setting (start setting) records line.number given
   settled_by records legal line given there settle told =

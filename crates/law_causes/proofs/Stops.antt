@@ -22,7 +22,7 @@ use Rattle.petal_rules.specs.declared.step.WorkEnd.{WorkEnd}
 use Rattle.petal_rules.specs.declared.step.WorkEnd.TheVariants as work_end
 use Rattle.petal_rules.proofs.ListLemmas.{put_same, put_apart}
 use Rattle.petal_rules.proofs.Tests.{by_bool, by_test, same_or_apart, true_false}
-use Rattle.petal_history.specs.Legal.{IsLegal, stepped, world_after}
+use Rattle.petal_history.specs.Steps.{AreSteps, stepped, world_after}
 use Rattle.petal_history.specs.Sound.{IsSound}
 use Rattle.petal_history.specs.declared.record.Record.{Record}
 use Rattle.law_state.proofs.Disks.{first_at_start}
@@ -124,7 +124,7 @@ ceases setting w (own ∷ later) n rests =
     ]
 
 -- a server that may be stopped was told so by a line of the script
-told_by_line : (script : Script) (records : List Record) → IsSound script → IsLegal script records → (n : ℕ)
+told_by_line : (script : Script) (records : List Record) → IsSound script → AreSteps script records → (n : ℕ)
     → (let w = world_after (setting_of script) (start (setting_of script)) records in MayStop w n → IsReasonToStop (setting_of script) w n Stop)
 told_by_line script records sound legal n may =
     let w = world_after (setting_of script) (start (setting_of script)) records in
@@ -132,7 +132,7 @@ told_by_line script records sound legal n may =
     Was_told may.asked o.line refl (subst (λ r. AsksToStop r n) o.request_is (asks_to_stop may.asked.request n w.control.hand may.stops))
     (line_of script.lines w may.asked o may.opened)
 
-pub stops_for_a_reason : (script : Script) (records : List Record) → IsSound script → IsLegal script records → (n : ℕ) → n < script.servers
+pub stops_for_a_reason : (script : Script) (records : List Record) → IsSound script → AreSteps script records → (n : ℕ) → n < script.servers
     → ((world_after (setting_of script) (start (setting_of script)) records).servers n).life.running ≡ false
     → HasReasonToStop (setting_of script) (start (setting_of script)) records n
 stops_for_a_reason script records sound legal n low rests =
@@ -142,7 +142,7 @@ stops_for_a_reason script records sound legal n low rests =
       | inl down ↦ true_false ran (down_now setting (start setting) records n down)
       | inr c ↦
           let w = world_after setting (start setting) c.front in
-          let parts = front_legal setting (start setting) c.front (c.own ∷ c.following) (subst (IsLegal script) c.is legal) in
+          let parts = front_legal setting (start setting) c.front (c.own ∷ c.following) (subst (AreSteps script) c.is legal) in
           let down = down_now setting (stepped setting w c.own).world c.following n c.since in
           let s = step_why setting w n (told_by_line script c.front sound parts.0 n) c.ran c.own.actor c.own.step c.own.stamp
           parts.1.0.may.may down in
@@ -161,7 +161,7 @@ no_line_stops asked n (inl is) none = true_false (ap stops_a_server is) none
 no_line_stops asked n (inr is) none = true_false (ap stops_a_server is) none
 
 -- where no line stops a server and none stops by itself, all of them run
-all_run : (script : Script) (records : List Record) → IsSound script → IsLegal script records → NoneIsStopped script.lines
+all_run : (script : Script) (records : List Record) → IsSound script → AreSteps script records → NoneIsStopped script.lines
     → NoneStopsByItself (setting_of script) (start (setting_of script)) records → (n : ℕ) → n < script.servers
     → ((world_after (setting_of script) (start (setting_of script)) records).servers n).life.running ≡ true
 all_run script records sound legal lines itself n low = by_bool (last.servers n).life.running (λ on. on)
@@ -206,12 +206,12 @@ was_down : (setting : Setting) (w : World) (who : Actor) (end : WorkEnd) → May
 was_down setting w (actor.Server n) end may = (n, may.0, may.1.rests)
 was_down setting w (actor.Client c) end may = absurd may.1
 
-none_boots : (script : Script) (records : List Record) → IsSound script → IsLegal script records → NoneIsStopped script.lines
+none_boots : (script : Script) (records : List Record) → IsSound script → AreSteps script records → NoneIsStopped script.lines
     → NoneStopsByItself (setting_of script) (start (setting_of script)) records → NoneBoots records
 none_boots script records sound legal lines itself own there end is =
     let setting = setting_of script in
     let p = part_of own records there in
-    let parts = front_legal setting (start setting) p.front (own ∷ p.following) (subst (IsLegal script) p.is legal) in
+    let parts = front_legal setting (start setting) p.front (own ∷ p.following) (subst (AreSteps script) p.is legal) in
     let w = world_after setting (start setting) p.front in
     let none = none_itself_before setting (start setting) p.front (own ∷ p.following)
     (subst (NoneStopsByItself setting (start setting)) p.is itself) in
@@ -219,7 +219,7 @@ none_boots script records sound legal lines itself own there end is =
     true_false (all_run script p.front sound parts.0 lines none down.0 down.1) down.2
 
 -- so every server still is In as its first incarnation
-pub all_in : (script : Script) (records : List Record) → IsSound script → IsLegal script records → NoneIsStopped script.lines
+pub all_in : (script : Script) (records : List Record) → IsSound script → AreSteps script records → NoneIsStopped script.lines
     → NoneStopsByItself (setting_of script) (start (setting_of script)) records → (n : ℕ) → n < script.servers
     → is_in (chosen_state (setting_of script) (world_after (setting_of script) (start (setting_of script)) records)) n 1 ≡ true
 all_in script records sound legal lines itself n low =

@@ -10,7 +10,7 @@ use Rattle.petal_rules.specs.Clients.{Asked}
 use Rattle.petal_rules.specs.Lists.{In}
 use Rattle.petal_rules.specs.World.{Setting, World}
 use Rattle.petal_rules.specs.declared.step.Step.TheVariants.{Glance}
-use Rattle.petal_history.specs.Legal.{world_after}
+use Rattle.petal_history.specs.Steps.{world_after}
 use Rattle.petal_history.specs.declared.record.Record.{Record}
 use Rattle.law_state.specs.Moments.{IsMoment}
 use Rattle.law_causes.specs.Lines.{IsLineOf}

@@ -8,7 +8,7 @@ use Rattle.petal_rules.specs.Jobs.{operator}
 use Rattle.petal_rules.specs.Server.{Server}
 use Rattle.petal_rules.specs.World.{Setting, World, client_state, server_state}
 use Rattle.petal_rules.specs.declared.step.Step.TheVariants.{Glance}
-use Rattle.petal_history.specs.Legal.{world_after}
+use Rattle.petal_history.specs.Steps.{world_after}
 use Rattle.petal_history.specs.declared.record.Record.{Record}
 use Rattle.law_state.specs.Moments.{IsMoment}
 

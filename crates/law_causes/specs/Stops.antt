@@ -13,7 +13,7 @@ use Rattle.petal_rules.specs.declared.step.CommitEnd.{CommitEnd}
 use Rattle.petal_rules.specs.declared.step.Step.{Step}
 use Rattle.petal_rules.specs.declared.step.Step.TheVariants.{Work, StopIn, Stop}
 use Rattle.petal_rules.specs.declared.step.WorkEnd.TheVariants as work_end
-use Rattle.petal_history.specs.Legal.{stepped, world_after}
+use Rattle.petal_history.specs.Steps.{stepped, world_after}
 use Rattle.petal_history.specs.declared.record.Record.{Record}
 use Rattle.law_state.specs.Moments.{IsMoment}
 use Rattle.law_steps.specs.Happens.{own_place}

@@ -18,7 +18,7 @@ ghost use Rattle.script_lines.specs.declared.answer.Answer.TheVariants.{Failed, 
 ghost use Rattle.petal_rules.specs.Lists.{In};
 ghost use Rattle.petal_history.specs.Causes.{AreCaused};
 ghost use Rattle.petal_history.specs.Order.{AreRising};
-ghost use Rattle.law_state.specs.Histories.{IsLegal, IsSound, Record, Script, setting_of, start, world_after};
+ghost use Rattle.law_state.specs.Histories.{AreSteps, IsSound, Record, Script, setting_of, start, world_after};
 ghost use Rattle.law_causes.specs.Fails.{HasReasonToFail};
 ghost use Rattle.law_causes.specs.Glances.{HasGlance};
 ghost use Rattle.law_causes.specs.Reasons.{HasReason};
@@ -27,14 +27,14 @@ ghost use Rattle.law_causes.specs.Stops.{HasReasonToStop, NoneIsStopped, NoneSto
 
 /// Each answer has its cause in the chosen log. The lines rise, so an answer's number names the place of one line.
 pub fn answers_are_caused()
-    ensures { (script : Script) (records : List Record) → IsSound script → AreRising script.lines → IsLegal script records
+    ensures { (script : Script) (records : List Record) → IsSound script → AreRising script.lines → AreSteps script records
         → AreCaused (setting_of script) (world_after (setting_of script) (start (setting_of script)) records) }
 {}
 
 /// A server of the script that does not run at the end stopped in a step of its own, and has not run since, for a reason: the
 /// operator's open line told it to, a device failed, a device's plan stopped it, or a journal was full.
 pub fn a_server_stops_for_a_reason()
-    ensures { (script : Script) (records : List Record) → IsSound script → IsLegal script records
+    ensures { (script : Script) (records : List Record) → IsSound script → AreSteps script records
         → (n : ℕ) → n < script.servers → ((world_after (setting_of script) (start (setting_of script)) records).servers n).life.running ≡ false
         → HasReasonToStop (setting_of script) (start (setting_of script)) records n }
 {}
@@ -42,7 +42,7 @@ pub fn a_server_stops_for_a_reason()
 /// A start or a blank that is answered `failed` gave its server, while its line was open, a boot that left the server stopped: a
 /// device failed, or the journal had no room for the next incarnation.
 pub fn a_boot_fails_for_a_reason()
-    ensures { (script : Script) (records : List Record) → IsSound script → AreRising script.lines → IsLegal script records → (number : ℕ)
+    ensures { (script : Script) (records : List Record) → IsSound script → AreRising script.lines → AreSteps script records → (number : ℕ)
         → In (number, Failed) (world_after (setting_of script) (start (setting_of script)) records).answers
         → HasReasonToFail (setting_of script) (start (setting_of script)) records number }
 {}
@@ -51,7 +51,7 @@ pub fn a_boot_fails_for_a_reason()
 /// stop is answered `ok`, and the server did not run there; a start or a blank `ok` where it ran and `failed` where it did not.
 pub fn a_line_at_a_server_is_answered_by_its_glance()
     ensures { (script : Script) (records : List Record)
-        → IsSound script → AreRising script.lines → IsLegal script records → (line : Line) (server : ℕ) (given : Answer) → In line script.lines
+        → IsSound script → AreRising script.lines → AreSteps script records → (line : Line) (server : ℕ) (given : Answer) → In line script.lines
         → (names line.request).server ≡ Some server → In (line.number, given) (world_after (setting_of script) (start (setting_of script)) records).answers
         → HasGlance (setting_of script) (start (setting_of script)) records line server given }
 {}
@@ -60,7 +60,7 @@ pub fn a_line_at_a_server_is_answered_by_its_glance()
 /// and `nospace` only where one of its glances found a server which remembered that a slot was wanting, for its last copy or the last entry that
 /// it was to move. It is answered nothing else.
 pub fn a_settle_is_answered_by_its_glances()
-    ensures { (script : Script) (records : List Record) → IsSound script → IsLegal script records → (line : Line) (given : Answer) → In line script.lines
+    ensures { (script : Script) (records : List Record) → IsSound script → AreSteps script records → (line : Line) (given : Answer) → In line script.lines
         → line.request ≡ Settle → In (line.number, given) (world_after (setting_of script) (start (setting_of script)) records).answers
         → HasSettled (setting_of script) (start (setting_of script)) records line.number given }
 {}
@@ -69,14 +69,14 @@ pub fn a_settle_is_answered_by_its_glances()
 /// servers: no answer is that they are unavailable.
 pub fn no_answer_is_unavailable()
     ensures { (script : Script) (records : List Record) → IsSound script
-        → IsLegal script records → NoneIsStopped script.lines → NoneStopsByItself (setting_of script) (start (setting_of script)) records → (number : ℕ)
+        → AreSteps script records → NoneIsStopped script.lines → NoneStopsByItself (setting_of script) (start (setting_of script)) records → (number : ℕ)
         → In (number, Unavailable) (world_after (setting_of script) (start (setting_of script)) records).answers → ⊥ }
 {}
 
 /// A client is told of another revision only where a server that was In as itself handled its read or write, and had another
 /// revision than that letter.
 pub fn wrong_rev_has_a_reason()
-    ensures { (script : Script) (records : List Record) → IsSound script → IsLegal script records
+    ensures { (script : Script) (records : List Record) → IsSound script → AreSteps script records
         → (letter : Letter) (seq : ℕ) → In letter (world_after (setting_of script) (start (setting_of script)) records).sent → letter.body ≡ WrongRev seq
         → HasReason (setting_of script) (start (setting_of script)) records letter seq }
 {}

@@ -1,7 +1,7 @@
 -- A server that runs, and is In as itself, is at work with the store that counts.
 use Rattle.std.proofs.Common.{◌≡◌, ℕ, List, true}
 use Rattle.script_lines.specs.declared.script.Script.{Script}
-use Rattle.petal_history.specs.Legal.{IsLegal, world_after}
+use Rattle.petal_history.specs.Steps.{AreSteps, world_after}
 use Rattle.petal_history.specs.Sound.{IsSound}
 use Rattle.petal_history.specs.declared.record.Record.{Record}
 use Rattle.petal_rules.specs.State.{is_in}
@@ -13,7 +13,7 @@ use Rattle.law_copies.proofs.AtSeat.{IsAtWork}
 abbrev At : Script → List Record → World
 At script records = world_after (setting_of script) (start (setting_of script)) records
 
-pub at_work : (script : Script) (records : List Record) → IsSound script → IsLegal script records → (k : ℕ)
+pub at_work : (script : Script) (records : List Record) → IsSound script → AreSteps script records → (k : ℕ)
     → ((At script records).servers k).life.running ≡ true
     → is_in (server_state (setting_of script) (At script records) k) k ((At script records).servers k).life.inc ≡ true
     → IsAtWork (setting_of script) (At script records) (kept (setting_of script) (At script records)) k

@@ -3,7 +3,7 @@ use Rattle.std.proofs.Common.{◌≡◌, ◌≢◌, ◌++◌, ◌∷◌, ℕ, Li
 use Rattle.petal_base.specs.declared.cell.Cell.{Cell}
 use Rattle.script_lines.specs.declared.script.Script.{Script}
 use Rattle.petal_history.specs.Claims.{IsMarked, MarksFirst}
-use Rattle.petal_history.specs.Legal.{IsLegal, world_after}
+use Rattle.petal_history.specs.Steps.{AreSteps, world_after}
 use Rattle.petal_history.specs.Sound.{IsSound}
 use Rattle.petal_history.specs.declared.record.Record.{Record}
 use Rattle.petal_rules.specs.Boots.{blanked, stays}
@@ -102,14 +102,14 @@ module _ (setting : Setting) (records : List Record) (w : World) (firm : Firm se
       ]
       by state _ (Turns c stamp in_call reacted lt c_lt turned onward) lead changed = absurd (changed refl)
 
-pub marks_first : (script : Script) (records : List Record) → IsSound script → IsLegal script records → MarksFirst script records
+pub marks_first : (script : Script) (records : List Record) → IsSound script → AreSteps script records → MarksFirst script records
 marks_first script records sound legal front back own e n cell =
     let setting = setting_of script in
     let w = world_after setting (start setting) front in
     let all = front ++ own ∷ [] in
     let v = world_after setting (start setting) all in
-    let legal_all : IsLegal script all =
-    (front_legal setting (start setting) all back (subst (IsLegal script) (e ∙ sym (append_assoc front (own ∷ []) back)) legal)).0 in
+    let legal_all : AreSteps script all =
+    (front_legal setting (start setting) all back (subst (AreSteps script) (e ∙ sym (append_assoc front (own ∷ []) back)) legal)).0 in
     let legal_front = before_last script front own legal_all in
     let firm = history_is_firm script front sound legal_front in
     let rests = rests_after setting (start setting) front (always_firm script front sound legal_front) (start_rests script) legal_front in

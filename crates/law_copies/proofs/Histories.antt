@@ -6,7 +6,7 @@ use Rattle.petal_base.specs.declared.cell.Cell.{Cell}
 use Rattle.petal_msg.specs.Kinds.{subject_of}
 use Rattle.script_lines.specs.declared.script.Script.{Script}
 use Rattle.petal_history.specs.Claims.{IsPrefix}
-use Rattle.petal_history.specs.Legal.{IsLegal, world_after}
+use Rattle.petal_history.specs.Steps.{AreSteps, world_after}
 use Rattle.petal_history.specs.Sound.{IsSound}
 use Rattle.petal_history.specs.declared.record.Record.{Record}
 use Rattle.petal_rules.specs.Blanked.{BeforeBlank, kept_store}
@@ -147,10 +147,10 @@ pub record KeepsOn (setting : Setting) (records : List Record) (w v : World) (ol
   pub middle_visits : (n place : ℕ) (cell : Cell) → middle.visits n place cell ≡ good.visits n place cell
 
 -- the part of a history before its last record
-pub before_last : (script : Script) (records : List Record) (own : Record) → IsLegal script (records ++ own ∷ []) → IsLegal script records
+pub before_last : (script : Script) (records : List Record) (own : Record) → AreSteps script (records ++ own ∷ []) → AreSteps script records
 before_last script records own legal = (front_legal (setting_of script) (start (setting_of script)) records (own ∷ []) legal).0
 
-module _ (script : Script) (records : List Record) (own : Record) (sound : IsSound script) (legal : IsLegal script (records ++ own ∷ [])) where
+module _ (script : Script) (records : List Record) (own : Record) (sound : IsSound script) (legal : AreSteps script (records ++ own ∷ [])) where
   abbrev setting : Setting
   setting = setting_of script
 
@@ -163,7 +163,7 @@ module _ (script : Script) (records : List Record) (own : Record) (sound : IsSou
   abbrev next : World
   next = world_after setting (start setting) all
 
-  legal_before : IsLegal script records
+  legal_before : AreSteps script records
   legal_before = before_last script records own legal
 
   -- no server was beyond what was chosen before the last record
@@ -173,7 +173,7 @@ module _ (script : Script) (records : List Record) (own : Record) (sound : IsSou
     ever = λ before rest is n. elim (split_last records own before rest is) [
       | inl whole ↦ subst (λ rs. IsPrefix ((world_after setting (start setting) rs).servers n).log.applied (chosen_log setting w)) (sym whole) (now n)
       | inr more ↦ (
-          let legal_there = (front_legal setting (start setting) before more.0 (subst (IsLegal script) more.1 legal_before)).0 in
+          let legal_there = (front_legal setting (start setting) before more.0 (subst (AreSteps script) more.1 legal_before)).0 in
           front_on _ (chosen_log setting (world_after setting (start setting) before)) (chosen_log setting w)
           ((history_is_firm script before sound legal_there).servers n)
           (history_grows script records sound legal_before before more.0 more.1))
@@ -233,14 +233,14 @@ KeptAfter script records =
     (counted (setting_of script) (world_after (setting_of script) (start (setting_of script)) records))
 
 -- after each legal history
-good_from : (script : Script) (done later : List Record) → IsSound script → IsLegal script (done ++ later) → KeptAfter script done
+good_from : (script : Script) (done later : List Record) → IsSound script → AreSteps script (done ++ later) → KeptAfter script done
     → KeptAfter script (done ++ later)
 good_from script done [] sound legal good = subst (KeptAfter script) (sym (append-nil done)) good
 good_from script done (own ∷ later) sound legal good =
     let e = append_assoc done (own ∷ []) later in
-    let legal' : IsLegal script ((done ++ own ∷ []) ++ later) = subst (IsLegal script) (sym e) legal in
+    let legal' : AreSteps script ((done ++ own ∷ []) ++ later) = subst (AreSteps script) (sym e) legal in
     let part = (front_legal (setting_of script) (start (setting_of script)) (done ++ own ∷ []) later legal').0 in
     subst (KeptAfter script) e (good_from script (done ++ own ∷ []) later sound legal' (step_goes script done own sound part good).good)
 
-pub good_after : (script : Script) (records : List Record) → IsSound script → IsLegal script records → KeptAfter script records
+pub good_after : (script : Script) (records : List Record) → IsSound script → AreSteps script records → KeptAfter script records
 good_after script records sound legal = good_from script [] records sound legal (start_good (setting_of script))

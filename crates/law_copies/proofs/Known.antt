@@ -5,7 +5,7 @@ use Rattle.petal_command.specs.declared.command.Command.{Command}
 use Rattle.script_lines.specs.declared.script.Script.{Script}
 use Rattle.petal_state.specs.Command.{state_after}
 use Rattle.petal_history.specs.Claims.{IsPrefix}
-use Rattle.petal_history.specs.Legal.{IsLegal, world_after}
+use Rattle.petal_history.specs.Steps.{AreSteps, world_after}
 use Rattle.petal_history.specs.Sound.{IsSound}
 use Rattle.petal_history.specs.declared.record.Record.{Record}
 use Rattle.petal_rules.specs.State.{is_in}
@@ -55,7 +55,7 @@ abbrev pub before_of : OneMore → Before
 before_of it = record { top = chosen_log it.setting it.w; before = counted it.setting it.w }
 
 -- an incarnation that was ever In has begun
-pub in_begun : (script : Script) (records : List Record) → IsSound script → IsLegal script records → (n inc : ℕ) (front : List Command)
+pub in_begun : (script : Script) (records : List Record) → IsSound script → AreSteps script records → (n inc : ℕ) (front : List Command)
     → IsPrefix front (chosen_log (setting_of script) (world_after (setting_of script) (start (setting_of script)) records))
     → is_in (state_after script.servers front) n inc ≡ true → inc ≤ ((world_after (setting_of script) (start (setting_of script)) records).servers n).life.inc
 in_begun script records sound legal n inc front prefix up =
@@ -68,7 +68,7 @@ in_begun script records sound legal n inc front prefix up =
       | inr past ↦ omega arith
     ])
 
-pub known_after : (script : Script) (records : List Record) → IsSound script → IsLegal script records
+pub known_after : (script : Script) (records : List Record) → IsSound script → AreSteps script records
     → IsKnown (setting_of script) records (world_after (setting_of script) (start (setting_of script)) records)
 known_after script records sound legal =
     let setting = setting_of script in

@@ -13,7 +13,7 @@ use Rattle.petal_table.proofs.Rows.{at-empty}
 use Rattle.petal_msg.specs.declared.operation.Pending.{Pending}
 use Rattle.script_lines.specs.declared.script.Script.{Script}
 use Rattle.petal_history.specs.Claims.{AreCovered, Copies, Covered, TwoCopies, is_at_work, one_put_ahead}
-use Rattle.petal_history.specs.Legal.{IsLegal, world_after}
+use Rattle.petal_history.specs.Steps.{AreSteps, world_after}
 use Rattle.petal_history.specs.Sound.{IsSound}
 use Rattle.petal_history.specs.declared.record.Record.{Record}
 use Rattle.petal_state.specs.CellState.{cell_link}
@@ -178,7 +178,7 @@ module _ (setting : Setting) (records : List Record) (w : World) (firm : Firm se
 
 -- ### Histories
 
-module _ (script : Script) (records : List Record) (sound : IsSound script) (legal : IsLegal script records) where
+module _ (script : Script) (records : List Record) (sound : IsSound script) (legal : AreSteps script records) where
   abbrev setting : Setting
   setting = setting_of script
 

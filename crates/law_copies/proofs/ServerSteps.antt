@@ -11,7 +11,7 @@ use Rattle.petal_msg.specs.declared.body.Body.TheVariants as body
 use Rattle.petal_msg.specs.declared.letter.Letter.{Letter}
 use Rattle.petal_state.specs.Command.{state_after}
 use Rattle.petal_history.specs.Claims.{IsPrefix}
-use Rattle.petal_history.specs.Legal.{world_after}
+use Rattle.petal_history.specs.Steps.{world_after}
 use Rattle.petal_rules.specs.Ballots.{post_of}
 use Rattle.petal_rules.specs.Blanked.{BeforeBlank, kept_store}
 use Rattle.petal_rules.specs.Boots.{awake, raised, stays, wakes}

@@ -10,7 +10,7 @@ use Rattle.petal_msg.specs.declared.copying.Progress.{Progress}
 use Rattle.petal_state.specs.CellState.{cell_link}
 use Rattle.petal_state.specs.Command.{state_after}
 use Rattle.petal_state.specs.State.{start as first_state}
-use Rattle.petal_history.specs.Legal.{world_after}
+use Rattle.petal_history.specs.Steps.{world_after}
 use Rattle.petal_rules.specs.Lists.{In}
 use Rattle.petal_rules.specs.Progress.{no_progress}
 use Rattle.petal_rules.specs.State.{id_of, link_cmp}

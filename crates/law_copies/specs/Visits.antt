@@ -17,7 +17,7 @@ use Rattle.petal_rules.specs.State.{State, is_in}
 use Rattle.petal_rules.specs.Store.{Store}
 use Rattle.petal_rules.specs.World.{Setting, World, blank_joins_in, with_store}
 use Rattle.petal_rules.specs.World.{start as start_world}
-use Rattle.petal_history.specs.Legal.{world_after}
+use Rattle.petal_history.specs.Steps.{world_after}
 use Rattle.petal_history.specs.declared.record.Record.{Record}
 use Rattle.law_state.specs.Homes.{stage_at}
 

@@ -13,12 +13,12 @@ ghost use Rattle.std.specs.Prelude.{List};
 ghost use Rattle.petal_base.specs.declared.cell.Cell.{Cell};
 ghost use Rattle.petal_rules.specs.World.{chosen_log, chosen_state, counted};
 ghost use Rattle.petal_history.specs.Claims.{TwoCopies, Covered, MarksFirst};
-ghost use Rattle.law_state.specs.Histories.{IsLegal, IsSound, Record, Script, setting_of, start, world_after};
+ghost use Rattle.law_state.specs.Histories.{AreSteps, IsSound, Record, Script, setting_of, start, world_after};
 ghost use Rattle.law_copies.specs.Good.{Good};
 
 /// After every legal history of a sound script, the two copies of each cell in Both keep the rule, by the stores that count.
 pub fn two_copies()
-    ensures { (script : Script) (records : List Record) → IsSound script → IsLegal script records → (cell : Cell)
+    ensures { (script : Script) (records : List Record) → IsSound script → AreSteps script records → (cell : Cell)
         → TwoCopies (chosen_state (setting_of script) (world_after (setting_of script) (start (setting_of script)) records))
         (counted (setting_of script) (world_after (setting_of script) (start (setting_of script)) records)) cell }
 {}
@@ -26,7 +26,7 @@ pub fn two_copies()
 /// Where one server holds a cell alone by what is chosen, the two copies that count are equal, or the block is marked at one of the cell's
 /// two servers, or the other server came back with nothing, and the holder is to copy all that it has.
 pub fn an_unequal_block_is_marked()
-    ensures { (script : Script) (records : List Record) → IsSound script → IsLegal script records
+    ensures { (script : Script) (records : List Record) → IsSound script → AreSteps script records
         → (cell : Cell) → Covered (chosen_state (setting_of script) (world_after (setting_of script) (start (setting_of script)) records))
         (counted (setting_of script) (world_after (setting_of script) (start (setting_of script)) records)) cell }
 {}
@@ -40,7 +40,7 @@ pub fn an_unequal_block_is_marked()
 /// its own entries, and stays as it then was; of a letter, or of a ballot that was started, this is told where the cell is not dead at the
 /// front of its sender; and what a server has pending finds its marks where the cell is live by the server's own entries.
 pub fn letters_between_two_servers()
-    ensures { (script : Script) (records : List Record) → IsSound script → IsLegal script records
+    ensures { (script : Script) (records : List Record) → IsSound script → AreSteps script records
         → Good (setting_of script) records (chosen_log (setting_of script) (world_after (setting_of script) (start (setting_of script)) records))
         (counted (setting_of script) (world_after (setting_of script) (start (setting_of script)) records)) }
 {}
@@ -48,5 +48,5 @@ pub fn letters_between_two_servers()
 /// In every legal history of a sound script, each put of a lead fell on a block that was marked on its device. What is swept of a cell that is
 /// not live by the server's own state is no put.
 pub fn leads_put_on_marked_blocks()
-    ensures { (script : Script) (records : List Record) → IsSound script → IsLegal script records → MarksFirst script records }
+    ensures { (script : Script) (records : List Record) → IsSound script → AreSteps script records → MarksFirst script records }
 {}

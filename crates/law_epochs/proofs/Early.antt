@@ -26,7 +26,7 @@ use Rattle.petal_rules.specs.Store.{Chain, Store, chain_in}
 use Rattle.petal_rules.specs.World.{World, chosen_state, setting_of, stamped}
 use Rattle.petal_rules.specs.declared.step.Step.{Step}
 use Rattle.petal_rules.proofs.ListLemmas.{in-append}
-use Rattle.petal_history.specs.Legal.{IsLegal}
+use Rattle.petal_history.specs.Steps.{AreSteps}
 use Rattle.petal_history.specs.Sound.{IsSound}
 use Rattle.petal_history.specs.declared.record.Record.{Record}
 use Rattle.law_state.specs.Homes.{stage_at}
@@ -184,7 +184,7 @@ module _ (it : OneMore) (old : AllEarly (ends_of it).setting (ends_of it).w) whe
         letters = letters_said state v happened;
       }
 
-pub all_early : (script : Script) (records : List Record) → IsSound script → IsLegal script records → AllEarly (setting_of script) (At script records)
+pub all_early : (script : Script) (records : List Record) → IsSound script → AreSteps script records → AllEarly (setting_of script) (At script records)
 all_early script records sound legal =
     along script (AllEarly (setting_of script)) (λ front own part. early_next (one_more script sound front own part)) [] records legal
     (start_early (setting_of script))
@@ -204,7 +204,7 @@ early_so servers log store all = record {
         let there = at_key (chain_in store.chains cell) 0 row (ap (λ (c : Chain). slice_get c 0) is) in
         (all cell row.0 there.0 there.1).born
 
-pub early_entries : (script : Script) (records : List Record) → IsSound script → IsLegal script records
+pub early_entries : (script : Script) (records : List Record) → IsSound script → AreSteps script records
     → HaveEarlyEntries script.servers (At script records)
 early_entries script records sound legal =
     let all = all_early script records sound legal in

@@ -14,7 +14,7 @@ use Rattle.petal_rules.specs.Store.{cell_cmp}
 use Rattle.petal_rules.specs.Writes.{is_clients}
 use Rattle.petal_rules.specs.World.{chosen_log, server_state, setting_of}
 use Rattle.petal_history.specs.Claims.{IsPrefix}
-use Rattle.petal_history.specs.Legal.{IsLegal}
+use Rattle.petal_history.specs.Steps.{AreSteps}
 use Rattle.petal_history.specs.Sound.{IsSound}
 use Rattle.petal_history.specs.declared.record.Record.{Record}
 use Rattle.law_copies.specs.Visits.{IsLinked, WasThere, place_by}
@@ -26,14 +26,14 @@ use Rattle.law_epochs.proofs.Second.{timely_now}
 use Rattle.law_epochs.proofs.Early.{early_entries}
 use Rattle.law_epochs.proofs.There.{timely_known}
 
-pub pending_timely : (script : Script) (records : List Record) → IsSound script → IsLegal script records → (n inc : ℕ) (cell : Cell) (op : Pending)
+pub pending_timely : (script : Script) (records : List Record) → IsSound script → AreSteps script records → (n inc : ℕ) (cell : Cell) (op : Pending)
     (opened front : List Command) → at cell_cmp ((At script records).servers n).own.pairs.pending cell ≡ Some op → is_clients op.kind ≡ true
     → IsPrefix opened front → IsPrefix front (chosen_log (setting_of script) (At script records)) → length opened ≡ op.rev
     → is_in (state_after script.servers opened) n inc ≡ true → is_in (state_after script.servers front) n inc ≡ true
     → IsTimely script.servers front cell op
 pending_timely script records sound legal = present script sound records legal
 
-pub place_timely : (script : Script) (records : List Record) → IsSound script → IsLegal script records → (n place : ℕ) (cell : Cell) (pairs : Pairs)
+pub place_timely : (script : Script) (records : List Record) → IsSound script → AreSteps script records → (n place : ℕ) (cell : Cell) (pairs : Pairs)
     (op : Pending) (front : List Command) (row : LinkRow) → WasThere (setting_of script) records n place cell pairs
     → at cell_cmp pairs.pending cell ≡ Some op → is_clients op.kind ≡ true → IsPrefix front (chosen_log (setting_of script) (At script records))
     → IsLinked (setting_of script) front cell row → place_by (setting_of script) front row ≡ place → op.rev ≤ length front
@@ -42,7 +42,7 @@ place_timely script records sound legal n place cell pairs op front row was is c
     timely_known (record { script = script; sound = sound; records = records; legal = legal })
     (record { n = n; place = place; cell = cell; pairs = pairs; op = op; was = was; is = is; clients = clients }) front front row lies linked lies
 
-pub second_timely : (script : Script) (records : List Record) → IsSound script → IsLegal script records → (n m : ℕ) (cell : Cell) (pairs : Pairs)
+pub second_timely : (script : Script) (records : List Record) → IsSound script → AreSteps script records → (n m : ℕ) (cell : Cell) (pairs : Pairs)
     (op : Pending) (row : LinkRow) → ((At script records).servers m).life.running ≡ true
     → is_in (server_state (setting_of script) (At script records) m) m ((At script records).servers m).life.inc ≡ true
     → IsLinked (setting_of script) ((At script records).servers m).log.applied cell row → row.state ≡ Both → row.primary ≡ n → row.secondary ≡ m
@@ -68,11 +68,11 @@ second_timely script records sound legal n m cell pairs op row runs seat linked 
       le = le;
     })
 
-pub early_after : (script : Script) (records : List Record) → IsSound script → IsLegal script records
+pub early_after : (script : Script) (records : List Record) → IsSound script → AreSteps script records
     → HaveEarlyEntries script.servers (At script records)
 early_after script records sound legal = early_entries script records sound legal
 
-pub running_timely : (script : Script) (records : List Record) → IsSound script → IsLegal script records → (n : ℕ) (cell : Cell) (op : Pending)
+pub running_timely : (script : Script) (records : List Record) → IsSound script → AreSteps script records → (n : ℕ) (cell : Cell) (op : Pending)
     → ((At script records).servers n).life.running ≡ true → at cell_cmp ((At script records).servers n).own.pairs.pending cell ≡ Some op
     → is_clients op.kind ≡ true → IsTimely script.servers (chosen_log (setting_of script) (At script records)) cell op
 running_timely script records sound legal = present_now script sound records legal

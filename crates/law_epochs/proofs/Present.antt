@@ -14,7 +14,7 @@ use Rattle.petal_rules.specs.Writes.{is_clients, is_writes_held}
 use Rattle.petal_rules.specs.World.{Setting, World, chosen_log, server_state, setting_of}
 use Rattle.petal_rules.proofs.Tests.{same_or_apart}
 use Rattle.petal_history.specs.Claims.{IsPrefix}
-use Rattle.petal_history.specs.Legal.{IsLegal}
+use Rattle.petal_history.specs.Steps.{AreSteps}
 use Rattle.petal_history.specs.Sound.{IsSound}
 use Rattle.petal_history.specs.declared.record.Record.{Record}
 use Rattle.law_state.specs.Epochs.{era_at}
@@ -44,7 +44,7 @@ pub record IsOpened (script : Script) (chosen : List Command) (n inc : ℕ) (cel
   pub leads : leads_link (state_after script.servers opened) n cell ≡ true
   pub timely : IsTimely script.servers opened cell op
 
-module _ (script : Script) (sound : IsSound script) (records : List Record) (legal : IsLegal script records) where
+module _ (script : Script) (sound : IsSound script) (records : List Record) (legal : AreSteps script records) where
   abbrev setting : Setting
   setting = setting_of script
 

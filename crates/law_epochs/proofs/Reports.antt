@@ -13,7 +13,7 @@ use Rattle.petal_rules.specs.Writes.{is_clients, is_writes_held}
 use Rattle.petal_rules.specs.World.{Setting, setting_of, start}
 use Rattle.petal_rules.proofs.Tests.{true_false}
 use Rattle.petal_history.specs.Claims.{IsPrefix}
-use Rattle.petal_history.specs.Legal.{IsLegal}
+use Rattle.petal_history.specs.Steps.{AreSteps}
 use Rattle.petal_history.specs.Sound.{IsSound}
 use Rattle.petal_history.specs.declared.record.Record.{Record}
 use Rattle.law_steps.specs.Ready.{Rests}
@@ -30,14 +30,14 @@ module _ (script : Script) (sound : IsSound script) where
   abbrev Applied : List Record → ℕ → List Command
   Applied records n = ((At script records).servers n).log.applied
 
-  pub resting : (records : List Record) → IsLegal script records → Rests setting (At script records)
+  pub resting : (records : List Record) → AreSteps script records → Rests setting (At script records)
   resting records legal = rests_after setting (start setting) records (always_firm script records sound legal) (start_rests script) legal
 
-  pub asking : (records : List Record) → IsLegal script records → AskingAlong setting records (At script records)
+  pub asking : (records : List Record) → AreSteps script records → AskingAlong setting records (At script records)
   asking records legal = asking_along script sound records legal
 
   -- a server's entries only grow
-  pub grows : (records : List Record) → IsLegal script records → (before later : List Record) → records ≡ before ++ later → (n : ℕ)
+  pub grows : (records : List Record) → AreSteps script records → (before later : List Record) → records ≡ before ++ later → (n : ℕ)
       → IsPrefix (Applied before n) (Applied records n)
   grows records legal before later is n = ((asking records legal).since before later is n).grows
 

@@ -6,7 +6,7 @@ use Rattle.petal_state.specs.Command.{state_after}
 use Rattle.petal_rules.specs.State.{State}
 use Rattle.petal_rules.specs.World.{Setting, World, chosen_log, setting_of}
 use Rattle.petal_history.specs.Claims.{IsPrefix}
-use Rattle.petal_history.specs.Legal.{IsLegal}
+use Rattle.petal_history.specs.Steps.{AreSteps}
 use Rattle.petal_history.specs.Sound.{IsSound}
 use Rattle.petal_history.specs.declared.record.Record.{Record}
 use Rattle.law_state.specs.Plain.{IsPlainLog}
@@ -18,7 +18,7 @@ pub record History : Type 0 where
   pub script : Script
   pub sound : IsSound script
   pub records : List Record
-  pub legal : IsLegal script records
+  pub legal : AreSteps script records
 
 -- where it has led
 pub record End : Type 0 where
@@ -41,16 +41,16 @@ cut h front later is = record {
   script = h.script;
   sound = h.sound;
   records = front;
-  legal = before_part h.script front later (subst (IsLegal h.script) is h.legal);
+  legal = before_part h.script front later (subst (AreSteps h.script) is h.legal);
 }
 
 -- a legal history with one record more
 pub record OneMore : Type 0 where
   pub prior : History
   pub own : Record
-  pub legal : IsLegal prior.script (prior.records ++ own ∷ [])
+  pub legal : AreSteps prior.script (prior.records ++ own ∷ [])
 
-abbrev pub one_more : (script : Script) → IsSound script → (front : List Record) (own : Record) → IsLegal script (front ++ own ∷ []) → OneMore
+abbrev pub one_more : (script : Script) → IsSound script → (front : List Record) (own : Record) → AreSteps script (front ++ own ∷ []) → OneMore
 one_more script sound front own legal = record {
   prior = record { script = script; sound = sound; records = front; legal = before_part script front (own ∷ []) legal };
   own = own;

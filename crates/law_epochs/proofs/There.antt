@@ -16,7 +16,7 @@ use Rattle.petal_rules.specs.Store.{cell_cmp}
 use Rattle.petal_rules.specs.Writes.{is_clients}
 use Rattle.petal_rules.specs.World.{Setting, World, chosen_log}
 use Rattle.petal_history.specs.Claims.{IsPrefix}
-use Rattle.petal_history.specs.Legal.{IsLegal}
+use Rattle.petal_history.specs.Steps.{AreSteps}
 use Rattle.petal_history.specs.declared.record.Record.{Record}
 use Rattle.law_state.specs.Homes.{stage_at}
 use Rattle.law_state.specs.Plain.{IsPlainLog}
@@ -66,7 +66,7 @@ module _ (it : History) (had : HadWrite (end_of it).setting it.records) where
   abbrev entries : List Command
   entries = (then.servers n).log.applied
 
-  legal_then : IsLegal script was.before
+  legal_then : AreSteps script was.before
   legal_then = (cut it was.before was.later was.is).legal
 
   pending_then : at cell_cmp (then.servers n).own.pairs.pending cell ≡ Some op
@@ -142,8 +142,8 @@ module _ (it : History) (had : HadWrite (end_of it).setting it.records) where
 
       -- one that was made since: the server was at the place
       module _ (rest : List Record) (e : r.made.before ≡ was.before ++ rest) where
-        legal_made : IsLegal script r.made.before
-        legal_made = before_part script r.made.before (r.made.own ∷ r.made.later) (subst (IsLegal script) r.made.is legal)
+        legal_made : AreSteps script r.made.before
+        legal_made = before_part script r.made.before (r.made.own ∷ r.made.later) (subst (AreSteps script) r.made.is legal)
 
         onward : IsPrefix entries r.until
         onward = subst (IsPrefix entries) r.made.at (grows script sound r.made.before legal_made was.before rest e n)

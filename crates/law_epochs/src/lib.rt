@@ -18,7 +18,7 @@ ghost use Rattle.petal_rules.specs.Writes.{is_clients};
 ghost use Rattle.petal_rules.specs.Server.{Pairs};
 ghost use Rattle.petal_rules.specs.State.{is_in};
 ghost use Rattle.petal_rules.specs.Store.{cell_cmp};
-ghost use Rattle.law_state.specs.Histories.{IsLegal, IsPrefix, IsSound, Record, Script, chosen_log, chosen_state, server_state, setting_of, start, world_after};
+ghost use Rattle.law_state.specs.Histories.{AreSteps, IsPrefix, IsSound, Record, Script, chosen_log, chosen_state, server_state, setting_of, start, world_after};
 ghost use Rattle.law_copies.specs.Visits.{IsLinked, WasThere, place_by};
 ghost use Rattle.law_epochs.specs.Early.{HaveEarlyEntries};
 ghost use Rattle.law_epochs.specs.Timely.{IsTimely};
@@ -27,7 +27,7 @@ ghost use Rattle.law_epochs.specs.Timely.{IsTimely};
 /// log, from the revision on at which the write was opened, by which the server is In as the incarnation that it was there.
 pub fn a_pending_write_is_of_the_present_epoch()
     ensures { (script : Script) (records : List Record)
-        → IsSound script → IsLegal script records → (n inc : ℕ) (cell : Cell) (op : Pending) (opened front : List Command)
+        → IsSound script → AreSteps script records → (n inc : ℕ) (cell : Cell) (op : Pending) (opened front : List Command)
         → at cell_cmp ((world_after (setting_of script) (start (setting_of script)) records).servers n).own.pairs.pending cell ≡ Some op
         → is_clients op.kind ≡ true → IsPrefix opened front
         → IsPrefix front (chosen_log (setting_of script) (world_after (setting_of script) (start (setting_of script)) records))
@@ -38,7 +38,7 @@ pub fn a_pending_write_is_of_the_present_epoch()
 /// So is one that a server had pending when it was last at a place of the cell's link, by each front at which the link is at that place.
 pub fn a_write_of_a_place_is_of_its_epoch()
     ensures { (script : Script) (records : List Record)
-        → IsSound script → IsLegal script records → (n place : ℕ) (cell : Cell) (pairs : Pairs) (op : Pending) (front : List Command) (row : LinkRow)
+        → IsSound script → AreSteps script records → (n place : ℕ) (cell : Cell) (pairs : Pairs) (op : Pending) (front : List Command) (row : LinkRow)
         → WasThere (setting_of script) records n place cell pairs → at cell_cmp pairs.pending cell ≡ Some op
         → is_clients op.kind ≡ true → IsPrefix front (chosen_log (setting_of script) (world_after (setting_of script) (start (setting_of script)) records))
         → IsLinked (setting_of script) front cell row → place_by (setting_of script) front row ≡ place → op.rev ≤ length front
@@ -49,7 +49,7 @@ pub fn a_write_of_a_place_is_of_its_epoch()
 /// some front at that place, also where the lead has left by what is chosen.
 pub fn what_a_second_server_puts_is_of_the_present_epoch()
     ensures { (script : Script) (records : List Record)
-        → IsSound script → IsLegal script records → (n m : ℕ) (cell : Cell) (pairs : Pairs) (op : Pending) (row : LinkRow)
+        → IsSound script → AreSteps script records → (n m : ℕ) (cell : Cell) (pairs : Pairs) (op : Pending) (row : LinkRow)
         → ((world_after (setting_of script) (start (setting_of script)) records).servers m).life.running ≡ true
         → is_in (server_state (setting_of script) (world_after (setting_of script) (start (setting_of script)) records) m) m
         ((world_after (setting_of script) (start (setting_of script)) records).servers m).life.inc ≡ true
@@ -66,13 +66,13 @@ pub fn what_a_second_server_puts_is_of_the_present_epoch()
 /// No server has an entry of an epoch above the one that its cell's disk has by the server's own entries of the log, nor one of a cell that is not
 /// live yet by them.
 pub fn entries_are_of_known_epochs()
-    ensures { (script : Script) (records : List Record) → IsSound script → IsLegal script records
+    ensures { (script : Script) (records : List Record) → IsSound script → AreSteps script records
         → HaveEarlyEntries script.servers (world_after (setting_of script) (start (setting_of script)) records) }
 {}
 
 /// No client's write is pending at a running server on a cell that is leaving, or has left, by what is chosen.
 pub fn nothing_is_written_under_an_old_map()
-    ensures { (script : Script) (records : List Record) → IsSound script → IsLegal script records → (n : ℕ) (cell : Cell) (op : Pending)
+    ensures { (script : Script) (records : List Record) → IsSound script → AreSteps script records → (n : ℕ) (cell : Cell) (op : Pending)
         → ((world_after (setting_of script) (start (setting_of script)) records).servers n).life.running ≡ true → at cell_cmp
         ((world_after (setting_of script) (start (setting_of script)) records).servers n).own.pairs.pending cell ≡ Some op → is_clients op.kind ≡ true
         → IsTimely script.servers (chosen_log (setting_of script) (world_after (setting_of script) (start (setting_of script)) records)) cell op }

@@ -25,7 +25,7 @@ use Rattle.petal_rules.specs.declared.step.Step.{Step}
 use Rattle.petal_rules.specs.declared.step.Step.TheVariants.{Call, Deliver, Tick, Work, StopIn, Stop, Blank, Boot, Arm, Glance}
 use Rattle.petal_rules.proofs.ListLemmas.{in-append, in_later, put_same}
 use Rattle.petal_rules.proofs.Tests.{all_put_apart, none_some}
-use Rattle.petal_history.specs.Legal.{IsLegalFrom, stepped, world_after}
+use Rattle.petal_history.specs.Steps.{AreStepsFrom, stepped, world_after}
 use Rattle.petal_history.specs.declared.record.Record.{Record}
 use Rattle.law_log.specs.Logged.{IsBacked, IsCalledAnywhere, IsSaidBy, IsOpen, Logged, Minded}
 use Rattle.law_log.specs.Requested.{IsRequested, calls_in}
@@ -148,7 +148,7 @@ step_goes setting fair w l (actor.Client c) what stamp may remember = client_ste
 
 -- each step remembers
 pub history_goes : {Was : Minded} (setting : Setting) → IsFair setting → (records : List Record) (w : World) → Logged Was setting w
-    → IsLegalFrom setting w records → ((before : List Record) (own : Record) (later : List Record) → records ≡ before ++ own ∷ later
+    → AreStepsFrom setting w records → ((before : List Record) (own : Record) (later : List Record) → records ≡ before ++ own ∷ later
     → AllRemember Was setting.servers (world_after setting w before) (world_after setting w (before ++ own ∷ [])))
     → Goes Was setting w (world_after setting w records)
 history_goes setting fair [] w l legal remember = record { logged = l; grown = λ s place ballot command i. i }

@@ -3,7 +3,7 @@ use Rattle.std.proofs.Common.{◌≡◌, ◌≢◌, ℕ, List, [], ◌∷◌, re
 use Rattle.petal_msg.specs.declared.letter.Actor.{Actor}
 use Rattle.petal_msg.specs.declared.letter.Actor.TheVariants as actor
 use Rattle.script_lines.specs.declared.script.Script.{Script}
-use Rattle.petal_history.specs.Legal.{stepped, world_after}
+use Rattle.petal_history.specs.Steps.{stepped, world_after}
 use Rattle.petal_history.specs.declared.record.Record.{Record}
 use Rattle.petal_rules.specs.Jobs.{Acted, here_of, is_log_job, is_overfull, job_done, works}
 use Rattle.petal_rules.specs.Lists.{In}

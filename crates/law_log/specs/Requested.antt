@@ -11,7 +11,7 @@ use Rattle.petal_command.specs.declared.command.Command.TheVariants.{Join, Leave
 use Rattle.script_lines.specs.declared.request.Line.{Line}
 use Rattle.petal_msg.specs.declared.copying.LinkId.{LinkId}
 use Rattle.petal_history.specs.Claims.{IsPrefix}
-use Rattle.petal_history.specs.Legal.{world_after}
+use Rattle.petal_history.specs.Steps.{world_after}
 use Rattle.petal_history.specs.declared.record.Record.{Record}
 use Rattle.law_state.specs.Started.{HasStarted, is_flagged}
 use Rattle.petal_state.specs.Command.{may_catch, state_after}

@@ -19,22 +19,22 @@ ghost use Rattle.petal_rules.specs.Lists.{In};
 ghost use Rattle.petal_rules.specs.State.{is_in};
 ghost use Rattle.petal_rules.specs.World.{chosen_log, chosen_state};
 ghost use Rattle.petal_history.specs.Claims.{Agrees, Grows, IsPrefix};
-ghost use Rattle.law_state.specs.Histories.{IsLegal, IsSound, Record, Script, setting_of, start, world_after};
+ghost use Rattle.law_state.specs.Histories.{AreSteps, IsSound, Record, Script, setting_of, start, world_after};
 ghost use Rattle.law_state.specs.Firm.{Firm};
 ghost use Rattle.law_log.specs.Requested.{HasBegun, HasStopped, IsCalledFor, IsCaughtAt, IsReportAt, NoneBoots, WasDraining};
 ghost use Rattle.law_log.specs.Requested.{WasMoving, WasReturning, WasStarted, WasWanted};
 
 /// What a state device knows to be chosen stands in the chosen log at its place, and what is applied stands at its front.
 pub fn every_history_agrees()
-    ensures agrees { (script : Script) (records : List Record) → IsSound script → IsLegal script records
+    ensures agrees { (script : Script) (records : List Record) → IsSound script → AreSteps script records
         → Agrees (setting_of script) (world_after (setting_of script) (start (setting_of script)) records) }
-    ensures firm { (script : Script) (records : List Record) → IsSound script → IsLegal script records
+    ensures firm { (script : Script) (records : List Record) → IsSound script → AreSteps script records
         → Firm (setting_of script) (world_after (setting_of script) (start (setting_of script)) records) }
 {}
 
 /// The chosen log after the first records of a history is at the front of that after all of them.
 pub fn the_chosen_log_grows()
-    ensures { (script : Script) (records : List Record) → IsSound script → IsLegal script records → Grows script records }
+    ensures { (script : Script) (records : List Record) → IsSound script → AreSteps script records → Grows script records }
 {}
 
 /// Each chosen command is that of a line that its client has called, a Witness of it, the Leave of an incarnation that has
@@ -42,10 +42,10 @@ pub fn the_chosen_log_grows()
 /// it is still of that incarnation and has applied no more than those, has in mind that it started the ballot.
 pub fn chosen_commands_are_the_scripts()
     ensures called { (script : Script) (records : List Record) (command : Command) → IsSound script
-        → IsLegal script records → In command (chosen_log (setting_of script) (world_after (setting_of script) (start (setting_of script)) records))
+        → AreSteps script records → In command (chosen_log (setting_of script) (world_after (setting_of script) (start (setting_of script)) records))
         → IsCalledFor (setting_of script) (world_after (setting_of script) (start (setting_of script)) records) command
         ⊎ WasWanted (setting_of script) (world_after (setting_of script) (start (setting_of script)) records) command }
-    ensures caught { (script : Script) (records : List Record) → IsSound script → IsLegal script records
+    ensures caught { (script : Script) (records : List Record) → IsSound script → AreSteps script records
         → (front : List Command) (of link holder inc other other_inc : ℕ) → IsPrefix (front ++ Caught of link holder inc other other_inc ∷ [])
         (chosen_log (setting_of script) (world_after (setting_of script) (start (setting_of script)) records))
         → IsCaughtAt script.servers (world_after (setting_of script) (start (setting_of script)) records).servers front of link holder inc other other_inc }
@@ -54,7 +54,7 @@ pub fn chosen_commands_are_the_scripts()
 /// The holder of a link whose Caught is chosen had it in mind, on the way, that it had started a ballot for it: as the incarnation that the
 /// Caught names, and with no entries applied but those before it.
 pub fn a_chosen_caught_was_started()
-    ensures { (script : Script) (records : List Record) → IsSound script → IsLegal script records
+    ensures { (script : Script) (records : List Record) → IsSound script → AreSteps script records
         → (front : List Command) (of link holder inc other other_inc : ℕ) → IsPrefix (front ++ Caught of link holder inc other other_inc ∷ [])
         (chosen_log (setting_of script) (world_after (setting_of script) (start (setting_of script)) records))
         → WasStarted (setting_of script) records holder inc front (record { map = of; link = link }) }
@@ -64,11 +64,11 @@ pub fn a_chosen_caught_was_started()
 /// applied but those, had no client's write under way that the fence held.
 pub fn a_chosen_report_was_made()
     ensures counts { (script : Script) (records : List Record)
-        → IsSound script → IsLegal script records → (front : List Command) (server inc fence : ℕ) → IsPrefix
+        → IsSound script → AreSteps script records → (front : List Command) (server inc fence : ℕ) → IsPrefix
         (front ++ Drained server inc fence ∷ []) (chosen_log (setting_of script) (world_after (setting_of script) (start (setting_of script)) records))
         → IsReportAt script.servers front server inc fence }
     ensures made { (script : Script) (records : List Record)
-        → IsSound script → IsLegal script records → (front : List Command) (server inc fence : ℕ) → IsPrefix
+        → IsSound script → AreSteps script records → (front : List Command) (server inc fence : ℕ) → IsPrefix
         (front ++ Drained server inc fence ∷ []) (chosen_log (setting_of script) (world_after (setting_of script) (start (setting_of script)) records))
         → WasDraining (setting_of script) records server inc front }
 {}
@@ -76,7 +76,7 @@ pub fn a_chosen_report_was_made()
 /// A Moved that is chosen was wanted: after the entries before it some server was to move the region of the link. And on the way that server,
 /// with no entries applied but those, had nothing left of the link's blocks of the region.
 pub fn a_chosen_moved_was_wanted()
-    ensures { (script : Script) (records : List Record) → IsSound script → IsLegal script records → (front : List Command) (of region link : ℕ)
+    ensures { (script : Script) (records : List Record) → IsSound script → AreSteps script records → (front : List Command) (of region link : ℕ)
         → IsPrefix (front ++ Moved of region link ∷ []) (chosen_log (setting_of script) (world_after (setting_of script) (start (setting_of script)) records))
         → WasMoving (setting_of script) records front of region link }
 {}
@@ -84,10 +84,10 @@ pub fn a_chosen_moved_was_wanted()
 /// A server whose Join is chosen ran on the way as the incarnation that the Join names, and its store waited to be filled or not, as the Join
 /// says. And each Join that is chosen acts: after the entries before it its server is Out, and was In as earlier incarnations alone.
 pub fn a_chosen_join_was_wanted()
-    ensures wanted { (script : Script) (records : List Record) → IsSound script → IsLegal script records → (server inc : ℕ) (blank : Bool)
+    ensures wanted { (script : Script) (records : List Record) → IsSound script → AreSteps script records → (server inc : ℕ) (blank : Bool)
         → In (Join server inc blank) (chosen_log (setting_of script) (world_after (setting_of script) (start (setting_of script)) records))
         → WasReturning (setting_of script) records server inc blank }
-    ensures acts { (script : Script) (records : List Record) → IsSound script → IsLegal script records → (front : List Command) (server inc : ℕ) (blank : Bool)
+    ensures acts { (script : Script) (records : List Record) → IsSound script → AreSteps script records → (front : List Command) (server inc : ℕ) (blank : Bool)
         → IsPrefix (front ++ Join server inc blank ∷ []) (chosen_log (setting_of script) (world_after (setting_of script) (start (setting_of script)) records))
         → may_join (slice_get (state_after script.servers front).view.members server) inc ≡ true }
 {}
@@ -97,38 +97,38 @@ pub fn a_chosen_join_was_wanted()
 /// Down tells, has stopped. Incarnations count from 1, stay so where no server boots, and a server's is the one on its state device.
 pub fn what_is_out_has_stopped()
     ensures stopped { (script : Script) (records : List Record) (n inc : ℕ) (front : List Command) → IsSound script
-        → IsLegal script records → IsPrefix front (chosen_log (setting_of script) (world_after (setting_of script) (start (setting_of script)) records))
+        → AreSteps script records → IsPrefix front (chosen_log (setting_of script) (world_after (setting_of script) (start (setting_of script)) records))
         → is_in (state_after script.servers front) n inc ≡ true
         → is_in (chosen_state (setting_of script) (world_after (setting_of script) (start (setting_of script)) records)) n inc ≡ false
         → HasStopped (world_after (setting_of script) (start (setting_of script)) records) n inc }
     ensures runs { (script : Script) (records : List Record) (n : ℕ) (front : List Command) → IsSound script
-        → IsLegal script records → ((world_after (setting_of script) (start (setting_of script)) records).servers n).life.running ≡ true
+        → AreSteps script records → ((world_after (setting_of script) (start (setting_of script)) records).servers n).life.running ≡ true
         → IsPrefix front (chosen_log (setting_of script) (world_after (setting_of script) (start (setting_of script)) records))
         → is_in (state_after script.servers front) n ((world_after (setting_of script) (start (setting_of script)) records).servers n).life.inc ≡ true
         → is_in (chosen_state (setting_of script) (world_after (setting_of script) (start (setting_of script)) records)) n
         ((world_after (setting_of script) (start (setting_of script)) records).servers n).life.inc ≡ true }
-    ensures one { (script : Script) (records : List Record) (n : ℕ) → IsSound script → IsLegal script records
+    ensures one { (script : Script) (records : List Record) (n : ℕ) → IsSound script → AreSteps script records
         → ((world_after (setting_of script) (start (setting_of script)) records).servers n).life.running ≡ true → n < script.servers }
-    ensures begun { (script : Script) (records : List Record) (n inc : ℕ) → IsSound script → IsLegal script records
+    ensures begun { (script : Script) (records : List Record) (n inc : ℕ) → IsSound script → AreSteps script records
         → is_in (chosen_state (setting_of script) (world_after (setting_of script) (start (setting_of script)) records)) n inc ≡ true
         → HasBegun (world_after (setting_of script) (start (setting_of script)) records) n inc }
-    ensures leaves { (script : Script) (records : List Record) (server inc : ℕ) → IsSound script → IsLegal script records
+    ensures leaves { (script : Script) (records : List Record) (server inc : ℕ) → IsSound script → AreSteps script records
         → In (Leave server inc) (chosen_log (setting_of script) (world_after (setting_of script) (start (setting_of script)) records))
         → HasStopped (world_after (setting_of script) (start (setting_of script)) records) server inc }
-    ensures downs { (script : Script) (records : List Record) (letter : Letter) (server inc : ℕ) → IsSound script → IsLegal script records
+    ensures downs { (script : Script) (records : List Record) (letter : Letter) (server inc : ℕ) → IsSound script → AreSteps script records
         → In letter (world_after (setting_of script) (start (setting_of script)) records).sent → letter.body ≡ body.Down server inc
         → HasStopped (world_after (setting_of script) (start (setting_of script)) records) server inc }
-    ensures first { (script : Script) (records : List Record) (n : ℕ) → IsSound script → IsLegal script records
+    ensures first { (script : Script) (records : List Record) (n : ℕ) → IsSound script → AreSteps script records
         → 1 ≤ ((world_after (setting_of script) (start (setting_of script)) records).servers n).life.inc }
     ensures unbooted { (script : Script) (records : List Record) (n : ℕ) → NoneBoots records
         → ((world_after (setting_of script) (start (setting_of script)) records).servers n).life.inc ≡ 1 }
     ensures kept { (script : Script) (records : List Record) (n : ℕ)
-        → IsSound script → IsLegal script records → inc_of ((world_after (setting_of script) (start (setting_of script)) records).servers n).log.records
+        → IsSound script → AreSteps script records → inc_of ((world_after (setting_of script) (start (setting_of script)) records).servers n).log.records
         ≡ ((world_after (setting_of script) (start (setting_of script)) records).servers n).life.inc }
 {}
 
 /// The state devices, proposers and letters of a history are those of a schedule of agreement.
 pub fn every_history_has_a_schedule()
-    ensures { (script : Script) (records : List Record) → IsSound script → IsLegal script records
+    ensures { (script : Script) (records : List Record) → IsSound script → AreSteps script records
         → HasSchedule script.servers (world_after (setting_of script) (start (setting_of script)) records) }
 {}

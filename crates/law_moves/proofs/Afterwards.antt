@@ -13,7 +13,7 @@ use Rattle.petal_rules.specs.Store.{Chain, cell_cmp}
 use Rattle.petal_rules.specs.Writes.{is_clients}
 use Rattle.petal_rules.specs.World.{chosen_state}
 use Rattle.petal_history.specs.Claims.{Moves}
-use Rattle.petal_history.specs.Legal.{IsLegal}
+use Rattle.petal_history.specs.Steps.{AreSteps}
 use Rattle.petal_history.specs.Sound.{IsSound}
 use Rattle.petal_history.specs.declared.record.Record.{Record}
 use Rattle.law_state.specs.Homes.{stage_at}
@@ -34,7 +34,7 @@ use Rattle.law_moves.proofs.There.{told_already}
 use Rattle.law_moves.proofs.Worlds.{rests}
 use Rattle.law_epochs.proofs.Scenes.{History, cut, end_of}
 
-module _ (script : Script) (records : List Record) (sound : IsSound script) (legal : IsLegal script records) where
+module _ (script : Script) (records : List Record) (sound : IsSound script) (legal : AreSteps script records) where
   abbrev h : History
   h = record { script = script; sound = sound; records = records; legal = legal }
 
@@ -70,8 +70,8 @@ module _ (script : Script) (records : List Record) (sound : IsSound script) (leg
     pending_then : at cell_cmp ((At script there.before).servers n).own.pairs.pending cell ≡ Some op
     pending_then = ap (λ (p : Pairs). at cell_cmp p.pending cell) there.had ∙ is
 
-    whole : IsLegal script (there.before ++ there.later)
-    whole = subst (IsLegal script) there.is legal
+    whole : AreSteps script (there.before ++ there.later)
+    whole = subst (AreSteps script) there.is legal
 
     abbrev then : History
     then = cut h there.before there.later there.is

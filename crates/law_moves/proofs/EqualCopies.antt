@@ -16,7 +16,7 @@ use Rattle.petal_rules.specs.Store.{Chain, Store, cell_cmp, chain_in}
 use Rattle.petal_rules.specs.World.{blank_joins_in, kept, setting_of}
 use Rattle.petal_rules.specs.Writes.{is_clients}
 use Rattle.petal_rules.proofs.Tests.{by_bool, none_some, true_false}
-use Rattle.petal_history.specs.Legal.{IsLegal}
+use Rattle.petal_history.specs.Steps.{AreSteps}
 use Rattle.petal_history.specs.Sound.{IsSound}
 use Rattle.petal_history.specs.declared.record.Record.{Record}
 use Rattle.law_log.proofs.Histories.{history_grows}
@@ -44,7 +44,7 @@ use Rattle.law_epochs.proofs.Scenes.{History, OneMore, cut, ends_of}
 use Rattle.law_moves.proofs.Scenes.{FillsSo}
 
 -- what is known of an entry that moves stays so
-pub frozen_on : (script : Script) (sound : IsSound script) (past later : List Record) (legal : IsLegal script (past ++ later)) (rev : ℕ) (key : Key)
+pub frozen_on : (script : Script) (sound : IsSound script) (past later : List Record) (legal : AreSteps script (past ++ later)) (rev : ℕ) (key : Key)
     (bytes : List ℕ) → IsFrozen (setting_of script) (At script past) rev key bytes → IsFrozen (setting_of script) (At script (past ++ later)) rev key bytes
 frozen_on script sound past later legal rev key bytes f = record {
   front = f.front;
@@ -76,7 +76,7 @@ module _ (it : OneMore) (all : WereKnown it) where
     asked_then past later e m cell op is fills = elim (split_last front own past later e) [
       | inl same ↦ now_so.asked m cell op (subst (λ rs. at cell_cmp ((At script rs).servers m).own.pairs.pending cell ≡ Some op) same is) fills
       | inr more ↦ subst (λ rs. IsFrozen setting (At script rs) op.rev op.key op.bytes) (sym e)
-          (frozen_on script sound past later (subst (IsLegal script) e legal) op.rev op.key op.bytes ((all past more.0 more.1).filled.asked m cell op is fills))
+          (frozen_on script sound past later (subst (AreSteps script) e legal) op.rev op.key op.bytes ((all past more.0 more.1).filled.asked m cell op is fills))
     ]
 
     -- the two copies of a link in Both by what is chosen

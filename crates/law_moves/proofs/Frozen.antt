@@ -8,7 +8,7 @@ use Rattle.petal_rules.specs.State.{State, leaving}
 use Rattle.petal_rules.specs.Store.{Chain}
 use Rattle.petal_rules.specs.World.{Setting, World, begins_to_leave, chain_that_counts, chosen_log, chosen_state, frozen_by, setting_of}
 use Rattle.petal_rules.proofs.Tests.{both_true, by_bool, none_some, true_false}
-use Rattle.petal_history.specs.Legal.{IsLegal}
+use Rattle.petal_history.specs.Steps.{AreSteps}
 use Rattle.petal_history.specs.Sound.{IsSound}
 use Rattle.petal_history.specs.declared.record.Record.{Record}
 use Rattle.law_state.specs.Homes.{HasStage, stage_at}
@@ -110,14 +110,14 @@ abbrev NoneEarly : Script → World → Type 0
 NoneEarly script w = (cell : Cell) → stage_at (chosen_state (setting_of script) w) cell ≤ 2 → w.frozen cell ≡ None
 
 -- nothing is frozen of a cell that has not begun to leave
-pub none_early : (script : Script) (records : List Record) → IsSound script → IsLegal script records → NoneEarly script (At script records)
+pub none_early : (script : Script) (records : List Record) → IsSound script → AreSteps script records → NoneEarly script (At script records)
 none_early script records sound legal =
     along script (NoneEarly script) (λ front own part old cell low.
     let up = stage_grows (one_more script sound front own part) cell in
     frozen_same (one_more script sound front own part) cell (inr (λ three. omega arith)) ∙ old cell (omega arith)) [] records legal (λ cell low. refl)
 
 -- so what is frozen stays so
-pub frozen_stays : (script : Script) (front back : List Record) (cell : Cell) (before : Chain) → IsSound script → IsLegal script (front ++ back)
+pub frozen_stays : (script : Script) (front back : List Record) (cell : Cell) (before : Chain) → IsSound script → AreSteps script (front ++ back)
     → (At script front).frozen cell ≡ Some before → (At script (front ++ back)).frozen cell ≡ Some before
 frozen_stays script front back cell before sound legal is =
     along script (λ w. w.frozen cell ≡ Some before) (λ moment own part old.

@@ -21,7 +21,7 @@ use Rattle.petal_rules.specs.Store.{Chain, Store, chain_in}
 use Rattle.petal_rules.specs.World.{Setting, World, blank_joins_in, chosen_log, counted_by, kept_by}
 use Rattle.petal_rules.proofs.Tests.{by_bool, number_itself, same_or_apart, true_false}
 use Rattle.petal_history.specs.Claims.{IsPrefix}
-use Rattle.petal_history.specs.Legal.{IsLegal}
+use Rattle.petal_history.specs.Steps.{AreSteps}
 use Rattle.petal_history.specs.declared.record.Record.{Record}
 use Rattle.law_log.specs.Requested.{WasStarted}
 use Rattle.law_log.proofs.Histories.{chosen_caught_was, history_grows, history_is_firm}
@@ -99,7 +99,7 @@ module _ (it : OneMore) where
   started_within holder inc f row was = elim (split_last front own was.before was.later was.is) [
     | inr more ↦
         let part_front = prior.legal in
-        let legal_there = before_part script was.before more.0 (subst (IsLegal script) more.1 part_front) in
+        let legal_there = before_part script was.before more.0 (subst (AreSteps script) more.1 part_front) in
         subst (λ l. IsPrefix l top) was.at (front_on _ (chosen_log setting (At script was.before)) top
         ((history_is_firm script was.before sound legal_there).servers holder)
         (history_grows script front sound part_front was.before more.0 more.1))

@@ -14,7 +14,7 @@ use Rattle.petal_state.specs.Command.{state_after}
 use Rattle.petal_state.specs.State.{start as first_state}
 use Rattle.script_lines.specs.declared.script.Script.{Script}
 use Rattle.petal_history.specs.Claims.{IsPrefix}
-use Rattle.petal_history.specs.Legal.{IsLegal}
+use Rattle.petal_history.specs.Steps.{AreSteps}
 use Rattle.petal_history.specs.Sound.{IsSound}
 use Rattle.petal_history.specs.declared.record.Record.{Record}
 use Rattle.petal_rules.specs.Lists.{In}
@@ -164,16 +164,16 @@ start_known setting = record {
 start_all : (script : Script) → AllKnown script []
 start_all script past later e = subst (Known script) (sym (none_before_none past later e)) (start_known (setting_of script))
 
-all_next : (script : Script) → IsSound script → (front : List Record) (own : Record) → IsLegal script (front ++ own ∷ []) → AllKnown script front
+all_next : (script : Script) → IsSound script → (front : List Record) (own : Record) → AreSteps script (front ++ own ∷ []) → AllKnown script front
     → AllKnown script (front ++ own ∷ [])
 all_next script sound front own legal all past later e = elim (split_last front own past later e) [
   | inl whole ↦ subst (Known script) (sym whole) (known_next (one_more script sound front own legal) all)
   | inr part ↦ all past part.0 part.1
 ]
 
-pub all_known : (script : Script) → IsSound script → (records : List Record) → IsLegal script records → AllKnown script records
+pub all_known : (script : Script) → IsSound script → (records : List Record) → AreSteps script records → AllKnown script records
 all_known script sound records legal =
     kept_along script (AllKnown script) (λ front own part. all_next script sound front own part) [] records legal (start_all script)
 
-pub known_after : (script : Script) → IsSound script → (records : List Record) → IsLegal script records → Known script records
+pub known_after : (script : Script) → IsSound script → (records : List Record) → AreSteps script records → Known script records
 known_after script sound records legal = all_known script sound records legal records [] (sym (append-nil records))

@@ -26,7 +26,7 @@ use Rattle.petal_rules.specs.World.{Setting, World, chosen_log, chosen_state, se
 use Rattle.petal_rules.proofs.ListLemmas.{in_later}
 use Rattle.petal_rules.proofs.Tests.{by_test, is_the_one, none_some, number_itself, same_some}
 use Rattle.petal_history.specs.Claims.{IsPrefix}
-use Rattle.petal_history.specs.Legal.{IsLegal}
+use Rattle.petal_history.specs.Steps.{AreSteps}
 use Rattle.petal_history.specs.Sound.{IsSound}
 use Rattle.petal_history.specs.declared.record.Record.{Record}
 use Rattle.law_state.specs.Below.{IsServing}
@@ -58,7 +58,7 @@ still_sent setting state w _ (Serves n stamp what acted lt within unblanked serv
 still_sent setting state w _ (Blanks n stamp lt within asleep) letter i = i
 still_sent setting state w _ (Turns c stamp in_call reacted lt within turned onward) letter i = in_later letter _ w.sent i
 
-pub sent_stays : (script : Script) (front back : List Record) → IsSound script → IsLegal script (front ++ back) → (letter : Letter)
+pub sent_stays : (script : Script) (front back : List Record) → IsSound script → AreSteps script (front ++ back) → (letter : Letter)
     → In letter (At script front).sent → In letter (At script (front ++ back)).sent
 sent_stays script front back sound legal letter i =
     along script (λ w. In letter w.sent) (λ moment own part old.
@@ -66,7 +66,7 @@ sent_stays script front back sound legal letter i =
     still_sent (setting_of script) state (At script moment) (At script (moment ++ own ∷ []))
     (last_happens script moment own (always_firm script (moment ++ own ∷ []) sound part) part state (below_itself state)) letter old) front back legal i
 
-pub filled_stays : (script : Script) (front back : List Record) → IsSound script → IsLegal script (front ++ back) → (key : Key)
+pub filled_stays : (script : Script) (front back : List Record) → IsSound script → AreSteps script (front ++ back) → (key : Key)
     → WasFilled (At script front) key → WasFilled (At script (front ++ back)) key
 filled_stays script front back sound legal key was =
     record { letter = was.letter; sent = sent_stays script front back sound legal was.letter was.sent; is = was.is }
@@ -95,10 +95,10 @@ module _ (it : History)
     abbrev later : List Record
     later = was.own ∷ was.later
 
-    whole : IsLegal script (before ++ later)
-    whole = subst (IsLegal script) was.is legal
+    whole : AreSteps script (before ++ later)
+    whole = subst (AreSteps script) was.is legal
 
-    then_legal : IsLegal script before
+    then_legal : AreSteps script before
     then_legal = before_part script before later whole
 
     abbrev past : World

@@ -2,7 +2,7 @@
 use Rattle.law_stores.proofs.Ways.{before_part}
 use Rattle.script_lines.specs.declared.script.Script.{Script}
 use Rattle.petal_history.specs.declared.record.Record.{Record}
-use Rattle.petal_history.specs.Legal.{IsLegal}
+use Rattle.petal_history.specs.Steps.{AreSteps}
 use Rattle.std.proofs.lemmas.List.{append-nil}
 use Rattle.std.proofs.Common.{◌≡◌, ◌≢◌, ◌≤◌, ℕ, true, false, List, Some, length, [], ◌∷◌, ◌++◌, subst, sym, append_assoc}
 use Rattle.global_tables.specs.declared.link.LinkRow.{LinkRow}
@@ -29,12 +29,12 @@ use Rattle.law_moves.specs.Fills.{IsFrozen, IsThere, WasFilled}
 
 -- what each record keeps holds along a history
 pub kept_along : (script : Script) (P : List Record → Type 0)
-    → ((front : List Record) (own : Record) → IsLegal script (front ++ own ∷ []) → P front → P (front ++ own ∷ []))
-    → (done later : List Record) → IsLegal script (done ++ later) → P done → P (done ++ later)
+    → ((front : List Record) (own : Record) → AreSteps script (front ++ own ∷ []) → P front → P (front ++ own ∷ []))
+    → (done later : List Record) → AreSteps script (done ++ later) → P done → P (done ++ later)
 kept_along script P step done [] legal kept = subst P (sym (append-nil done)) kept
 kept_along script P step done (own ∷ later) legal kept =
     let e = append_assoc done (own ∷ []) later in
-    let whole : IsLegal script ((done ++ own ∷ []) ++ later) = subst (IsLegal script) (sym e) legal in
+    let whole : AreSteps script ((done ++ own ∷ []) ++ later) = subst (AreSteps script) (sym e) legal in
     subst P e (kept_along script P step (done ++ own ∷ []) later whole (step done own (before_part script (done ++ own ∷ []) later whole) kept))
 
 -- ### Servers

@@ -19,7 +19,7 @@ use Rattle.petal_rules.specs.Writes.{is_clients}
 use Rattle.petal_rules.specs.World.{Setting, World, chosen_state, counted, kept, server_state, setting_of}
 use Rattle.petal_rules.proofs.Tests.{true_false}
 use Rattle.petal_history.specs.Claims.{IsPrefix}
-use Rattle.petal_history.specs.Legal.{IsLegal}
+use Rattle.petal_history.specs.Steps.{AreSteps}
 use Rattle.petal_history.specs.Sound.{IsSound}
 use Rattle.petal_history.specs.declared.record.Record.{Record}
 use Rattle.law_state.specs.Below.{IsServing}
@@ -135,7 +135,7 @@ module _ (it : History) (s : IsToFill (end_of it).setting it.records (end_of it)
             frozen (subst (λ (q : Cell). 2 ≤ stage_at (By chosen) q) (sym key_cell) two)))
       ]
 
-pub second_after : (script : Script) (records : List Record) → IsSound script → IsLegal script records → (n m : ℕ) (cell : Cell) (pairs : Pairs)
+pub second_after : (script : Script) (records : List Record) → IsSound script → AreSteps script records → (n m : ℕ) (cell : Cell) (pairs : Pairs)
     (op : Pending) (row : LinkRow) → ((At script records).servers m).life.running ≡ true
     → is_in (server_state (setting_of script) (At script records) m) m ((At script records).servers m).life.inc ≡ true
     → IsLinked (setting_of script) ((At script records).servers m).log.applied cell row → row.state ≡ Both → row.primary ≡ n → row.secondary ≡ m

@@ -5,7 +5,7 @@ use Rattle.std.specs.Prelude.{is_some}
 use Rattle.petal_base.specs.declared.cell.Cell.{Cell}
 use Rattle.script_lines.specs.declared.script.Script.{Script}
 use Rattle.petal_state.specs.State.{start as first_state}
-use Rattle.petal_history.specs.Legal.{IsLegal}
+use Rattle.petal_history.specs.Steps.{AreSteps}
 use Rattle.petal_history.specs.Sound.{IsSound}
 use Rattle.petal_history.specs.declared.record.Record.{Record}
 use Rattle.petal_rules.specs.Server.{Own, Pairs}
@@ -64,7 +64,7 @@ module _ (it : OneMore) (old : IsSeen it.prior.script it.prior.records) where
 
 -- ### Legal histories
 
-pub seen_after : (script : Script) → IsSound script → (records : List Record) → IsLegal script records → IsSeen script records
+pub seen_after : (script : Script) → IsSound script → (records : List Record) → AreSteps script records → IsSeen script records
 seen_after script sound records legal =
     kept_along script (IsSeen script) (λ front own part. next (one_more script sound front own part)) [] records legal
     (record { good = start_good (setting_of script); seen_all = start_seen script })

@@ -26,7 +26,7 @@ use Rattle.petal_rules.specs.declared.step.Step.{Step}
 use Rattle.petal_rules.proofs.ListLemmas.{in-append, in_former, in_later, put_apart, put_same}
 use Rattle.petal_rules.proofs.Tests.{all_put, same_or_apart, true_false}
 use Rattle.petal_history.specs.Claims.{IsPrefix}
-use Rattle.petal_history.specs.Legal.{IsLegal}
+use Rattle.petal_history.specs.Steps.{AreSteps}
 use Rattle.petal_history.specs.Sound.{IsSound}
 use Rattle.petal_history.specs.declared.record.Record.{Record}
 use Rattle.law_state.specs.Firm.{Firm}
@@ -287,12 +287,12 @@ module _ (it : OneMore) where
 -- ### Incarnations
 
 -- they only rise
-incs_up : (script : Script) → IsSound script → (n inc : ℕ) (before later : List Record) → IsLegal script (before ++ later)
+incs_up : (script : Script) → IsSound script → (n inc : ℕ) (before later : List Record) → AreSteps script (before ++ later)
     → inc ≤ ((At script before).servers n).life.inc → inc ≤ ((At script (before ++ later)).servers n).life.inc
 incs_up script sound n inc = along script (λ u. inc ≤ (u.servers n).life.inc) (λ front own legal le.
     by script sound front own legal ((At script (front ++ own ∷ [])).servers n) (gone (one_more script sound front own legal) n) le)
   where
-    by : (script : Script) (sound : IsSound script) (front : List Record) (own : Record) (legal : IsLegal script (front ++ own ∷ [])) (to : Server)
+    by : (script : Script) (sound : IsSound script) (front : List Record) (own : Record) (legal : AreSteps script (front ++ own ∷ [])) (to : Server)
         → HasGone (one_more script sound front own legal) n to → inc ≤ ((At script front).servers n).life.inc → inc ≤ to.life.inc
     by script sound front own legal to (Rests same) le = subst (λ (s : Server). inc ≤ s.life.inc) (sym same) le
     by script sound front own legal to (Works job) le = let e = job.inc_is in omega arith
@@ -313,7 +313,7 @@ module _ (it : OneMore) where
       let rest = before_last front own was.before was.own was.later was.is in
       let legal_front = prior.legal in
       subst (λ rs. inc ≤ ((At script rs).servers n).life.inc) (sym rest.1)
-      (incs_up script sound n inc was.before rest.0 (subst (IsLegal script) rest.1 legal_front) (let e = was.lives in omega arith))
+      (incs_up script sound n inc was.before rest.0 (subst (AreSteps script) rest.1 legal_front) (let e = was.lives in omega arith))
 
   pub not_new : (n : ℕ) (f : List Command) → IsPrefix f (chosen_log this new) → is_in (state_after script.servers f) n ((old.servers n).life.inc + 1) ≡ true → ⊥
   not_new n f lies seat =

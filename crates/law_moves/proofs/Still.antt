@@ -14,7 +14,7 @@ use Rattle.petal_rules.specs.Store.{Chain, Store, chain_in}
 use Rattle.petal_rules.specs.World.{chosen_log, kept, kept_by}
 use Rattle.petal_rules.proofs.Tests.{by_bool, same_numbers, true_false}
 use Rattle.petal_history.specs.Claims.{IsPrefix}
-use Rattle.petal_history.specs.Legal.{IsLegal}
+use Rattle.petal_history.specs.Steps.{AreSteps}
 use Rattle.law_log.proofs.Histories.{history_grows, history_is_firm, moved_was_wanted}
 use Rattle.law_state.specs.Below.{IsServing}
 use Rattle.law_state.specs.Homes.{stage_at}
@@ -55,7 +55,7 @@ module _ (it : OneMore) (all : WereKnown it) where
         let m = dead_moved present cell (omega arith) in
         let was = moved_was_wanted script records sound legal m.until cell.map (region_of cell.block) m.row.link m.stands in
         let rest = before_last front own was.before was.own was.later was.is in
-        let legal_there = before_part script was.before rest.0 (subst (IsLegal script) rest.1 prior.legal) in
+        let legal_there = before_part script was.before rest.0 (subst (AreSteps script) rest.1 prior.legal) in
         let within = front_on _ (chosen_log setting (At script was.before)) top ((history_is_firm script was.before sound legal_there).servers was.server)
         (history_grows script front sound prior.legal was.before rest.0 rest.1) in
         let le = up prior m.until top (subst (λ l. IsPrefix l top) was.at within) (front_itself top) cell in

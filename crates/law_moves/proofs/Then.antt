@@ -12,7 +12,7 @@ use Rattle.petal_rules.specs.Store.{Chain, Store, Stored, chain_in}
 use Rattle.petal_rules.specs.World.{World, blank_joins_in, chosen_log, chosen_state, kept, setting_of}
 use Rattle.petal_rules.proofs.Tests.{none_some, same_or_apart, same_some, some_or_none, true_false}
 use Rattle.petal_history.specs.Claims.{IsPrefix}
-use Rattle.petal_history.specs.Legal.{IsLegal}
+use Rattle.petal_history.specs.Steps.{AreSteps}
 use Rattle.petal_history.specs.Sound.{IsSound}
 use Rattle.petal_history.specs.declared.record.Record.{Record}
 use Rattle.law_state.specs.Homes.{epoch_at, stage_at}
@@ -99,12 +99,12 @@ module _ (it : OneMore) (known : AreFrozenThen it.prior.script (At it.prior.scri
       ]
     ]
 
-pub frozen_then : (script : Script) (records : List Record) → IsSound script → IsLegal script records → AreFrozenThen script (At script records)
+pub frozen_then : (script : Script) (records : List Record) → IsSound script → AreSteps script records → AreFrozenThen script (At script records)
 frozen_then script records sound legal =
     along script (AreFrozenThen script) (λ front own part. then_next (one_more script sound front own part)) [] records legal
     (λ old before epoch f frozen has lies three. none_some refl frozen)
 
-pub frozen_early : (script : Script) (records : List Record) → IsSound script → IsLegal script records → AreFrozenEarly (setting_of script) (At script records)
+pub frozen_early : (script : Script) (records : List Record) → IsSound script → AreSteps script records → AreFrozenEarly (setting_of script) (At script records)
 frozen_early script records sound legal cell before epoch frozen has =
     let chosen = chosen_log (setting_of script) (At script records) in
     elim (at_most_or_above (stage_at (state_after script.servers chosen) cell) 2) [

@@ -23,7 +23,7 @@ use Rattle.petal_rules.specs.Store.{Store, cell_cmp, chain_in}
 use Rattle.petal_rules.specs.World.{World, blank_joins_in, chosen_log, server_state}
 use Rattle.petal_rules.proofs.Tests.{by_bool, is_the_one, same_numbers, same_or_apart, same_some, true_false}
 use Rattle.petal_history.specs.Claims.{IsPrefix}
-use Rattle.petal_history.specs.Legal.{IsLegal}
+use Rattle.petal_history.specs.Steps.{AreSteps}
 use Rattle.law_state.specs.Homes.{stage_at}
 use Rattle.law_state.proofs.Cells.{IsHeldBy, IsInBoth, link_led_by}
 use Rattle.law_state.proofs.Leaves.{either_true}
@@ -123,7 +123,7 @@ module _ (it : OneMore) (all : WereKnown it) where
 
       frozen_was : IsFrozen setting w op.rev op.key op.bytes
       frozen_was = subst (λ rs. IsFrozen setting (At script rs) op.rev op.key op.bytes) (sym was.is)
-          (frozen_on script sound was.before was.later (subst (IsLegal script) was.is prior.legal) op.rev op.key op.bytes
+          (frozen_on script sound was.before was.later (subst (AreSteps script) was.is prior.legal) op.rev op.key op.bytes
           ((all was.before was.later was.is).filled.asked n cell op pending_then fills))
 
       -- nor one of the step

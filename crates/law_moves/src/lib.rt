@@ -21,7 +21,7 @@ ghost use Rattle.law_steps.specs.Operations.{progress};
 ghost use Rattle.petal_rules.specs.World.{chosen_log, chosen_state, server_state};
 ghost use Rattle.petal_rules.specs.Writes.{is_clients};
 ghost use Rattle.petal_history.specs.Claims.{IsPrefix, Moves};
-ghost use Rattle.law_state.specs.Histories.{IsLegal, IsSound, Record, Script, setting_of, start, world_after};
+ghost use Rattle.law_state.specs.Histories.{AreSteps, IsSound, Record, Script, setting_of, start, world_after};
 ghost use Rattle.law_copies.specs.Visits.{IsLinked, WasThere, place_by};
 ghost use Rattle.law_moves.specs.Fills.{AreFilled, HaveComeOver, IsFrozen};
 ghost use Rattle.law_moves.specs.Still.{AreStill};
@@ -29,20 +29,20 @@ ghost use Rattle.law_state.specs.Homes.{stage_at};
 
 /// The copies of a cell that is leaving are what was frozen.
 pub fn old_copies_are_still()
-    ensures { (script : Script) (records : List Record) → IsSound script → IsLegal script records
+    ensures { (script : Script) (records : List Record) → IsSound script → AreSteps script records
         → AreStill (setting_of script) (world_after (setting_of script) (start (setting_of script)) records) }
 {}
 
 /// What is frozen stays so.
 pub fn what_is_frozen_stays()
     ensures { (script : Script) (front back : List Record) (cell : Cell) (before : Chain)
-        → IsSound script → IsLegal script (front ++ back) → (world_after (setting_of script) (start (setting_of script)) front).frozen cell ≡ Some before
+        → IsSound script → AreSteps script (front ++ back) → (world_after (setting_of script) (start (setting_of script)) front).frozen cell ≡ Some before
         → (world_after (setting_of script) (start (setting_of script)) (front ++ back)).frozen cell ≡ Some before }
 {}
 
 /// What fills, their letters and old leads know.
 pub fn fills_come_newest_first()
-    ensures { (script : Script) (records : List Record) → IsSound script → IsLegal script records
+    ensures { (script : Script) (records : List Record) → IsSound script → AreSteps script records
         → AreFilled (setting_of script) (world_after (setting_of script) (start (setting_of script)) records) }
 {}
 
@@ -50,14 +50,14 @@ pub fn fills_come_newest_first()
 /// stopped since: the region is on its way still; and the fill is of a frozen entry, and all that is newer is there.
 pub fn a_fill_of_a_place_is_under_way()
     ensures coming { (script : Script) (records : List Record) → IsSound script
-        → IsLegal script records → (n place : ℕ) (cell : Cell) (pairs : Pairs) (op : Pending) (row : LinkRow)
+        → AreSteps script records → (n place : ℕ) (cell : Cell) (pairs : Pairs) (op : Pending) (row : LinkRow)
         → WasThere (setting_of script) records n place cell pairs → at cell_cmp pairs.pending cell ≡ Some op → is_clients op.kind ≡ false
         → IsLinked (setting_of script) (chosen_log (setting_of script) (world_after (setting_of script) (start (setting_of script)) records)) cell row
         → place_by (setting_of script) (chosen_log (setting_of script) (world_after (setting_of script) (start (setting_of script)) records)) row ≡ place
         → op.rev ≤ length (chosen_log (setting_of script) (world_after (setting_of script) (start (setting_of script)) records))
         → stage_at (chosen_state (setting_of script) (world_after (setting_of script) (start (setting_of script)) records)) cell ≡ 1 }
     ensures frozen { (script : Script) (records : List Record) → IsSound script
-        → IsLegal script records → (n place : ℕ) (cell : Cell) (pairs : Pairs) (op : Pending)
+        → AreSteps script records → (n place : ℕ) (cell : Cell) (pairs : Pairs) (op : Pending)
         → WasThere (setting_of script) records n place cell pairs → at cell_cmp pairs.pending cell ≡ Some op → is_clients op.kind ≡ false
         → IsFrozen (setting_of script) (world_after (setting_of script) (start (setting_of script)) records) op.rev op.key op.bytes }
 {}
@@ -66,7 +66,7 @@ pub fn a_fill_of_a_place_is_under_way()
 /// the cell is not dead.
 pub fn what_a_second_server_fills_is_under_way()
     ensures { (script : Script) (records : List Record)
-        → IsSound script → IsLegal script records → (n m : ℕ) (cell : Cell) (pairs : Pairs) (op : Pending) (row : LinkRow)
+        → IsSound script → AreSteps script records → (n m : ℕ) (cell : Cell) (pairs : Pairs) (op : Pending) (row : LinkRow)
         → ((world_after (setting_of script) (start (setting_of script)) records).servers m).life.running ≡ true
         → is_in (server_state (setting_of script) (world_after (setting_of script) (start (setting_of script)) records) m) m
         ((world_after (setting_of script) (start (setting_of script)) records).servers m).life.inc ≡ true
@@ -81,12 +81,12 @@ pub fn what_a_second_server_fills_is_under_way()
 
 /// A region that has moved has all that was frozen.
 pub fn a_region_that_has_moved_has_all()
-    ensures { (script : Script) (records : List Record) → IsSound script → IsLegal script records
+    ensures { (script : Script) (records : List Record) → IsSound script → AreSteps script records
         → HaveComeOver (setting_of script) (world_after (setting_of script) (start (setting_of script)) records) }
 {}
 
 /// The two-copy rule in a region that is on its way.
 pub fn moves_keep_the_rule()
-    ensures { (script : Script) (records : List Record) → IsSound script → IsLegal script records
+    ensures { (script : Script) (records : List Record) → IsSound script → AreSteps script records
         → Moves (setting_of script) (world_after (setting_of script) (start (setting_of script)) records) }
 {}

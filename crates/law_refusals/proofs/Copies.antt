@@ -35,7 +35,7 @@ use Rattle.petal_rules.specs.declared.step.WorkEnd.TheVariants as work_end
 use Rattle.petal_rules.proofs.ListLemmas.{in-append}
 use Rattle.petal_rules.proofs.Settled.{settling}
 use Rattle.petal_rules.proofs.Tests.{all_put, by_test, true_false}
-use Rattle.petal_history.specs.Legal.{Follows, IsLegal, stepped, world_after}
+use Rattle.petal_history.specs.Steps.{Follows, AreSteps, stepped, world_after}
 use Rattle.petal_history.specs.declared.record.Record.{Record}
 use Rattle.law_state.specs.Firm.{Firm}
 use Rattle.law_state.proofs.Moments.{last_moment, moment_more}
@@ -473,7 +473,7 @@ module _ (setting : Setting) where
               ]);
         }
 
-pub ended_full : (script : Script) (records : List Record) → AreFirm (setting_of script) (start (setting_of script)) records → IsLegal script records
+pub ended_full : (script : Script) (records : List Record) → AreFirm (setting_of script) (start (setting_of script)) records → AreSteps script records
     → (n : ℕ) → ((world_after (setting_of script) (start (setting_of script)) records).servers n).life.running ≡ true
     → ((world_after (setting_of script) (start (setting_of script)) records).servers n).own.copies.full ≡ true
     → HasFoundNone (setting_of script) records n ((world_after (setting_of script) (start (setting_of script)) records).servers n).life.inc

@@ -21,7 +21,7 @@ use Rattle.petal_rules.specs.declared.step.Step.{Step}
 use Rattle.petal_rules.specs.declared.step.Step.TheVariants.{Work}
 use Rattle.petal_rules.specs.declared.step.WorkEnd.TheVariants as work_end
 use Rattle.petal_rules.proofs.Tests.{true_false}
-use Rattle.petal_history.specs.Legal.{IsLegal, world_after}
+use Rattle.petal_history.specs.Steps.{AreSteps, world_after}
 use Rattle.petal_history.specs.declared.record.Record.{Record}
 use Rattle.law_steps.specs.Did.{Did, Ignores, Refuses, IsBusy, IsHeldBack, By_read, By_lead, By_second, By_holder, By_other, By_filler, By_sweep, is_not_here}
 use Rattle.law_steps.specs.DidRead.{DidRead, Shows, Not_here}
@@ -112,7 +112,7 @@ aside_quiet Refused e = refl
 aside_quiet _ e = true_false e refl
 
 module _ (script : Script) (front : List Record) (own : Record) (firm : AreFirm (setting_of script) (start (setting_of script)) (front ++ own ∷ []))
-    (legal : IsLegal script (front ++ own ∷ [])) (letter : Letter) where
+    (legal : AreSteps script (front ++ own ∷ [])) (letter : Letter) where
   abbrev setting : Setting
   setting = setting_of script
 

@@ -33,7 +33,7 @@ use Rattle.petal_rules.specs.World.{Setting, World, step, start, setting_of, cli
 use Rattle.petal_rules.specs.World.{next_line, MayActor}
 use Rattle.petal_rules.specs.declared.step.Step.{Step}
 use Rattle.petal_rules.proofs.Tests.{same_some, none_some, by_test}
-use Rattle.petal_history.specs.Legal.{IsLegal, IsLegalFrom, world_after}
+use Rattle.petal_history.specs.Steps.{AreSteps, AreStepsFrom, world_after}
 use Rattle.petal_history.specs.Sound.{IsSound}
 use Rattle.petal_history.specs.declared.record.Record.{Record}
 use Rattle.law_state.proofs.Moments.{last_moment, moment_more}
@@ -203,7 +203,7 @@ module _ (setting : Setting) where
       → letter.body ≡ body.Seen line round running inc full → full ≡ true → HasFullServer setting records line
 
   pub no_space : Kept [] → (front : List Record) (own : Record) → ShowsFull front → AreFirm setting (start setting) (front ++ own ∷ [])
-      → IsLegalFrom setting (start setting) (front ++ own ∷ []) → (c number : ℕ)
+      → AreStepsFrom setting (start setting) (front ++ own ∷ []) → (c number : ℕ)
       → own.actor ≡ actor.Client c → own.answer ≡ Some (number, answer.NoSpace) → HasReason setting front c number
   no_space begun front own shows firm legal c number who given =
       let parts = front_legal setting (start setting) front (own ∷ []) legal in
@@ -244,7 +244,7 @@ start_kept script = record {
 
 -- a glance that showed a want of slots, and what was so before it
 full_copy : (script : Script) (records : List Record) → AreFirm (setting_of script) (start (setting_of script)) records → IsSound script
-    → IsLegal script records → ShowsFull (setting_of script) records
+    → AreSteps script records → ShowsFull (setting_of script) records
 full_copy script records firm sound legal letter line round running inc full h says so =
     let setting = setting_of script in
     let found = shown_full script sound records legal letter line round running inc full h says so in
@@ -253,12 +253,12 @@ full_copy script records firm sound legal letter line round running inc full h s
       found = found;
       full = ended_full script at.front
           (front_firm setting (start setting) at.front (at.own ∷ at.following) (subst (AreFirm setting (start setting)) at.is firm)).0
-          (front_legal setting (start setting) at.front (at.own ∷ at.following) (subst (IsLegal script) at.is legal)).0
+          (front_legal setting (start setting) at.front (at.own ∷ at.following) (subst (AreSteps script) at.is legal)).0
           found.server found.runs found.full;
     }
 
 pub no_space_reason : (script : Script) (front : List Record) (own : Record) → IsSound script
-    → AreFirm (setting_of script) (start (setting_of script)) (front ++ own ∷ []) → IsLegal script (front ++ own ∷ []) → (client line : ℕ)
+    → AreFirm (setting_of script) (start (setting_of script)) (front ++ own ∷ []) → AreSteps script (front ++ own ∷ []) → (client line : ℕ)
     → own.actor ≡ actor.Client client → own.answer ≡ Some (line, answer.NoSpace) → HasReason (setting_of script) front client line
 no_space_reason script front own sound firm legal =
     no_space (setting_of script) (start_kept script) front own

@@ -5,7 +5,7 @@ use Rattle.script_lines.specs.declared.script.Script.{Script}
 use Rattle.petal_rules.specs.World.{Setting, World, chosen_log, setting_of, start}
 use Rattle.petal_rules.proofs.Tests.{true_false}
 use Rattle.petal_history.specs.Claims.{IsPrefix}
-use Rattle.petal_history.specs.Legal.{IsLegal, world_after}
+use Rattle.petal_history.specs.Steps.{AreSteps, world_after}
 use Rattle.petal_history.specs.Sound.{IsSound}
 use Rattle.petal_history.specs.declared.record.Record.{Record}
 use Rattle.law_steps.proofs.Fronts.{front_itself, front_on, front_within}
@@ -26,7 +26,7 @@ nothing_held setting w lives asks reports n fence until runs stands cell along o
     let after : IsPrefix until front = front_within until front (w.servers n).log.applied reached within (omega arith) in
     true_false (along front after within) opened.unfenced
 
-pub nothing_held_after : (script : Script) (records : List Record) → IsSound script → IsLegal script records
+pub nothing_held_after : (script : Script) (records : List Record) → IsSound script → AreSteps script records
     → WritesNothingHeld (setting_of script) (world_after (setting_of script) (start (setting_of script)) records)
 nothing_held_after script records sound legal =
     let along = asking_along script sound records legal in

@@ -26,7 +26,7 @@ use Rattle.petal_rules.specs.World.{Setting, World, start, setting_of, chosen_lo
 use Rattle.petal_rules.proofs.ListLemmas.{in_former}
 use Rattle.petal_rules.proofs.Tests.{both_true, by_bool, none_some, same_or_apart, true_false}
 use Rattle.petal_history.specs.Claims.{IsPrefix, Requests, IsOver, IsLateAt, HasFinished}
-use Rattle.petal_history.specs.Legal.{IsLegal, world_after}
+use Rattle.petal_history.specs.Steps.{AreSteps, world_after}
 use Rattle.petal_history.specs.Sound.{IsSound}
 use Rattle.petal_history.specs.declared.record.Record.{Record}
 use Rattle.law_state.specs.Firm.{Firm}
@@ -131,7 +131,7 @@ module _ (script : Script) (sound : IsSound script) where
   KnownAfter records = AskingAlong setting records (At records)
 
   -- of the reports that are chosen
-  pub reports_known : (records : List Record) → IsLegal script records → (k : KnownAfter records) → KnowsReports setting (At records) k.asks.lives
+  pub reports_known : (records : List Record) → AreSteps script records → (k : KnownAfter records) → KnowsReports setting (At records) k.asks.lives
   reports_known records legal k = record {
     reached = λ n fence until stands.
         let was = report_was_made script records sound legal until n (k.asks.lives.ran n) fence stands in
@@ -142,7 +142,7 @@ module _ (script : Script) (sound : IsSound script) where
 
   -- ### One step more
 
-  module _ (records : List Record) (own : Record) (legal : IsLegal script (records ++ own ∷ [])) (k : KnownAfter records) where
+  module _ (records : List Record) (own : Record) (legal : AreSteps script (records ++ own ∷ [])) (k : KnownAfter records) where
     abbrev all : List Record
     all = records ++ own ∷ []
 
@@ -155,7 +155,7 @@ module _ (script : Script) (sound : IsSound script) where
     abbrev chosen_now : State
     chosen_now = chosen_state setting v
 
-    legal_before : IsLegal script records
+    legal_before : AreSteps script records
     legal_before = (front_legal setting (start setting) records (own ∷ []) legal).0
 
     grows : IsPrefix (chosen_log setting w) (chosen_log setting v)
@@ -259,21 +259,21 @@ module _ (script : Script) (sound : IsSound script) where
     unfolding one_more
     more_lives = refl
 
-  known_from : (done later : List Record) → IsLegal script (done ++ later) → KnownAfter done → KnownAfter (done ++ later)
+  known_from : (done later : List Record) → AreSteps script (done ++ later) → KnownAfter done → KnownAfter (done ++ later)
   known_from done [] legal known = subst KnownAfter (sym (append-nil done)) known
   known_from done (own ∷ later) legal known =
       let e = append_assoc done (own ∷ []) later in
-      let whole : IsLegal script ((done ++ own ∷ []) ++ later) = subst (IsLegal script) (sym e) legal in
+      let whole : AreSteps script ((done ++ own ∷ []) ++ later) = subst (AreSteps script) (sym e) legal in
       let part = (front_legal setting (start setting) (done ++ own ∷ []) later whole).0 in
       subst KnownAfter e (known_from (done ++ own ∷ []) later whole (one_more done own part known))
 
   -- after each legal history
-  pub asking_along : (records : List Record) → IsLegal script records → AskingAlong setting records (At records)
+  pub asking_along : (records : List Record) → AreSteps script records → AskingAlong setting records (At records)
   asking_along records legal = known_from [] records legal (start_along script)
 
   -- ### What is known of incarnations
 
-  module _ (records : List Record) (legal : IsLegal script records) (along : AskingAlong setting records (At records)) where
+  module _ (records : List Record) (legal : AreSteps script records) (along : AskingAlong setting records (At records)) where
     -- whoever is In by a front of what is chosen is so with an incarnation that ran
     pub have_run : HaveRun setting (At records) along.asks.lives
     have_run front n inc lies is =
@@ -298,7 +298,7 @@ module _ (script : Script) (sound : IsSound script) where
         let same : front ≡ own = one_log front own (subst (λ l. IsPrefix l own) was.at since.grows) more in
         since.flags was.lives (was.at ∙ same) row was.minded
 
-pub asking_after : (script : Script) (records : List Record) → IsSound script → IsLegal script records
+pub asking_after : (script : Script) (records : List Record) → IsSound script → AreSteps script records
     → Asking (setting_of script) (world_after (setting_of script) (start (setting_of script)) records)
 asking_after script records sound legal = (asking_along script sound records legal).asks
 
@@ -400,7 +400,7 @@ module _ (setting : Setting) (w : World) (firm : Firm setting w) (rests : Rests 
           record { want = asked_for cell op; rev = op.rev; p = here n cell op is clients; remembers = remembers n }
 
 pub requests_after : (script : Script) (records : List Record) → IsSound script → AreFirm (setting_of script) (start (setting_of script)) records
-    → IsLegal script records
+    → AreSteps script records
     → Requests (setting_of script) (world_after (setting_of script) (start (setting_of script)) records)
 requests_after script records sound firm legal =
     let setting = setting_of script in
@@ -409,7 +409,7 @@ requests_after script records sound firm legal =
     (reports_known script sound records legal (asking_along script sound records legal))
 
 pub open_after : (script : Script) (records : List Record) → IsSound script → AreFirm (setting_of script) (start (setting_of script)) records
-    → IsLegal script records
+    → AreSteps script records
     → AreOpen (setting_of script) (world_after (setting_of script) (start (setting_of script)) records)
 open_after script records sound firm legal =
     let setting = setting_of script in

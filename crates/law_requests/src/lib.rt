@@ -9,27 +9,27 @@
 
 ghost use Rattle.std.specs.Prelude.{List};
 ghost use Rattle.petal_history.specs.Claims.{Requests};
-ghost use Rattle.law_state.specs.Histories.{IsLegal, IsSound, Record, Script, setting_of, start, world_after};
+ghost use Rattle.law_state.specs.Histories.{AreSteps, IsSound, Record, Script, setting_of, start, world_after};
 ghost use Rattle.law_requests.specs.Known.{Asking};
 ghost use Rattle.law_requests.specs.Still.{AreOpen};
 
 /// After every legal history of a sound script, an answered request is pending at no running server, and its letters come too
 /// late, or are held: also where the server has started a ballot for the Caught of the cell's link.
 pub fn answered_requests_are_over()
-    ensures { (script : Script) (records : List Record) → IsSound script → IsLegal script records
+    ensures { (script : Script) (records : List Record) → IsSound script → AreSteps script records
         → Requests (setting_of script) (world_after (setting_of script) (start (setting_of script)) records) }
 {}
 
 /// And what goes with it: open requests are those of their lines, a pending operation is of its client's write that its server
 /// is not past, on a cell that this one has led since, and each letter that was ever sent tells of a request of its line.
 pub fn letters_of_clients_and_replies()
-    ensures { (script : Script) (records : List Record) → IsSound script → IsLegal script records
+    ensures { (script : Script) (records : List Record) → IsSound script → AreSteps script records
         → Asking (setting_of script) (world_after (setting_of script) (start (setting_of script)) records) }
 {}
 
 /// The request of a pending operation is open while its server runs; and, also after it stopped, while the cell has a lead by
 /// what is chosen, which has not joined again since its own state, and no other server knows that it holds the cell alone.
 pub fn pending_writes_are_open()
-    ensures { (script : Script) (records : List Record) → IsSound script → IsLegal script records
+    ensures { (script : Script) (records : List Record) → IsSound script → AreSteps script records
         → AreOpen (setting_of script) (world_after (setting_of script) (start (setting_of script)) records) }
 {}

@@ -15,7 +15,7 @@ use Rattle.petal_rules.specs.World.{Setting, World, blank_joins_in, counted, sta
 use Rattle.petal_rules.specs.World.{server_state, chosen_log, chosen_state, devices}
 use Rattle.petal_rules.proofs.Tests.{by_test, none_some, same_some}
 use Rattle.petal_history.specs.Claims.{IsPrefix}
-use Rattle.petal_history.specs.Legal.{Follows, IsLegal, stepped, world_after}
+use Rattle.petal_history.specs.Steps.{Follows, AreSteps, stepped, world_after}
 use Rattle.petal_history.specs.Sound.{IsSound}
 use Rattle.petal_history.specs.declared.record.Record.{Record}
 use Rattle.law_state.specs.Firm.{Firm}
@@ -50,7 +50,7 @@ use Rattle.law_run.proofs.Recalled.{GoesOnFrom, IsVisit, remembered_next}
 use Rattle.law_run.proofs.Steps.{IsMiddle}
 
 -- what is known of epochs after each legal history
-epochs_after : (script : Script) (records : List Record) → IsSound script → IsLegal script records
+epochs_after : (script : Script) (records : List Record) → IsSound script → AreSteps script records
     → KnowEpochs (setting_of script) records (world_after (setting_of script) (start (setting_of script)) records)
 epochs_after script records sound legal = record {
   pending = pending_timely script records sound legal;
@@ -90,7 +90,7 @@ module _ (script : Script) (sound : IsSound script) (whole : List Command) (all 
 
   -- ### The ground is kept
 
-  module _ (w : World) (own : Record) (footing : Footing w) (legal : IsLegal script (footing.ground.records ++ own ∷ [])) where
+  module _ (w : World) (own : Record) (footing : Footing w) (legal : AreSteps script (footing.ground.records ++ own ∷ [])) where
     abbrev ground : Ground setting state w
     ground = footing.ground
 

@@ -23,7 +23,7 @@ use Rattle.petal_rules.specs.declared.step.Step.{Step}
 use Rattle.petal_rules.specs.declared.step.Step.TheVariants.{Deliver}
 use Rattle.petal_rules.proofs.ListLemmas.{in_later, in-append}
 use Rattle.petal_history.specs.Events.{accepted, accepts, data_line, first_of, same_name, look_by, look_for, look_of}
-use Rattle.petal_history.specs.Legal.{IsLegalFrom, stepped}
+use Rattle.petal_history.specs.Steps.{AreStepsFrom, stepped}
 use Rattle.petal_history.specs.declared.record.Record.{Record}
 use Rattle.law_steps.specs.Turned.{line_by}
 use Rattle.petal_rules.proofs.Tests.{by_test, by_bool, both_true, same_some, none_some, same_numbers, true_false}
@@ -161,7 +161,7 @@ module _ (setting : Setting) (state : State) where
   sent_later w (actor.Client c) what stamp letter h = in_later letter _ w.sent h
 
   -- whoever accepts the letter in one of these records had asked for it. At each world on the way the ground holds
-  pub who_accepts : (w : World) (records : List Record) → AreGrounded setting state w records → IsLegalFrom setting w records
+  pub who_accepts : (w : World) (records : List Record) → AreGrounded setting state w records → AreStepsFrom setting w records
       → (letter : Letter) (seq : ℕ) (bytes : List ℕ) (number : ℕ) → In letter w.sent → letter.body ≡ body.Data seq bytes → accepted records letter
       ≡ Some number → Accepts lines letter seq number
   who_accepts w [] grounded legal letter seq bytes number h says e = none_some refl e

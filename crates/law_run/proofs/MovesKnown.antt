@@ -22,7 +22,7 @@ use Rattle.petal_rules.specs.World.{Setting, World, begins_to_leave, chain_that_
 use Rattle.petal_rules.specs.declared.step.Step.{Step}
 use Rattle.petal_rules.proofs.Tests.{none_some, same_some, true_false}
 use Rattle.petal_history.specs.Claims.{IsPrefix}
-use Rattle.petal_history.specs.Legal.{IsLegal, stepped}
+use Rattle.petal_history.specs.Steps.{AreSteps, stepped}
 use Rattle.petal_history.specs.Sound.{IsSound}
 use Rattle.petal_history.specs.declared.record.Record.{Record}
 use Rattle.law_log.proofs.Histories.{history_is_firm}
@@ -69,7 +69,7 @@ counted_one chains (Some n) before e = (n, same_some e)
 abbrev AreRising : World → Type 0
 AreRising w = (cell : Cell) (before : Chain) → w.frozen cell ≡ Some before → IsRising nat_cmp before
 
-rising_after : (script : Script) (records : List Record) → IsSound script → IsLegal script records → AreRising (At script records)
+rising_after : (script : Script) (records : List Record) → IsSound script → AreSteps script records → AreRising (At script records)
 rising_after script records sound legal =
     along script AreRising (λ front own part old cell before is.
     let setting = setting_of script in
@@ -86,7 +86,7 @@ rising_after script records sound legal =
           ((good_after script (front ++ own ∷ []) sound part).rising k.0 cell))
     ]) [] records legal (λ cell before is. none_some refl is)
 
-module _ (script : Script) (records : List Record) (sound : IsSound script) (legal : IsLegal script records) where
+module _ (script : Script) (records : List Record) (sound : IsSound script) (legal : AreSteps script records) where
   abbrev setting : Setting
   setting = setting_of script
 
@@ -135,7 +135,7 @@ module _ (script : Script) (records : List Record) (sound : IsSound script) (leg
   keyed : (n place : ℕ) (cell : Cell) (pairs : Pairs) (op : Pending) → WasThere setting records n place cell pairs
       → at cell_cmp pairs.pending cell ≡ Some op → cell_of op.key ≡ cell
   keyed n place cell pairs op was is =
-      let past = (front_legal setting (start setting) was.before was.later (subst (IsLegal script) was.is legal)).0 in
+      let past = (front_legal setting (start setting) was.before was.later (subst (AreSteps script) was.is legal)).0 in
       let rests = rests_after setting (start setting) was.before (always_firm script was.before sound past) (start_rests script) past in
       ((rests.pending n).staged cell op (ap (λ (p : Pairs). at cell_cmp p.pending cell) was.had ∙ is)).keyed
 

@@ -26,7 +26,7 @@ use Rattle.petal_rules.specs.Store.{Chain, Store, Stored, bytes_of, cell_cmp, ch
 use Rattle.petal_rules.specs.World.{chosen_log, chosen_state, counted, kept, server_state, World}
 use Rattle.petal_rules.proofs.Tests.{by_bool, none_some, same_some, true_false}
 use Rattle.petal_history.specs.Events.{NotThere, look_for, look_for_data, look_of, old_data}
-use Rattle.petal_history.specs.Legal.{IsLegalFrom}
+use Rattle.petal_history.specs.Steps.{AreStepsFrom}
 use Rattle.law_state.specs.Homes.{HasStage, epoch_at, stage_at}
 use Rattle.law_state.proofs.Disks.{log_disks}
 use Rattle.law_state.proofs.Entries.{log_plain}
@@ -248,7 +248,7 @@ module _ (this : ServerStep) where
       → (is_lead own_state this.n cell ≡ true → at cell_cmp own.pairs.pending cell ≡ None)
       → (letter : Letter) → letters this ≡ letter ∷ [] → letter.to ≡ actor.Client client → letter.rev ≡ own_state.rev → letter.body ≡ body.NotHere seq
       → chosen_log this.setting (later_world this) ≡ chosen_log this.setting this.w → AreCalm this
-      → AreGrounded this.setting this.state (later_world this) this.later → IsLegalFrom this.setting (later_world this) this.later
+      → AreGrounded this.setting this.state (later_world this) this.later → AreStepsFrom this.setting (later_world this) this.later
       → LooksTold this
   not_here_told numbered runs client seq cell epoch readable comes none idle letter all to rev says same calm grounds legal m following =
       subst (λ ls. Looked m (flat_map (look_here this) ls)) (sym all)

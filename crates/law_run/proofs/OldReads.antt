@@ -23,7 +23,7 @@ use Rattle.petal_rules.proofs.ListLemmas.{in_former}
 use Rattle.petal_rules.proofs.Tests.{both_true, by_bool, by_test, none_some, same_numbers, same_some, true_false}
 use Rattle.petal_history.specs.Claims.{IsPrefix}
 use Rattle.petal_history.specs.Events.{NotThere, accepted, data_among, data_of, first_data, old_data, reads_old, same_actor, turns}
-use Rattle.petal_history.specs.Legal.{IsLegalFrom, stepped}
+use Rattle.petal_history.specs.Steps.{AreStepsFrom, stepped}
 use Rattle.petal_history.specs.declared.record.Record.{Record}
 use Rattle.law_state.specs.Firm.{Firm}
 use Rattle.law_state.specs.Homes.{epoch_at, stage_at}
@@ -262,7 +262,7 @@ module _ (setting : Setting) (state : State) (steady : IsSteady state) where
 
     -- in this step
     step_found : (u : World) (who : Actor) (what : Step) (stamp : ℕ) (later : List Record) → Ground setting state u
-        → AreGrounded setting state (step who what setting u stamp).world later → IsLegalFrom setting (step who what setting u stamp).world later
+        → AreGrounded setting state (step who what setting u stamp).world later → AreStepsFrom setting (step who what setting u stamp).world later
         → MayActor who what setting u → IsPrefix (chosen_log setting v) (chosen_log setting u) → StayFrozen setting v u
         → reads_old setting u who ≡ true
         → IsAmong told later (step who what setting u stamp).letters given → F
@@ -295,7 +295,7 @@ module _ (setting : Setting) (state : State) (steady : IsSteady state) where
         }
 
     -- in one of these
-    pub found : (u : World) (records : List Record) (turned : Bool) → AreGrounded setting state u records → IsLegalFrom setting u records
+    pub found : (u : World) (records : List Record) (turned : Bool) → AreGrounded setting state u records → AreStepsFrom setting u records
         → IsPrefix (chosen_log setting v) (chosen_log setting u) → StayFrozen setting v u
         → old_data setting u records told turned ≡ Some given → F
     found u [] turned grounded legal grows stays e = none_some refl e

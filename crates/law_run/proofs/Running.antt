@@ -23,7 +23,7 @@ use Rattle.petal_rules.proofs.Tests.{none_some}
 use Rattle.petal_history.specs.Claims.{AreHeld, IsPrefix, IsStill, Law, Requests, SnapshotsStay, machine_after}
 use Rattle.petal_history.specs.Events.{begins, ended, ends, open_write, change_by, freezes, takes, makes, told, told_from}
 use Rattle.petal_history.specs.Events.{told_with, joined, events_of, IsRunOf, look_of}
-use Rattle.petal_history.specs.Legal.{Follows, IsLegal, IsLegalFrom, stepped, world_after}
+use Rattle.petal_history.specs.Steps.{Follows, AreSteps, AreStepsFrom, stepped, world_after}
 use Rattle.petal_history.specs.Sound.{IsSound}
 use Rattle.petal_history.specs.declared.record.Record.{Record}
 use Rattle.law_state.specs.Firm.{Firm}
@@ -77,20 +77,20 @@ module _ (script : Script) (sound : IsSound script) (whole : List Command) (all 
   wake_now w (own ∷ later) wakes = wakes.0
 
   -- the records so far and one more
-  first_legal : (done later : List Record) (own : Record) → IsLegal script (done ++ own ∷ later) → IsLegal script (done ++ own ∷ [])
+  first_legal : (done later : List Record) (own : Record) → AreSteps script (done ++ own ∷ later) → AreSteps script (done ++ own ∷ [])
   first_legal done later own legal =
       (front_legal setting (start setting) (done ++ own ∷ []) later
-      (subst (IsLegal script) (sym (append_assoc done (own ∷ []) later)) legal)).0
+      (subst (AreSteps script) (sym (append_assoc done (own ∷ []) later)) legal)).0
 
-  legal_on : (done now later : List Record) (own : Record) → now ≡ done ++ own ∷ [] → IsLegal script (done ++ own ∷ later)
-      → IsLegal script (now ++ later)
+  legal_on : (done now later : List Record) (own : Record) → now ≡ done ++ own ∷ [] → AreSteps script (done ++ own ∷ later)
+      → AreSteps script (now ++ later)
   legal_on done now later own e legal =
-      subst (λ ds. IsLegal script (ds ++ later)) (sym e) (subst (IsLegal script) (sym (append_assoc done (own ∷ []) later)) legal)
+      subst (λ ds. AreSteps script (ds ++ later)) (sym e) (subst (AreSteps script) (sym (append_assoc done (own ∷ []) later)) legal)
 
   grounded : (w : World) (records : List Record) → AreFirm setting w records → WakeAlong setting w records
       → IsPrefix (chosen_log setting (world_after setting w records)) whole → (footing : Footing script sound whole all w)
-      → IsLegal script (footing.ground.records ++ records)
-      → IsLegalFrom setting w records
+      → AreSteps script (footing.ground.records ++ records)
+      → AreStepsFrom setting w records
       → AreGrounded setting state w records
   grounded w [] firm wakes end footing all_legal legal = footing.ground
   grounded w (own ∷ later) firm wakes end footing all_legal legal =
@@ -131,7 +131,7 @@ module _ (script : Script) (sound : IsSound script) (whole : List Command) (all 
       now : Ground setting state v
       middle : IsMiddle setting w v now.records now.good.visits
       grounds : AreGrounded setting state v later
-      legal : IsLegalFrom setting v later
+      legal : AreStepsFrom setting v later
 
     abbrev so_far : Followed
     so_far = record { setting = setting; state = state; w = w; m = m; along = along; ground = ground; follow = follow }
@@ -207,7 +207,7 @@ module _ (script : Script) (sound : IsSound script) (whole : List Command) (all 
       → IsPrefix (chosen_log setting w) (chosen_log setting (stepped setting w own).world)
       → (now : Ground setting state (stepped setting w own).world)
       → IsMiddle setting w (stepped setting w own).world now.records now.good.visits
-      → AreGrounded setting state (stepped setting w own).world later → IsLegalFrom setting (stepped setting w own).world later
+      → AreGrounded setting state (stepped setting w own).world later → AreStepsFrom setting (stepped setting w own).world later
       → Tells m (stepped setting w own).world (told setting w own later)
   record_tells w m along ground follow own later follows then grows now middle grounds legal =
       let v = (stepped setting w own).world in
@@ -226,13 +226,13 @@ module _ (script : Script) (sound : IsSound script) (whole : List Command) (all 
   -- after the first of these records
   record IsStepped (w : World) (m : Plain) (own : Record) (later : List Record) : Type 0 where
     footing : Footing script sound whole all (stepped setting w own).world
-    legal : IsLegal script (footing.ground.records ++ later)
+    legal : AreSteps script (footing.ground.records ++ later)
     tells : Tells m (stepped setting w own).world (told setting w own later)
 
   first_step : (w : World) (m : Plain) (own : Record) (later : List Record) → AreFirm setting w (own ∷ later) → WakeAlong setting w (own ∷ later)
       → IsPrefix (chosen_log setting (world_after setting w (own ∷ later))) whole → (footing : Footing script sound whole all w)
-      → IsLegal script (footing.ground.records ++ own ∷ later)
-      → Follow setting (rows_in setting w) w m → IsLegalFrom setting w (own ∷ later) → IsStepped w m own later
+      → AreSteps script (footing.ground.records ++ own ∷ later)
+      → Follow setting (rows_in setting w) w m → AreStepsFrom setting w (own ∷ later) → IsStepped w m own later
   first_step w m own later firm wakes end footing all_legal follow legal =
       let v = (stepped setting w own).world in
       let then = firm_now setting v later firm.2 in
@@ -251,8 +251,8 @@ module _ (script : Script) (sound : IsSound script) (whole : List Command) (all 
 
   pub history_tells : (w : World) (m : Plain) (records : List Record) → AreFirm setting w records → WakeAlong setting w records
       → IsPrefix (chosen_log setting (world_after setting w records)) whole → (footing : Footing script sound whole all w)
-      → IsLegal script (footing.ground.records ++ records)
-      → Follow setting (rows_in setting w) w m → IsLegalFrom setting w records
+      → AreSteps script (footing.ground.records ++ records)
+      → Follow setting (rows_in setting w) w m → AreStepsFrom setting w records
       → Tells m (world_after setting w records) (told_from setting w records)
   history_tells w m [] firm wakes end footing all_legal follow legal = record { es = []; is = refl; may = tt; follows = follow }
   history_tells w m (own ∷ later) firm wakes end footing all_legal follow legal =
@@ -277,8 +277,8 @@ module _ (script : Script) (sound : IsSound script) (whole : List Command) (all 
 
   pub on_the_way : (w : World) (m : Plain) (front back : List Record) → AreFirm setting w (front ++ back) → WakeAlong setting w (front ++ back)
       → IsPrefix (chosen_log setting (world_after setting w (front ++ back))) whole → (footing : Footing script sound whole all w)
-      → IsLegal script (footing.ground.records ++ (front ++ back))
-      → Follow setting (rows_in setting w) w m → IsLegalFrom setting w (front ++ back)
+      → AreSteps script (footing.ground.records ++ (front ++ back))
+      → Follow setting (rows_in setting w) w m → AreStepsFrom setting w (front ++ back)
       → IsOnTheWay (world_after setting w front) (world_after setting w (front ++ back))
   on_the_way w m [] back firm wakes end footing all_legal follow legal =
       let t = history_tells w m back firm wakes end footing all_legal follow legal in record { m = m; then = follow; es = t.es; now = t.follows }
@@ -303,7 +303,7 @@ start_follow script =
 
 -- ### The law
 
-module _ (script : Script) (records : List Record) (sound : IsSound script) (legal : IsLegal script records) where
+module _ (script : Script) (records : List Record) (sound : IsSound script) (legal : AreSteps script records) where
   abbrev of_script : Setting
   of_script = setting_of script
 
@@ -339,8 +339,8 @@ module _ (script : Script) (records : List Record) (sound : IsSound script) (leg
   abbrev footing : Footing script sound whole last_firm.plain begun
   footing = record { ground = first.now; known = first.known; lives_are = first.lives_are }
 
-  begun_legal : IsLegal script (footing.ground.records ++ records)
-  begun_legal = subst (λ done. IsLegal script (done ++ records)) (sym first.records_are) legal
+  begun_legal : AreSteps script (footing.ground.records ++ records)
+  begun_legal = subst (λ done. AreSteps script (done ++ records)) (sym first.records_are) legal
 
   abbrev T : Type 0
   T = Tells script sound whole last_firm.plain blank last_world (events_of script records)
@@ -358,7 +358,7 @@ module _ (script : Script) (records : List Record) (sound : IsSound script) (leg
       subst (λ o. AreHeld of_script last_world (machine_after o).disks) (sym tells.is) (record { known = stores.known; unknown = stores.unknown })
 
 -- snapshots never change on the way
-still_after : (script : Script) (front back : List Record) → IsSound script → IsLegal script (front ++ back)
+still_after : (script : Script) (front back : List Record) → IsSound script → AreSteps script (front ++ back)
     → IsStill (setting_of script) (world_after (setting_of script) (start (setting_of script)) front)
     (world_after (setting_of script) (start (setting_of script)) (front ++ back))
 still_after script front back sound legal =
@@ -383,15 +383,15 @@ still_after script front back sound legal =
       now = way.now.stores;
     })
 
-snapshots_after : (script : Script) (records : List Record) → IsSound script → IsLegal script records → SnapshotsStay script records
+snapshots_after : (script : Script) (records : List Record) → IsSound script → AreSteps script records → SnapshotsStay script records
 snapshots_after script records sound legal front back e =
     subst (λ rs. IsStill (setting_of script) (world_after (setting_of script) (start (setting_of script)) front)
     (world_after (setting_of script) (start (setting_of script)) rs)) (sym e)
-    (still_after script front back sound (subst (IsLegal script) e legal))
+    (still_after script front back sound (subst (AreSteps script) e legal))
 
 -- the rule of requests, after each legal history
 abbrev pub KeepsRequests : Type 0
-KeepsRequests = (script : Script) (records : List Record) → IsSound script → IsLegal script records
+KeepsRequests = (script : Script) (records : List Record) → IsSound script → AreSteps script records
     → Requests (setting_of script) (world_after (setting_of script) (start (setting_of script)) records)
 
 -- all the rest of the law

@@ -4,7 +4,7 @@ use Rattle.law_run.proofs.NotHere.{not_here_told}
 use Rattle.law_steps.specs.DidRead.{Not_here, Shows}
 use Rattle.law_run.proofs.Shows.{AreCalm, data_of, show_told}
 use Rattle.law_run.proofs.Steps.{LooksTold, Next, ServerStep, ServerTold, ServesAt, after_step, kept_here, later_world, letters, new, quiet_looks}
-use Rattle.petal_history.specs.Legal.{IsLegalFrom}
+use Rattle.petal_history.specs.Steps.{AreStepsFrom}
 use Rattle.petal_state.specs.CellState.{named_cell}
 use Rattle.std.proofs.Common.{◌≡◌, ◌+◌, ℕ, List, [], true, Some, refl, sym, ap, ◌∙◌, subst, inl, ◌||◌, false, Option, None}
 use Rattle.std.specs.Prelude.{is_some}
@@ -93,7 +93,7 @@ module _ (at : ServesAt) where
     -- of the records that follow: the ground holds on the way, and they are legal
     pub record HasLater (v : World) : Type 0 where
       pub grounds : AreGrounded at.setting at.state v at.later
-      pub legal : IsLegalFrom at.setting v at.later
+      pub legal : AreStepsFrom at.setting v at.later
 
     never : (at.w.servers at.n).life.running ≡ true → NeverDead here own
     never =

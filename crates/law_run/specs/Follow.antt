@@ -28,7 +28,7 @@ use Rattle.petal_rules.specs.Writes.{is_clients}
 use Rattle.petal_history.specs.Claims.{Holds, IsPrefix}
 use Rattle.petal_history.specs.Contents.{content_at, has_content_at}
 use Rattle.petal_history.specs.Events.{open_write, same_name}
-use Rattle.petal_history.specs.Legal.{world_after}
+use Rattle.petal_history.specs.Steps.{world_after}
 use Rattle.petal_history.specs.declared.record.Record.{Record}
 use Rattle.law_state.specs.Homes.{epoch_at, stage_at}
 use Rattle.law_log.specs.Requested.{WasStarted}

@@ -2,6 +2,6 @@
 pub use Rattle.script_lines.specs.declared.script.Script.{Script}
 pub use Rattle.petal_rules.specs.World.{chosen_log, chosen_state, server_state, setting_of, start}
 pub use Rattle.petal_history.specs.Claims.{IsPrefix}
-pub use Rattle.petal_history.specs.Legal.{IsLegal, world_after}
+pub use Rattle.petal_history.specs.Steps.{AreSteps, world_after}
 pub use Rattle.petal_history.specs.Sound.{IsSound}
 pub use Rattle.petal_history.specs.declared.record.Record.{Record}

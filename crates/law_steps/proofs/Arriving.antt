@@ -17,7 +17,7 @@ use Rattle.petal_msg.specs.declared.operation.Pending.{Pending}
 use Rattle.script_lines.specs.declared.script.Script.{Script}
 use Rattle.petal_state.specs.Command.{state_after}
 use Rattle.petal_history.specs.Claims.{IsPrefix}
-use Rattle.petal_history.specs.Legal.{IsLegalFrom, stepped, world_after}
+use Rattle.petal_history.specs.Steps.{AreStepsFrom, stepped, world_after}
 use Rattle.petal_history.specs.declared.record.Record.{Record}
 use Rattle.petal_rules.specs.Boots.{blanked, stays}
 use Rattle.petal_rules.specs.Crossing.{crossed}
@@ -191,7 +191,7 @@ comes_next setting w v firm c grows state (Turns k stamp in_call reacted lt smal
 -- ### Histories
 
 pub comes_after : (setting : Setting) (w : World) (records : List Record) → AreFirm setting w records → Rests setting w → AreComing setting w
-    → IsLegalFrom setting w records → AreComing setting (world_after setting w records)
+    → AreStepsFrom setting w records → AreComing setting (world_after setting w records)
 comes_after setting w [] firm rests c legal = c
 comes_after setting w (own ∷ later) firm rests c legal =
     let v = (stepped setting w own).world in

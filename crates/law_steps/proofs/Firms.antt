@@ -2,14 +2,14 @@
 use Rattle.std.specs.Prelude.{List}
 use Rattle.script_lines.specs.declared.script.Script.{Script}
 use Rattle.petal_rules.specs.World.{setting_of, start}
-use Rattle.petal_history.specs.Legal.{IsLegal}
+use Rattle.petal_history.specs.Steps.{AreSteps}
 use Rattle.petal_history.specs.Sound.{IsSound}
 use Rattle.petal_history.specs.declared.record.Record.{Record}
 use Rattle.law_log.proofs.Histories.{history_is_firm, history_grows}
 use Rattle.law_steps.specs.Ready.{AreFirm}
 use Rattle.law_steps.proofs.Histories.{firm_way}
 
-pub always_firm : (script : Script) (records : List Record) → IsSound script → IsLegal script records
+pub always_firm : (script : Script) (records : List Record) → IsSound script → AreSteps script records
     → AreFirm (setting_of script) (start (setting_of script)) records
 always_firm script records sound legal =
     firm_way script (λ front l. history_is_firm script front sound l) (λ front l. history_grows script front sound l) records legal

@@ -10,7 +10,7 @@ use Rattle.petal_msg.specs.declared.letter.Actor.TheVariants as actor
 use Rattle.script_lines.specs.declared.script.Script.{Script}
 use Rattle.petal_state.specs.Command.{state_after}
 use Rattle.petal_history.specs.Claims.{IsPrefix, Grows}
-use Rattle.petal_history.specs.Legal.{Follows, IsLegal, IsLegalFrom, stepped, world_after}
+use Rattle.petal_history.specs.Steps.{Follows, AreSteps, AreStepsFrom, stepped, world_after}
 use Rattle.petal_history.specs.declared.record.Record.{Record}
 use Rattle.petal_rules.specs.Lists.{In}
 use Rattle.petal_rules.specs.Clients.{Client}
@@ -239,7 +239,7 @@ module _ (setting : Setting) where
   pub kept_above : (P : State → World → Type 0)
       → ((state : State) → IsSteady state → (w v : World) → Ready setting state w → P state w → Happens setting state w v → P state v)
       → (w : World) (records : List Record) → AreFirm setting w records → Rests setting w
-      → ((state : State) → IsSteady state → IsBelow (chosen_state setting w) state → P state w) → IsLegalFrom setting w records
+      → ((state : State) → IsSteady state → IsBelow (chosen_state setting w) state → P state w) → AreStepsFrom setting w records
       → (state : State) → IsSteady state → IsBelow (chosen_state setting (world_after setting w records)) state → P state (world_after setting w records)
   kept_above P keeps w [] firm rests p legal = p
   kept_above P keeps w (own ∷ later) firm rests p legal =
@@ -251,7 +251,7 @@ module _ (setting : Setting) where
       keeps state steady w v (record { rests = rests; firm = firm.0; below = up }) (p state steady up)
       (happens setting w own rests firm.0 legal.0 next state below)) legal.1
 
-  pub rests_after : (w : World) (records : List Record) → AreFirm setting w records → Rests setting w → IsLegalFrom setting w records
+  pub rests_after : (w : World) (records : List Record) → AreFirm setting w records → Rests setting w → AreStepsFrom setting w records
       → Rests setting (world_after setting w records)
   rests_after w [] firm rests legal = rests
   rests_after w (own ∷ later) firm rests legal =
@@ -263,8 +263,8 @@ module _ (setting : Setting) where
   firm_after w (own ∷ later) firm = firm_after (stepped setting w own).world later firm.2
 
   -- the parts of a history
-  pub front_legal : (w : World) (front following : List Record) → IsLegalFrom setting w (front ++ following)
-      → IsLegalFrom setting w front × IsLegalFrom setting (world_after setting w front) following
+  pub front_legal : (w : World) (front following : List Record) → AreStepsFrom setting w (front ++ following)
+      → AreStepsFrom setting w front × AreStepsFrom setting (world_after setting w front) following
   front_legal w [] following legal = (tt, legal)
   front_legal w (own ∷ front) following legal = let rest = front_legal (stepped setting w own).world front following legal.1 in ((legal.0, rest.0), rest.1)
 
@@ -293,26 +293,26 @@ start_rests script = record {
 
 -- where each legal history is firm and its log only grows, each world on its way is
 pub firm_way : (script : Script)
-    → ((records : List Record) → IsLegal script records → Firm (setting_of script) (world_after (setting_of script) (start (setting_of script)) records))
-    → ((records : List Record) → IsLegal script records → Grows script records)
-    → (records : List Record) → IsLegal script records → AreFirm (setting_of script) (start (setting_of script)) records
+    → ((records : List Record) → AreSteps script records → Firm (setting_of script) (world_after (setting_of script) (start (setting_of script)) records))
+    → ((records : List Record) → AreSteps script records → Grows script records)
+    → (records : List Record) → AreSteps script records → AreFirm (setting_of script) (start (setting_of script)) records
 firm_way script firm grows records legal = by [] records legal
   where
-    by : (front later : List Record) → IsLegal script (front ++ later)
+    by : (front later : List Record) → AreSteps script (front ++ later)
         → AreFirm (setting_of script) (world_after (setting_of script) (start (setting_of script)) front) later
     by front [] legal = firm front (front_legal (setting_of script) (start (setting_of script)) front [] legal).0
     by front (own ∷ later) legal =
         let setting = setting_of script in
         let w = world_after setting (start setting) front in
         let e = world_more setting (start setting) front own in
-        let whole : IsLegal script ((front ++ own ∷ []) ++ later) = subst (IsLegal script) (sym (append_assoc front (own ∷ []) later)) legal in
+        let whole : AreSteps script ((front ++ own ∷ []) ++ later) = subst (AreSteps script) (sym (append_assoc front (own ∷ []) later)) legal in
         let part = (front_legal setting (start setting) (front ++ own ∷ []) later whole).0 in (
           firm front (front_legal setting (start setting) front (own ∷ later) legal).0,
           subst (λ v. IsPrefix (chosen_log setting w) (chosen_log setting v)) e (grows (front ++ own ∷ []) part front (own ∷ []) refl),
           subst (λ v. AreFirm setting v later) e (by (front ++ own ∷ []) later whole),
         )
 
-pub ready_after : (script : Script) (records : List Record) → AreFirm (setting_of script) (start (setting_of script)) records → IsLegal script records
+pub ready_after : (script : Script) (records : List Record) → AreFirm (setting_of script) (start (setting_of script)) records → AreSteps script records
     → (state : State) → IsBelow (chosen_state (setting_of script) (world_after (setting_of script) (start (setting_of script)) records)) state
     → Ready (setting_of script) state (world_after (setting_of script) (start (setting_of script)) records)
 ready_after script records firm legal state below =
@@ -325,7 +325,7 @@ ready_after script records firm legal state below =
 
 -- the last step of a history is of a kind, at each state from the chosen one on
 pub last_happens : (script : Script) (front : List Record) (own : Record) → AreFirm (setting_of script) (start (setting_of script)) (front ++ own ∷ [])
-    → IsLegal script (front ++ own ∷ []) → (state : State)
+    → AreSteps script (front ++ own ∷ []) → (state : State)
     → IsBelow (chosen_state (setting_of script) (world_after (setting_of script) (start (setting_of script)) (front ++ own ∷ []))) state
     → Happens (setting_of script) state (world_after (setting_of script) (start (setting_of script)) front)
     (world_after (setting_of script) (start (setting_of script)) (front ++ own ∷ []))

@@ -12,7 +12,7 @@ use Rattle.petal_paxos.specs.declared.record.StateRecord.TheVariants.{Inc, Promi
 use Rattle.petal_paxos.proofs.Committed.{known_inc}
 use Rattle.petal_state.specs.Command.{state_after}
 use Rattle.petal_history.specs.Claims.{IsPrefix}
-use Rattle.petal_history.specs.Legal.{IsLegal, world_after}
+use Rattle.petal_history.specs.Steps.{AreSteps, world_after}
 use Rattle.petal_history.specs.Sound.{IsSound}
 use Rattle.petal_history.specs.declared.record.Record.{Record}
 use Rattle.petal_rules.specs.Boots.{known_front, raised}
@@ -132,7 +132,7 @@ inside (x ∷ xs) (suc i) lt = inside xs i (omega arith)
 -- ### Histories
 
 -- in each world of a legal history each server may wake
-pub may_wake : (script : Script) (records : List Record) → IsSound script → IsLegal script records → (n : ℕ)
+pub may_wake : (script : Script) (records : List Record) → IsSound script → AreSteps script records → (n : ℕ)
     → MayWake (setting_of script) (world_after (setting_of script) (start (setting_of script)) records) n
 may_wake script records sound legal n =
     let setting = setting_of script in
@@ -166,17 +166,17 @@ may_wake script records sound legal n =
     }
 
 -- so it is in each world on the way
-pub wake_along : (script : Script) (records : List Record) → IsSound script → IsLegal script records
+pub wake_along : (script : Script) (records : List Record) → IsSound script → AreSteps script records
     → WakeAlong (setting_of script) (start (setting_of script)) records
 wake_along script records sound legal = by [] records legal
   where
-    by : (front later : List Record) → IsLegal script (front ++ later)
+    by : (front later : List Record) → AreSteps script (front ++ later)
         → WakeAlong (setting_of script) (world_after (setting_of script) (start (setting_of script)) front) later
     by front [] legal = may_wake script front sound (front_legal (setting_of script) (start (setting_of script)) front [] legal).0
     by front (own ∷ later) legal =
         let setting = setting_of script in
         let e = world_more setting (start setting) front own in
-        let whole : IsLegal script ((front ++ own ∷ []) ++ later) = subst (IsLegal script) (sym (append_assoc front (own ∷ []) later)) legal in (
+        let whole : AreSteps script ((front ++ own ∷ []) ++ later) = subst (AreSteps script) (sym (append_assoc front (own ∷ []) later)) legal in (
           may_wake script front sound (front_legal setting (start setting) front (own ∷ later) legal).0,
           subst (λ v. WakeAlong setting v later) e (by (front ++ own ∷ []) later whole),
         )

@@ -2,7 +2,7 @@
 use Rattle.std.specs.Prelude.{◌≡◌, ◌+◌, ℕ, false, List, [], ◌∷◌}
 use Rattle.petal_state.specs.Command.{state_after}
 use Rattle.petal_history.specs.Claims.{IsPrefix}
-use Rattle.petal_history.specs.Legal.{stepped}
+use Rattle.petal_history.specs.Steps.{stepped}
 use Rattle.petal_history.specs.declared.record.Record.{Record}
 use Rattle.petal_rules.specs.Boots.{known_front, raised}
 use Rattle.petal_rules.specs.State.{is_in}

@@ -15,7 +15,7 @@ ghost use Rattle.petal_state.specs.CellState.{cell_link};
 ghost use Rattle.petal_state.specs.Command.{state_after};
 ghost use Rattle.petal_rules.specs.State.{State, is_in};
 ghost use Rattle.petal_rules.specs.Progress.{has_proposed};
-ghost use Rattle.law_state.specs.Histories.{IsLegal, IsPrefix, IsSound, Record, Script, chosen_log, chosen_state, server_state, setting_of, start, world_after};
+ghost use Rattle.law_state.specs.Histories.{AreSteps, IsPrefix, IsSound, Record, Script, chosen_log, chosen_state, server_state, setting_of, start, world_after};
 ghost use Rattle.law_state.specs.Below.{IsBelow};
 ghost use Rattle.law_state.specs.Homes.{stage_at};
 ghost use Rattle.law_state.specs.Steady.{IsSteady};
@@ -27,7 +27,7 @@ ghost use Rattle.law_steps.specs.Ties.{StaysAloneOrCaught, StaysInBoth};
 /// After every legal history, the state that is chosen is steady: each cell that has a link has two servers apart, and both
 /// serve it, or one of them alone.
 pub fn what_is_chosen_is_steady()
-    ensures { (script : Script) (records : List Record) → IsSound script → IsLegal script records
+    ensures { (script : Script) (records : List Record) → IsSound script → AreSteps script records
         → IsSteady (chosen_state (setting_of script) (world_after (setting_of script) (start (setting_of script)) records)) }
 {}
 
@@ -38,26 +38,26 @@ pub fn what_is_chosen_is_steady()
 /// done; and the last copy to a server is of a link that the other one holds, or of a dead cell.
 pub fn operations_rest_in_four_stages()
     ensures chosen { (script : Script) (records : List Record) → IsSound script
-        → IsLegal script records → (n : ℕ) → ((world_after (setting_of script) (start (setting_of script)) records).servers n).life.running ≡ true
+        → AreSteps script records → (n : ℕ) → ((world_after (setting_of script) (start (setting_of script)) records).servers n).life.running ≡ true
         → IsReady (chosen_state (setting_of script) (world_after (setting_of script) (start (setting_of script)) records)) n
         (has_proposed (server_state (setting_of script) (world_after (setting_of script) (start (setting_of script)) records) n)
         ((world_after (setting_of script) (start (setting_of script)) records).servers n).own)
         ((world_after (setting_of script) (start (setting_of script)) records).servers n).own.pairs.pending }
-    ensures own { (script : Script) (records : List Record) → IsSound script → IsLegal script records
+    ensures own { (script : Script) (records : List Record) → IsSound script → AreSteps script records
         → Rests (setting_of script) (world_after (setting_of script) (start (setting_of script)) records) }
 {}
 
 /// After every legal history, each entry that was ever sent so that it moves is of a cell whose region was on its way at the letter's
 /// revision, and so is each operation that was opened for one, at the revision at which it was.
 pub fn entries_move_to_cells_on_their_way()
-    ensures { (script : Script) (records : List Record) → IsSound script → IsLegal script records
+    ensures { (script : Script) (records : List Record) → IsSound script → AreSteps script records
         → AreComing (setting_of script) (world_after (setting_of script) (start (setting_of script)) records) }
 {}
 
 /// The step that each record of a legal history tells of is of one of the kinds that the relation names, at every state from
 /// what is then chosen on.
 pub fn each_step_is_of_a_kind()
-    ensures { (script : Script) (front : List Record) (own : Record) → IsSound script → IsLegal script (front ++ own ∷ []) → (state : State)
+    ensures { (script : Script) (front : List Record) (own : Record) → IsSound script → AreSteps script (front ++ own ∷ []) → (state : State)
         → IsBelow (chosen_state (setting_of script) (world_after (setting_of script) (start (setting_of script)) (front ++ own ∷ []))) state
         → Happens (setting_of script) state (world_after (setting_of script) (start (setting_of script)) front)
         (world_after (setting_of script) (start (setting_of script)) (front ++ own ∷ [])) }
@@ -67,14 +67,14 @@ pub fn each_step_is_of_a_kind()
 /// same place, or the server holds it alone; and one that it held alone it holds so still, or it is in Both by a Caught for which the
 /// server has started the ballot, right after its own entries. This is said while the cell is not dead.
 pub fn a_running_server_is_tied_to_what_is_chosen()
-    ensures both { (script : Script) (records : List Record) → IsSound script → IsLegal script records → (n : ℕ) (front more : List Command)
+    ensures both { (script : Script) (records : List Record) → IsSound script → AreSteps script records → (n : ℕ) (front more : List Command)
         → ((world_after (setting_of script) (start (setting_of script)) records).servers n).life.running ≡ true
         → IsPrefix ((world_after (setting_of script) (start (setting_of script)) records).servers n).log.applied front
         → IsPrefix front more → IsPrefix more (chosen_log (setting_of script) (world_after (setting_of script) (start (setting_of script)) records))
         → is_in (state_after script.servers front) n ((world_after (setting_of script) (start (setting_of script)) records).servers n).life.inc ≡ true
         → (cell : Cell) (row : LinkRow) → cell_link (state_after script.servers front) cell ≡ Some row → has_server n row ≡ true
         → stage_at (state_after script.servers more) cell < 4 → row.state ≡ Both → StaysInBoth (setting_of script) n front more cell row }
-    ensures alone { (script : Script) (records : List Record) → IsSound script → IsLegal script records
+    ensures alone { (script : Script) (records : List Record) → IsSound script → AreSteps script records
         → (n : ℕ) (front more : List Command) → ((world_after (setting_of script) (start (setting_of script)) records).servers n).life.running ≡ true
         → IsPrefix ((world_after (setting_of script) (start (setting_of script)) records).servers n).log.applied front
         → IsPrefix front more → IsPrefix more (chosen_log (setting_of script) (world_after (setting_of script) (start (setting_of script)) records))

@@ -6,7 +6,7 @@ use Rattle.script_lines.specs.declared.script.Script.{Script}
 use Rattle.petal_command.specs.declared.command.Command.{Command}
 use Rattle.petal_command.specs.declared.command.Command.TheVariants.{Join}
 use Rattle.petal_history.specs.Claims.{IsPrefix}
-use Rattle.petal_history.specs.Legal.{IsLegal}
+use Rattle.petal_history.specs.Steps.{AreSteps}
 use Rattle.petal_history.specs.Sound.{IsSound}
 use Rattle.petal_history.specs.declared.record.Record.{Record}
 use Rattle.petal_state.specs.Command.{state_after}
@@ -37,7 +37,7 @@ AllKept setting w = (n : ℕ) → Kept setting.servers (chosen_log setting w) n 
 start_kept : (setting : Setting) → AllKept setting (start setting)
 start_kept setting n = record { empty = λ waits. true_false waits refl; filled = λ up seat. refl; blanked = λ b is. none_some refl is }
 
-step_kept : (script : Script) → IsSound script → (front : List Record) (own : Record) → IsLegal script (front ++ own ∷ [])
+step_kept : (script : Script) → IsSound script → (front : List Record) (own : Record) → AreSteps script (front ++ own ∷ [])
     → AllKept (setting_of script) (At script front) → AllKept (setting_of script) (At script (front ++ own ∷ []))
 step_kept script sound front own legal all n =
     let setting = setting_of script in
@@ -58,14 +58,14 @@ step_kept script sound front own legal all n =
           (λ inc bare i. join_has_begun script front sound part n inc bare i) _ refl)
     ])
 
-pub kept_after : (script : Script) (records : List Record) → IsSound script → IsLegal script records → AllKept (setting_of script) (At script records)
+pub kept_after : (script : Script) (records : List Record) → IsSound script → AreSteps script records → AllKept (setting_of script) (At script records)
 kept_after script records sound legal =
     along script (AllKept (setting_of script)) (step_kept script sound) [] records legal (start_kept (setting_of script))
 
-pub always_empty : (script : Script) (records : List Record) → IsSound script → IsLegal script records → AreEmpty (At script records)
+pub always_empty : (script : Script) (records : List Record) → IsSound script → AreSteps script records → AreEmpty (At script records)
 always_empty script records sound legal n = (kept_after script records sound legal n).empty
 
-pub blanked_waits : (script : Script) (records : List Record) (n : ℕ) (before : BeforeBlank) → IsSound script → IsLegal script records
+pub blanked_waits : (script : Script) (records : List Record) (n : ℕ) (before : BeforeBlank) → IsSound script → AreSteps script records
     → (At script records).before_blank n ≡ Some before
     → before.joins ≡ blank_joins_in (setting_of script) (chosen_log (setting_of script) (At script records)) n
     → ((At script records).servers n).own.store.fresh ≡ true
@@ -85,7 +85,7 @@ own_by joins None apart store = refl
 own_by joins (Some b) apart store = by_test (λ s. s ≡ store) (b.joins == joins) b.store store
     (λ same. absurd (apart b refl (same_numbers b.joins joins same))) (λ other. refl)
 
-module _ (script : Script) (records : List Record) (n : ℕ) (sound : IsSound script) (legal : IsLegal script records)
+module _ (script : Script) (records : List Record) (n : ℕ) (sound : IsSound script) (legal : AreSteps script records)
     (runs : ((At script records).servers n).life.running ≡ true)
     (seat : is_in (server_state (setting_of script) (At script records) n) n ((At script records).servers n).life.inc ≡ true) where
   pub in_filled : ((At script records).servers n).own.store.fresh ≡ false
@@ -95,7 +95,7 @@ module _ (script : Script) (records : List Record) (n : ℕ) (sound : IsSound sc
   in_own = own_by _ ((At script records).before_blank n) (λ b is same. true_false (blanked_waits script records n b sound legal is same) in_filled)
 
 -- once it is In as itself, none of its Joins with an empty store acts any more
-pub in_counts : (script : Script) (records : List Record) (n : ℕ) (front : List Command) → IsSound script → IsLegal script records
+pub in_counts : (script : Script) (records : List Record) (n : ℕ) (front : List Command) → IsSound script → AreSteps script records
     → IsPrefix front (chosen_log (setting_of script) (At script records))
     → is_in (state_after script.servers front) n ((At script records).servers n).life.inc ≡ true
     → blank_joins_in (setting_of script) front n ≡ blank_joins_in (setting_of script) (chosen_log (setting_of script) (At script records)) n
@@ -115,7 +115,7 @@ in_counts script records n front sound legal prefix seat =
 
 -- ### A Join with an empty store
 
-module _ (script : Script) (front : List Record) (own : Record) (n : ℕ) (sound : IsSound script) (legal : IsLegal script (front ++ own ∷ [])) where
+module _ (script : Script) (front : List Record) (own : Record) (n : ℕ) (sound : IsSound script) (legal : AreSteps script (front ++ own ∷ [])) where
   abbrev setting : Setting
   setting = setting_of script
 
@@ -125,7 +125,7 @@ module _ (script : Script) (front : List Record) (own : Record) (n : ℕ) (sound
   abbrev v : World
   v = At script (front ++ own ∷ [])
 
-  part : IsLegal script front
+  part : AreSteps script front
   part = before_part script front (own ∷ []) legal
 
   grown : IsPrefix (chosen_log setting w) (chosen_log setting v)

@@ -6,7 +6,7 @@ use Rattle.std.proofs.lemmas.List.{append-nil}
 use Rattle.script_lines.specs.declared.script.Script.{Script}
 use Rattle.petal_command.specs.declared.command.Command.{Command}
 use Rattle.petal_command.specs.declared.command.Command.TheVariants.{Join}
-use Rattle.petal_history.specs.Legal.{IsLegal, world_after}
+use Rattle.petal_history.specs.Steps.{AreSteps, world_after}
 use Rattle.petal_history.specs.Sound.{IsSound}
 use Rattle.petal_history.specs.declared.record.Record.{Record}
 use Rattle.petal_rules.specs.Boots.{blanked}
@@ -29,17 +29,17 @@ abbrev pub At : Script → List Record → World
 At script records = world_after (setting_of script) (start (setting_of script)) records
 
 -- the part of a history before some of its records
-pub before_part : (script : Script) (front following : List Record) → IsLegal script (front ++ following) → IsLegal script front
+pub before_part : (script : Script) (front following : List Record) → AreSteps script (front ++ following) → AreSteps script front
 before_part script front following legal = (front_legal (setting_of script) (start (setting_of script)) front following legal).0
 
 -- what each step keeps
 pub along : (script : Script) (P : World → Type 0)
-    → ((front : List Record) (own : Record) → IsLegal script (front ++ own ∷ []) → P (At script front) → P (At script (front ++ own ∷ [])))
-    → (done later : List Record) → IsLegal script (done ++ later) → P (At script done) → P (At script (done ++ later))
+    → ((front : List Record) (own : Record) → AreSteps script (front ++ own ∷ []) → P (At script front) → P (At script (front ++ own ∷ [])))
+    → (done later : List Record) → AreSteps script (done ++ later) → P (At script done) → P (At script (done ++ later))
 along script P step done [] legal p = subst (λ rs. P (At script rs)) (sym (append-nil done)) p
 along script P step done (own ∷ later) legal p =
     let e = append_assoc done (own ∷ []) later in
-    let whole : IsLegal script ((done ++ own ∷ []) ++ later) = subst (IsLegal script) (sym e) legal in
+    let whole : AreSteps script ((done ++ own ∷ []) ++ later) = subst (AreSteps script) (sym e) legal in
     subst (λ rs. P (At script rs)) e
     (along script P step (done ++ own ∷ []) later whole (step done own (before_part script (done ++ own ∷ []) later whole) p))
 
@@ -51,7 +51,7 @@ before_last front last before own later e = elim (split_last front last before (
   | inr part ↦ part
 ]
 
-pub step_moves : (script : Script) → IsSound script → (front : List Record) (own : Record) → IsLegal script (front ++ own ∷ []) → (n : ℕ)
+pub step_moves : (script : Script) → IsSound script → (front : List Record) (own : Record) → AreSteps script (front ++ own ∷ []) → (n : ℕ)
     → IsMoved (setting_of script) (At script front) (At script (front ++ own ∷ [])) n
     ⊎ IsBlanked (setting_of script) (At script front) (At script (front ++ own ∷ [])) n
 step_moves script sound front own legal n =
@@ -92,19 +92,19 @@ filled_blanked inc server rests (inl lt) = inl lt
 filled_blanked inc server rests (inr h) = inr (h.0, inl rests)
 
 -- a server that wanted a Join with its blocks, and runs on, has a store that waits for nobody
-pub stays_filled : (script : Script) → IsSound script → (records : List Record) → IsLegal script records → (n inc : ℕ)
+pub stays_filled : (script : Script) → IsSound script → (records : List Record) → AreSteps script records → (n inc : ℕ)
     → WasReturning (setting_of script) records n inc false → ((At script records).servers n).life.running ≡ true
     → ((At script records).servers n).life.inc ≡ inc → ((At script records).servers n).own.store.fresh ≡ false
 stays_filled script sound records legal n inc was runs lives =
     by (subst (λ rs. IsFilledAs inc ((At script rs).servers n)) (sym was.is)
-    (along script (λ w. IsFilledAs inc (w.servers n)) step was.before (was.own ∷ was.later) (subst (IsLegal script) was.is legal)
+    (along script (λ w. IsFilledAs inc (w.servers n)) step was.before (was.own ∷ was.later) (subst (AreSteps script) was.is legal)
     (inr (sym was.lives, inr was.waits))))
   where
     by : IsFilledAs inc ((At script records).servers n) → ((At script records).servers n).own.store.fresh ≡ false
     by (inl lt) = absurd (omega arith)
     by (inr h) = elim h.1 [ inl rests ↦ true_false runs rests | inr filled ↦ filled ]
 
-    step : (front : List Record) (own : Record) → IsLegal script (front ++ own ∷ []) → IsFilledAs inc ((At script front).servers n)
+    step : (front : List Record) (own : Record) → AreSteps script (front ++ own ∷ []) → IsFilledAs inc ((At script front).servers n)
         → IsFilledAs inc ((At script (front ++ own ∷ [])).servers n)
     step front own part filled = elim (step_moves script sound front own part n) [
       | inl moved ↦ filled_moves script.servers (chosen_log (setting_of script) (At script front)) n inc ((At script front).servers n)
@@ -136,7 +136,7 @@ WaitsSince script n inc w = (inc ≤ (w.servers n).life.inc)
     × (((w.servers n).own.store.fresh ≡ true) ⊎ ((later : ℕ) × (inc ≤ later) × In (Join n later true) (chosen_log (setting_of script) w)))
 
 module _ (script : Script) (sound : IsSound script) (n inc : ℕ) where
-  waits_step : (front : List Record) (own : Record) → IsLegal script (front ++ own ∷ []) → WaitsSince script n inc (At script front)
+  waits_step : (front : List Record) (own : Record) → AreSteps script (front ++ own ∷ []) → WaitsSince script n inc (At script front)
       → WaitsSince script n inc (At script (front ++ own ∷ []))
   waits_step front own legal h = elim (step_moves script sound front own legal n) [
     | inl moved ↦
@@ -161,8 +161,8 @@ module _ (script : Script) (sound : IsSound script) (n inc : ℕ) where
       on c i = let grown = history_grows script (front ++ own ∷ []) sound legal front (own ∷ []) refl in
           subst (In c) (sym grown.is) (in_former c (chosen_log (setting_of script) (At script front)) grown.later i)
 
-  pub waits_since : (records : List Record) → IsLegal script records → (before rest : List Record) → records ≡ before ++ rest
+  pub waits_since : (records : List Record) → AreSteps script records → (before rest : List Record) → records ≡ before ++ rest
       → ((At script before).servers n).life.inc ≡ inc → ((At script before).servers n).own.store.fresh ≡ true → WaitsSince script n inc (At script records)
   waits_since records legal before rest is lives waits =
       subst (λ rs. WaitsSince script n inc (At script rs)) (sym is)
-      (along script (WaitsSince script n inc) waits_step before rest (subst (IsLegal script) is legal) (omega arith, inl waits))
+      (along script (WaitsSince script n inc) waits_step before rest (subst (AreSteps script) is legal) (omega arith, inl waits))

@@ -11,30 +11,30 @@ ghost use Rattle.petal_state.specs.Command.{state_after};
 ghost use Rattle.petal_rules.specs.Blanked.{BeforeBlank};
 ghost use Rattle.petal_rules.specs.State.{is_in};
 ghost use Rattle.petal_rules.specs.World.{blank_joins_in};
-ghost use Rattle.law_state.specs.Histories.{IsLegal, IsPrefix, IsSound, Record, Script, chosen_log, server_state, setting_of, start, world_after};
+ghost use Rattle.law_state.specs.Histories.{AreSteps, IsPrefix, IsSound, Record, Script, chosen_log, server_state, setting_of, start, world_after};
 ghost use Rattle.law_stores.specs.Waiting.{AreEmpty, IsEmpty, IsOwn};
 
 /// A store that waits to be filled has neither entries nor marks.
 pub fn a_store_that_waits_is_empty()
-    ensures { (script : Script) (records : List Record) → IsSound script → IsLegal script records
+    ensures { (script : Script) (records : List Record) → IsSound script → AreSteps script records
         → AreEmpty (world_after (setting_of script) (start (setting_of script)) records) }
 {}
 
 /// The store of a server that runs, and is In as itself by its own state, waits for nobody, and is the one that counts. And once a server is
 /// In as itself by a front of what is chosen, none of its Joins with an empty store is chosen after that.
 pub fn who_is_in_has_the_store_that_counts()
-    ensures filled { (script : Script) (records : List Record) (n : ℕ) → IsSound script → IsLegal script records
+    ensures filled { (script : Script) (records : List Record) (n : ℕ) → IsSound script → AreSteps script records
         → ((world_after (setting_of script) (start (setting_of script)) records).servers n).life.running ≡ true
         → is_in (server_state (setting_of script) (world_after (setting_of script) (start (setting_of script)) records) n) n
         ((world_after (setting_of script) (start (setting_of script)) records).servers n).life.inc ≡ true
         → ((world_after (setting_of script) (start (setting_of script)) records).servers n).own.store.fresh ≡ false }
     ensures own { (script : Script) (records : List Record) (n : ℕ)
-        → IsSound script → IsLegal script records → ((world_after (setting_of script) (start (setting_of script)) records).servers n).life.running ≡ true
+        → IsSound script → AreSteps script records → ((world_after (setting_of script) (start (setting_of script)) records).servers n).life.running ≡ true
         → is_in (server_state (setting_of script) (world_after (setting_of script) (start (setting_of script)) records) n) n
         ((world_after (setting_of script) (start (setting_of script)) records).servers n).life.inc ≡ true
         → IsOwn (setting_of script) (world_after (setting_of script) (start (setting_of script)) records) n }
     ensures counts { (script : Script) (records : List Record) (n : ℕ) (front : List Command) → IsSound script
-        → IsLegal script records → IsPrefix front (chosen_log (setting_of script) (world_after (setting_of script) (start (setting_of script)) records))
+        → AreSteps script records → IsPrefix front (chosen_log (setting_of script) (world_after (setting_of script) (start (setting_of script)) records))
         → is_in (state_after script.servers front) n ((world_after (setting_of script) (start (setting_of script)) records).servers n).life.inc ≡ true
         → blank_joins_in (setting_of script) front n ≡ blank_joins_in (setting_of script)
         (chosen_log (setting_of script) (world_after (setting_of script) (start (setting_of script)) records)) n }
@@ -42,11 +42,11 @@ pub fn who_is_in_has_the_store_that_counts()
 
 /// Where a step makes a Join with an empty store count, the server's store is empty after it, and is the one that counts.
 pub fn a_blank_join_finds_an_empty_store()
-    ensures empty { (script : Script) (front : List Record) (own : Record) (n : ℕ) → IsSound script → IsLegal script (front ++ own ∷ []) → blank_joins_in
+    ensures empty { (script : Script) (front : List Record) (own : Record) (n : ℕ) → IsSound script → AreSteps script (front ++ own ∷ []) → blank_joins_in
         (setting_of script) (chosen_log (setting_of script) (world_after (setting_of script) (start (setting_of script)) front)) n ≢ blank_joins_in
         (setting_of script) (chosen_log (setting_of script) (world_after (setting_of script) (start (setting_of script)) (front ++ own ∷ []))) n
         → IsEmpty ((world_after (setting_of script) (start (setting_of script)) (front ++ own ∷ [])).servers n).own.store }
-    ensures own { (script : Script) (front : List Record) (own : Record) (n : ℕ) → IsSound script → IsLegal script (front ++ own ∷ []) → blank_joins_in
+    ensures own { (script : Script) (front : List Record) (own : Record) (n : ℕ) → IsSound script → AreSteps script (front ++ own ∷ []) → blank_joins_in
         (setting_of script) (chosen_log (setting_of script) (world_after (setting_of script) (start (setting_of script)) front)) n ≢ blank_joins_in
         (setting_of script) (chosen_log (setting_of script) (world_after (setting_of script) (start (setting_of script)) (front ++ own ∷ []))) n
         → IsOwn (setting_of script) (world_after (setting_of script) (start (setting_of script)) (front ++ own ∷ [])) n }
@@ -55,7 +55,7 @@ pub fn a_blank_join_finds_an_empty_store()
 /// While the store from before a blank counts, the server's own store waits to be filled.
 pub fn what_was_blanked_waits()
     ensures { (script : Script) (records : List Record) (n : ℕ) (before : BeforeBlank) → IsSound script
-        → IsLegal script records → (world_after (setting_of script) (start (setting_of script)) records).before_blank n ≡ Some before → before.joins
+        → AreSteps script records → (world_after (setting_of script) (start (setting_of script)) records).before_blank n ≡ Some before → before.joins
         ≡ blank_joins_in (setting_of script) (chosen_log (setting_of script) (world_after (setting_of script) (start (setting_of script)) records)) n
         → ((world_after (setting_of script) (start (setting_of script)) records).servers n).own.store.fresh ≡ true }
 {}

@@ -1,5 +1,5 @@
 -- Why a request is answered so: by its own entry in the chosen log, and the state at that entry's place.
-use Rattle.std.specs.Prelude.{◌≡◌, ◌≢◌, ℕ, ◌+◌, ◌<◌, ◌≤◌, Bool, true, false, List, length, slice_get, Option, Some, None, is_none, is_some}
+use Rattle.std.specs.Prelude.{◌≡◌, ◌≢◌, ℕ, ◌+◌, ◌<◌, ◌≤◌, Bool, true, false, length, slice_get, Option, Some, None, is_none, is_some}
 use Rattle.std.specs.Option.{option_map_or}
 use Rattle.global_tables.specs.Disk.{named, snapshot_named}
 use Rattle.petal_command.specs.declared.command.Command.{Command}

@@ -38,7 +38,7 @@ use Rattle.petal_rules.specs.World.{Setting, World, start, setting_of, server_st
 use Rattle.petal_rules.specs.Writes.{is_clients}
 use Rattle.petal_history.specs.Contents.{content_at, has_content_at}
 use Rattle.petal_history.specs.Events.{IsRunOf, events_of}
-use Rattle.petal_history.specs.Legal.{IsLegal, stepped, world_after}
+use Rattle.petal_history.specs.Steps.{AreSteps, stepped, world_after}
 use Rattle.petal_history.specs.Sound.{IsSound}
 use Rattle.petal_history.specs.declared.record.Record.{Record}
 
@@ -255,4 +255,4 @@ pub record Keeps (script : Script) (records : List Record) : Type 0 where
 
 -- the whole law, of each sound script
 abbrev pub Law : Type 0
-Law = (script : Script) (records : List Record) → IsSound script → IsLegal script records → Keeps script records
+Law = (script : Script) (records : List Record) → IsSound script → AreSteps script records → Keeps script records

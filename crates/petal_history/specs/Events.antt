@@ -35,7 +35,7 @@ use Rattle.petal_rules.specs.declared.job.Job.TheVariants as job
 use Rattle.petal_rules.specs.declared.step.Step.{Step}
 use Rattle.petal_rules.specs.declared.step.Step.TheVariants.{Call, Deliver}
 use Rattle.petal_history.specs.Contents.{content_in, content_where, has_content, has_content_where}
-use Rattle.petal_history.specs.Legal.{stepped}
+use Rattle.petal_history.specs.Steps.{stepped}
 use Rattle.petal_history.specs.declared.record.Record.{Record}
 
 -- ### Calls and answers of writes

@@ -1,3 +1,6 @@
+pub mod Steps
+pub mod Controls
+pub mod Failures
 pub mod Legal
 pub mod Sound
 pub mod Contents

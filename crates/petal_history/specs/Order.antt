@@ -7,7 +7,7 @@ use Rattle.script_lines.specs.declared.answer.Answer.{Answer}
 use Rattle.script_lines.specs.declared.request.Line.{Line}
 use Rattle.script_lines.specs.declared.script.Script.{Script}
 use Rattle.petal_rules.specs.Lists.{In}
-use Rattle.petal_history.specs.Legal.{IsLegal}
+use Rattle.petal_history.specs.Steps.{AreSteps}
 use Rattle.petal_history.specs.Text.{answers_of}
 use Rattle.petal_history.specs.declared.record.Record.{Record}
 
@@ -37,7 +37,7 @@ AnswersPhases phases lines records = (line : Line) → In line lines → is_answ
 -- where a front of a legal history answers the first lines, the answers of the rest come after its answers
 abbrev pub JoinsAnswers : Script → Type 0
 JoinsAnswers script =
-    (front back : List Record) → AreRising script.lines → IsLegal script (front ++ back) → AnsweredComeFirst script.lines front
+    (front back : List Record) → AreRising script.lines → AreSteps script (front ++ back) → AnsweredComeFirst script.lines front
     → answers_of (front ++ back) ≡ answers_of front ++ answers_of back
 
 -- this is the number of a line, which the history does not answer

@@ -7,6 +7,7 @@ ghost use Rattle.petal_rules.specs.World.{Setting, start};
 ghost use Rattle.petal_history.specs.Claims.{Keeps};
 ghost use Rattle.petal_history.specs.Events.{IsRunOf, events_of};
 ghost use Rattle.petal_history.specs.Legal.{IsLegal};
+ghost use Rattle.petal_history.specs.Steps.{AreSteps};
 ghost use Rattle.petal_history.specs.Text.{text_of};
 ghost use Rattle.petal_history.specs.declared.record.Record.{Record};
 
@@ -19,9 +20,10 @@ pub fn a_history_without_steps()
     ensures text { text_of [] ≡ [] }
 {}
 
-/// The beginning of a legal history is legal.
+/// The beginning of a list of allowed steps is one, and that of a legal history is legal.
 pub fn a_beginning_is_legal()
-    ensures { (script : Script) (front back : List Record) → IsLegal script (front ++ back) → IsLegal script front }
+    ensures steps { (script : Script) (front back : List Record) → AreSteps script (front ++ back) → AreSteps script front }
+    ensures legal { (script : Script) (front back : List Record) → IsLegal script (front ++ back) → IsLegal script front }
 {}
 
 /// What every legal history is to keep holds of the one without steps.

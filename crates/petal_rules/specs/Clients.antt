@@ -339,9 +339,11 @@ settles state client asked sight =
     else if (sight.round == asked.round) && nat_le sight.rev state.rev then rounds state client (with_sight asked sight)
     else rests client
 
--- a stop is done; a start, or a blank, has failed where the server doesn't run
+-- a stop is done, and a plan is armed; a start, or a blank, has failed where the server doesn't run
 abbrev pub sees_for : State → Client → Asked → Sight → Request → Reaction
 sees_for state client asked sight (request.Stop server) = answers client asked answer.Ok
+sees_for state client asked sight (request.StopAt server at) = answers client asked answer.Ok
+sees_for state client asked sight (request.Fault server which kind at) = answers client asked answer.Ok
 sees_for state client asked sight (request.Start server) = answers client asked (if sight.running then answer.Ok else answer.Failed)
 sees_for state client asked sight (request.Blank server) = answers client asked (if sight.running then answer.Ok else answer.Failed)
 sees_for state client asked sight request.Settle = settles state client asked sight

@@ -20,4 +20,5 @@ pub mod Boots
 pub mod Blanked
 pub mod Clients
 pub mod World
+pub mod Plans
 pub mod Agreement

@@ -241,12 +241,16 @@ pub record Stepped : Type 0 where
   pub letters : List Letter
   pub answer : Option (ℕ × Answer)
 
+-- a line that names a server has its one glance in round 0. The glances of a settle, whose rounds count from 1, leave all as it was
+abbrev pub glanced_in : (line round : ℕ) → Control → Control
+glanced_in line round control = if round == 0 then record { hand = None; glanced = Some line } else control
+
 -- the steps of a line wait for their glance
 abbrev pub controls : Step → ℕ → Control → Control
 controls Stop n control = record control { hand = Some (n, Stopped) }
 controls Blank n control = record control { hand = Some (n, Blanked) }
 controls (Boot end) n control = record control { hand = Some (n, Booted) }
-controls (Glance line round) n control = record { hand = None; glanced = Some line }
+controls (Glance line round) n control = glanced_in line round control
 controls _ n control = control
 
 abbrev pub acts : Setting → World → ℕ → Step → ℕ → Acted → Stepped
@@ -357,25 +361,36 @@ pub record MayBoot (w : World) (n : ℕ) : Type 0 where
   pub opened : IsOpenLine w asked
   pub boots : Boots asked.request n w.control.hand
 
--- a line has given the server each of its steps
+-- a line has stopped, started or blanked the server, or is for one of its devices
 abbrev pub IsDone : Request → (n : ℕ) → (running : Bool) → Option (ℕ × Deed) → Type 0
 IsDone (request.Stop server) n running before = (server ≡ n) × (running ≡ false)
+IsDone (request.StopAt server at) n running before = server ≡ n
+IsDone (request.Fault server which kind at) n running before = server ≡ n
 IsDone (request.Start server) n running before = (server ≡ n) × ((running ≡ true) ⊎ (before ≡ Some (n, Booted)))
 IsDone (request.Blank server) n running before = (server ≡ n) × (before ≡ Some (n, Booted))
 IsDone _ n running before = ⊥
 
--- after the steps that a line gives, or at once where it gives none, stands the line's one glance; a settle glances at all
--- servers in each of its rounds
-abbrev pub IsDue : World → Asked → (n round : ℕ) → Request → Type 0
-IsDue w asked n round request.Settle = round ≡ asked.round
-IsDue w asked n round what = (round ≡ 0) × (w.control.glanced ≢ Some asked.line) × IsDone what n (w.servers n).life.running w.control.hand
-
--- the operator's open line glances at this server
-pub record MayGlance (w : World) (n line round : ℕ) : Type 0 where
+-- after the steps that it gives, or at once where it gives none, the operator's open line has its one glance at its server
+pub record IsGlanceDue (w : World) (n line round : ℕ) : Type 0 where
   pub asked : Asked
-  pub is : (w.clients operator).asked ≡ Some asked
+  pub opened : IsOpenLine w asked
   pub line_is : asked.line ≡ line
-  pub due : IsDue w asked n round asked.request
+  pub once : round ≡ 0
+  pub done : IsDone asked.request n (w.servers n).life.running w.control.hand
+
+-- a settle that the operator has called, which is open or answered, glances at each server in each of its rounds
+pub record IsSettleGlance (setting : Setting) (w : World) (line round : ℕ) : Type 0 where
+  pub place : ℕ
+  pub own : Line
+  pub is : slice_get (lines_of setting.lines operator) place ≡ Some own
+  pub called : place < (w.clients operator).seq
+  pub line_is : own.number ≡ line
+  pub request_is : own.request ≡ request.Settle
+  pub counts : 0 < round
+
+-- a line of the operator glances at this server
+abbrev pub MayGlance : Setting → World → (n line round : ℕ) → Type 0
+MayGlance setting w n line round = IsGlanceDue w n line round ⊎ IsSettleGlance setting w line round
 
 -- the server is not at the operator's hand: between the first step that a line gives a server and its glance, the server
 -- takes no other step
@@ -397,17 +412,17 @@ pub record MayWork (w : World) (n : ℕ) : Type 0 where
   pub acts : MayAct w n
   pub busy : (w.servers n).queue ≢ []
 
-abbrev pub MayServer : Step → World → ℕ → Type 0
-MayServer (Call line) w n = ⊥
-MayServer (Deliver letter) w n = MayReceive w n letter
-MayServer Tick w n = MayAct w n
-MayServer (Work end) w n = MayWork w n
-MayServer (StopIn end) w n = MayWork w n
-MayServer Stop w n = MayStop w n
-MayServer Blank w n = MayBlank w n
-MayServer (Boot end) w n = MayBoot w n
-MayServer (Arm which plan) w n = Unit {0}
-MayServer (Glance line round) w n = MayGlance w n line round
+abbrev pub MayServer : Step → Setting → World → ℕ → Type 0
+MayServer (Call line) setting w n = ⊥
+MayServer (Deliver letter) setting w n = MayReceive w n letter
+MayServer Tick setting w n = MayAct w n
+MayServer (Work end) setting w n = MayWork w n
+MayServer (StopIn end) setting w n = MayWork w n
+MayServer Stop setting w n = MayStop w n
+MayServer Blank setting w n = MayBlank w n
+MayServer (Boot end) setting w n = MayBoot w n
+MayServer (Arm which plan) setting w n = Unit {0}
+MayServer (Glance line round) setting w n = MayGlance setting w n line round
 
 abbrev pub MayClient : Step → Setting → World → ℕ → Type 0
 MayClient (Call line) setting w c = MayCall setting w c line
@@ -453,7 +468,7 @@ is_spent w (actor.Client c) =
     ((w.clients c).seq == greatest_u32) || (turn_of (w.clients c).asked == greatest_u32) || (round_of (w.clients c).asked == greatest_u32)
 
 abbrev pub MayActor : Actor → Step → Setting → World → Type 0
-MayActor (actor.Server n) what setting w = (n < setting.servers) × MayServer what w n
+MayActor (actor.Server n) what setting w = (n < setting.servers) × MayServer what setting w n
 MayActor (actor.Client c) what setting w = (c < 9) × MayClient what setting w c
 
 -- the step is allowed in this world

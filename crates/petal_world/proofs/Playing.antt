@@ -9,7 +9,7 @@ use Rattle.script_lines.specs.declared.request.Line.{Line}
 use Rattle.petal_rules.specs.World.{Setting, World, MayStep, MayClient, start, clock_of, next_stamp, next_line, setting_of}
 use Rattle.petal_rules.specs.declared.step.Step.{Step}
 use Rattle.petal_rules.specs.declared.step.Step.TheVariants.{Call}
-use Rattle.petal_history.specs.Legal.{IsLegalFrom, Follows, InPhase, CallsInPhase, world_after, stepped}
+use Rattle.petal_history.specs.Steps.{AreStepsFrom, Follows, InPhase, CallsInPhase, world_after, stepped}
 use Rattle.petal_history.specs.declared.record.Record.{Record}
 use Rattle.client_seats.specs.Core.{is_spent}
 use Rattle.client_seats.specs.declared.seat.Seat.{Seat}
@@ -48,8 +48,8 @@ can setting w actors (actor.Client c) what h may =
 
 -- ### One record more
 
-pub legal_more : (setting : Setting) (records : List Record) (w : World) (own : Record) → IsLegalFrom setting w records
-    → Follows setting (world_after setting w records) own → IsLegalFrom setting w (records ++ own ∷ [])
+pub legal_more : (setting : Setting) (records : List Record) (w : World) (own : Record) → AreStepsFrom setting w records
+    → Follows setting (world_after setting w records) own → AreStepsFrom setting w (records ++ own ∷ [])
 legal_more setting [] w own legal follows = (follows, tt)
 legal_more setting (first ∷ records) w own legal follows = (legal.0, legal_more setting records (stepped setting w first).world own legal.1 follows)
 

@@ -6,7 +6,7 @@ use Rattle.script_lines.specs.declared.script.Script.{Script}
 use Rattle.petal_rules.specs.World.{World, start, step, setting_of, greatest_u64}
 use Rattle.petal_rules.specs.World as rules
 use Rattle.petal_rules.specs.declared.step.Step.{Step}
-use Rattle.petal_history.specs.Legal.{IsLegal, world_after}
+use Rattle.petal_history.specs.Steps.{AreSteps, world_after}
 use Rattle.petal_history.specs.declared.record.Record.{Record}
 use Rattle.world_actors.specs.declared.stepped.Stepped.{Stepped}
 use Rattle.world_desks.specs.Desks.{end_in}
@@ -61,5 +61,5 @@ told_by play who what = record { letters = (done_by play who what).letters; answ
 -- the records are a legal history, and until memory was wanting what is kept is that of the world after them
 pub record IsKept (play : Play) (actors : Actors) : Type 0 where
   pub ordered : AreOrdered play.script.lines
-  pub legal : IsLegal play.script play.records
+  pub legal : AreSteps play.script play.records
   pub shows : play.over ≡ false → Shows (setting_of play.script) (world_of play) actors

@@ -1,7 +1,7 @@
 //! The world.
 
 ghost use Rattle.std.specs.Prelude.{◌≡◌, ◌+◌, ◌++◌, ◌∷◌, [], map, min, false, true, IfOk, OnOk, OnErr, IsErrOf};
-ghost use Rattle.petal_history.specs.Legal.{IsLegal};
+ghost use Rattle.petal_history.specs.Steps.{AreSteps};
 ghost use Rattle.client_seats.specs.Core.{settle_of};
 ghost use Rattle.petal_rules.specs.Jobs.{operator};
 ghost use Rattle.petal_rules.specs.World.{MayStep, greatest_u64, setting_of};
@@ -234,7 +234,7 @@ impl<H: Host> World<H> {
     /// The records so far, which are a legal history of the script.
     pub fn records(&self) -> &[Record]
         ensures value { result.now ≡ self.now.records }
-        ensures legal { IsLegal self.now.script self.now.records }
+        ensures legal { AreSteps self.now.script self.now.records }
     {
         self.records.as_slice()
     }
@@ -242,7 +242,7 @@ impl<H: Host> World<H> {
     /// The history of all steps, which is legal for the script.
     pub fn into_history(self) -> History
         ensures value { result ≡ record { records = self.records } }
-        ensures legal { IsLegal self.script self.records }
+        ensures legal { AreSteps self.script self.records }
     {
         History {
             records: self.records,

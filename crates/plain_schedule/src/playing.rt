@@ -3,7 +3,7 @@
 ghost use Rattle.std.specs.Prelude.{◌≡◌, ◌+◌, ◌≤◌, ◌<◌, [], true, false, length, take, drop, IfOk, OnErr, IfSome, IfNone};
 ghost use Rattle.actor_rounds.specs.Going.{WentOn};
 ghost use Rattle.std.specs.Map.{keys_of};
-ghost use Rattle.petal_history.specs.Legal.{IsLegal};
+ghost use Rattle.petal_history.specs.Steps.{AreSteps};
 ghost use Rattle.petal_history.specs.Order.{AreRising, IsFront, JoinsAnswers, all_answered};
 ghost use Rattle.petal_history.specs.Sound.{IsSound};
 ghost use Rattle.petal_history.specs.Text.{answers_of};
@@ -251,7 +251,7 @@ impl Playing {
     /// The history of all steps.
     pub fn into_history(self) -> History
         ensures value { result ≡ record { records = records_of self } }
-        ensures legal { IsLegal self.script (records_of self) }
+        ensures legal { AreSteps self.script (records_of self) }
     {
         self.rounds.world.into_history()
     }

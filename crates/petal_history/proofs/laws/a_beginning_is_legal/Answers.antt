@@ -1,13 +1,16 @@
 -- By induction on the beginning.
-use Rattle.std.proofs.Common.{List, [], ◌∷◌, ◌++◌}
-use Rattle.petal_rules.specs.World.{Setting, World, start, setting_of}
-use Rattle.petal_history.specs.Legal.{IsLegalFrom, stepped}
-use Rattle.petal_history.specs.declared.record.Record.{Record}
+use Rattle.petal_rules.specs.Plans.{unarmed}
+use Rattle.petal_rules.specs.World.{start, setting_of}
+use Rattle.petal_history.specs.Controls.{no_errand}
+use Rattle.petal_history.proofs.Onwards.{come_begin, obey_begin, steps_begin}
 use Rattle.petal_history.proofs.laws.a_beginning_is_legal.Goals as goal
 
-begins : (setting : Setting) (w : World) (front back : List Record) → IsLegalFrom setting w (front ++ back) → IsLegalFrom setting w front
-begins setting w [] back h = tt
-begins setting w (own ∷ front) back h = (h.0, begins setting (stepped setting w own).world front back h.1)
-
 pub returns : goal.returns
-returns c script front back h = begins (setting_of script) (start (setting_of script)) front back h
+returns c = record {
+  steps = λ script front back h. steps_begin (setting_of script) (start (setting_of script)) front back h;
+  legal = λ script front back h. record {
+    steps = steps_begin (setting_of script) (start (setting_of script)) front back h.steps;
+    obey = obey_begin (setting_of script) (start (setting_of script)) no_errand front back h.obey;
+    planned = λ n. come_begin n unarmed (h.planned n).0 front back (h.planned n).1;
+  };
+}

@@ -10,7 +10,7 @@ use Rattle.petal_state.specs.Command.{state_after}
 use Rattle.petal_rules.proofs.Tests.{true_false}
 use Rattle.petal_rules.specs.Lists.{In}
 use Rattle.petal_base.specs.declared.cell.Cell.{Cell}
-use Rattle.std.specs.Prelude.{true, false}
+use Rattle.std.specs.Prelude.{false}
 use Rattle.petal_rules.specs.State.{coming, leaving}
 use Rattle.petal_rules.specs.Store.{cell_cmp}
 use Rattle.petal_rules.specs.World.{Setting, start, setting_of, devices, chosen_log, chosen_state}
