@@ -42,7 +42,7 @@ use Rattle.law_state.proofs.Disks.{first_at_start}
 use Rattle.law_state.proofs.Entries.{log_plain}
 use Rattle.law_state.proofs.Steady.{log_below, log_steady}
 use Rattle.law_steps.specs.Turned.{Turned, IsSame, StaysOpen, IsReason, By_verdict, By_witness, IsJudged, Goes_on, Is_told, Begins, Reads, Ends, Shown}
-use Rattle.law_steps.specs.Turned.{IsSeenAs, Stops_it, Starts_it, Blanks_it, Has_no_space, Is_settled, Judges, answer_of}
+use Rattle.law_steps.specs.Turned.{IsSeenAs, Stops_it, Stops_at, Fails_it, Starts_it, Blanks_it, Has_no_space, Is_settled, Judges, answer_of}
 use Rattle.law_steps.specs.Happens.{Happens, Heard, Blanks, Serves, Turns}
 use Rattle.petal_rules.proofs.ListLemmas.{in_later, put_same}
 use Rattle.law_steps.specs.Ready.{AreFirm, Rests}
@@ -273,6 +273,8 @@ module _ (setting : Setting) (last : World) (plain : IsPlainLog setting.servers 
     where
       asks : IsSeenAs state asked sight given → (r : Request) × (asked.request ≡ r)
       asks (Stops_it server is e) = (request.Stop server, is)
+      asks (Stops_at server at is e) = (request.StopAt server at, is)
+      asks (Fails_it server which kind at is e) = (request.Fault server which kind at, is)
       asks (Starts_it server is e) = (request.Start server, is)
       asks (Blanks_it server is e) = (request.Blank server, is)
       asks (Has_no_space is full e) = (request.Settle, is)
@@ -280,6 +282,8 @@ module _ (setting : Setting) (last : World) (plain : IsPlainLog setting.servers 
 
       told : IsSeenAs state asked sight given → (a : Answer) × (given ≡ a)
       told (Stops_it server is e) = (answer.Ok, e)
+      told (Stops_at server at is e) = (answer.Ok, e)
+      told (Fails_it server which kind at is e) = (answer.Ok, e)
       told (Starts_it server is e) = ((if sight.running then answer.Ok else answer.Failed), e)
       told (Blanks_it server is e) = ((if sight.running then answer.Ok else answer.Failed), e)
       told (Has_no_space is full e) = (answer.NoSpace, e)
@@ -287,6 +291,8 @@ module _ (setting : Setting) (last : World) (plain : IsPlainLog setting.servers 
 
       none : (s : IsSeenAs state asked sight given) → CauseOf setting last c asked.seq (asks s).0 (command_of c asked.seq (asks s).0) (told s).0
       none (Stops_it server is e) = tt
+      none (Stops_at server at is e) = tt
+      none (Fails_it server which kind at is e) = tt
       none (Starts_it server is e) =
           by_test (CauseOf setting last c asked.seq (request.Start server) None) sight.running answer.Ok answer.Failed (λ t. tt) (λ t. tt)
       none (Blanks_it server is e) =

@@ -24,14 +24,14 @@ use Rattle.petal_rules.specs.Clients.{read_refusal_at, refusal, verdict_answer, 
 use Rattle.petal_rules.specs.Jobs.{Acted, is_overfull}
 use Rattle.petal_rules.specs.Server.{Here}
 use Rattle.petal_rules.specs.State.{State, find, lead}
-use Rattle.petal_rules.specs.World.{Booted, Deed, IsDone, IsDue}
+use Rattle.petal_rules.specs.World.{Booted, Deed, IsDone}
 use Rattle.petal_rules.specs.World.{World}
 use Rattle.petal_rules.specs.declared.step.Step.TheVariants.{Boot}
 use Rattle.petal_rules.specs.declared.step.WorkEnd.{WorkEnd}
 use Rattle.petal_rules.specs.declared.step.WorkEnd.TheVariants as work_end
 use Rattle.petal_rules.proofs.Tests.{by_test, none_some, same_some, true_false}
 use Rattle.law_steps.specs.Turned.{IsReason, By_verdict, By_witness, IsSeenAs}
-use Rattle.law_steps.specs.Turned.{Stops_it, Starts_it, Blanks_it, Has_no_space, Is_settled, answer_of}
+use Rattle.law_steps.specs.Turned.{Stops_it, Stops_at, Fails_it, Starts_it, Blanks_it, Has_no_space, Is_settled, answer_of}
 use Rattle.law_causes.specs.Fails.{IsReasonToFail, Device_failed, Journal_full}
 use Rattle.law_causes.specs.Glances.{Tells}
 use Rattle.law_causes.specs.Lines.{AsksToBoot}
@@ -52,6 +52,8 @@ where_it_runs asked running server boots =
 
 pub seen_failed : (state : State) (asked : Asked) (sight : Shown_by) → IsSeenAs state asked sight answer.Failed → IsFailed asked.request sight.running
 seen_failed state asked sight (Stops_it server is e) = let f : answer.Failed ≡ answer.Ok = e in absurd (cc)
+seen_failed state asked sight (Stops_at server at is e) = let f : answer.Failed ≡ answer.Ok = e in absurd (cc)
+seen_failed state asked sight (Fails_it server which kind at is e) = let f : answer.Failed ≡ answer.Ok = e in absurd (cc)
 seen_failed state asked sight (Starts_it server is e) = where_it_runs asked.request sight.running server (inl is) e
 seen_failed state asked sight (Blanks_it server is e) = where_it_runs asked.request sight.running server (inr is) e
 seen_failed state asked sight (Has_no_space is full e) = let f : answer.Failed ≡ answer.NoSpace = e in absurd (cc)
@@ -132,19 +134,17 @@ not_judged c asked n given state entry named (By_witness none is so) = no_refusa
 pub glanced_at : (asked : Request) (n m : ℕ) (running : Bool) (before : Option (ℕ × Deed)) → IsDone asked n running before
     → (names asked).server ≡ Some m → n ≡ m
 glanced_at (request.Stop server) n m running before done named = sym done.0 ∙ same_some named
+glanced_at (request.StopAt server at) n m running before done named = sym done ∙ same_some named
+glanced_at (request.Fault server which kind at) n m running before done named = sym done ∙ same_some named
 glanced_at (request.Start server) n m running before done named = sym done.0 ∙ same_some named
 glanced_at (request.Blank server) n m running before done named = sym done.0 ∙ same_some named
 glanced_at _ n m running before never named = absurd never
 
--- it stands after the steps that its line gives, and is the line's first
-pub due_once : (w : World) (asked : Asked) (n round : ℕ) (what : Request) (m : ℕ) → (names what).server ≡ Some m → IsDue w asked n round what
-    → (round ≡ 0) × (w.control.glanced ≢ Some asked.line) × IsDone what n (w.servers n).life.running w.control.hand
-due_once w asked n round request.Settle m named due = none_some refl named
-due_once w asked n round _ m named due = due
-
 -- what a line that names a server is answered, where its glance shows whether the server runs
 abbrev pub AnsweredAs : Request → (running : Bool) → Answer → Type 0
 AnsweredAs (request.Stop server) running given = given ≡ answer.Ok
+AnsweredAs (request.StopAt server at) running given = given ≡ answer.Ok
+AnsweredAs (request.Fault server which kind at) running given = given ≡ answer.Ok
 AnsweredAs (request.Start server) running given = given ≡ (if running then answer.Ok else answer.Failed)
 AnsweredAs (request.Blank server) running given = given ≡ (if running then answer.Ok else answer.Failed)
 AnsweredAs _ running given = ⊥
@@ -152,6 +152,8 @@ AnsweredAs _ running given = ⊥
 pub seen_as : (state : State) (asked : Asked) (sight : Shown_by) (given : Answer) (n : ℕ) → (names asked.request).server ≡ Some n
     → IsSeenAs state asked sight given → AnsweredAs asked.request sight.running given
 seen_as state asked sight given n named (Stops_it server is e) = subst (λ r. AnsweredAs r sight.running given) (sym is) e
+seen_as state asked sight given n named (Stops_at server at is e) = subst (λ r. AnsweredAs r sight.running given) (sym is) e
+seen_as state asked sight given n named (Fails_it server which kind at is e) = subst (λ r. AnsweredAs r sight.running given) (sym is) e
 seen_as state asked sight given n named (Starts_it server is e) = subst (λ r. AnsweredAs r sight.running given) (sym is) e
 seen_as state asked sight given n named (Blanks_it server is e) = subst (λ r. AnsweredAs r sight.running given) (sym is) e
 seen_as state asked sight given n named (Has_no_space is full e) = none_some (ap (λ r. (names r).server) is) named
@@ -161,6 +163,8 @@ seen_as state asked sight given n named (Is_settled is round seen all e) = none_
 pub told_by : (asked : Request) (n : ℕ) (running : Bool) (before : Option (ℕ × Deed)) (given : Answer) → IsDone asked n running before
     → AnsweredAs asked running given → Tells asked running given
 told_by (request.Stop server) n running before given done seen = (done.1, seen)
+told_by (request.StopAt server at) n running before given done seen = seen
+told_by (request.Fault server which kind at) n running before given done seen = seen
 told_by (request.Start server) n running before given done seen = seen
 told_by (request.Blank server) n running before given done seen = seen
 told_by _ n running before given never seen = absurd never

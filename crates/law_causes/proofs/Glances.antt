@@ -2,7 +2,7 @@
 -- fails: its glance comes right after the boot that its line gave, and finds the server stopped.
 use Rattle.std.proofs.Common.{◌≡◌, ◌≢◌, ◌⊎◌, inl, inr, ◌<◌, ◌+◌, ◌++◌, ℕ, Bool, true, false, List, [], ◌∷◌, Option, Some, None}
 use Rattle.std.proofs.Common.{refl, sym, ap, ◌∙◌, subst, arith, append_assoc}
-use Rattle.std.specs.Prelude.{slice_get}
+use Rattle.std.specs.Prelude.{slice_get, ◌==◌}
 use Rattle.std.proofs.lemmas.List.{append-nil}
 use Rattle.petal_msg.specs.declared.body.Body.TheVariants as body
 use Rattle.petal_msg.specs.declared.letter.Actor.{Actor}
@@ -18,14 +18,14 @@ use Rattle.petal_rules.specs.Clients.{Client, Asked, Reaction}
 use Rattle.petal_rules.specs.Jobs.{here_of, operator, shown}
 use Rattle.petal_rules.specs.Lists.{In}
 use Rattle.petal_rules.specs.Server.{Server}
-use Rattle.petal_rules.specs.World.{Blanked, Booted, Control, Deed, IsDue, IsFree, MayActor, MayGlance, MayServer, Setting, Stopped}
-use Rattle.petal_rules.specs.World.{World, acts, client_state, client_step, controls, lines_of, next_line, reacts, server_state, server_step}
+use Rattle.petal_rules.specs.World.{Blanked, Booted, Control, Deed, IsDone, IsFree, IsGlanceDue, IsSettleGlance, MayActor, MayGlance, MayServer, Setting, Stopped}
+use Rattle.petal_rules.specs.World.{World, acts, client_state, client_step, controls, glanced_in, lines_of, next_line, reacts, server_state, server_step}
 use Rattle.petal_rules.specs.World.{setting_of, start, step, with_answer}
 use Rattle.petal_rules.specs.declared.step.Step.{Step}
 use Rattle.petal_rules.specs.declared.step.Step.TheVariants.{Call, Deliver, Tick, Work, StopIn, Stop, Blank, Boot, Arm, Glance}
 use Rattle.petal_rules.specs.declared.step.WorkEnd.{WorkEnd}
 use Rattle.petal_rules.proofs.ListLemmas.{in-append, put_apart, put_same}
-use Rattle.petal_rules.proofs.Tests.{all_put, by_test, none_some, same_some, true_false}
+use Rattle.petal_rules.proofs.Tests.{all_put, by_test, none_some, same_numbers, same_some, true_false}
 use Rattle.petal_history.specs.Steps.{AreSteps, world_after}
 use Rattle.petal_history.specs.Order.{AreRising}
 use Rattle.petal_history.specs.Sound.{IsSound}
@@ -44,7 +44,7 @@ use Rattle.law_causes.proofs.Answered.{IsOpenFor}
 use Rattle.law_causes.proofs.Lines.{asks_to_boot, line_of, open_for}
 use Rattle.law_causes.proofs.Mute.{IsMute, is_mute}
 use Rattle.law_causes.proofs.Saying.{Mute, Rev, Sight, server_says, client_says}
-use Rattle.law_causes.proofs.Failing.{seen_failed, ending_not, reason_not, not_read, not_written, not_judged, glanced_at, due_once, AnsweredAs, seen_as}
+use Rattle.law_causes.proofs.Failing.{seen_failed, ending_not, reason_not, not_read, not_written, not_judged, glanced_at, AnsweredAs, seen_as}
 use Rattle.law_causes.proofs.Failing.{told_by, boots_named, done_booted, boot_why}
 
 -- ### A history
@@ -73,14 +73,14 @@ module _ (script : Script) (records : List Record) (sound : IsSound script) (ris
     number_is : line.number ≡ number
 
   -- a letter shows whether a server runs, at the glance of this line, which the operator has called. The last one that it has
-  -- called was then glanced at
+  -- called was then glanced at, where it names a server
   record IsShown (w : World) (letter : Letter) (number : ℕ) (running : Bool) : Type 0 where
     to : letter.to ≡ actor.Client operator
     place : ℕ
     of : IsOperators number place
     open of use *
     called : place < (w.clients operator).seq
-    last : place + 1 ≡ (w.clients operator).seq → w.control.glanced ≡ Some number
+    last : (n : ℕ) → (names line.request).server ≡ Some n → place + 1 ≡ (w.clients operator).seq → w.control.glanced ≡ Some number
     fails : (n : ℕ) → AsksToBoot line.request n → running ≡ false → Fails number
     glance : (n : ℕ) (given : Answer) → (names line.request).server ≡ Some n → AnsweredAs line.request running given → Glanced line n given
 
@@ -122,13 +122,14 @@ module _ (script : Script) (records : List Record) (sound : IsSound script) (ris
 
     -- what was shown stays so
     shown_on : (v : World) → v.clients ≡ w.clients → (letter : Letter) (number : ℕ) (running : Bool) (s : IsShown w letter number running)
-        → (s.place + 1 ≡ (w.clients operator).seq → v.control.glanced ≡ Some number) → IsShown v letter number running
+        → ((n : ℕ) → (names s.line.request).server ≡ Some n → s.place + 1 ≡ (w.clients operator).seq → v.control.glanced ≡ Some number)
+        → IsShown v letter number running
     shown_on v same letter number running s last = record {
       to = s.to;
       place = s.place;
       of = s.of;
       called = subst (λ (clients : ℕ → Client). s.place < (clients operator).seq) (sym same) s.called;
-      last = λ e. last (e ∙ ap (λ (clients : ℕ → Client). (clients operator).seq) same);
+      last = λ n named e. last n named (e ∙ ap (λ (clients : ℕ → Client). (clients operator).seq) same);
       fails = s.fails;
       glance = s.glance;
     }
@@ -137,16 +138,27 @@ module _ (script : Script) (records : List Record) (sound : IsSound script) (ris
     abbrev served : ℕ → Step → World
     served n what = (acts setting w n what own.stamp (server_step what (server_state setting w n) n (w.servers n))).world
 
-    old_shown : (n : ℕ) (what : Step) → MayServer what w n → (letter : Letter) (number : ℕ) (running : Bool)
+    -- a line's one glance is kept, and that of a settle leaves the operator's hand as it was
+    due_kept : (l r : ℕ) → r ≡ 0 → (glanced_in l r w.control).glanced ≡ Some l
+    due_kept l r once = ap (λ round. (glanced_in l round w.control).glanced) once
+
+    settle_left : (l r : ℕ) → 0 < r → glanced_in l r w.control ≡ w.control
+    settle_left l r counts = by_test (λ (control : Control). control ≡ w.control) (r == 0) _ _
+        (λ e. absurd (let none : r ≡ 0 = same_numbers r 0 e in omega arith)) (λ e. refl)
+
+    old_shown : (n : ℕ) (what : Step) → MayServer what setting w n → (letter : Letter) (number : ℕ) (running : Bool)
         → IsShown w letter number running → IsShown (served n what) letter number running
-    old_shown n (Glance l r) may letter number running s =
-        let o = opened operator may.asked may.is in
-        let newest = kept.newest operator may.asked may.is in
+    old_shown n (Glance l r) (inl may) letter number running s =
+        let o = opened operator may.asked may.opened.is in
+        let newest = kept.newest operator may.asked may.opened.is in
         let at = o.seq_is in
-        shown_on (served n (Glance l r)) refl letter number running s (λ e.
+        shown_on (served n (Glance l r)) refl letter number running s (λ k named e.
         let place : s.place ≡ o.before = omega arith in
         let line : s.line ≡ o.line = same_some (sym s.is ∙ ap (slice_get (lines_of lines operator)) place ∙ o.is) in
-        ap Some (sym may.line_is ∙ o.line_is ∙ sym (ap (λ (x : Line). x.number) line) ∙ s.number_is))
+        due_kept l r may.once ∙ ap Some (sym may.line_is ∙ o.line_is ∙ sym (ap (λ (x : Line). x.number) line) ∙ s.number_is))
+    old_shown n (Glance l r) (inr may) letter number running s =
+        shown_on (served n (Glance l r)) refl letter number running s
+        (λ k named e. ap (λ (control : Control). control.glanced) (settle_left l r may.counts) ∙ s.last k named e)
     old_shown n _ may letter number running s = shown_on _ refl letter number running s s.last
 
     shown_is : (l r : ℕ) (server : Server) (line round : ℕ) (running : Bool) (inc : ℕ) (full : Bool)
@@ -156,51 +168,71 @@ module _ (script : Script) (records : List Record) (sound : IsSound script) (ris
         server.life.running _ _
         (λ on e. let same : true ≡ running = cc in (cc, on ∙ same)) (λ off e. let same : false ≡ running = cc in (cc, off ∙ same))
 
-    -- what a glance shows: where it finds the server of a start or a blank stopped, that line has booted it
-    new_shown : (n l r : ℕ) → own.actor ≡ actor.Server n → own.step ≡ Glance l r → (may : MayGlance w n l r) (letter : Letter) (line : ℕ)
+    -- what a line's one glance shows: where it finds the server of a start or a blank stopped, that line has booted it
+    new_due : (n l r : ℕ) → own.actor ≡ actor.Server n → own.step ≡ Glance l r → (may : IsGlanceDue w n l r) (letter : Letter) (line : ℕ)
         (running : Bool) → letter.to ≡ actor.Client operator → l ≡ line → (w.servers n).life.running ≡ running
         → IsShown (served n (Glance l r)) letter line running
-    new_shown n l r who does may letter line running to same runs =
-        let o = opened operator may.asked may.is in
-        let newest = kept.newest operator may.asked may.is in
+    new_due n l r who does may letter line running to same runs =
+        let o = opened operator may.asked may.opened.is in
+        let newest = kept.newest operator may.asked may.opened.is in
         let at = o.seq_is in
+        let done = subst (λ q. IsDone q n (w.servers n).life.running w.control.hand) o.request_is may.done in
         record {
           to = to;
           place = o.before;
           of = record { line = o.line; is = o.is; number_is = sym o.line_is ∙ may.line_is ∙ same };
           called = omega arith;
-          last = λ e. ap Some same;
+          last = λ k named e. due_kept l r may.once ∙ ap Some same;
           fails = λ m asks off.
-              let due = due_once w may.asked n r o.line.request m (boots_named o.line.request m asks) (subst (IsDue w may.asked n r) o.request_is may.due) in
-              elim (done_booted o.line.request m n _ _ asks due.2) [
+              elim (done_booted o.line.request m n _ _ asks done) [
                 | inl on ↦ true_false on (runs ∙ off)
                 | inr there ↦
                     let b = kept.hand n there in
-                    let one : b.asked ≡ may.asked = same_some (sym b.is ∙ may.is) in
+                    let one : b.asked ≡ may.asked = same_some (sym b.is ∙ may.opened.is) in
                     subst Fails (ap (λ (x : Asked). x.line) one ∙ may.line_is ∙ same) (b.fails (runs ∙ off))
               ];
           glance = λ m given named seen.
-              let due = due_once w may.asked n r o.line.request m named (subst (IsDue w may.asked n r) o.request_is may.due) in
-              let done = due.2 in
               let at = glanced_at o.line.request n m _ _ done named in
               record {
                 moment = record { front = front; own = own; following = following; is = lies };
                 so = record {
                   asked = may.asked;
-                  opened = line_of lines w may.asked o (record { is = may.is; first = due.1 });
+                  opened = line_of lines w may.asked o may.opened;
                   who = who ∙ ap actor.Server at;
-                  what = does ∙ ap (λ k. Glance k r) (sym may.line_is ∙ o.line_is) ∙ ap (Glance o.line.number) due.0;
+                  what = does ∙ ap (λ k. Glance k r) (sym may.line_is ∙ o.line_is) ∙ ap (Glance o.line.number) may.once;
                   tells = subst (λ k. Tells o.line.request (w.servers k).life.running given) at
                       (told_by o.line.request n _ _ given done (subst (λ on. AnsweredAs o.line.request on given) (sym runs) seen));
                 };
               };
         }
 
+    -- a settle names no server
+    new_settle : (n l r : ℕ) → (may : IsSettleGlance setting w l r) (letter : Letter) (line : ℕ) (running : Bool) → letter.to ≡ actor.Client operator
+        → l ≡ line → IsShown (served n (Glance l r)) letter line running
+    new_settle n l r may letter line running to same = record {
+      to = to;
+      place = may.place;
+      of = record { line = may.own; is = may.is; number_is = may.line_is ∙ same };
+      called = may.called;
+      last = λ m named e. none_some unnamed named;
+      fails = λ m asks off. none_some unnamed (boots_named may.own.request m asks);
+      glance = λ m given named seen. none_some unnamed named;
+    }
+      where
+        unnamed : (names may.own.request).server ≡ None
+        unnamed = ap (λ q. (names q).server) may.request_is
+
+    new_shown : (n l r : ℕ) → own.actor ≡ actor.Server n → own.step ≡ Glance l r → (may : MayGlance setting w n l r) (letter : Letter) (line : ℕ)
+        (running : Bool) → letter.to ≡ actor.Client operator → l ≡ line → (w.servers n).life.running ≡ running
+        → IsShown (served n (Glance l r)) letter line running
+    new_shown n l r who does (inl may) letter line running to same runs = new_due n l r who does may letter line running to same runs
+    new_shown n l r who does (inr may) letter line running to same runs = new_settle n l r may letter line running to same
+
     mute_not : (letter : Letter) (line round : ℕ) (running : Bool) (inc : ℕ) (full : Bool) → letter.body ≡ body.Seen line round running inc full
         → IsMute letter.body → ⊥
     mute_not letter line round running inc full e mute = true_false (ap (λ said. is_mute said) (sym e) ∙ mute) refl
 
-    server_shows : (n : ℕ) (what : Step) → own.actor ≡ actor.Server n → own.step ≡ what → MayServer what w n → (letter : Letter)
+    server_shows : (n : ℕ) (what : Step) → own.actor ≡ actor.Server n → own.step ≡ what → MayServer what setting w n → (letter : Letter)
         (line round : ℕ) (running : Bool) (inc : ℕ) (full : Bool) → In letter (served n what).sent
         → letter.body ≡ body.Seen line round running inc full → IsShown (served n what) letter line running
     server_shows n what who does may letter line round running inc full i e = elim (in-append letter _ w.sent i) [
@@ -211,7 +243,7 @@ module _ (script : Script) (records : List Record) (sound : IsSound script) (ris
         | Sight l r glance to mine so rev ↦
             let seen = shown_is l r (w.servers n) line round running inc full (sym so ∙ e) in
             subst (λ x. IsShown (served n x) letter line running) (sym glance)
-            (new_shown n l r who (does ∙ glance) (subst (λ x. MayServer x w n) glance may) letter line running to seen.0 seen.1)
+            (new_shown n l r who (does ∙ glance) (subst (λ x. MayServer x setting w n) glance may) letter line running to seen.0 seen.1)
       ]
     ]
 
@@ -245,7 +277,7 @@ module _ (script : Script) (records : List Record) (sound : IsSound script) (ris
         }
 
     -- a boot puts its server there
-    booted : (n : ℕ) (end : WorkEnd) → own.actor ≡ actor.Server n → own.step ≡ Boot end → MayServer (Boot end) w n
+    booted : (n : ℕ) (end : WorkEnd) → own.actor ≡ actor.Server n → own.step ≡ Boot end → MayServer (Boot end) setting w n
         → IsBooted (served n (Boot end)) n
     booted n end who does may =
         let o = opened operator may.asked may.opened.is in
@@ -270,7 +302,7 @@ module _ (script : Script) (records : List Record) (sound : IsSound script) (ris
           };
         }
 
-    server_hand : (n : ℕ) (what : Step) → own.actor ≡ actor.Server n → own.step ≡ what → MayServer what w n → (m : ℕ)
+    server_hand : (n : ℕ) (what : Step) → own.actor ≡ actor.Server n → own.step ≡ what → MayServer what setting w n → (m : ℕ)
         → (served n what).control.hand ≡ Some (m, Booted) → IsBooted (served n what) m
     server_hand n (Call line) who does may m e = absurd may
     server_hand n (Deliver letter) who does may m e = hand_on n (Deliver letter) refl may.free m e
@@ -284,9 +316,13 @@ module _ (script : Script) (records : List Record) (sound : IsSound script) (ris
     server_hand n (Boot end) who does may m e =
         subst (IsBooted (served n (Boot end))) (ap (λ (x : ℕ × Deed). x.0) (same_some e)) (booted n end who does may)
     server_hand n (Arm which plan) who does may m e = hand_left n (Arm which plan) refl refl m e
-    server_hand n (Glance line round) who does may m e = none_some refl e
+    server_hand n (Glance line round) who does (inl may) m e =
+        none_some (ap (λ at. (glanced_in line at w.control).hand) may.once) e
+    server_hand n (Glance line round) who does (inr may) m e =
+        let left = settle_left line round may.counts in
+        hand_left n (Glance line round) left refl m (sym (ap (λ (control : Control). control.hand) left) ∙ e)
 
-    server_keeps : (n : ℕ) (what : Step) → own.actor ≡ actor.Server n → own.step ≡ what → MayServer what w n → Kept (served n what)
+    server_keeps : (n : ℕ) (what : Step) → own.actor ≡ actor.Server n → own.step ≡ what → MayServer what setting w n → Kept (served n what)
     server_keeps n what who does may = record {
       shows = server_shows n what who does may;
       hand = server_hand n what who does may;
@@ -336,7 +372,7 @@ module _ (script : Script) (records : List Record) (sound : IsSound script) (ris
 
     -- a client hears of its open line only once that was glanced at: so it is the operator, and the line the last that it called
     record IsOwn (letter : Letter) (c : ℕ) (asked : Asked) (running : Bool) : Type 0 where
-      glanced : w.control.glanced ≡ Some asked.line
+      glanced : (n : ℕ) → (names asked.request).server ≡ Some n → w.control.glanced ≡ Some asked.line
       fails : (n : ℕ) → AsksToBoot asked.request n → running ≡ false → Fails asked.line
       glance : (line : Line) (n : ℕ) (given : Answer) → In line lines → line.number ≡ asked.line → (names line.request).server ≡ Some n
           → AnsweredAs asked.request running given → Glanced line n given
@@ -357,7 +393,7 @@ module _ (script : Script) (records : List Record) (sound : IsSound script) (ris
         let seqs : (w.clients c).seq ≡ (w.clients operator).seq = ap (λ k. (w.clients k).seq) same in
         let asks : s.line.request ≡ asked.request = ap (λ (x : Line). x.request) line ∙ sym o.request_is in
         record {
-          glanced = s.last (omega arith);
+          glanced = λ n named. s.last n (ap (λ r. (names r).server) asks ∙ named) (omega arith);
           fails = λ n boots off. s.fails n (subst (λ r. AsksToBoot r n) (sym asks) boots) off;
           glance = λ one n given there at named seen.
               let itself : s.line ≡ one =
@@ -377,8 +413,8 @@ module _ (script : Script) (records : List Record) (sound : IsSound script) (ris
           place = s.place;
           of = s.of;
           called = elim g.seq [ inl e ↦ omega arith | inr e ↦ omega arith ];
-          last = λ at. elim g.seq [
-            | inl e ↦ ap (λ (control : Control). control.glanced) same ∙ s.last (at ∙ e)
+          last = λ n named at. elim g.seq [
+            | inl e ↦ ap (λ (control : Control). control.glanced) same ∙ s.last n named (at ∙ e)
             | inr e ↦ absurd (omega arith)
           ];
           fails = s.fails;
@@ -427,7 +463,8 @@ module _ (script : Script) (records : List Record) (sound : IsSound script) (ris
         newest = λ now e. none_some refl e;
         stays = λ other n there named fresh.
             let h = heard_own c asked rev sight.round sight.running sight.inc sight.full told is in
-            absurd (fresh (h.glanced ∙ ap (λ (x : Asked). Some x.line) (same_some (sym is ∙ there))));
+            absurd (fresh (h.glanced n (same_named asked other n is there named)
+            ∙ ap (λ (x : Asked). Some x.line) (same_some (sym is ∙ there))));
       }
       turned_goes _ _ (Judges after asked given is gone seq judged) = record {
         seq = inl seq;
@@ -561,16 +598,20 @@ module _ (script : Script) (records : List Record) (sound : IsSound script) (ris
   -- a line that names a server, and for which a server was shown, is not glanced at again
   pub glanced_before : (line : Line) (m : ℕ) → In line lines → (names line.request).server ≡ Some m → (letter : Letter) (round : ℕ)
       (running : Bool) (inc : ℕ) (full : Bool) → In letter last.sent → letter.body ≡ body.Seen line.number round running inc full
-      → (n later : ℕ) → MayGlance last n line.number later → ⊥
-  glanced_before line m there named letter round running inc full i e n later may =
+      → (n later : ℕ) → MayGlance setting last n line.number later → ⊥
+  glanced_before line m there named letter round running inc full i e n later (inr may) =
+      let itself : may.own ≡ line =
+      sound.numbered may.own line (line_at lines operator may.place may.own may.is).0 there may.line_is in
+      none_some (ap (λ (x : Line). (names x.request).server) (sym itself) ∙ ap (λ q. (names q).server) may.request_is) named
+  glanced_before line m there named letter round running inc full i e n later (inl may) =
       let s = all_kept.shows letter line.number round running inc full i e in
-      let o = open_for script records sound legal operator may.asked may.is in
-      let newest = all_kept.newest operator may.asked may.is in
+      let o = open_for script records sound legal operator may.asked may.opened.is in
+      let newest = all_kept.newest operator may.asked may.opened.is in
       let at = o.seq_is in
       let place : s.place ≡ o.before =
       one_place lines rise operator s.place o.before s.line o.line s.is o.is (s.number_is ∙ sym may.line_is ∙ o.line_is) in
       let itself : o.line ≡ line =
       sound.numbered o.line line (line_at lines operator o.before o.line o.is).0 there (sym o.line_is ∙ may.line_is) in
-      let asks : may.asked.request ≡ line.request = o.request_is ∙ ap (λ (x : Line). x.request) itself in
-      let due = due_once last may.asked n later line.request m named (subst (IsDue last may.asked n later) asks may.due) in
-      due.1 (s.last (omega arith) ∙ ap Some (sym may.line_is))
+      let at_line : s.line ≡ o.line = same_some (sym s.is ∙ ap (slice_get (lines_of lines operator)) place ∙ o.is) in
+      let names_it = ap (λ (x : Line). (names x.request).server) (at_line ∙ itself) ∙ named in
+      may.opened.first (s.last m names_it (omega arith) ∙ ap Some (sym may.line_is))

@@ -52,8 +52,8 @@ shown_so number round server =
 module _ (setting : Setting) (number : ℕ) where
   -- a glance is a server's
   glances_at : (who : Actor) (what : Step) (round : ℕ) (w : World) → what ≡ Glance number round → MayActor who what setting w
-      → (n : ℕ) × MayGlance w n number round
-  glances_at (actor.Server n) what round w is may = (n, subst (λ x. MayServer x w n) is may.1)
+      → (n : ℕ) × MayGlance setting w n number round
+  glances_at (actor.Server n) what round w is may = (n, subst (λ x. MayServer x setting w n) is may.1)
   glances_at (actor.Client c) what round w is may = absurd (subst (λ x. MayClient x setting w c) is may.1)
 
   glance_says : (who : Actor) (what : Step) (round : ℕ) (w : World) (stamp : ℕ) → what ≡ Glance number round → MayActor who what setting w

@@ -236,6 +236,10 @@ module _ (w : World) (state : State) (c : ℕ) (client : Client) where
       → asked.request ≡ what → R (sees_for state client asked sight what)
   for_rounds asked sight is has same (request.Stop server) e =
       answers_rounds asked answer.Ok is (λ settle. let f : request.Stop server ≡ request.Settle = sym e ∙ settle in cc)
+  for_rounds asked sight is has same (request.StopAt server at) e =
+      answers_rounds asked answer.Ok is (λ settle. let f : request.StopAt server at ≡ request.Settle = sym e ∙ settle in cc)
+  for_rounds asked sight is has same (request.Fault server which kind at) e =
+      answers_rounds asked answer.Ok is (λ settle. let f : request.Fault server which kind at ≡ request.Settle = sym e ∙ settle in cc)
   for_rounds asked sight is has same (request.Start server) e =
       answers_rounds asked (if sight.running then answer.Ok else answer.Failed) is
       (λ settle. let f : request.Start server ≡ request.Settle = sym e ∙ settle in cc)

@@ -176,7 +176,7 @@ module _ (here : Here) (server : Server) (stamp : ℕ) (letter : Letter) where
       by_test (Tells (first ∷ rest)) (is_overfull acted.server) (stops here server) acted
       (λ full is i. Mute (stops_mute here server stamp letter i)) (λ room. done_tells first rest)
 
-pub server_says : (setting : Setting) (w : World) (n : ℕ) (what : Step) (stamp : ℕ) → MayServer what w n → (letter : Letter)
+pub server_says : (setting : Setting) (w : World) (n : ℕ) (what : Step) (stamp : ℕ) → MayServer what setting w n → (letter : Letter)
     → In letter (stamped stamp (server_step what (server_state setting w n) n (w.servers n)).letters)
     → StepSays (here_of (server_state setting w n) n (w.servers n)) (w.servers n) what letter
 server_says setting w n (Call line) stamp may letter h = absurd may

@@ -294,7 +294,7 @@ module _ (script : Script) (sound : IsSound script) where
     abbrev served : ℕ → Step → World
     served n what = (acts setting w n what own.stamp (server_step what (server_state setting w n) n (w.servers n))).world
 
-    server_shows : (n : ℕ) (what : Step) → own.actor ≡ actor.Server n → own.step ≡ what → n < setting.servers → MayServer what w n
+    server_shows : (n : ℕ) (what : Step) → own.actor ≡ actor.Server n → own.step ≡ what → n < setting.servers → MayServer what setting w n
         → (letter : Letter)
         (line round : ℕ) (running : Bool) (inc : ℕ) (full : Bool) → In letter (served n what).sent
         → letter.body ≡ body.Seen line round running inc full → IsSent whole letter line round running inc full
@@ -322,7 +322,7 @@ module _ (script : Script) (sound : IsSound script) where
       ]
     ]
 
-    server_keeps : (n : ℕ) (what : Step) → own.actor ≡ actor.Server n → own.step ≡ what → n < setting.servers → MayServer what w n
+    server_keeps : (n : ℕ) (what : Step) → own.actor ≡ actor.Server n → own.step ≡ what → n < setting.servers → MayServer what setting w n
         → Kept (served n what) whole
     server_keeps n what who does within may = record {
       shows = server_shows n what who does within may;

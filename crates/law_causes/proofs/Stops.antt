@@ -64,7 +64,7 @@ module _ (setting : Setting) (w : World) (n : ℕ) (told : MayStop w n → IsRea
       by_test (λ (a : Acted). Why (Work work_end.Done) a.server) (is_overfull (job_done here server first rest).server) _ _
       (λ full rests. Journal_full first rest refl is full) (λ room. true_false (job_runs here server first rest ∙ ran))
 
-  server_why : (what : Step) → MayServer what w n → Why what (server_step what (server_state setting w n) n server).server
+  server_why : (what : Step) → MayServer what setting w n → Why what (server_step what (server_state setting w n) n server).server
   server_why (Call line) may = absurd may
   server_why (Deliver letter) may =
       by_test (Why (Deliver letter)) server.life.running _ _ (λ on. true_false ran) (λ off. true_false ran)
@@ -86,7 +86,7 @@ module _ (setting : Setting) (w : World) (n : ℕ) (told : MayStop w n → IsRea
     | inr apart ↦ true_false (ap (λ (x : Server). x.life.running) (put_apart w.servers m _ n (λ e. apart (sym e))) ∙ ran) rests
   ]
     where
-      by : m ≡ n → MayServer what w m
+      by : m ≡ n → MayServer what setting w m
           → ((acts setting w m what stamp (server_step what (server_state setting w m) m (w.servers m))).world.servers n).life.running ≡ false
           → IsReasonToStop setting w n what
       by same may rests =
@@ -94,7 +94,7 @@ module _ (setting : Setting) (w : World) (n : ℕ) (told : MayStop w n → IsRea
           let own : (put_at w.servers n after n).life.running ≡ false =
           subst (λ k. ((acts setting w k what stamp (server_step what (server_state setting w k) k (w.servers k))).world.servers n).life.running ≡ false)
           same rests in
-          server_why what (subst (MayServer what w) same may) (ap (λ (x : Server). x.life.running) (sym (put_same w.servers n after)) ∙ own)
+          server_why what (subst (MayServer what setting w) same may) (ap (λ (x : Server). x.life.running) (sym (put_same w.servers n after)) ∙ own)
 
 -- ### A history
 

@@ -15,10 +15,12 @@ use Rattle.petal_history.specs.declared.record.Record.{Record}
 use Rattle.law_state.specs.Moments.{IsMoment}
 use Rattle.law_causes.specs.Lines.{IsLineOf}
 
--- a stop is answered `ok`, where its server does not run; a start or a blank `ok` where its server runs, and `failed` where it does
--- not. No other line that names a server is answered yet
+-- a stop is answered `ok`, where its server does not run; a line that arms a device `ok`; a start or a blank `ok` where its server runs,
+-- and `failed` where it does not
 abbrev pub Tells : Request → (running : Bool) → Answer → Type 0
 Tells (request.Stop server) running given = (running ≡ false) × (given ≡ answer.Ok)
+Tells (request.StopAt server at) running given = given ≡ answer.Ok
+Tells (request.Fault server which kind at) running given = given ≡ answer.Ok
 Tells (request.Start server) running given = given ≡ (if running then answer.Ok else answer.Failed)
 Tells (request.Blank server) running given = given ≡ (if running then answer.Ok else answer.Failed)
 Tells _ running given = ⊥

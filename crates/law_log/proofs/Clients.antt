@@ -261,6 +261,8 @@ module _ (Told : ℕ → Command → Type 0) (lines : List Line) (me : ℕ) (sta
   seen_for : (client : Client) (asked : Asked) (sight : Sight) (what : Request) → Fine client → IsOpen lines me client.seq asked
       → Reacts Told lines me client.seq (sees_for state client asked sight what)
   seen_for client asked sight (request.Stop server) f o = answering client asked answer.Ok f
+  seen_for client asked sight (request.StopAt server at) f o = answering client asked answer.Ok f
+  seen_for client asked sight (request.Fault server which kind at) f o = answering client asked answer.Ok f
   seen_for client asked sight (request.Start server) f o = answering client asked (if sight.running then answer.Ok else answer.Failed) f
   seen_for client asked sight (request.Blank server) f o = answering client asked (if sight.running then answer.Ok else answer.Failed) f
   seen_for client asked sight request.Settle f o = settling client asked sight f o

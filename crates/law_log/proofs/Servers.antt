@@ -506,7 +506,7 @@ module _ (it : ServerStep) where
 
 pub server_steps : {Was : Minded} {setting : Setting} (fair : IsFair setting) (w : World) (l : Logged Was setting w) (n stamp : ℕ)
     (member : n < setting.servers) (what : Step)
-    → MayServer what w n → Remembers Was setting.servers n (w.servers n) (server_step what (server_state setting w n) n (w.servers n)).server
+    → MayServer what setting w n → Remembers Was setting.servers n (w.servers n) (server_step what (server_state setting w n) n (w.servers n)).server
     → Goes Was setting w (acts setting w n what stamp (server_step what (server_state setting w n) n (w.servers n))).world
 server_steps fair w l n stamp member (Call line) may remembers = absurd may
 server_steps fair w l n stamp member (Deliver letter) may remembers =

@@ -40,7 +40,7 @@ use Rattle.law_state.proofs.Moments.{last_moment, moment_more}
 use Rattle.law_steps.specs.Happens.{Heard}
 use Rattle.law_steps.specs.Ready.{AreFirm, Rests}
 use Rattle.law_steps.specs.Turned.{Turned, Goes_on, Is_told, Begins, Reads, Ends, Shown, Judges, IsReason, By_verdict, By_witness, IsSeenAs}
-use Rattle.law_steps.specs.Turned.{Stops_it, Starts_it, Blanks_it, Has_no_space, Is_settled}
+use Rattle.law_steps.specs.Turned.{Stops_it, Stops_at, Fails_it, Starts_it, Blanks_it, Has_no_space, Is_settled}
 use Rattle.law_steps.proofs.Histories.{front_firm, front_legal, rests_next, start_rests, world_more}
 use Rattle.law_steps.proofs.Turning.{client_turns, is_call}
 use Rattle.law_causes.proofs.Settled.{shown_full}
@@ -157,6 +157,8 @@ module _ (setting : Setting) where
   sight_spaced : (state : State) (asked : Asked) (sight : Sight) → IsSeenAs state asked sight answer.NoSpace
       → (asked.request ≡ request.Settle) × (sight.full ≡ true)
   sight_spaced state asked sight (Stops_it server is e) = absurd (let g : answer.NoSpace ≡ answer.Ok = e in cc)
+  sight_spaced state asked sight (Stops_at server at is e) = absurd (let g : answer.NoSpace ≡ answer.Ok = e in cc)
+  sight_spaced state asked sight (Fails_it server which kind at is e) = absurd (let g : answer.NoSpace ≡ answer.Ok = e in cc)
   sight_spaced state asked sight (Starts_it server is e) = absurd (runs_spaced sight.running e)
   sight_spaced state asked sight (Blanks_it server is e) = absurd (runs_spaced sight.running e)
   sight_spaced state asked sight (Has_no_space is full e) = (is, full)

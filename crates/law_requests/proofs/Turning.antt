@@ -37,7 +37,7 @@ use Rattle.law_state.proofs.Entries.{log_plain}
 use Rattle.law_state.proofs.Steady.{log_rev, front_plain}
 use Rattle.law_steps.specs.Happens.{Heard}
 use Rattle.law_steps.specs.Turned.{Turned, Says, Of_the_log, A_write, A_read, OnlySays, IsSame, WasSent, As_it_was, Anew, StaysOpen, IsCalled, IsReason}
-use Rattle.law_steps.specs.Turned.{By_verdict, By_witness, IsJudged, IsSeenAs, Stops_it, Starts_it, Blanks_it, Has_no_space, Is_settled, Goes_on}
+use Rattle.law_steps.specs.Turned.{By_verdict, By_witness, IsJudged, IsSeenAs, Stops_it, Stops_at, Fails_it, Starts_it, Blanks_it, Has_no_space, Is_settled, Goes_on}
 use Rattle.law_steps.specs.Turned.{Is_told, Begins, Reads, Shown, Judges, line_by}
 use Rattle.law_steps.specs.Turned as turns
 use Rattle.law_steps.proofs.Fronts.{front_itself, front_long, front_more, front_on, front_within}
@@ -317,6 +317,8 @@ module _ (setting : Setting) (w : World) (lives : Lives) (firm : Firm setting w)
     where
       no_write : IsSeenAs own_state asked sight given → is_write asked.request ≡ false
       no_write (Stops_it server so e) = ap is_write so
+      no_write (Stops_at server at so e) = ap is_write so
+      no_write (Fails_it server which kind at so e) = ap is_write so
       no_write (Starts_it server so e) = ap is_write so
       no_write (Blanks_it server so e) = ap is_write so
       no_write (Has_no_space so full e) = ap is_write so

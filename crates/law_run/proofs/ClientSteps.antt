@@ -31,7 +31,7 @@ use Rattle.petal_history.specs.Events as events
 use Rattle.petal_history.specs.Events.{open_write, write_asked, write_by, begun, end_of, change_by, freezes, takes, makes, looks, told_with}
 use Rattle.law_steps.specs.Happens.{Heard}
 use Rattle.law_steps.specs.Turned.{StaysOpen, IsCalled, OnlySays, IsReason, By_verdict, By_witness, IsJudged, Goes_on, Begins, Reads, Ends, Shown, Judges}
-use Rattle.law_steps.specs.Turned.{IsSeenAs, Stops_it, Starts_it, Blanks_it, Has_no_space, Is_settled, answer_of, Is_told}
+use Rattle.law_steps.specs.Turned.{IsSeenAs, Stops_it, Stops_at, Fails_it, Starts_it, Blanks_it, Has_no_space, Is_settled, answer_of, Is_told}
 use Rattle.petal_rules.proofs.Tests.{by_bool, same_some, none_some}
 use Rattle.law_requests.specs.Asked.{IsOpen}
 use Rattle.law_run.specs.Onward.{held_in, is_held, Seat}
@@ -50,6 +50,8 @@ not_write c seq _ e = refl
 seen_no_write : (state : State) (c seq : ℕ) (asked : Asked) (sight : Sight) (given : Answer) → IsSeenAs state asked sight given
     → write_by c seq asked.request ≡ None
 seen_no_write state c seq asked sight given (Stops_it server is gives) = ap (write_by c seq) is
+seen_no_write state c seq asked sight given (Stops_at server at is gives) = ap (write_by c seq) is
+seen_no_write state c seq asked sight given (Fails_it server which kind at is gives) = ap (write_by c seq) is
 seen_no_write state c seq asked sight given (Starts_it server is gives) = ap (write_by c seq) is
 seen_no_write state c seq asked sight given (Blanks_it server is gives) = ap (write_by c seq) is
 seen_no_write state c seq asked sight given (Has_no_space is full gives) = ap (write_by c seq) is

@@ -179,7 +179,7 @@ module _ (setting : Setting) (w : World) (rests : Rests setting w) (firm : Firm 
       rests_put n stamp Blank (stays (blanked (w.servers n))) (rests.queues n) (rests.pending n) (λ cell op e is. true_false e asleep) (rests.copying n)
       (resting_equal (server_state setting w n) n (w.servers n).own (blanked (w.servers n)).own refl (rests.resting n))
 
-  serves_by : (n stamp : ℕ) (what : Step) → is_blank what ≡ false → MayServer what w n
+  serves_by : (n stamp : ℕ) (what : Step) → is_blank what ≡ false → MayServer what setting w n
       → Firm setting (acts setting w n what stamp (server_step what (server_state setting w n) n (w.servers n))).world
       → Serving setting w n what (server_step what (server_state setting w n) n (w.servers n))
   serves_by n stamp what other may later = server_serves setting w rests firm n (own_steady setting w firm n) stamp what other may later

@@ -258,7 +258,7 @@ module _ (it : KnownServer) where
       by_test (λ (x : Server). S (Boot (work_end.Fault After)) (stays x)) (is_overfull (raised server)) _ _
       (λ full. stays_serve (Boot (work_end.Fault After))) (λ room. Fails refl rests)
 
-  step_serves : (what : Step) → is_blank what ≡ false → MayServer what w n → F what (server_step what (server_state setting w n) n server)
+  step_serves : (what : Step) → is_blank what ≡ false → MayServer what setting w n → F what (server_step what (server_state setting w n) n server)
       → S what (server_step what (server_state setting w n) n server)
   unfolding In
   step_serves (Call line) other may later = absurd may
@@ -287,7 +287,7 @@ module _ (it : KnownServer) where
 
 -- the same by its parts
 pub server_serves : (setting : Setting) (w : World) → Rests setting w → Firm setting w → (n : ℕ) → IsSteady (server_state setting w n) → (stamp : ℕ)
-    (what : Step) → is_blank what ≡ false → MayServer what w n
+    (what : Step) → is_blank what ≡ false → MayServer what setting w n
     → Firm setting (acts setting w n what stamp (server_step what (server_state setting w n) n (w.servers n))).world
     → Serving setting w n what (server_step what (server_state setting w n) n (w.servers n))
 server_serves setting w rests firm n steady stamp =

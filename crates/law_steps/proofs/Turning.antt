@@ -42,7 +42,7 @@ use Rattle.law_log.proofs.Clients.{newly_asked}
 use Rattle.law_state.proofs.Steady.{log_rev}
 use Rattle.law_steps.specs.Happens.{Heard}
 use Rattle.law_steps.specs.Turned.{Turned, Says, Of_the_log, A_write, A_read, OnlySays, IsSame, WasSent, As_it_was, Anew, StaysOpen, IsReason}
-use Rattle.law_steps.specs.Turned.{By_verdict, By_witness, IsJudged, Stops_it, Starts_it, Blanks_it, Has_no_space, Is_settled, Goes_on, Is_told}
+use Rattle.law_steps.specs.Turned.{By_verdict, By_witness, IsJudged, Stops_it, Stops_at, Fails_it, Starts_it, Blanks_it, Has_no_space, Is_settled, Goes_on, Is_told}
 use Rattle.law_steps.specs.Turned.{Begins, Reads, Ends, Shown, Judges}
 use Rattle.law_steps.proofs.Fronts.{front_itself, front_same, front_more, front_on}
 
@@ -337,6 +337,9 @@ module _ (servers : ℕ) (lines : List Line) (w : World) (c : ℕ) where
   seen_for_turns : (asked : Asked) (rev : ℕ) (sight : Sight) → client.asked ≡ Some asked → Shows asked rev sight → (what : Request) → asked.request ≡ what
       → T (sees_for state client asked sight what)
   seen_for_turns asked rev sight is h (request.Stop server) e = ends_turn refl (Shown asked rev sight answer.Ok h is (Stops_it server e refl))
+  seen_for_turns asked rev sight is h (request.StopAt server at) e = ends_turn refl (Shown asked rev sight answer.Ok h is (Stops_at server at e refl))
+  seen_for_turns asked rev sight is h (request.Fault server which kind at) e =
+      ends_turn refl (Shown asked rev sight answer.Ok h is (Fails_it server which kind at e refl))
   seen_for_turns asked rev sight is h (request.Start server) e =
       ends_turn refl (Shown asked rev sight (if sight.running then answer.Ok else answer.Failed) h is (Starts_it server e refl))
   seen_for_turns asked rev sight is h (request.Blank server) e =

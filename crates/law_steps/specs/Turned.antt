@@ -1,6 +1,8 @@
 -- What a client may have done: a relation above its step, with what the laws need to know of it.
 use Rattle.std.specs.Prelude.{◌≡◌, ◌+◌, ◌-◌, ℕ, Bool, true, false, List, [], ◌∷◌, ◌++◌, Option, Some, None, length, map, slice_get, if◌then◌else◌}
 use Rattle.petal_command.specs.declared.command.Command.{Command}
+use Rattle.device_faults.specs.declared.plan.CallKind.{CallKind}
+use Rattle.device_faults.specs.declared.which.Which.{Which}
 use Rattle.petal_msg.specs.Kinds.{is_logged, subject_of}
 use Rattle.petal_msg.specs.declared.body.Body.{Body}
 use Rattle.petal_msg.specs.declared.body.Body.TheVariants as body
@@ -109,10 +111,13 @@ pub record IsJudged (servers c : ℕ) (before after : List Command) (asked : Ask
 
 -- ### Answers by a glance
 
--- why a glance answers the operator's line: a stop is done; a start, or a blank, is, or has failed where the server doesn't run; and a
+-- why a glance answers the operator's line: a stop is done, and a plan is armed; a start, or a blank, is, or has failed where the server doesn't run; and a
 -- settle has no space where the server's last copy found no slot, or is done where its round has shown each server and all is settled
 pub data IsSeenAs (state : State) (asked : Asked) (sight : Sight) (given : Answer) : Type 0 where
   Stops_it : (server : ℕ) → asked.request ≡ request.Stop server → given ≡ answer.Ok → IsSeenAs state asked sight given
+  Stops_at : (server at : ℕ) → asked.request ≡ request.StopAt server at → given ≡ answer.Ok → IsSeenAs state asked sight given
+  Fails_it : (server : ℕ) (which : Which) (kind : CallKind) (at : ℕ) → asked.request ≡ request.Fault server which kind at → given ≡ answer.Ok
+      → IsSeenAs state asked sight given
   Starts_it : (server : ℕ) → asked.request ≡ request.Start server → given ≡ (if sight.running then answer.Ok else answer.Failed)
       → IsSeenAs state asked sight given
   Blanks_it : (server : ℕ) → asked.request ≡ request.Blank server → given ≡ (if sight.running then answer.Ok else answer.Failed)

@@ -102,7 +102,7 @@ module _ (setting : Setting) (w : World) (actors : Actors) (n : ℕ) (what : Ste
 
   -- a server likewise
   pub server_exact : (b : Bool) → desk.clock < greatest_u64 → received what < greatest_u64 → server.is_spent_server desk.site.server ≡ false
-      → (IsTrue b ↔ MayServer what w n) → IsTrue b ↔ MayStep setting w (actor.Server n) what
+      → (IsTrue b ↔ MayServer what setting w n) → IsTrue b ↔ MayStep setting w (actor.Server n) what
   server_exact b clock receives goes_on may =
       let less : w.server_clocks n < greatest_u64 = subst (λ (d : Desk). d.clock < greatest_u64) held.value clock in
       let fresh = sym (left_spent (w.servers n)) ∙ subst (λ (d : Desk). server.is_spent_server d.site.server ≡ false) held.value goes_on in

@@ -12,7 +12,7 @@ use Rattle.world_desks.specs.declared.step_end.StepEnd.TheVariants.{Done, Fault,
 
 -- ### A job, however it ends
 
-job_allowed : (end : StepEnd) (w : World) (n : ℕ) → MayWork w n → MayServer (job_ended end) w n
+job_allowed : (end : StepEnd) (w : World) (n : ℕ) → MayWork w n → MayServer (job_ended end) setting w n
 job_allowed Done w n may = may
 job_allowed (Fault commit) w n may = may
 job_allowed (Stopped commit) w n may = may
@@ -34,7 +34,7 @@ job_phase (Stopped commit) who setting w phase = refl
 
 -- ### Any step
 
-server_ended : (what : Step) (end : StepEnd) (w : World) (n : ℕ) → MayServer what w n → MayServer (ended what end) w n
+server_ended : (what : Step) (end : StepEnd) (w : World) (n : ℕ) → MayServer what setting w n → MayServer (ended what end) setting w n
 server_ended (Work named) end w n may = job_allowed end w n may
 server_ended (StopIn named) end w n may = job_allowed end w n may
 server_ended _ end w n may = may

@@ -256,7 +256,7 @@ server_posts (Boot end) state n stamp server = boot_posts end (here_of state n s
 server_posts (Glance line round) state n stamp server = glance_posts line round (here_of state n server) server stamp
 server_posts _ state n stamp server = record { sender = sender (here_of state n server); posts = []; from = refl; are = refl }
 
-module _ (setting : Setting) (w : World) (actors : Actors) (h : Shows setting w actors) (n : ℕ) (what : Step) (stamp : ℕ) (may : MayServer what w n) where
+module _ (setting : Setting) (w : World) (actors : Actors) (h : Shows setting w actors) (n : ℕ) (what : Step) (stamp : ℕ) (may : MayServer what setting w n) where
   abbrev desk : Desk
   desk = desk_of setting w n
 

@@ -326,7 +326,7 @@ impl<H: Host> Actors<H> {
 
     fn may_serve(&self, desk: &Desk<H>, server: ServerId, step: &Step) -> bool
         ensures { (setting : Setting) (w : World) → Shows setting w self.now → desk.now ≡ desk_of setting w server
-            → IsTrue result ↔ MayServer step.now w server }
+            → IsTrue result ↔ MayServer step.now setting w server }
     {
         match step {
             Step::Call { line: _ } => false,

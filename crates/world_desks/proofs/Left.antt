@@ -163,7 +163,7 @@ steps_left servers n s (Glance line round) on = shows servers n line round s.lif
 steps_left servers n s what on = runs servers n s what on
 
 -- as it may each step that is allowed
-pub allowed : (w : World) (n : ℕ) (what : Step) → MayServer what w n → may_take what (w.servers n).life.running ≡ true
+pub allowed : (w : World) (n : ℕ) (what : Step) → MayServer what setting w n → may_take what (w.servers n).life.running ≡ true
 allowed w n Tick may = may.runs
 allowed w n (Work end) may = may.acts.runs
 allowed w n (StopIn end) may = may.acts.runs
