@@ -110,7 +110,7 @@ pub struct Round {
 }
 
 impl Open {
-    /// What a glance means for this request, in a state: a stop is done; a start, or a blank, has failed where the server does not
+    /// What a glance means for this request, in a state: a stop is done, and a plan is armed; a start, or a blank, has failed where the server does not
     /// run; a settle goes on with its rounds.
     pub fn see(
         &self,
@@ -127,7 +127,14 @@ impl Open {
             return Ok(Heard::Nothing);
         }
         match &self.request {
-            Request::Stop { server: _ } => Ok(Heard::Answered(Answer::Ok)),
+            Request::Stop { server: _ }
+            | Request::StopAt { server: _, at: _ }
+            | Request::Fault {
+                server: _,
+                which: _,
+                kind: _,
+                at: _,
+            } => Ok(Heard::Answered(Answer::Ok)),
             Request::Start { server: _ } | Request::Blank { server: _ } => {
                 Ok(Heard::Answered(if sight.running {
                     Answer::Ok

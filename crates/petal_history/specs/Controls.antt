@@ -1,8 +1,6 @@
 -- The steps that the operator's lines give their servers: in order, each after the call of its line; and after the last of them the line's
 -- one glance.
 use Rattle.std.specs.Prelude.{◌≡◌, ◌≢◌, ◌==◌, ℕ, Bool, true, false, List, [], ◌∷◌, drop, Option, Some, None, if◌then◌else◌}
-use Rattle.device_faults.specs.declared.plan.CallKind.{CallKind}
-use Rattle.device_faults.specs.declared.plan.CallKind.TheVariants.{Any}
 use Rattle.device_faults.specs.declared.plan.Plan.{Plan}
 use Rattle.device_faults.specs.declared.which.Which.{Which}
 use Rattle.device_faults.specs.declared.which.Which.TheVariants.{Data, State}
@@ -13,6 +11,7 @@ use Rattle.script_lines.specs.declared.request.Line.{Line}
 use Rattle.script_lines.specs.declared.request.Request.{Request}
 use Rattle.script_lines.specs.declared.request.Request.TheVariants as request
 use Rattle.petal_rules.specs.Jobs.{operator}
+use Rattle.petal_rules.specs.Plans.{fault_plan, stop_plan}
 use Rattle.petal_rules.specs.World.{Setting, World, next_line}
 use Rattle.petal_rules.specs.declared.step.Step.{Step}
 use Rattle.petal_rules.specs.declared.step.Step.TheVariants.{Call, Stop, Blank, Boot, Arm, Glance}
@@ -25,14 +24,6 @@ pub data Given : Type 0 where
   Blanks : Given
   Arms : Which → Option Plan → Given
   Boots : Given
-
--- the plan of a line that has a call of the data device stop its server
-abbrev pub stop_plan : ℕ → Plan
-stop_plan at = record { kind = Any; at = at; stop = true; late = false }
-
--- the plan of a line that has a call of a device fail
-abbrev pub fault_plan : CallKind → ℕ → Plan
-fault_plan kind at = record { kind = kind; at = at; stop = false; late = false }
 
 -- both devices lose their plans, the data device first, before a boot
 abbrev pub boot_steps : List Given

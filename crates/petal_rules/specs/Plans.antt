@@ -1,11 +1,21 @@
 -- The plans that are armed at a server's two devices, and the steps that use them up.
-use Rattle.std.specs.Prelude.{◌≡◌, true, Option, Some, None}
+use Rattle.std.specs.Prelude.{◌≡◌, ℕ, true, false, Option, Some, None}
+use Rattle.device_faults.specs.declared.plan.CallKind.{CallKind}
+use Rattle.device_faults.specs.declared.plan.CallKind.TheVariants.{Any}
 use Rattle.device_faults.specs.declared.plan.Plan.{Plan}
 use Rattle.device_faults.specs.declared.which.Which.{Which}
 use Rattle.device_faults.specs.declared.which.Which.TheVariants.{Data, State}
 use Rattle.petal_rules.specs.declared.step.Step.{Step}
 use Rattle.petal_rules.specs.declared.step.Step.TheVariants.{Work, StopIn, Boot, Arm}
 use Rattle.petal_rules.specs.declared.step.WorkEnd.TheVariants.{Fault}
+
+-- the plan of a line that has a call of the data device stop its server
+abbrev pub stop_plan : ℕ → Plan
+stop_plan at = record { kind = Any; at = at; stop = true; late = false }
+
+-- the plan of a line that has a call of a device fail
+abbrev pub fault_plan : CallKind → ℕ → Plan
+fault_plan kind at = record { kind = kind; at = at; stop = false; late = false }
 
 -- the plan of the data device that is armed and was not met, where there is one, and that of the state device
 pub record Armed : Type 0 where
