@@ -143,7 +143,7 @@ module _ {D : Type 0} (device : Ghosts D) (told : device.told) (old : Mounted D)
         sends = booted_letters old core old.store state letters is;
         stands = record { tickets = λ _. blank core.side old.store boot.side opened; store = holds; state = boot.holds told kept };
         cause = λ no. absurd no;
-        run = record { data = rests; state = boot.run };
+        run = record { run = rests; state_run = boot.run };
       }
 
   pub boot_full : (core : Core) (state : Keeping D) → IsBoot device old.core core old.state state (Err JournalFull)
@@ -162,7 +162,7 @@ module _ {D : Type 0} (device : Ghosts D) (told : device.told) (old : Mounted D)
           state = subst (λ (k : Keeping D). logs.HoldsAt device k) (sym full.same.1) kept;
         };
         cause = λ no. absurd no;
-        run = record { data = rests; state = boot.run };
+        run = record { run = rests; state_run = boot.run };
       }
 
   -- the devices were opened again, and show whether the incarnation was raised
@@ -242,7 +242,7 @@ module _ {D : Type 0} (device : Ghosts D) (core : Core) (store : Holdings D) (st
     sends = refl;
     kept = record { stands = λ _ no. absurd (cc); rests = λ _. off; room = room; state = λ _. kept };
     cause = λ _. omega (arith, failed);
-    run = record { data = run; state = rests };
+    run = record { run = run; state_run = rests };
   }
 
 -- a server whose data device was no blank one booted

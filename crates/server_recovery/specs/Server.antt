@@ -53,8 +53,8 @@ HasFailed device old new = faults_of device old < faults_of device new
 
 -- what calls can have made of its two devices
 pub record Ran {D : Type 0} (device : Ghosts D) (old new : Mounted D) : Type 0 where
-  pub data : device.came_to old.store.disk new.store.disk
-  pub state : device.came_to old.state.disk new.state.disk
+  pub run : device.came_to old.store.disk new.store.disk
+  pub state_run : device.came_to old.state.disk new.state.disk
 
 -- the server after a step, with all that it has in memory
 abbrev pub whole_after : Site → Step → Site

@@ -14,7 +14,7 @@ returns-in_ok-attempt-in-Ok g c = λ told kept.
     booted_on g.D.Disk c.args.core.now c.args.store.now c.args.state.now c.args.disk kept made
     _ _ _ (ap store_of c.in-Ok.ensures.ok ∙ ap blank_store c.slots.ensures)
     c.in-Ok.ensures.later
-    (record { data = law.goes_on c.args.disk made.disk _ c.in-Ok.ensures.run booted.run.data; state = booted.run.state })
+    (record { run = law.goes_on c.args.disk made.disk _ c.in-Ok.ensures.run booted.run.run; state_run = booted.run.state_run })
     booted
 
 pub returns-in-Err-default-Failed : goal.returns-in-Err-default-Failed

@@ -55,6 +55,6 @@ returns-in_ok-end-in-Err-Failed g c = λ told holds kept opened.
     (reopened.holds was will told small stored) (reopened.state_holds was will told recorded)
     (omega (arith, failed, later))
     (record {
-      data = reopened.run.0;
-      state = law.goes_on state.disk c.boot.new.state.disk c.reopen.new.state.disk booted.run reopened.run.1;
+      run = reopened.run.0;
+      state_run = law.goes_on state.disk c.boot.new.state.disk c.reopen.new.state.disk booted.run reopened.run.1;
     }))
