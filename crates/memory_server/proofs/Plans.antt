@@ -62,7 +62,14 @@ none_left old new (inl waited) none = by new.plan (subst (λ (plan : Option Plan
     by now waits = waits
 none_left old new (inr met) none = met.gone
 
+left_same : (plan : Option Plan) → IsLeftOf plan plan
+left_same None = tt
+left_same (Some plan) = (plan, refl, refl)
+
 -- ### Both
+
+pub are_same : (armed : Armed) → AreLeftOf armed armed
+are_same armed = record { stored = left_same armed.stored; kept = left_same armed.kept }
 
 pub both_rest : {D : Type 0} (server : Mounted (Planned D)) → BothCameTo server server
 both_rest server = record { stored = CameTo-same (plan_state server.store.disk); kept = CameTo-same (plan_state server.state.disk) }

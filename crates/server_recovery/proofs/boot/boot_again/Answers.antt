@@ -17,7 +17,7 @@ returns g c = λ told holds kept.
     let booted = c.in_ok-attempt.ensures told again.holds again.state_holds again.tickets in
     from_before old c.reread.new.store c.reread.new.state c.requires.stopped again (omega (arith, later))
     (record {
-      run = law.goes_on old.store.disk c.reread.new.store.disk c.boot_opened-attempt.new.store.disk run.0 booted.run.run;
-      state_run = law.goes_on old.state.disk c.reread.new.state.disk c.boot_opened-attempt.new.state.disk run.1 booted.run.state_run;
+      run = law.goes_on old.store.disk c.reread.new.store.disk c.boot_opened.new.store.disk run.0 booted.run.run;
+      state_run = law.goes_on old.state.disk c.reread.new.state.disk c.boot_opened.new.state.disk run.1 booted.run.state_run;
     })
     booted
