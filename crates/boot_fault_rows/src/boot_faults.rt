@@ -49,6 +49,31 @@ fn boots_that_fail_late(rt: HostRuntime) -> Result<(), Fail> {
     failing_boot(rt.alloc(), "sync 4 late stop", 1)
 }
 
+// After the state device the data device fails too, as both are opened again, and is asked once more.
+#[test]
+fn boots_in_which_both_devices_fail(rt: HostRuntime) -> Result<(), Fail> {
+    failing_boot(rt.alloc(), "write 1; 0 arms data sync 3", 0)?;
+    failing_boot(rt.alloc(), "sync 4 late; 0 arms data sync 4", 1)
+}
+
+/// Each device of server 0 fails once as it is read again, is asked once more, and the boot is done.
+#[test]
+fn a_boot_reads_both_devices_again(rt: HostRuntime) -> Result<(), Fail> {
+    for (data, state) in [("read 1", "read 1"), ("sync 1", "read 2"), ("sync 2", "sync 2")] {
+        let steps = format!(in rt.alloc();
+            "op calls 2; 0 stops; 0 shows 2; seen 0>op; wait; op calls 4; 0 arms data {data}; 0 arms state {state}; 0 boots; failed 0; stopped 0;
+            sent 2 down 0>1; 0 shows 4; seen 0>op; line 4 ok; play out; line 6 ok; line 8 ok; line 10 fill 7"
+        )?;
+        play_steps(
+            rt.alloc(),
+            "both devices fail as they are read again in a boot, each once, and the server runs",
+            "servers 3 slots 4\nop stop 0\nwait\nop start 0\nwait\na disk vol on 0 1 2\nwait\na write vol 0 fill 7\nwait\nb read vol 0\n",
+            steps.as_str(),
+        )?;
+    }
+    Ok(())
+}
+
 /// A device fails in the boot of server 1 after its blank, which has raised the incarnation or not. It does so no less where the plan
 /// stops the server.
 fn failing_boot_of_blank(alloc: Global, plan: &str, committed: u32) -> Result<(), Fail> {

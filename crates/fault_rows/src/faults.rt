@@ -225,3 +225,18 @@ fn writes_that_are_late(rt: HostRuntime) -> Result<(), Fail> {
     }
     Ok(())
 }
+
+/// A device fails in a job, and the other one in the next call of its kind, which comes while both are opened again: that one is asked
+/// once more.
+#[test]
+fn the_other_device_fails_as_both_are_opened_again(rt: HostRuntime) -> Result<(), Fail> {
+    let shows = "a device fails in a job, the other as both are opened again, and it is one fault of the server";
+    for plans in [
+        "0 arms data write 2; 0 arms state read 1",
+        "0 arms data sync 2; 0 arms state sync 1",
+        "1 arms state write 1; 1 arms data read 1",
+    ] {
+        strike(rt.alloc(), shows, plans, "failed 1; stopped 0")?;
+    }
+    Ok(())
+}

@@ -1,3 +1,4 @@
+pub mod Plans
 pub mod Ends
 pub mod Ticking
 pub mod Keeping

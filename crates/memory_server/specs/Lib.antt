@@ -1,1 +1,2 @@
+pub mod Armed
 pub use Rattle.server_recovery.specs.Server

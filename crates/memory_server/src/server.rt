@@ -1,6 +1,6 @@
 //! A server and its two stores.
 
-ghost use Rattle.std.specs.Prelude.{◌≡◌, ◌∷◌, ◌&&◌, [], true, false, IfOk, OnOk, OnErr};
+ghost use Rattle.std.specs.Prelude.{◌≡◌, ◌∷◌, ◌&&◌, [], true, false, None, IfOk, OnOk, OnErr};
 ghost use Rattle.log_side.specs.Done as logs;
 ghost use Rattle.petal_paxos.specs.declared.record.StateRecord.TheVariants.{Inc};
 ghost use Rattle.petal_rules.specs.Server.{first_server};
@@ -10,6 +10,9 @@ ghost use Rattle.world_desks.specs.declared.step_end.StepEnd.TheVariants.{Done};
 ghost use Rattle.server_store.specs.Shown.{Holds};
 ghost use Rattle.server_store.specs.Slots.{slot_start};
 ghost use Rattle.server_recovery.specs.Server.{HasFailed, left_at, site_of, whole_after, whole_of};
+ghost use Rattle.petal_disk.specs.Plans.{plan_state};
+ghost use Rattle.world_desks.specs.Plans.{AreLeftOf, LeavesPlans, unarmed, with_plan};
+ghost use Rattle.memory_server.specs.Armed.{BothCameTo, armed_of, stops_of};
 
 use crate::taken::{Stops, done};
 use petal_base::{Inc, NoMemory, Rev, Sequence, ServerId};
@@ -58,7 +61,8 @@ fn both(a: bool, b: bool) -> bool
 
 /// A blank device that has exactly the bytes that so many slots need.
 fn blank_device(alloc: Global, slots: u32) -> Result<Device, NoMemory>
-    ensures { IfOk result (λ disk. ⟦<Planned<MemDisk> as Disk>⟧.size disk ≡ slot_start slots) }
+    ensures size { IfOk result (λ disk. ⟦<Planned<MemDisk> as Disk>⟧.size disk ≡ slot_start slots) }
+    ensures plan { IfOk result (λ disk. (plan_state disk).plan ≡ None) }
 {
     let Ok(disk) = MemDisk::new(alloc, DATA_START + SLOT_BYTES * u64::from(slots)) else {
         return Err(NoMemory);
@@ -70,6 +74,7 @@ fn blank_device(alloc: Global, slots: u32) -> Result<Device, NoMemory>
 fn first_state(alloc: Global) -> Result<StateStore<Device>, NoMemory>
     ensures records { IfOk result (λ state. state.records ≡ Inc 1 ∷ []) }
     ensures holds { IfOk result (λ state. logs.HoldsAt ⟦<Planned<MemDisk> as Disk>⟧ state) }
+    ensures plan { IfOk result (λ state. (plan_state state.disk).plan ≡ None) }
 {
     let Ok(disk) = MemDisk::new(alloc, DEVICE_BYTES) else {
         return Err(NoMemory);
@@ -93,6 +98,7 @@ fn first_store(alloc: Global, slots: u32) -> Result<Store<Device>, NoMemory>
     }) }
     ensures holds { IfOk result (λ store. Holds store (⟦<Planned<MemDisk> as Disk>⟧.seen store.disk) (⟦<Planned<MemDisk> as Disk>⟧.may_leave store.disk)) }
     ensures size { IfOk result (λ store. ⟦<Planned<MemDisk> as Disk>⟧.size store.disk ≡ slot_start slots) }
+    ensures plan { IfOk result (λ store. (plan_state store.disk).plan ≡ None) }
 {
     match Store::format(alloc, blank_device(alloc, slots)?, slots, false) {
         Ok(store) => Ok(store),
@@ -114,6 +120,7 @@ impl MemServer {
     ) -> Result<MemServer, NoMemory>
         ensures site { IfOk result (λ server. site_of server ≡ record { me = me; servers = servers; server = first_server true slots }) }
         ensures device { IfOk result (λ server. ⟦<Planned<MemDisk> as Disk>⟧.size server.store.disk ≡ slot_start slots) }
+        ensures plans { IfOk result (λ server. armed_of server ≡ unarmed) }
     {
         let state = first_state(alloc)?;
         let store = first_store(alloc, slots)?;
@@ -130,7 +137,8 @@ impl MemServer {
 
     /// From now on this plan counts at the data device, which may be a blank one, and no earlier one.
     fn arm_data(&mut self, plan: Option<Plan>)
-        ensures { whole_of self.new ≡ whole_of self.old }
+        ensures site { whole_of self.new ≡ whole_of self.old }
+        ensures plans { armed_of self.new ≡ record (armed_of self.old) { stored = plan } }
     {
         match (&mut self.blank, plan) {
             (None, None) => self.store.disarm(),
@@ -142,7 +150,8 @@ impl MemServer {
 
     /// The same at the state device.
     fn arm_state(&mut self, plan: Option<Plan>)
-        ensures { whole_of self.new ≡ whole_of self.old }
+        ensures site { whole_of self.new ≡ whole_of self.old }
+        ensures plans { armed_of self.new ≡ record (armed_of self.old) { kept = plan } }
     {
         match plan {
             None => self.state.disarm(),
@@ -152,7 +161,8 @@ impl MemServer {
 
     /// From now on the device has this plan, or none.
     fn arm(&mut self, device: Which, plan: Option<Plan>)
-        ensures { whole_of self.new ≡ whole_of self.old }
+        ensures site { whole_of self.new ≡ whole_of self.old }
+        ensures plans { armed_of self.new ≡ with_plan device plan (armed_of self.old) }
     {
         match device {
             Which::Data => self.arm_data(plan),
@@ -164,6 +174,7 @@ impl MemServer {
     fn stop(&mut self, alloc: Global) -> Result<Sequence<Letter>, NoMemory>
         ensures site { OnOk result (whole_of self.new ≡ whole_after (whole_of self.old) Stop) }
         ensures letters { IfOk result (λ letters. letters ≡ (acted_at (whole_of self.old) Stop).letters) }
+        ensures plans { armed_of self.new ≡ armed_of self.old }
     {
         if !self.core.is_running() {
             return Err(NoMemory);
@@ -171,11 +182,26 @@ impl MemServer {
         Ok(self.core.stop(alloc))
     }
 
+    /// Which of its devices have met a plan that stops it.
+    fn stops(&self) -> Stops
+        ensures { result ≡ stops_of self.now }
+    {
+        let stored = match &self.blank {
+            None => self.store.stopped(),
+            Some(disk) => disk.stopped(),
+        };
+        Stops {
+            stored,
+            kept: self.state.stopped(),
+        }
+    }
+
     /// Does the first job of the queue, where it runs.
     fn first_job(&mut self, alloc: Global) -> Result<Attempt, NoMemory>
         ensures site { IfOk result (λ attempt. site_of self.new ≡ left_at (whole_after (whole_of self.old) (Work attempt.end))) }
         ensures letters { IfOk result (λ attempt. attempt.letters ≡ (acted_at (whole_of self.old) (Work attempt.end)).letters) }
         ensures cause { IfOk result (λ attempt. IsFault (as_end attempt.end) → HasFailed ⟦<Planned<MemDisk> as Disk>⟧ self.old self.new) }
+        ensures run { OnOk result (BothCameTo self.old self.new) }
     {
         if self.over || self.blank.is_some() {
             return Err(NoMemory);
@@ -196,10 +222,11 @@ impl MemServer {
         ensures letters { IfOk result (λ taken. taken.letters ≡ (acted_at (whole_of self.old) (job_ended taken.end)).letters) }
         ensures end { IfOk result (λ taken. taken.end ≡ end_in (job_ended taken.end)) }
         ensures cause { IfOk result (λ taken. IsFault taken.end → HasFailed ⟦<Planned<MemDisk> as Disk>⟧ self.old self.new) }
+        ensures plans { IfOk result (λ taken. LeavesPlans (job_ended taken.end) (armed_of self.old) (armed_of self.new)) }
     {
-        let before = Stops::of(&self.store, &self.state);
+        let before = self.stops();
         let attempt = self.first_job(alloc)?;
-        let stopped = Stops::of(&self.store, &self.state) != before;
+        let stopped = self.stops() != before;
         Ok(attempt.job_taken(stopped))
     }
 
@@ -208,6 +235,7 @@ impl MemServer {
         ensures site { OnOk result (whole_of self.new ≡ whole_after (whole_of self.old) Tick) }
         ensures taken { IfOk result (λ taken. taken ≡ record { letters = (acted_at (whole_of self.old) Tick).letters; end = Done }) }
         ensures err { OnErr result (whole_of self.new ≡ whole_of self.old) }
+        ensures run { BothCameTo self.old self.new }
     {
         if self.blank.is_some() {
             return Err(DeviceError::NoMemory);
@@ -220,6 +248,7 @@ impl MemServer {
     fn tick(&mut self, alloc: Global) -> Result<Taken, NoMemory>
         ensures site { OnOk result (whole_of self.new ≡ whole_after (whole_of self.old) Tick) }
         ensures taken { IfOk result (λ taken. taken ≡ record { letters = (acted_at (whole_of self.old) Tick).letters; end = Done }) }
+        ensures run { BothCameTo self.old self.new }
     {
         match self.tick_once(alloc) {
             Ok(taken) => return Ok(taken),
@@ -235,6 +264,7 @@ impl MemServer {
     /// A blank device, in which as many slots fit, takes the place of the data device, where it is stopped.
     fn blank(&mut self, alloc: Global) -> Result<(), NoMemory>
         ensures site { OnOk result (whole_of self.new ≡ whole_after (whole_of self.old) Blank) }
+        ensures plans { AreLeftOf (armed_of self.old) (armed_of self.new) }
         ensures err { OnErr result (self.new ≡ self.old) }
     {
         if self.over || self.core.is_running() {
@@ -253,6 +283,7 @@ impl MemServer {
         ensures site { IfOk result (λ attempt. site_of self.new ≡ left_at (whole_after (whole_of self.old) (Boot attempt.end))) }
         ensures letters { IfOk result (λ attempt. attempt.letters ≡ (acted_at (whole_of self.old) (Boot attempt.end)).letters) }
         ensures cause { IfOk result (λ attempt. IsFault (as_end attempt.end) → HasFailed ⟦<Planned<MemDisk> as Disk>⟧ self.old self.new) }
+        ensures run { OnOk result (BothCameTo self.old self.new) }
     {
         if self.over || self.core.is_running() || self.core.inc() == Inc::MAX {
             return Err(NoMemory);
@@ -270,6 +301,7 @@ impl MemServer {
         ensures letters { IfOk result (λ taken. taken.letters ≡ (acted_at (whole_of self.old) (Boot (boot_end taken.end))).letters) }
         ensures end { IfOk result (λ taken. taken.end ≡ end_in (Boot (boot_end taken.end))) }
         ensures cause { IfOk result (λ taken. IsFault taken.end → HasFailed ⟦<Planned<MemDisk> as Disk>⟧ self.old self.new) }
+        ensures plans { IfOk result (λ taken. LeavesPlans (Boot (boot_end taken.end)) (armed_of self.old) (armed_of self.new)) }
     {
         let attempt = self.boot_up(alloc)?;
         Ok(attempt.boot_taken())
@@ -281,6 +313,7 @@ impl MemServer {
         ensures letters { IfOk result (λ taken. taken.letters ≡ (acted_at (whole_of self.old) (ended step.now taken.end)).letters) }
         ensures end { IfOk result (λ taken. taken.end ≡ end_in (ended step.now taken.end)) }
         ensures cause { IfOk result (λ taken. IsFault taken.end → HasFailed ⟦<Planned<MemDisk> as Disk>⟧ self.old self.new) }
+        ensures plans { IfOk result (λ taken. LeavesPlans (ended step.now taken.end) (armed_of self.old) (armed_of self.new)) }
     {
         match step {
             Step::Call { line: _ } => Ok(done(Sequence::new(alloc))),
@@ -320,10 +353,13 @@ impl Host for MemServer {
     ghost use Rattle.petal_disk.specs.declared.memory_disk.MemDisk.{MemDisk};
     ghost use Rattle.petal_disk.specs.declared.planned.Planned.{Planned};
     ghost use Rattle.server_recovery.specs.Server.{faults_of, site_of};
+    ghost use Rattle.memory_server.specs.Armed.{armed_of};
 
     ghost seen = { site_of };
 
     ghost faults = { faults_of ⟦<Planned<MemDisk> as Disk>⟧ };
+
+    ghost armed = { armed_of };
 
     fn step(&mut self, alloc: Global, step: &Step) -> Result<Taken, NoMemory> {
         if !self.may_take(step) {

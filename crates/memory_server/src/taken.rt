@@ -1,14 +1,10 @@
 //! What other steps give, and which devices have stopped the server.
 
 ghost use Rattle.std.specs.Prelude.{◌≡◌};
-ghost use Rattle.petal_disk.specs.Plans.{plan_state};
 ghost use Rattle.world_desks.specs.declared.step_end.StepEnd.TheVariants as step_end;
 
 use petal_base::Sequence;
-use petal_disk::{Disk, Planned};
 use petal_msg::Letter;
-use server_store::Store;
-use state_store::StateStore;
 use world_desks::{StepEnd, Taken};
 
 /// A step that is no job and no boot.
@@ -28,16 +24,4 @@ pub struct Stops {
     pub stored: bool,
     /// The state device.
     pub kept: bool,
-}
-
-impl Stops {
-    /// Those of these two stores.
-    pub fn of<D: Disk>(store: &Store<Planned<D>>, state: &StateStore<Planned<D>>) -> Stops
-        ensures { result ≡ record { stored = (plan_state store.now.disk).stopped; kept = (plan_state state.now.disk).stopped } }
-    {
-        Stops {
-            stored: store.stopped(),
-            kept: state.stopped(),
-        }
-    }
 }

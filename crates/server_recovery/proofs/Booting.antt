@@ -32,7 +32,7 @@ use Rattle.server_recovery.proofs.Recovering.{shown_in}
 use Rattle.server_recovery.proofs.Seen.{seen_after, seen_letters}
 use Rattle.server_recovery.specs.Booted.{Booted, BootedBlank, core_at}
 use Rattle.server_recovery.specs.Recovery.{IsReread, Shown, Shows, on_device}
-use Rattle.server_recovery.specs.Server.{HasFailed, Mounted, faults_of, left_at, site_of, store_on, whole_after, whole_of}
+use Rattle.server_recovery.specs.Server.{HasFailed, Mounted, Ran, faults_of, left_at, site_of, store_on, whole_after, whole_of}
 
 -- what is left of a stopped server is told by its incarnation and by what its devices show
 left_alike : (old new : Server) → old.life.running ≡ false → new.life.running ≡ false → new.life.inc ≡ old.life.inc
@@ -134,19 +134,22 @@ module _ {D : Type 0} (device : Ghosts D) (told : device.told) (old : Mounted D)
   closed = ap (λ (ts : List ℕ). record (store_of old.store) { tickets = length ts }) opened
 
   pub boot_done : (core : Core) (state : Keeping D) (letters : List Letter) → IsBoot device old.core core old.state state (Ok letters)
+      → device.came_to old.store.disk old.store.disk
       → Booted device old (record { core = core; store = old.store; state = state }) Done letters
-  boot_done core state letters boot =
+  boot_done core state letters boot rests =
       let is = boot.step told kept (store_of old.store) (few_stored device old.store holds) in
       record {
         site = booted_site old core old.store state letters closed boot.voter is;
         sends = booted_letters old core old.store state letters is;
         stands = record { tickets = λ _. blank core.side old.store boot.side opened; store = holds; state = boot.holds told kept };
         cause = λ no. absurd no;
+        run = record { run = rests; state_run = boot.run };
       }
 
   pub boot_full : (core : Core) (state : Keeping D) → IsBoot device old.core core old.state state (Err JournalFull)
+      → device.came_to old.store.disk old.store.disk
       → Booted device old (record { core = core; store = old.store; state = state }) Done []
-  boot_full core state boot =
+  boot_full core state boot rests =
       let full = boot.full refl in
       let is = full.stays told kept (store_of old.store) in
       let still : core.running ≡ false = ap (λ (it : Core). it.running) full.same.0 ∙ off in
@@ -159,6 +162,7 @@ module _ {D : Type 0} (device : Ghosts D) (told : device.told) (old : Mounted D)
           state = subst (λ (k : Keeping D). logs.HoldsAt device k) (sym full.same.1) kept;
         };
         cause = λ no. absurd no;
+        run = record { run = rests; state_run = boot.run };
       }
 
   -- the devices were opened again, and show whether the incarnation was raised
@@ -166,14 +170,16 @@ module _ {D : Type 0} (device : Ghosts D) (told : device.told) (old : Mounted D)
       → old.core.log.voter.inc ≡ inc_of old.state.records
       → Shows end (shown_in old.store old.state) (raised_in old.store old.state) (store_of store) state.records
       → HoldsAt device store → logs.HoldsAt device state → HasFailed device old (record { core = core; store = store; state = state })
+      → Ran device old (record { core = core; store = store; state = state })
       → Booted device old (record { core = core; store = store; state = state }) (Fault end) []
-  boot_failed end core store state same known shows holds' kept' failed =
+  boot_failed end core store state same known shows holds' kept' failed run =
       record {
         site = failed_site old core store state end (shown_in old.store old.state) same off known closed refl shows (few_stored device store holds')
             (few_records device state kept');
         sends = failed_letters old end;
         stands = record { tickets = λ on. absurd (let still = ends_off end old.core core same off in cc); store = holds'; state = kept' };
         cause = λ _. failed;
+        run = run;
       }
 
 -- ### Before the stores were opened again
@@ -191,8 +197,8 @@ module _ {D : Type 0} {device : Ghosts D} (old : Mounted D) (store : Holdings D)
 
   -- what was so of a boot from then on is so of it from before
   pub from_before : {new : Mounted D} {end : WorkEnd} {letters : List Letter} → faults_of device old ≤ faults_of device between
-      → Booted device between new end letters → Booted device old new end letters
-  from_before {new} {end} {letters} later booted = record {
+      → Ran device old new → Booted device between new end letters → Booted device old new end letters
+  from_before {new} {end} {letters} later run booted = record {
     site =
         seen_after (whole_of between) (Boot end) (may end) (whole_of new) booted.site
         ∙ ap (λ (site : Site). site_after site (Boot end)) same_site
@@ -203,6 +209,7 @@ module _ {D : Type 0} {device : Ghosts D} (old : Mounted D) (store : Holdings D)
         ∙ sym (seen_letters (whole_of old) (Boot end) (may end) (acted_at (whole_of old) (Boot end)).letters refl);
     stands = booted.stands;
     cause = λ fault. let failed = booted.cause fault in omega (arith, later, failed);
+    run = run;
   }
 
 -- ### A blank device
@@ -213,9 +220,9 @@ module _ {D : Type 0} (device : Ghosts D) (core : Core) (store : Holdings D) (st
 
   -- a store was made there, with which the server booted
   pub booted_on : (made : Holdings D) (new : Mounted D) (end : WorkEnd) (letters : List Letter) → store_of made ≡ blank_store store.slots
-      → device.faults disk ≤ device.faults made.disk
+      → device.faults disk ≤ device.faults made.disk → Ran device empty new
       → Booted device (record { core = core; store = made; state = state }) new end letters → BootedBlank device empty new None end letters
-  booted_on made new end letters is later booted =
+  booted_on made new end letters is later run booted =
       let same : whole_of (record { core = core; store = made; state = state }) ≡ whole_of empty
       = ap (λ (s : Store). record { me = core.log.voter.me; servers = core.log.voter.servers; server = server_of core s state.records }) is in
       record {
@@ -223,16 +230,19 @@ module _ {D : Type 0} (device : Ghosts D) (core : Core) (store : Holdings D) (st
         sends = booted.sends ∙ ap (λ (site : Site). (acted_at site (Boot end)).letters) same;
         kept = record { stands = λ _ _. booted.stands; rests = λ no. absurd (cc); room = tt; state = λ _. booted.stands.state };
         cause = λ fault. let failed = booted.cause fault in omega (arith, later, failed);
+        run = run;
       }
 
   -- the device failed, and was handed back
   pub failed_on : (back : D) → core.running ≡ false → slot_start store.slots ≤ device.size back → device.faults disk < device.faults back
+      → device.came_to disk back → device.came_to state.disk state.disk
       → BootedBlank device empty (record { core = core; store = store; state = state }) (Some back) (Fault Before) []
-  failed_on back off room failed = record {
+  failed_on back off room failed run rests = record {
     site = refl;
     sends = refl;
     kept = record { stands = λ _ no. absurd (cc); rests = λ _. off; room = room; state = λ _. kept };
     cause = λ _. omega (arith, failed);
+    run = record { run = run; state_run = rests };
   }
 
 -- a server whose data device was no blank one booted
@@ -243,4 +253,5 @@ booted_own device booted = record {
   sends = booted.sends;
   kept = record { stands = λ _ _. booted.stands; rests = λ no. absurd (cc); room = tt; state = λ _. booted.stands.state };
   cause = booted.cause;
+  run = booted.run;
 }

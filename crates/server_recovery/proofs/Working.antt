@@ -16,7 +16,7 @@ use Rattle.server_core.specs.Work.{IsFullWork}
 use Rattle.server_store.specs.Holdings.{Holdings}
 use Rattle.state_store.specs.Device.{Keeping}
 use Rattle.server_recovery.specs.Booted.{Worked}
-use Rattle.server_recovery.specs.Server.{Mounted, Stands, left_at, whole_after, whole_of}
+use Rattle.server_recovery.specs.Server.{Mounted, Ran, Stands, left_at, whole_after, whole_of}
 
 module _ {D : Type 0} (device : Ghosts D) (told : device.told) (old : Mounted D) (stands : Stands device old) where
   -- what the rule leaves is what is there
@@ -31,12 +31,13 @@ module _ {D : Type 0} (device : Ghosts D) (told : device.told) (old : Mounted D)
       → acted new.core (store_of new.store) new.state.records letters
       ≡ works (here_in old.core) (server_of old.core (store_of old.store) old.state.records) old.core.queue
       → new.core.log.voter ≡ old.core.log.voter → HasTicketsAt new.core.side new.store → HoldsAt device new.store → logs.HoldsAt device new.state
-      → Worked device old new Done letters
-  work_done new letters is voter keeps holds kept = record {
+      → Ran device old new → Worked device old new Done letters
+  work_done new letters is voter keeps holds kept run = record {
     site = λ i. left_at (whole_is new letters voter is i);
     sends = ap (λ (left : Acted). left.letters) is;
     stands = record { tickets = λ _. keeps; store = holds; state = kept };
     cause = λ no. absurd no;
+    run = run;
   }
 
   -- there was none
@@ -53,8 +54,9 @@ module _ {D : Type 0} (device : Ghosts D) (told : device.told) (old : Mounted D)
       → IsFullWork device device old.core core old.store store old.state state
       → ((kept : Store) (records : List StateRecord) → acted new kept records letters ≡ stops (here_in core) (server_of core kept records))
       → new ≡ record core { running = false; queue = [] }
+      → Ran device old (record { core = new; store = store; state = state })
       → Worked device old (record { core = new; store = store; state = state }) Done letters
-  full_done core new store state letters full step rest =
+  full_done core new store state letters full step rest run =
       let off : new.running ≡ false = ap (λ (it : Core). it.running) rest in
       let voter : new.log.voter ≡ old.core.log.voter = ap (λ (it : Core). it.log.voter) rest ∙ ap (λ (it : Core). it.log.voter) full.same.0 in
       let stored : store_of store ≡ store_of old.store = ap store_of full.same.1 in
@@ -73,4 +75,5 @@ module _ {D : Type 0} (device : Ghosts D) (told : device.told) (old : Mounted D)
           state = subst (λ (k : Keeping D). logs.HoldsAt device k) (sym full.same.2) stands.state;
         };
         cause = λ no. absurd no;
+        run = run;
       }

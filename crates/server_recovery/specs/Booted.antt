@@ -10,7 +10,7 @@ use Rattle.petal_rules.specs.declared.step.WorkEnd.{WorkEnd}
 use Rattle.server_core.specs.Boots.{raised_core}
 use Rattle.server_core.specs.Core.{Core}
 use Rattle.world_desks.specs.Desks.{IsFault, acted_at, as_end, end_in}
-use Rattle.server_recovery.specs.Server.{HasFailed, IsKept, Mounted, Stands, left_at, site_of, store_at, whole_after, whole_of}
+use Rattle.server_recovery.specs.Server.{HasFailed, IsKept, Mounted, Ran, Stands, left_at, site_of, store_at, whole_after, whole_of}
 
 -- the core of a stopped server, after a boot in which its state device failed
 abbrev pub core_at : CommitEnd → Core → Core
@@ -23,6 +23,7 @@ pub record Took {D : Type 0} (device : Ghosts D) (old new : Mounted D) (what : S
   pub sends : letters ≡ (acted_at (whole_of old) what).letters
   pub stands : Stands device new
   pub cause : IsFault (end_in what) → HasFailed device old new
+  pub run : Ran device old new
 
 -- a server did its first job, which ended so
 abbrev pub Worked : {D : Type 0} → Ghosts D → (old new : Mounted D) → WorkEnd → List Letter → Type 0
@@ -38,3 +39,4 @@ pub record BootedBlank {D : Type 0} (device : Ghosts D) (old new : Mounted D) (b
   pub sends : letters ≡ (acted_at (whole_of old) (Boot end)).letters
   pub kept : IsKept device false blank new
   pub cause : IsFault (as_end end) → HasFailed device old (record new { store = store_at blank new.store })
+  pub run : Ran device old (record new { store = store_at blank new.store })

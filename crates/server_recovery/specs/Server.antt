@@ -51,6 +51,11 @@ faults_of device mounted = device.faults mounted.store.disk + device.faults moun
 abbrev pub HasFailed : {D : Type 0} → Ghosts D → (old new : Mounted D) → Type 0
 HasFailed device old new = faults_of device old < faults_of device new
 
+-- what calls can have made of its two devices
+pub record Ran {D : Type 0} (device : Ghosts D) (old new : Mounted D) : Type 0 where
+  pub run : device.came_to old.store.disk new.store.disk
+  pub state_run : device.came_to old.state.disk new.state.disk
+
 -- the server after a step, with all that it has in memory
 abbrev pub whole_after : Site → Step → Site
 whole_after site step = record site { server = (acted_at site step).server }

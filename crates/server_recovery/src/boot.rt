@@ -35,7 +35,7 @@ fn raise_at(end: CommitEnd, core: &mut ServerCore)
 /// one of which the state device fails: then both stores are opened again, and tell whether the incarnation was raised.
 ///
 /// # Errors
-/// Out of memory, or where a device fails again.
+/// Out of memory, or where a device fails twice while it is opened again.
 fn boot_opened<D: Disk>(
     alloc: Global,
     core: &mut ServerCore,
@@ -68,7 +68,7 @@ fn boot_opened<D: Disk>(
 /// devices tell.
 ///
 /// # Errors
-/// Out of memory, where a device fails that is read, or where the state device tells another incarnation.
+/// Out of memory, where a device fails twice that is read, or where the state device tells another incarnation.
 fn boot_again<D: Disk>(
     alloc: Global,
     core: &mut ServerCore,
@@ -129,7 +129,7 @@ fn boot_blank<D: Disk>(
 /// where that fails the server stays stopped, and the device is still as good as blank.
 ///
 /// # Errors
-/// Out of memory, where a device fails that is read, or where the state device tells another incarnation. Then a blank device is gone.
+/// Out of memory, where a device fails twice that is read, or where the state device tells another incarnation. Then a blank device is gone.
 pub fn boot_stopped<D: Disk>(
     alloc: Global,
     core: &mut ServerCore,

@@ -7,6 +7,7 @@
 
 mod attempt;
 mod boot;
+mod opening;
 mod recovery;
 mod work;
 

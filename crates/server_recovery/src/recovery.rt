@@ -8,6 +8,7 @@ ghost use Rattle.pair_side.specs.Done.{HoldsAt};
 ghost use Rattle.state_store.specs.Device.{StandsForEither};
 ghost use Rattle.server_recovery.specs.Recovery.{CommitsOnce, IsReread, Shown, Shows};
 
+use crate::opening::{reopen_state, reopen_store};
 use petal_base::NoMemory;
 use petal_disk::Disk;
 use petal_rules::CommitEnd;
@@ -39,7 +40,7 @@ impl Counts {
 /// Opens both stores again, as after a crash in which no commit was under way. They are as before, but nothing is set apart.
 ///
 /// # Errors
-/// Out of memory, or where a device fails.
+/// Out of memory, or where a device fails twice.
 pub fn reread<D: Disk>(
     alloc: Global,
     store: &mut Store<D>,
@@ -48,6 +49,7 @@ pub fn reread<D: Disk>(
     ensures again { OnOk result (D.told → store.old.slots < 2 ^ 32 → HoldsAt D.Disk store.old → logs.HoldsAt D.Disk state.old
         → IsReread D.Disk store.old store.new state.old state.new) }
     ensures later { (D.faults store.old.disk ≤ D.faults store.new.disk) × (D.faults state.old.disk ≤ D.faults state.new.disk) }
+    ensures run { D.came_to store.old.disk store.new.disk × D.came_to state.old.disk state.new.disk }
 {
     let before = Counts::of(store, state);
     let _end = reopen(alloc, store, state, before)?;
@@ -58,7 +60,7 @@ pub fn reread<D: Disk>(
 /// journal has more records than before the job.
 ///
 /// # Errors
-/// Out of memory, or where a device fails again: how the job ended is not known then.
+/// Out of memory, or where a device fails twice: how the job ended is not known then.
 pub fn reopen<D: Disk>(
     alloc: Global,
     store: &mut Store<D>,
@@ -78,11 +80,12 @@ pub fn reopen<D: Disk>(
         → ((c : List ℕ) → D.may_leave state.old.disk c → StandsForEither was.records will.records c)
         → logs.HoldsAt D.Disk state.new) }
     ensures later { (D.faults store.old.disk ≤ D.faults store.new.disk) × (D.faults state.old.disk ≤ D.faults state.new.disk) }
+    ensures run { D.came_to store.old.disk store.new.disk × D.came_to state.old.disk state.new.disk }
 {
-    let Ok(true) = store.reopen(alloc) else {
+    let Ok(true) = reopen_store(alloc, store) else {
         return Err(NoMemory);
     };
-    let Ok(()) = state.reopen(alloc) else {
+    let Ok(()) = reopen_state(alloc, state) else {
         return Err(NoMemory);
     };
     if Counts::of(store, state) == before {

@@ -19,7 +19,7 @@ use std::alloc::Global;
 /// stores are opened again, and tell whether the commit was made.
 ///
 /// # Errors
-/// Out of memory, or where a device fails again.
+/// Out of memory, or where a device fails twice while it is opened again.
 pub fn work_first<D: Disk>(
     alloc: Global,
     core: &mut ServerCore,

@@ -6,7 +6,7 @@ ghost use Rattle.std.specs.List.Sorted.{IsStrictlySortedBy};
 ghost use Rattle.busy_marks.specs.Marks.{mark_cmp, has_mark, with_mark, without_mark, next_marked, next_marked_map};
 ghost use Rattle.data_device.specs.Records.{Counts};
 ghost use Rattle.petal_base.specs.Block.{zero_block};
-ghost use Rattle.petal_disk.specs.Disk.{LeavesOnly};
+ghost use Rattle.petal_disk.specs.Disk.{LeavesOnly, Within};
 ghost use Rattle.device_faults.specs.Faults.{HasCause};
 ghost use Rattle.petal_disk.specs.Keeping.{KeepsDevice};
 ghost use Rattle.petal_disk.specs.Plans.{beneath, plan_state};
@@ -181,6 +181,7 @@ impl<D: Disk> Store<D> {
         ensures errors { IfErr result IsOpenError }
         ensures failed { IfErr result (λ e. e ≡ StoreError.Failed → D.faults self.old.disk < D.faults self.new.disk) }
         ensures later { D.faults self.old.disk ≤ D.faults self.new.disk }
+        ensures crash { Within (D.may_leave self.old.disk) (D.may_leave self.new.disk) }
         ensures run { D.came_to self.old.disk self.new.disk }
     {
         self.disk.crash();

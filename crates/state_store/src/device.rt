@@ -3,7 +3,7 @@
 ghost use Rattle.std.specs.Prelude.{◌≡◌, ◌⊎◌, ◌≤◌, ◌<◌, ◌↔◌, ◌++◌, [], ◌∷◌, ℕ, List, OnOk, IfOk, IfErr, OnErr, IsErrOf, take, ◌≢◌, Some, None, false};
 ghost use Rattle.std.specs.Bool.{OnFalse, OnTrue};
 ghost use Rattle.petal_disk.specs.Plans.{beneath, plan_state};
-ghost use Rattle.petal_disk.specs.Disk.{LeavesOnly, Only};
+ghost use Rattle.petal_disk.specs.Disk.{LeavesOnly, Only, Within};
 ghost use Rattle.device_faults.specs.Faults.{HasCause};
 ghost use Rattle.petal_disk.specs.Keeping.{KeepsDevice};
 ghost use Rattle.device_gate.specs.Gate.{IsShut};
@@ -138,6 +138,8 @@ impl<D: Disk> Device<D> {
         ensures failed { IsErrOf result error.Failed → D.faults self.old.disk < D.faults self.new.disk }
         ensures later { D.faults self.old.disk ≤ D.faults self.new.disk }
         ensures not_full { ¬ IsErrOf result error.JournalFull }
+        ensures crash { Within (D.may_leave self.old.disk) (D.may_leave self.new.disk) }
+        ensures run { D.came_to self.old.disk self.new.disk }
     {
         self.disk.crash();
         let (journal, register) = read_device(alloc, &mut self.disk)?;
@@ -240,6 +242,7 @@ fn has_header<D: Disk>(disk: &mut D) -> Result<bool, Failed>
     ensures durable { IfOk result (λ found. OnTrue found (D.told → Only (D.seen disk.new) (D.may_leave disk.new))) }
     ensures device { KeepsDevice D.size D.seen D.may_leave D.moment D.left_since disk.old disk.new }
     ensures cause { HasCause (D.faults disk.old) (D.faults disk.new) result }
+    ensures run { D.came_to disk.old disk.new }
 {
     if disk.len() < DEVICE_BYTES {
         return Ok(false);
@@ -267,6 +270,7 @@ fn read_journal<D: Disk>(
     ensures bad { (index : ℕ) → IfErr result (λ e. e ≡ error.BadRecord index → D.told → IsBadOn (D.seen disk.old) index) }
     ensures cause { HasJournalCause (D.faults disk.old) (D.faults disk.new) result }
     ensures device { KeepsDevice D.size D.seen D.may_leave D.moment D.left_since disk.old disk.new }
+    ensures run { D.came_to disk.old disk.new }
 {
     let (journal, bodies) = Journal::open(alloc, disk, JOURNAL_BASE, JOURNAL_RECORDS)?;
     let _count = journal.count();
@@ -295,6 +299,7 @@ fn read_device<D: Disk>(alloc: Global, disk: &mut D) -> Result<(Journal<128>, Re
         → IfErr result (λ e. e ≡ error.BadRecord index → (8392704 ≤ D.size disk.old) × (D.told → take 64 (D.seen disk.old) ≡ header)) }
     ensures not_full { ¬ IsErrOf result error.JournalFull }
     ensures device { KeepsDevice D.size D.seen D.may_leave D.moment D.left_since disk.old disk.new }
+    ensures run { D.came_to disk.old disk.new }
 {
     if !has_header(disk)? {
         return Err(StateError::Blank);

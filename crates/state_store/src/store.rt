@@ -3,7 +3,7 @@
 ghost use Rattle.std.specs.Prelude.{◌≡◌, ◌≢◌, ◌⊎◌, ◌≤◌, ◌<◌, ◌+◌, ◌==◌, ◌++◌, ◌∷◌, [], ℕ, List, Option, min, if◌then◌else◌, OnOk, OnErr, IfOk};
 ghost use Rattle.std.specs.Prelude.{IfErr, IsErrOf, IsOk, take, length, Some, None, false};
 ghost use Rattle.petal_disk.specs.Plans.{beneath, plan_state};
-ghost use Rattle.petal_disk.specs.Disk.{LeavesOnly};
+ghost use Rattle.petal_disk.specs.Disk.{LeavesOnly, Within};
 ghost use Rattle.petal_disk.specs.Keeping.{KeepsDevice};
 ghost use Rattle.block_journal.specs.Records.{Counts};
 ghost use Rattle.state_store.specs.Device.{header, bodies_of, AreSpelled, StandsFor, StandsForEither, Holds, WithOrWithout, LeftByFormat, IsBadOn};
@@ -120,6 +120,8 @@ impl<D: Disk> StateStore<D> {
         ensures failed { IsErrOf result error.Failed → D.faults self.old.disk < D.faults self.new.disk }
         ensures later { D.faults self.old.disk ≤ D.faults self.new.disk }
         ensures not_full { ¬ IsErrOf result error.JournalFull }
+        ensures crash { Within (D.may_leave self.old.disk) (D.may_leave self.new.disk) }
+        ensures run { D.came_to self.old.disk self.new.disk }
     {
         let kept = self.device.reopen(alloc)?;
         self.places = kept.places;

@@ -3,6 +3,7 @@
 ghost use Rattle.std.specs.Prelude.{◌≡◌, ◌<◌, ◌↔◌, ℕ, [], IfOk, IsTrue};
 ghost use Rattle.petal_rules.specs.Log.{rev_of};
 ghost use Rattle.world_desks.specs.Desks.{IsFault, Site, acted_at, end_in, ended, is_spent_server, site_after};
+ghost use Rattle.world_desks.specs.Plans.{Armed, LeavesPlans};
 
 use crate::StepEnd;
 use petal_base::{Inc, NoMemory, Rev, Sequence};
@@ -28,14 +29,18 @@ pub trait Host: Drop {
     /// How often its devices have failed so far.
     ghost faults: { Self → ℕ };
 
+    /// The plans that are armed at its devices and were not met.
+    ghost armed: { Self → Armed };
+
     /// Takes a step. How a job or a boot ends is for the devices to say, whatever end the step names; the server and the letters
-    /// are those of the step with the end that is given, which is a fault or a stop only where a device failed. After it ran out of
-    /// memory nothing is said of the server.
+    /// are those of the step with the end that is given, which is a fault or a stop only where a device failed, by a plan that is then
+    /// used up. After it ran out of memory nothing is said of the server.
     fn step(&mut self, alloc: Global, step: &Step) -> Result<Taken, NoMemory>
         ensures site { IfOk result (λ taken. seen self.new ≡ site_after (seen self.old) (ended step.now taken.end)) }
         ensures letters { IfOk result (λ taken. taken.letters ≡ (acted_at (seen self.old) (ended step.now taken.end)).letters) }
         ensures end { IfOk result (λ taken. taken.end ≡ end_in (ended step.now taken.end)) }
-        ensures cause { IfOk result (λ taken. IsFault taken.end → faults self.old < faults self.new) };
+        ensures cause { IfOk result (λ taken. IsFault taken.end → faults self.old < faults self.new) }
+        ensures plans { IfOk result (λ taken. LeavesPlans (ended step.now taken.end) (armed self.old) (armed self.new)) };
 
     /// Whether it runs.
     fn is_running(&self) -> bool

@@ -13,14 +13,18 @@ use Rattle.server_recovery.proofs.boot.boot_opened.Goals as goal
 pub returns-in-Ok : goal.returns-in-Ok
 returns-in-Ok g c = λ told holds kept opened.
     let old : Mounted _ = record { core = c.args.core.now; store = c.args.store.now; state = c.args.state.now } in
-    rw c.done.ensures (boot_done g.D.Disk told old c.requires.stopped holds kept opened c.boot.new.self c.boot.new.state c.in-Ok.letters c.in-Ok.ensures)
+    let law = g.met.D.Disk g.world.𝓛 g.world.𝓜 g.world.𝓡 ((λ s x. x), (λ x. x), (λ x. x), λ x. x) in
+    rw c.done.ensures
+    (boot_done g.D.Disk told old c.requires.stopped holds kept opened c.boot.new.self c.boot.new.state c.in-Ok.letters c.in-Ok.ensures
+    (law.stays old.store.disk))
 
 pub returns-in-Err-JournalFull : goal.returns-in-Err-JournalFull
 returns-in-Err-JournalFull g c = λ told holds kept opened.
     let old : Mounted _ = record { core = c.args.core.now; store = c.args.store.now; state = c.args.state.now } in
+    let law = g.met.D.Disk g.world.𝓛 g.world.𝓜 g.world.𝓡 ((λ s x. x), (λ x. x), (λ x. x), λ x. x) in
     rw (c.done-in-Err-JournalFull.ensures, c.new.ensures)
     (boot_full g.D.Disk told old c.requires.stopped holds kept opened c.boot.new.self c.boot.new.state
-    (rw c.in-Err-JournalFull.field-0-is at c.in-Err-JournalFull.ensures))
+    (rw c.in-Err-JournalFull.field-0-is at c.in-Err-JournalFull.ensures) (law.stays old.store.disk))
 
 pub returns-in_ok-end-in-Err-Failed : goal.returns-in_ok-end-in-Err-Failed
 returns-in_ok-end-in-Err-Failed g c = λ told holds kept opened.
@@ -49,4 +53,8 @@ returns-in_ok-end-in-Err-Failed g c = λ told holds kept opened.
     (reopened.ends was will told small stored recorded (ap (λ (counts : Counts). counts.stored) c.of-before.ensures ∙ holds.count)
     (ap (λ (counts : Counts). counts.kept) c.of-before.ensures ∙ kept.count) (inr refl))
     (reopened.holds was will told small stored) (reopened.state_holds was will told recorded)
-    (omega (arith, failed, later)))
+    (omega (arith, failed, later))
+    (record {
+      run = reopened.run.0;
+      state_run = law.goes_on state.disk c.boot.new.state.disk c.reopen.new.state.disk booted.run reopened.run.1;
+    }))

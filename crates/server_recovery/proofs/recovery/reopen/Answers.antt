@@ -4,12 +4,12 @@ use Rattle.server_recovery.proofs.recovery.reopen.Goals as goal
 
 pub returns-then-eq-clause-holds : goal.returns-then-eq-clause-holds
 returns-then-eq-clause-holds g c was will told small shows =
-    store_holds g.D.Disk c.reopen.new.self was.store will.store small
+    store_holds g.D.Disk c.reopen_store.new.store was.store will.store small
     (λ slots fresh recorded picture few. c.in-Ok-true.ensures.same slots fresh recorded picture c.in-Ok-true.field-0-test told few)
     (shows _ (c.in-Ok-true.ensures.left told))
 
 pub returns-else-eq-clause-holds : goal.returns-else-eq-clause-holds
 returns-else-eq-clause-holds g c was will told small shows =
-    store_holds g.D.Disk c.reopen.new.self was.store will.store small
+    store_holds g.D.Disk c.reopen_store.new.store was.store will.store small
     (λ slots fresh recorded picture few. c.in-Ok-true.ensures.same slots fresh recorded picture c.in-Ok-true.field-0-test told few)
     (shows _ (c.in-Ok-true.ensures.left told))

@@ -20,7 +20,7 @@ returns-in-Ok-Some g c = λ told.
     let worked = c.in-Ok-Some.ensures in
     rw (c.done.ensures, c.in-Ok-Some.letters-is)
     (work_done g.D.Disk told old stands new c.in-Ok-Some.letters ((rw c.in-Ok-Some.field-0-is at worked.work) told told stands.store stands.state)
-    worked.life.1 worked.keeps (worked.holds told stands.store) (worked.state_holds told stands.state))
+    worked.life.1 worked.keeps (worked.holds told stands.store) (worked.state_holds told stands.state) (record { run = worked.run; state_run = worked.state_run }))
 
 pub returns-in-Ok-None : goal.returns-in-Ok-None
 returns-in-Ok-None g c = λ told.
@@ -31,7 +31,7 @@ returns-in-Ok-None g c = λ told.
     rw (c.done-in-Ok-None.ensures, c.new.ensures)
     (work_done g.D.Disk told old stands new []
     (none_done g.D.Disk told old stands new ((rw c.in-Ok-None.field-0-is at worked.work) told told stands.store stands.state))
-    worked.life.1 worked.keeps (worked.holds told stands.store) (worked.state_holds told stands.state))
+    worked.life.1 worked.keeps (worked.holds told stands.store) (worked.state_holds told stands.state) (record { run = worked.run; state_run = worked.state_run }))
 
 pub returns-in-Err-JournalFull : goal.returns-in-Err-JournalFull
 returns-in-Err-JournalFull g c = λ told.
@@ -39,7 +39,7 @@ returns-in-Err-JournalFull g c = λ told.
     let worked = rw c.in-Err-JournalFull.field-0-is at c.in-Err-JournalFull.ensures in
     rw c.done-in-Err-JournalFull.ensures
     (full_done g.D.Disk told old c.requires.stands c.work.new.self c.stop.new.self c.work.new.store c.work.new.state c.stop.result (worked.full refl)
-    c.stop.ensures.step c.stop.ensures.rest)
+    c.stop.ensures.step c.stop.ensures.rest (record { run = worked.run; state_run = worked.state_run }))
 
 pub returns-in_ok-end-in-Err-Failed : goal.returns-in_ok-end-in-Err-Failed
 returns-in_ok-end-in-Err-Failed g c = λ told.
@@ -80,4 +80,8 @@ returns-in_ok-end-in-Err-Failed g c = λ told.
       stands = record { tickets = λ runs. absurd (cc); store = held; state = kept };
       cause = λ _. has_failed g.D.Disk old c.work.new.store c.work.new.state c.stop-letters.new.self c.reopen.new.store c.reopen.new.state
           worked.cause reopened.later;
+      run = record {
+        run = law.goes_on store.disk c.work.new.store.disk c.reopen.new.store.disk worked.run reopened.run.0;
+        state_run = law.goes_on state.disk c.work.new.state.disk c.reopen.new.state.disk worked.state_run reopened.run.1;
+      };
     })

@@ -1,8 +1,9 @@
 -- A boot, whose step is called by what the devices tell.
-use Rattle.std.proofs.Common.{ap, ◌∙◌}
+use Rattle.std.proofs.Common.{ap, ◌∙◌, arith}
 use Rattle.petal_rules.specs.declared.step.Step.TheVariants.{Boot}
 use Rattle.world_desks.specs.Desks.{acted_at}
 use Rattle.memory_server.proofs.Ends.{boot_left, boot_told}
+use Rattle.memory_server.proofs.Plans.{boot_plans}
 use Rattle.server_recovery.specs.Server.{left_at, whole_after, whole_of}
 use Rattle.memory_server.proofs.server.MemServer.boot.Goals as goal
 
@@ -19,3 +20,9 @@ returns-clause-letters c =
 
 pub returns-clause-end : goal.returns-clause-end
 returns-clause-end c = rw c.boot_taken.ensures (boot_told c.in_ok-attempt.attempt.end)
+
+pub returns-clause-plans : goal.returns-clause-plans
+returns-clause-plans c =
+    let booted = c.in_ok-attempt.ensures in
+    rw c.boot_taken.ensures
+    (boot_plans c.args.self.now c.boot_up-attempt.new.self booted.run c.in_ok-attempt.attempt.end (λ fault. let failed = booted.cause fault in omega (arith, failed)))

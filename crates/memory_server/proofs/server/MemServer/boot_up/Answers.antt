@@ -18,3 +18,9 @@ returns-clause-cause c =
     let kept = c.self.invariant in
     rw (← c.self.view_is)
     (c.in_ok-attempt.ensures.booted tt (λ none. (kept.stands c.if-self.false none).store) (kept.state c.if-self.false)).cause
+
+pub returns-clause-run : goal.returns-clause-run
+returns-clause-run c =
+    let kept = c.self.invariant in
+    let run = (c.in_ok-attempt.ensures.booted tt (λ none. (kept.stands c.if-self.false none).store) (kept.state c.if-self.false)).run in
+    rw (← c.self.view_is) (record { stored = run.run.1; kept = run.state_run.1 })

@@ -18,6 +18,12 @@ returns-clause-cause c =
     let none = none_there c.self.inside.blank (sym c.is_some.ensures ∙ c.if-is_some.false) in
     rw (← c.self.view_is, none) (c.in_ok-attempt.ensures tt).cause
 
+pub returns-clause-run : goal.returns-clause-run
+returns-clause-run c =
+    let none = none_there c.self.inside.blank (sym c.is_some.ensures ∙ c.if-is_some.false) in
+    let run = (c.in_ok-attempt.ensures tt).run in
+    rw (← c.self.view_is, none) (record { stored = run.run.1; kept = run.state_run.1 })
+
 pub invariant_of-self-2 : goal.invariant_of-self-2
 invariant_of-self-2 c =
     let none = none_there c.self.inside.blank (sym c.is_some.ensures ∙ c.if-is_some.false) in

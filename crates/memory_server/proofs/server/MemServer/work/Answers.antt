@@ -1,6 +1,7 @@
 -- The first job, whose step is called by what the devices tell.
-use Rattle.std.proofs.Common.{◌∙◌}
+use Rattle.std.proofs.Common.{◌∙◌, arith}
 use Rattle.memory_server.proofs.Ends.{job_fault, job_left, job_sends, job_told}
+use Rattle.memory_server.proofs.Plans.{job_plans}
 use Rattle.server_recovery.specs.Server.{whole_of}
 use Rattle.memory_server.proofs.server.MemServer.work.Goals as goal
 
@@ -17,3 +18,10 @@ returns-clause-end c = job_told c.job_taken.result.end
 
 pub returns-clause-cause : goal.returns-clause-cause
 returns-clause-cause c = rw c.job_taken.ensures (λ fault. c.in_ok-attempt.ensures.cause (job_fault c.in_ok-attempt.attempt.end _ fault))
+
+pub returns-clause-plans : goal.returns-clause-plans
+returns-clause-plans c =
+    let worked = c.in_ok-attempt.ensures in
+    rw c.job_taken.ensures
+    (job_plans c.args.self.now c.first_job-attempt.new.self worked.run c.in_ok-attempt.attempt.end _
+    (λ fault. let failed = worked.cause fault in omega (arith, failed)) (λ on same. ?))
