@@ -13,7 +13,7 @@ use Rattle.petal_rules.specs.declared.step.WorkEnd.TheVariants.{Done, Fault}
 use Rattle.server_recovery.specs.Ends.{job_end}
 use Rattle.server_recovery.specs.Server.{Mounted}
 use Rattle.world_desks.specs.Desks.{IsFault, as_end, boot_end, job_ended}
-use Rattle.world_desks.specs.Plans.{AreLeftOf, Armed, IsLeftOf, LeavesPlans, Spends, SpendsOnStop}
+use Rattle.petal_rules.specs.Plans.{AreLeftOf, Armed, IsLeftOf, LeavesPlans, Spends, SpendsOnStop}
 use Rattle.memory_server.specs.Armed.{BothCameTo, armed_of, stops_of}
 
 -- ### One device

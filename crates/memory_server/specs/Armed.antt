@@ -2,7 +2,7 @@
 use Rattle.petal_disk.specs.Plans.{CameTo, plan_state}
 use Rattle.petal_disk.specs.declared.planned.Planned.{Planned}
 use Rattle.server_recovery.specs.Server.{Mounted}
-use Rattle.world_desks.specs.Plans.{Armed}
+use Rattle.petal_rules.specs.Plans.{Armed}
 use Rattle.memory_server.specs.declared.taken.Stops.{Stops}
 
 -- the plans that are armed and were not met

@@ -11,7 +11,7 @@ ghost use Rattle.server_store.specs.Shown.{Holds};
 ghost use Rattle.server_store.specs.Slots.{slot_start};
 ghost use Rattle.server_recovery.specs.Server.{HasFailed, left_at, site_of, whole_after, whole_of};
 ghost use Rattle.petal_disk.specs.Plans.{plan_state};
-ghost use Rattle.world_desks.specs.Plans.{AreLeftOf, LeavesPlans, unarmed, with_plan};
+ghost use Rattle.petal_rules.specs.Plans.{AreLeftOf, LeavesPlans, unarmed, with_plan};
 ghost use Rattle.memory_server.specs.Armed.{BothCameTo, armed_of, stops_of};
 
 use crate::taken::{Stops, done};

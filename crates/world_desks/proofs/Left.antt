@@ -13,7 +13,7 @@ use Rattle.petal_rules.specs.Jobs.{down_posts, here_of, is_overfull}
 use Rattle.petal_rules.specs.Log.{Log, rev_of, state_in}
 use Rattle.petal_rules.specs.Server.{Here, Life, Own, Server, letters_of}
 use Rattle.petal_rules.specs.State.{servers_of}
-use Rattle.petal_rules.specs.World.{World, MayServer, is_spent_server, server_step}
+use Rattle.petal_rules.specs.World.{Setting, World, MayServer, is_spent_server, server_step}
 use Rattle.petal_rules.specs.declared.job.Job.{Job}
 use Rattle.petal_rules.specs.declared.step.Step.{Step}
 use Rattle.petal_rules.specs.declared.step.Step.TheVariants.{Call, Deliver, Tick, Work, StopIn, Stop, Blank, Boot, Arm, Glance}
@@ -163,11 +163,11 @@ steps_left servers n s (Glance line round) on = shows servers n line round s.lif
 steps_left servers n s what on = runs servers n s what on
 
 -- as it may each step that is allowed
-pub allowed : (w : World) (n : ℕ) (what : Step) → MayServer what setting w n → may_take what (w.servers n).life.running ≡ true
-allowed w n Tick may = may.runs
-allowed w n (Work end) may = may.acts.runs
-allowed w n (StopIn end) may = may.acts.runs
-allowed w n Stop may = may.runs
-allowed w n Blank may = ap not may.rests
-allowed w n (Boot end) may = ap not may.rests
-allowed w n _ may = refl
+pub allowed : (setting : Setting) (w : World) (n : ℕ) (what : Step) → MayServer what setting w n → may_take what (w.servers n).life.running ≡ true
+allowed setting w n Tick may = may.runs
+allowed setting w n (Work end) may = may.acts.runs
+allowed setting w n (StopIn end) may = may.acts.runs
+allowed setting w n Stop may = may.runs
+allowed setting w n Blank may = ap not may.rests
+allowed setting w n (Boot end) may = ap not may.rests
+allowed setting w n _ may = refl

@@ -4,3 +4,4 @@ pub mod Awaiting
 pub mod Ranges
 pub mod Ordering
 pub mod Left
+pub mod Plans

@@ -1,10 +1,11 @@
 -- The servers of a world.
-use Rattle.std.specs.Prelude.{ℕ, Bool, true, not, List, [], map, if◌then◌else◌}
+use Rattle.std.specs.Prelude.{◌≡◌, ◌≢◌, ℕ, Bool, true, not, List, [], map, slice_get, Some, if◌then◌else◌}
 use Rattle.std.specs.List.{range_with_len}
 use Rattle.script_lines.specs.declared.script.Script.{Script}
 use Rattle.petal_rules.specs.Log.{first_log, state_in}
 use Rattle.petal_rules.specs.Server.{Server, no_copies, no_pairs}
 use Rattle.petal_rules.specs.Jobs.{Acted}
+use Rattle.petal_rules.specs.Plans.{Armed, LeavesPlans}
 pub use Rattle.petal_rules.specs.World.{is_spent_server}
 use Rattle.petal_rules.specs.World.{Setting, World, server_step, setting_of, start}
 use Rattle.petal_rules.specs.declared.step.Step.{Step}
@@ -114,6 +115,20 @@ desks_of setting w = map (desk_of setting w) (range_with_len 0 setting.servers)
 -- a server that has taken no step
 abbrev pub first_desk : Site → Desk
 first_desk site = record { site = site; clock = 0 }
+
+-- what a world keeps of a server, and the plans of its devices
+pub record Equipped : Type 0 where
+  pub desk : Desk
+  pub armed : Armed
+
+-- the desks alone
+abbrev pub bare : List Equipped → List Desk
+bare desks = map (λ own. own.desk) desks
+
+-- what a step leaves of the plans of all servers: that of this server uses its own, and no other one's change
+pub record LeavesPlansAt (n : ℕ) (what : Step) (old new : List Equipped) : Type 0 where
+  pub own : (before now : Equipped) → slice_get old n ≡ Some before → slice_get new n ≡ Some now → LeavesPlans what before.armed now.armed
+  pub others : (m : ℕ) → m ≢ n → slice_get new m ≡ slice_get old m
 
 -- the servers of a run that begins
 abbrev pub first_sites : Script → List Site

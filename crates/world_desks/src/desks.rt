@@ -1,7 +1,8 @@
 //! The servers of a world.
 
 ghost use Rattle.std.specs.Prelude.{◌≡◌, ◌<◌, Some, length, map, slice_get, slice_set, option_copied, IfOk};
-ghost use Rattle.world_desks.specs.Desks.{acted_at, end_in, ended, first_desk, site_after};
+ghost use Rattle.petal_rules.specs.Plans.{LeavesPlans};
+ghost use Rattle.world_desks.specs.Desks.{LeavesPlansAt, acted_at, bare, end_in, ended, first_desk, site_after};
 ghost use Rattle.world_desks.specs.Desks as view;
 
 use crate::{Host, Taken};
@@ -10,7 +11,7 @@ use petal_rules::Step;
 use std::alloc::Global;
 use std::marker::Model;
 
-/// A server and the stamp of its last step.
+/// A server and the stamp of its last step. Contracts see the plans of its devices, too.
 #[derive(Drop)]
 pub struct Desk<H: Host> {
     pub host: H,
@@ -18,11 +19,11 @@ pub struct Desk<H: Host> {
 }
 
 impl<H: Host> Model for Desk<H> {
-    ghost use Rattle.world_desks.specs.Desks.{Desk};
+    ghost use Rattle.world_desks.specs.Desks.{Equipped};
 
-    ghost Value = { Desk };
+    ghost Value = { Equipped };
 
-    ghost view = { λ d. record { site = H.seen d.host; clock = d.clock } };
+    ghost view = { λ d. record { desk = record { site = H.seen d.host; clock = d.clock }; armed = H.armed d.host } };
 }
 
 /// All servers, by number.
@@ -33,9 +34,9 @@ pub struct Desks<H: Host> {
 
 impl<H: Host> Model for Desks<H> {
     ghost use Rattle.std.specs.Prelude.{List};
-    ghost use Rattle.world_desks.specs.Desks.{Desk};
+    ghost use Rattle.world_desks.specs.Desks.{Equipped};
 
-    ghost Value = { List Desk };
+    ghost Value = { List Equipped };
 
     ghost view = { λ d. d.desks.items };
 }
@@ -43,8 +44,10 @@ impl<H: Host> Model for Desks<H> {
 impl<H: Host> Desk<H> {
     /// A step of the server, with its stamp. How a job or a boot ends is for the devices to say.
     fn step(&mut self, alloc: Global, step: &Step, stamp: Stamp) -> Result<Taken, NoMemory>
-        ensures desk { IfOk result (λ taken. self.new ≡ record { site = site_after self.old.site (ended step.now taken.end); clock = stamp }) }
-        ensures letters { IfOk result (λ taken. taken.letters ≡ (acted_at self.old.site (ended step.now taken.end)).letters) }
+        ensures desk { IfOk result (λ taken. self.new.desk
+            ≡ record { site = site_after self.old.desk.site (ended step.now taken.end); clock = stamp }) }
+        ensures plans { IfOk result (λ taken. LeavesPlans (ended step.now taken.end) self.old.armed self.new.armed) }
+        ensures letters { IfOk result (λ taken. taken.letters ≡ (acted_at self.old.desk.site (ended step.now taken.end)).letters) }
         ensures end { IfOk result (λ taken. taken.end ≡ end_in (ended step.now taken.end)) }
     {
         let taken = self.host.step(alloc, step)?;
@@ -56,7 +59,7 @@ impl<H: Host> Desk<H> {
 impl<H: Host> Desks<H> {
     /// The servers of a run that begins.
     pub fn start(alloc: Global, hosts: Sequence<H>) -> Result<Desks<H>, NoMemory>
-        ensures { IfOk result (λ desks. desks ≡ map (λ host. first_desk (H.seen host)) hosts) }
+        ensures { IfOk result (λ desks. desks ≡ map (λ host. record { desk = first_desk (H.seen host); armed = H.armed host }) hosts) }
     {
         let mut desks = Vec::new(alloc);
         for host in hosts.into_vec() {
@@ -81,11 +84,13 @@ impl<H: Host> Desks<H> {
         stamp: Stamp,
     ) -> Result<Taken, NoMemory>
         requires { server < length self.old }
-        ensures step { IfOk result (λ taken. (desk : view.Desk) → slice_get self.old server ≡ Some desk
-            → (taken.letters ≡ (acted_at desk.site (ended step.now taken.end)).letters)
-            × (self.new ≡ slice_set self.old server (record { site = site_after desk.site (ended step.now taken.end); clock = stamp }))) }
+        ensures step { IfOk result (λ taken. (own : view.Equipped) → slice_get self.old server ≡ Some own
+            → (taken.letters ≡ (acted_at own.desk.site (ended step.now taken.end)).letters)
+            × (bare self.new ≡ slice_set (bare self.old) server (record { site = site_after own.desk.site (ended step.now taken.end); clock = stamp }))) }
+        ensures plans { IfOk result (λ taken. LeavesPlansAt server (ended step.now taken.end) self.old self.new) }
         ensures end { IfOk result (λ taken. taken.end ≡ end_in (ended step.now taken.end)) }
     {
-        self.desks[server as usize].step(alloc, step, stamp)
+        let taken = self.desks[server as usize].step(alloc, step, stamp)?;
+        Ok(taken)
     }
 }

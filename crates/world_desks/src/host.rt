@@ -3,7 +3,7 @@
 ghost use Rattle.std.specs.Prelude.{◌≡◌, ◌<◌, ◌↔◌, ℕ, [], IfOk, IsTrue};
 ghost use Rattle.petal_rules.specs.Log.{rev_of};
 ghost use Rattle.world_desks.specs.Desks.{IsFault, Site, acted_at, end_in, ended, is_spent_server, site_after};
-ghost use Rattle.world_desks.specs.Plans.{Armed, LeavesPlans};
+ghost use Rattle.petal_rules.specs.Plans.{Armed, LeavesPlans};
 
 use crate::StepEnd;
 use petal_base::{Inc, NoMemory, Rev, Sequence};

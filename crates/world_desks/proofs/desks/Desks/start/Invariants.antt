@@ -4,4 +4,5 @@ use Rattle.world_desks.specs.Desks.{first_desk}
 use Rattle.world_desks.proofs.desks.Desks.start.Given as goal
 
 abbrev pub invariant-loop-host : goal.invariant-loop-host
-invariant-loop-host g l = l.desks.items ≡ map (λ host. first_desk (g.H.Host.seen host)) l.yielded
+invariant-loop-host g l =
+    l.desks.items ≡ map (λ host. record { desk = first_desk (g.H.Host.seen host); armed = g.H.Host.armed host }) l.yielded
