@@ -1,6 +1,9 @@
 -- The clients of a world.
-use Rattle.std.specs.Prelude.{◌≡◌, ℕ, List, map, slice_get, None}
+use Rattle.std.specs.Prelude.{◌≡◌, ◌<◌, ◌==◌, ◌&&◌, ℕ, Bool, true, false, List, map, slice_get, Some, None}
 use Rattle.std.specs.List.{range_with_len}
+use Rattle.script_lines.specs.declared.request.Line.{Line}
+use Rattle.script_lines.specs.declared.request.Request.{Request}
+use Rattle.script_lines.specs.declared.request.Request.TheVariants as request
 use Rattle.petal_rules.specs.Clients.{Client}
 use Rattle.petal_rules.specs.World.{Setting, World, client_step, lines_of}
 use Rattle.petal_rules.specs.declared.step.Step.{Step}
@@ -29,3 +32,21 @@ seat_of setting w c = record {
 -- and of all
 abbrev pub seats_of : Setting → World → List Seat
 seats_of setting w = map (seat_of setting w) (range_with_len 0 9)
+
+-- ### Settles
+
+abbrev pub is_settle : Request → Bool
+is_settle request.Settle = true
+is_settle _ = false
+
+-- the line has this number, and is a settle
+abbrev pub settles_as : ℕ → Line → Bool
+settles_as number line = (line.number == number) && is_settle line.request
+
+-- the client has called such a line, which is open or answered
+pub record HasCalledSettle (seat : Seat) (number : ℕ) : Type 0 where
+  pub place : ℕ
+  pub line : Line
+  pub is : slice_get seat.lines place ≡ Some line
+  pub called : place < seat.core.client.seq
+  pub so : settles_as number line ≡ true

@@ -1,14 +1,14 @@
 //! One client of a world.
 
-ghost use Rattle.std.specs.Prelude.{◌≡◌, ◌∷◌, [], None, false, slice_get, option_copied, IfOk, OnErr};
+ghost use Rattle.std.specs.Prelude.{◌≡◌, ◌∷◌, ◌↔◌, [], None, false, slice_get, option_copied, IfOk, IsTrue, OnErr};
 ghost use Rattle.client_core.specs.Core.{at_core, is_spent, state_of};
 ghost use Rattle.petal_rules.specs.World.{calls};
-ghost use Rattle.client_seats.specs.Seats.{CanTake, reacted_at};
+ghost use Rattle.client_seats.specs.Seats.{CanTake, HasCalledSettle, reacted_at, settles_as};
 
 use client_core::{ClientCore, Reaction};
 use petal_base::{NoMemory, Sequence, Stamp};
 use petal_rules::Step;
-use script_lines::Line;
+use script_lines::{Line, Request};
 use std::alloc::Global;
 use world_desks::copies::request_again;
 
@@ -26,6 +26,21 @@ impl Seat {
         ensures { option_copied result ≡ slice_get self.now.lines self.now.core.client.seq }
     {
         self.lines.as_slice().get(self.core.called() as usize)
+    }
+
+    /// Whether the client has called a settle of this number, which is open or answered.
+    pub fn has_called_settle(&self, number: u32) -> bool
+        ensures { IsTrue result ↔ HasCalledSettle self.now number }
+    {
+        let lines = self.lines.as_slice();
+        let called = (self.core.called() as usize).min(lines.len());
+        // The one that is asked for is mostly the last one.
+        for back in 0..called {
+            if settles_as(number, &lines[called - 1 - back]) {
+                return true;
+            }
+        }
+        false
     }
 
     /// The client calls its next line.
@@ -67,6 +82,16 @@ impl Seat {
             | Step::Glance { line: _, round: _ } => Ok(nothing(alloc)),
         }
     }
+}
+
+/// Whether the line has this number, and is a settle.
+fn settles_as(number: u32, line: &Line) -> bool
+    ensures { result ≡ settles_as number line.now }
+{
+    if line.number != number {
+        return false;
+    }
+    matches!(line.request, Request::Settle)
 }
 
 /// Nothing is sent or answered.

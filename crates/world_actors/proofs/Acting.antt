@@ -8,12 +8,13 @@ use Rattle.petal_rules.specs.World.{Setting, World, MayStep, step, clock_of}
 use Rattle.petal_rules.specs.declared.step.Step.{Step}
 use Rattle.client_seats.specs.declared.seat.Seat.{Seat}
 use Rattle.world_actors.specs.declared.stepped.Stepped.{Stepped}
-use Rattle.world_desks.specs.Desks.{Desk, desk_of, end_in, ended}
+use Rattle.world_desks.specs.Desks.{Desk, Equipped, LeavesPlansAt, desk_of, end_in, ended}
+use Rattle.world_desks.proofs.Plans.{get_equipped}
 use Rattle.world_desks.specs.declared.step_end.StepEnd.{StepEnd}
 use Rattle.world_desks.specs.declared.step_end.StepEnd.TheVariants.{Done}
 use Rattle.world_actors.specs.Steps.{Leaves, LeavesIn}
 use Rattle.client_seats.specs.Seats.{seat_of, reacted_at}
-use Rattle.world_actors.specs.Actors.{Actors, Shows, client_letters, server_letters, with_client, with_server}
+use Rattle.world_actors.specs.Actors.{Actors, LeavesPlansBy, Shows, client_letters, server_letters, with_client, IsServed}
 use Rattle.world_actors.proofs.Allowed.{no_client, no_server, seat_is, desk_is}
 use Rattle.world_desks.proofs.Ranges.{get_range}
 use Rattle.world_actors.proofs.Ending.{client_done, client_ended}
@@ -28,8 +29,8 @@ module _ (setting : Setting) (w : World) (actors : Actors) (who : Actor) (what :
   pub client_clock_missing : (c : ℕ) → who ≡ actor.Client c → slice_get actors.seats c ≡ None → 0 ≡ clock_of w who
   client_clock_missing c is none = absurd (no_client setting w actors c what h none (subst (λ a. MayStep setting w a what) is may))
 
-  pub server_clock_is : (n : ℕ) (desk : Desk) → who ≡ actor.Server n → slice_get actors.desks n ≡ Some desk → desk.clock ≡ clock_of w who
-  server_clock_is n desk is at = ap (λ (d : Desk). d.clock) (desk_is setting w actors n what desk h at) ∙ ap (λ a. clock_of w a) (sym is)
+  pub server_clock_is : (n : ℕ) (own : Equipped) → who ≡ actor.Server n → slice_get actors.desks n ≡ Some own → own.desk.clock ≡ clock_of w who
+  server_clock_is n own is at = ap (λ (d : Desk). d.clock) (desk_is setting w actors n what own h at) ∙ ap (λ a. clock_of w a) (sym is)
 
   pub client_clock_is : (c : ℕ) (seat : Seat) → who ≡ actor.Client c → slice_get actors.seats c ≡ Some seat → seat.clock ≡ clock_of w who
   client_clock_is c seat is at = ap (λ (s : Seat). s.clock) (seat_is setting w actors c what seat h at) ∙ ap (λ a. clock_of w a) (sym is)
@@ -38,8 +39,8 @@ module _ (setting : Setting) (w : World) (actors : Actors) (who : Actor) (what :
 
 -- a server took the step
 abbrev ServedAt : Actors → ℕ → Step → ℕ → Actors → Stepped → Type 0
-ServedAt actors n what stamp new told = (desk : Desk) → slice_get actors.desks n ≡ Some desk
-    → (told ≡ record { letters = server_letters desk what stamp; answer = None; end = end_in what }) × (new ≡ with_server actors n desk what stamp)
+ServedAt actors n what stamp new told = (own : Equipped) → slice_get actors.desks n ≡ Some own
+    → (told ≡ record { letters = server_letters own.desk what stamp; answer = None; end = end_in what }) × IsServed actors n own.desk what stamp new
 
 -- the step with the end that is told
 abbrev ServedSo : Actors → ℕ → Step → ℕ → Actors → Stepped → Type 0
@@ -54,12 +55,13 @@ module _ (setting : Setting) (w : World) (actors : Actors) (h : Shows setting w 
   serves_so : (n : ℕ) → MayStep setting w (actor.Server n) what → clock_of w (actor.Server n) < stamp
       → ServedAt actors n what stamp new told → Leaves setting w (actor.Server n) what stamp new told
   serves_so n may less told_so =
-      let at : slice_get actors.desks n ≡ Some (desk_of setting w n) = ap (λ desks. slice_get desks n) h.desks
-      ∙ get_range (desk_of setting w) setting.servers n may.may.0 in
-      let own = told_so (desk_of setting w n) at in
+      let at = get_equipped actors.desks n (desk_of setting w n) (ap (λ desks. slice_get desks n) h.desks
+      ∙ get_range (desk_of setting w) setting.servers n may.may.0) in
+      let own = subst (λ (d : Desk). (told ≡ record { letters = server_letters d what stamp; answer = None; end = end_in what })
+      × IsServed actors n d what stamp new) at.2 (told_so at.0 at.1) in
       let gives = server_gives setting w actors h n what stamp may.may.1 in (
-        subst (λ (k : Actors). Shows setting (step (actor.Server n) what setting w stamp).world k) (sym own.1)
-            (server_shows setting w actors h n what stamp may.may.1 may.may.0 less),
+        subst (λ (k : Actors). Shows setting (step (actor.Server n) what setting w stamp).world k) (sym own.1.1)
+            (server_shows setting w actors h n what stamp may.may.1 new.desks own.1.0 may.may.0 less),
         own.0 ∙ (λ i. record { letters = sym gives.0 i; answer = sym gives.1 i; end = end_in what }),
       )
 
@@ -106,3 +108,17 @@ pub reacts_ok : {E : Type 0} (r : Result Stepped E) (actors : Actors) (who : Act
 reacts_ok r actors who c what stamp new is =
     IfOk-weaker r (ReactedSo actors c what stamp new) (λ told. LeavesIn actors who (ended what told.end) stamp new told)
     (λ told so setting w h may less. reacts setting w actors h what stamp new told who c told.end is so may less)
+
+pub plans_of_server : {E : Type 0} (r : Result Stepped E) (actors : Actors) (who : Actor) (n : ℕ) (what : Step) (new : Actors) → who ≡ actor.Server n
+    → IfOk r (λ told. LeavesPlansAt n (ended what told.end) actors.desks new.desks)
+    → IfOk r (λ told. LeavesPlansBy who (ended what told.end) actors.desks new.desks)
+plans_of_server r actors who n what new is =
+    IfOk-weaker r (λ told. LeavesPlansAt n (ended what told.end) actors.desks new.desks)
+    (λ told. LeavesPlansBy who (ended what told.end) actors.desks new.desks)
+    (λ told so. subst (λ (a : Actor). LeavesPlansBy a (ended what told.end) actors.desks new.desks) (sym is) so)
+
+pub plans_of_client : {E : Type 0} (r : Result Stepped E) (actors : Actors) (who : Actor) (c : ℕ) (what : Step) (new : Actors) → who ≡ actor.Client c
+    → IfOk r (λ told. new.desks ≡ actors.desks) → IfOk r (λ told. LeavesPlansBy who (ended what told.end) actors.desks new.desks)
+plans_of_client r actors who c what new is =
+    IfOk-weaker r (λ told. new.desks ≡ actors.desks) (λ told. LeavesPlansBy who (ended what told.end) actors.desks new.desks)
+    (λ told so. subst (λ (a : Actor). LeavesPlansBy a (ended what told.end) actors.desks new.desks) (sym is) so)

@@ -8,7 +8,8 @@ use Rattle.petal_rules.specs.World.{Setting, World, MayCall, MayClient, MayServe
 use Rattle.petal_rules.specs.declared.step.Step.{Step}
 use Rattle.client_seats.specs.Core as client
 use Rattle.client_seats.specs.declared.seat.Seat.{Seat}
-use Rattle.world_desks.specs.Desks.{Desk, desk_of}
+use Rattle.world_desks.specs.Desks.{Desk, Equipped, desk_of}
+use Rattle.world_desks.proofs.Plans.{get_bare, none_bare}
 use Rattle.world_desks.specs.Desks as server
 use Rattle.world_desks.specs.Playable.{AreOrdered}
 use Rattle.client_seats.specs.Seats.{seat_of}
@@ -62,7 +63,7 @@ no_client setting w actors c what h none step =
 pub no_server : (setting : Setting) (w : World) (actors : Actors) (n : ℕ) (what : Step) → Shows setting w actors → slice_get actors.desks n ≡ None
     → MayStep setting w (actor.Server n) what → ⊥
 no_server setting w actors n what h none step =
-    never _ _ (ap (λ desks. slice_get desks n) (sym h.desks) ∙ none) (get_range (desk_of setting w) setting.servers n step.may.0)
+    never _ _ (ap (λ desks. slice_get desks n) (sym h.desks) ∙ none_bare actors.desks n none) (get_range (desk_of setting w) setting.servers n step.may.0)
 
 pub late_letter : (setting : Setting) (w : World) (who : Actor) (what : Step) → greatest_u64 ≤ received what → MayStep setting w who what → ⊥
 late_letter setting w who what late step = let less = step.receives in omega arith
@@ -92,10 +93,13 @@ module _ (setting : Setting) (w : World) (actors : Actors) (c : ℕ) (what : Ste
       let same : w.client_clocks c ≡ seat.clock = ap (λ (s : Seat). s.clock) (sym own.value) in
       omega arith
 
-module _ (setting : Setting) (w : World) (actors : Actors) (n : ℕ) (what : Step) (desk : Desk) (h : Shows setting w actors)
-    (at : slice_get actors.desks n ≡ Some desk) where
+module _ (setting : Setting) (w : World) (actors : Actors) (n : ℕ) (what : Step) (own : Equipped) (h : Shows setting w actors)
+    (at : slice_get actors.desks n ≡ Some own) where
+  abbrev desk : Desk
+  desk = own.desk
+
   held : IsAt (desk_of setting w) setting.servers n desk
-  held = at_range (desk_of setting w) setting.servers n desk (ap (λ desks. slice_get desks n) (sym h.desks) ∙ at)
+  held = at_range (desk_of setting w) setting.servers n desk (ap (λ desks. slice_get desks n) (sym h.desks) ∙ get_bare actors.desks n own at)
 
   pub desk_is : desk ≡ desk_of setting w n
   desk_is = held.value

@@ -2,7 +2,7 @@
 use Rattle.std.proofs.Common.{◌≡◌, ℕ, ◌+◌, max, refl, sym, ap, subst, ◌<◌}
 use Rattle.petal_msg.specs.declared.letter.Actor.{Actor}
 use Rattle.petal_msg.specs.declared.letter.Actor.TheVariants as actor
-use Rattle.petal_rules.specs.World.{Setting, World, MayWork, MayActor, MayClient, MayServer, MayStep, received, greatest_u64}
+use Rattle.petal_rules.specs.World.{Setting, Setting, World, MayWork, MayActor, MayClient, MayServer, MayStep, received, greatest_u64}
 use Rattle.petal_rules.specs.declared.step.Step.{Step}
 use Rattle.petal_rules.specs.declared.step.Step.TheVariants.{Work, StopIn, Boot}
 use Rattle.world_actors.specs.Steps.{phase_for, stamp_of}
@@ -12,10 +12,10 @@ use Rattle.world_desks.specs.declared.step_end.StepEnd.TheVariants.{Done, Fault,
 
 -- ### A job, however it ends
 
-job_allowed : (end : StepEnd) (w : World) (n : ℕ) → MayWork w n → MayServer (job_ended end) setting w n
-job_allowed Done w n may = may
-job_allowed (Fault commit) w n may = may
-job_allowed (Stopped commit) w n may = may
+job_allowed : (end : StepEnd) (setting : Setting) (w : World) (n : ℕ) → MayWork w n → MayServer (job_ended end) setting w n
+job_allowed Done setting w n may = may
+job_allowed (Fault commit) setting w n may = may
+job_allowed (Stopped commit) setting w n may = may
 
 job_of_none : (end : StepEnd) (setting : Setting) (w : World) (c : ℕ) → MayClient (job_ended end) setting w c → ⊥
 job_of_none Done setting w c may = may
@@ -34,10 +34,10 @@ job_phase (Stopped commit) who setting w phase = refl
 
 -- ### Any step
 
-server_ended : (what : Step) (end : StepEnd) (w : World) (n : ℕ) → MayServer what setting w n → MayServer (ended what end) setting w n
-server_ended (Work named) end w n may = job_allowed end w n may
-server_ended (StopIn named) end w n may = job_allowed end w n may
-server_ended _ end w n may = may
+server_ended : (what : Step) (end : StepEnd) (setting : Setting) (w : World) (n : ℕ) → MayServer what setting w n → MayServer (ended what end) setting w n
+server_ended (Work named) end setting w n may = job_allowed end setting w n may
+server_ended (StopIn named) end setting w n may = job_allowed end setting w n may
+server_ended _ end setting w n may = may
 
 -- a client has no jobs
 client_none : (what : Step) (end : StepEnd) (setting : Setting) (w : World) (c : ℕ) → MayClient what setting w c → ended what end ≡ what
@@ -65,7 +65,7 @@ received_ended _ end = refl
 
 actor_ended : (who : Actor) (what : Step) (end : StepEnd) (setting : Setting) (w : World)
     → MayActor who what setting w → MayActor who (ended what end) setting w
-actor_ended (actor.Server n) what end setting w may = (may.0, server_ended what end w n may.1)
+actor_ended (actor.Server n) what end setting w may = (may.0, server_ended what end setting w n may.1)
 actor_ended (actor.Client c) what end setting w may = (may.0, subst (λ s. MayClient s setting w c) (sym (client_none what end setting w c may.1)) may.1)
 
 -- a job is allowed with each end or with none

@@ -8,7 +8,8 @@ use Rattle.petal_msg.specs.declared.letter.Actor.TheVariants as actor
 use Rattle.petal_rules.specs.Log.{rev_of as rev_in}
 use Rattle.petal_rules.specs.World.{Setting, World}
 use Rattle.client_seats.specs.declared.seat.Seat.{Seat}
-use Rattle.world_desks.specs.Desks.{Desk, desk_of}
+use Rattle.world_desks.specs.Desks.{Desk, Equipped, desk_of}
+use Rattle.world_desks.proofs.Plans.{get_bare, none_bare}
 use Rattle.world_actors.specs.Steps.{rev_of}
 use Rattle.client_seats.specs.Seats.{seat_of}
 use Rattle.world_actors.specs.Actors.{Actors, Shows}
@@ -25,17 +26,19 @@ never : {P : Type 0} {X : Type 0} (o : Option X) (x : X) → o ≡ None → o �
 never o x none some = absurd (let h : ⊥ = cc in h)
 
 module _ (setting : Setting) (w : World) (actors : Actors) (who : Actor) (h : Shows setting w actors) where
-  pub server_rev : (n : ℕ) (desk : Desk) → who ≡ actor.Server n → slice_get actors.desks n ≡ Some desk
-      → (if desk.site.server.life.running then Some (rev_in desk.site.server.log) else None) ≡ rev_of setting w who
-  server_rev n desk is at =
-      let own = at_range (desk_of setting w) setting.servers n desk (ap (λ desks. slice_get desks n) (sym h.desks) ∙ at) in
+  pub server_rev : (n : ℕ) (held : Equipped) → who ≡ actor.Server n → slice_get actors.desks n ≡ Some held
+      → (if held.desk.site.server.life.running then Some (rev_in held.desk.site.server.log) else None) ≡ rev_of setting w who
+  server_rev n held is at =
+      let own = at_range (desk_of setting w) setting.servers n held.desk
+      (ap (λ desks. slice_get desks n) (sym h.desks) ∙ get_bare actors.desks n held at) in
       ap (λ (d : Desk). if d.site.server.life.running then Some (rev_in d.site.server.log) else None) own.value ∙ left_rev (w.servers n)
       ∙ ap (λ b. if b && (w.servers n).life.running then Some (rev_in (w.servers n).log) else None) (sym (below n setting.servers own.within))
       ∙ ap (λ a. rev_of setting w a) (sym is)
 
   pub server_no_rev : (n : ℕ) → who ≡ actor.Server n → slice_get actors.desks n ≡ None → None ≡ rev_of setting w who
   server_no_rev n is none = elim (cases_lt n setting.servers) [
-    | inl less ↦ never _ _ (ap (λ desks. slice_get desks n) (sym h.desks) ∙ none) (get_range (desk_of setting w) setting.servers n less)
+    | inl less ↦ never _ _ (ap (λ desks. slice_get desks n) (sym h.desks) ∙ none_bare actors.desks n none)
+        (get_range (desk_of setting w) setting.servers n less)
     | inr le ↦ ap (λ b. if b && (w.servers n).life.running then Some (rev_in (w.servers n).log) else None) (sym (above n setting.servers le))
         ∙ ap (λ a. rev_of setting w a) (sym is)
   ]

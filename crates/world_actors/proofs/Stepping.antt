@@ -31,7 +31,7 @@ use Rattle.petal_rules.specs.declared.step.WorkEnd.TheVariants as work_end
 use Rattle.petal_rules.proofs.ListLemmas.{in-append, put_same, put_apart}
 use Rattle.world_desks.specs.declared.name.LetterName.{LetterName}
 use Rattle.client_seats.specs.declared.seat.Seat.{Seat}
-use Rattle.world_desks.specs.Desks.{Desk, desk_of, left_of, site_after}
+use Rattle.world_desks.specs.Desks.{Desk, Equipped, bare, desk_of, left_of, site_after}
 use Rattle.client_seats.specs.Seats.{seat_of, reacted_at}
 use Rattle.world_desks.specs.Sent.{Lists, with_letters}
 use Rattle.world_desks.specs.Waiting.{Await}
@@ -268,7 +268,7 @@ module _ (setting : Setting) (w : World) (actors : Actors) (h : Shows setting w 
 
   -- what is left of the server shows the step as the server does
   left : StepsLeft setting.servers n (w.servers n) what
-  left = steps_left setting.servers n (w.servers n) what (allowed w n what may)
+  left = steps_left setting.servers n (w.servers n) what (allowed setting w n what may)
 
   own_letters : stamped stamp acts_so.letters ≡ server_letters desk what stamp
   own_letters = ap (λ (letters : List Letter). stamped stamp letters) (sym left.letters)
@@ -316,10 +316,11 @@ module _ (setting : Setting) (w : World) (actors : Actors) (h : Shows setting w 
   posts = server_posts what (state_in setting.servers (left_of (w.servers n)).log) n stamp (left_of (w.servers n))
 
   -- what is kept after a server's step is that of the world after it
-  pub server_shows : n < setting.servers → clock_of w (actor.Server n) < stamp → Shows setting by_server.world (with_server actors n desk what stamp)
-  server_shows within less = record {
+  pub server_shows : (desks : List Equipped) → bare desks ≡ slice_set (bare actors.desks) n (record { site = site_after desk.site what; clock = stamp })
+      → n < setting.servers → clock_of w (actor.Server n) < stamp → Shows setting by_server.world (with_server actors n desk what stamp desks)
+  server_shows desks are within less = record {
     seats = h.seats ∙ same_range (seat_of setting w) (seat_of setting by_server.world) 9 same_seat;
-    desks = ap (λ desks. slice_set desks n (record { site = site_after desk.site what; clock = stamp })) h.desks
+    desks = are ∙ ap (λ desks. slice_set desks n (record { site = site_after desk.site what; clock = stamp })) h.desks
         ∙ set_range (desk_of setting w) (desk_of setting by_server.world) setting.servers n _ within own_desk other_desk;
     sent = subst (λ (ls : List Letter). Lists (with_letters actors.sent (server_letters desk what stamp)) ls) (sym server_sent)
         (posted_kept w (actor.Server n) stamp actors.sent (server_letters desk what stamp) posts h.past less h.sent);

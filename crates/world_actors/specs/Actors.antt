@@ -2,6 +2,8 @@
 use Rattle.std.specs.Prelude.{◌≡◌, ℕ, ◌≤◌, List, slice_set, Option, Some, None}
 use Rattle.std.specs.Ordering.{nat_cmp}
 use Rattle.petal_table.specs.Table.{Table, without}
+use Rattle.petal_msg.specs.declared.letter.Actor.{Actor}
+use Rattle.petal_msg.specs.declared.letter.Actor.TheVariants as actor
 use Rattle.petal_msg.specs.declared.letter.Letter.{Letter}
 use Rattle.script_lines.specs.declared.answer.Answer.{Answer}
 use Rattle.petal_rules.specs.Lists.{In}
@@ -9,7 +11,7 @@ use Rattle.petal_rules.specs.World.{Setting, World, Control, clock_of, controls,
 use Rattle.petal_rules.specs.declared.step.Step.{Step}
 use Rattle.world_desks.specs.declared.name.LetterName.{LetterName}
 use Rattle.client_seats.specs.declared.seat.Seat.{Seat}
-use Rattle.world_desks.specs.Desks.{Desk, desks_of, acted_at, site_after}
+use Rattle.world_desks.specs.Desks.{Desk, Equipped, LeavesPlansAt, bare, desks_of, acted_at, site_after}
 use Rattle.client_seats.specs.Seats.{seats_of, reacted_at}
 use Rattle.world_desks.specs.Sent.{Lists, with_letters}
 use Rattle.world_desks.specs.Waiting.{Await}
@@ -17,7 +19,7 @@ use Rattle.world_desks.specs.Waiting.{Await}
 -- the clients, the servers, the letters ever sent, the lines without an answer, and what was done of the operator's last line
 pub record Actors : Type 0 where
   pub seats : List Seat
-  pub desks : List Desk
+  pub desks : List Equipped
   pub sent : Table LetterName Letter
   pub waiting : Table ℕ ℕ
   pub control : Control
@@ -25,7 +27,7 @@ pub record Actors : Type 0 where
 -- this is kept of this world
 pub record Shows (setting : Setting) (w : World) (actors : Actors) : Type 0 where
   pub seats : actors.seats ≡ seats_of setting w
-  pub desks : actors.desks ≡ desks_of setting w
+  pub desks : bare actors.desks ≡ desks_of setting w
   pub sent : Lists actors.sent w.sent
   pub waiting : Await setting.lines w.answers actors.waiting
   pub control : actors.control ≡ w.control
@@ -54,12 +56,23 @@ with_client actors c seat what stamp = record {
 abbrev pub server_letters : Desk → Step → ℕ → List Letter
 server_letters desk what stamp = stamped stamp (acted_at desk.site what).letters
 
--- what is kept after it
-abbrev pub with_server : Actors → ℕ → Desk → Step → ℕ → Actors
-with_server actors n desk what stamp = record {
+-- what is kept after it, with these desks
+abbrev pub with_server : Actors → ℕ → Desk → Step → ℕ → List Equipped → Actors
+with_server actors n desk what stamp desks = record {
   seats = actors.seats;
-  desks = slice_set actors.desks n (record { site = site_after desk.site what; clock = stamp });
+  desks = desks;
   sent = with_letters actors.sent (server_letters desk what stamp);
   waiting = actors.waiting;
   control = controls what n actors.control;
 }
+
+-- its desk alone is another
+abbrev pub IsServed : Actors → ℕ → Desk → Step → ℕ → Actors → Type 0
+IsServed actors n desk what stamp new =
+    (bare new.desks ≡ slice_set (bare actors.desks) n (record { site = site_after desk.site what; clock = stamp }))
+    × (new ≡ with_server actors n desk what stamp new.desks)
+
+-- what a step leaves of the plans of all servers
+abbrev pub LeavesPlansBy : Actor → Step → (old new : List Equipped) → Type 0
+LeavesPlansBy (actor.Server n) what old new = LeavesPlansAt n what old new
+LeavesPlansBy (actor.Client c) what old new = new ≡ old

@@ -1,12 +1,12 @@
 -- The operator's open line, by what it asks for.
-use Rattle.std.specs.Prelude.{◌≡◌, ◌⊎◌, ℕ, true, false, Option, Some, None}
+use Rattle.std.specs.Prelude.{◌≡◌, ◌⊎◌, ℕ, Bool, true, false, Option, Some, None}
 use Rattle.script_lines.specs.declared.request.Request.{Request}
 use Rattle.script_lines.specs.declared.request.Request.TheVariants as request
 use Rattle.petal_rules.specs.Clients.{Asked}
-use Rattle.petal_rules.specs.Jobs.{operator}
 use Rattle.petal_rules.specs.World.{Deed, Stopped, Blanked, Booted, IsOpenLine, World}
 use Rattle.open_request.specs.declared.order.Order.{Order}
-use Rattle.open_request.specs.declared.order.Order.TheVariants.{Stop, Start, Blank}
+use Rattle.open_request.specs.Orders.{order_of}
+use Rattle.open_request.specs.declared.order.Order.TheVariants.{Arm, Stop, Start, Blank}
 use Rattle.world_actors.specs.declared.control.Given.{Given}
 use Rattle.world_actors.specs.declared.control.Given.TheVariants as given
 
@@ -21,18 +21,19 @@ abbrev pub hand_of : Option (ℕ × Given) → Option (ℕ × Deed)
 hand_of None = None
 hand_of (Some held) = Some (held.0, deed_of held.1)
 
--- the request that gives this server this order
-abbrev pub asking : Order → ℕ → Request
-asking Stop n = request.Stop n
-asking Start n = request.Start n
-asking Blank n = request.Blank n
+-- the order arms a device
+abbrev pub arms_of : Order → Bool
+arms_of (Arm which plan) = true
+arms_of Stop = false
+arms_of Start = false
+arms_of Blank = false
 
 -- the operator's open line gives this server this order, and was not glanced at
 pub record IsGivenBy (w : World) (order : Order) (n line : ℕ) : Type 0 where
   pub asked : Asked
   pub opened : IsOpenLine w asked
   pub line_is : asked.line ≡ line
-  pub request_is : asked.request ≡ asking order n
+  pub order_is : order_of asked.request ≡ Some (order, n)
 
 -- a line gives it this order
 abbrev pub IsGiven : World → Order → ℕ → Type 0
@@ -57,10 +58,15 @@ pub record HasBlanked (w : World) (n line : ℕ) : Type 0 where
   pub by : IsGivenBy w Blank n line
   pub booted : w.control.hand ≡ Some (n, Booted)
 
--- the operator's open line is this settle, in this round
-pub record IsSettling (w : World) (line round : ℕ) : Type 0 where
+-- the request has one of the server's devices armed
+abbrev pub ArmsAt : Request → ℕ → Type 0
+ArmsAt (request.StopAt server at) n = server ≡ n
+ArmsAt (request.Fault server which kind at) n = server ≡ n
+ArmsAt _ n = ⊥
+
+-- the operator's open line arms one of the server's devices, and was not glanced at
+pub record HasArmed (w : World) (n line : ℕ) : Type 0 where
   pub asked : Asked
-  pub is : (w.clients operator).asked ≡ Some asked
+  pub opened : IsOpenLine w asked
   pub line_is : asked.line ≡ line
-  pub round_is : asked.round ≡ round
-  pub request_is : asked.request ≡ request.Settle
+  pub arms : ArmsAt asked.request n

@@ -2,10 +2,10 @@
 
 ghost use Rattle.std.specs.Prelude.{◌≡◌, ◌<◌, false, None, Some, length, slice_get, IfOk, IfSome};
 ghost use Rattle.client_seats.specs.Core.{is_spent};
-ghost use Rattle.world_desks.specs.Desks.{Desk, end_in, ended};
+ghost use Rattle.world_desks.specs.Desks.{Equipped, LeavesPlansAt, end_in, ended};
 ghost use Rattle.world_desks.specs.declared.step_end.StepEnd.TheVariants.{Done};
 ghost use Rattle.client_seats.specs.Seats.{CanTake, reacted_at};
-ghost use Rattle.world_actors.specs.Actors.{client_letters, server_letters, with_client, with_server};
+ghost use Rattle.world_actors.specs.Actors.{IsServed, client_letters, server_letters, with_client};
 ghost use Rattle.client_seats.specs.declared.seat.Seat.{Seat};
 
 use crate::control::Control;
@@ -51,9 +51,10 @@ impl<H: Host> Actors<H> {
         requires within { client < length self.old.seats }
         requires can { IfSome (slice_get self.old.seats client) (λ seat. CanTake step.now seat.core.client) }
         requires goes_on { IfSome (slice_get self.old.seats client) (λ seat. is_spent seat.core.client ≡ false) }
-        ensures { IfOk result (λ stepped. (seat : Seat) → slice_get self.old.seats client ≡ Some seat
+        ensures step { IfOk result (λ stepped. (seat : Seat) → slice_get self.old.seats client ≡ Some seat
             → (stepped ≡ record { letters = client_letters seat step.now stamp; answer = (reacted_at seat step.now).1.answer; end = Done })
             × (self.new ≡ with_client self.old client seat step.now stamp)) }
+        ensures plans { IfOk result (λ stepped. self.new.desks ≡ self.old.desks) }
     {
         let reaction = self.seats.step(alloc, client, step, stamp)?;
         let letters = stamped(alloc, reaction.letters, stamp)?;
@@ -77,9 +78,11 @@ impl<H: Host> Actors<H> {
         stamp: Stamp,
     ) -> Result<Stepped, NoMemory>
         requires { server < length self.old.desks }
-        ensures { IfOk result (λ stepped. (desk : Desk) → slice_get self.old.desks server ≡ Some desk
-            → (stepped ≡ record { letters = server_letters desk (ended step.now stepped.end) stamp; answer = None; end = end_in (ended step.now stepped.end) })
-            × (self.new ≡ with_server self.old server desk (ended step.now stepped.end) stamp)) }
+        ensures step { IfOk result (λ stepped. (own : Equipped) → slice_get self.old.desks server ≡ Some own
+            → (stepped
+            ≡ record { letters = server_letters own.desk (ended step.now stepped.end) stamp; answer = None; end = end_in (ended step.now stepped.end) })
+            × IsServed self.old server own.desk (ended step.now stepped.end) stamp self.new) }
+        ensures plans { IfOk result (λ stepped. LeavesPlansAt server (ended step.now stepped.end) self.old.desks self.new.desks) }
     {
         let taken = self.desks.step(alloc, server, step, stamp)?;
         let letters = stamped(alloc, taken.letters, stamp)?;

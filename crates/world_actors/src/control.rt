@@ -53,7 +53,7 @@ impl Control {
             Step::Stop => self.hand = Some((server, Given::Stop)),
             Step::Blank => self.hand = Some((server, Given::Blank)),
             Step::Boot(_) => self.hand = Some((server, Given::Boot)),
-            Step::Glance { line, round: _ } => {
+            Step::Glance { line, round } if *round == 0 => {
                 self.hand = None;
                 self.glanced = Some(*line);
             }

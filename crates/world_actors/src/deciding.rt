@@ -1,6 +1,6 @@
 //! Which steps are allowed.
 
-ghost use Rattle.std.specs.Prelude.{◌≡◌, ◌↔◌, ℕ, Some, IsTrue, slice_get};
+ghost use Rattle.std.specs.Prelude.{◌≡◌, ◌↔◌, ℕ, false, Some, IsTrue, slice_get};
 ghost use Rattle.petal_msg.specs.declared.letter.Actor.TheVariants as actor;
 ghost use Rattle.client_seats.specs.Core.{settle_of};
 ghost use Rattle.open_request.specs.declared.order.Order.{Order};
@@ -9,8 +9,8 @@ ghost use Rattle.petal_rules.specs.World.{Setting, World, MayAct, MayBlank, MayB
 ghost use Rattle.petal_rules.specs.World.{MayServer, MayStep, MayStop, MayWork, received};
 ghost use Rattle.petal_table.specs.Table.{at};
 ghost use Rattle.world_desks.specs.Playable.{AreOrdered};
-ghost use Rattle.world_actors.specs.Lines.{HasBlanked, HasStarted, HasStopped, IsGiven, IsGivenBy, IsSettling, IsToStop};
-ghost use Rattle.client_seats.specs.Seats.{seat_of};
+ghost use Rattle.world_actors.specs.Lines.{HasArmed, HasBlanked, HasStarted, HasStopped, IsGiven, IsGivenBy, IsToStop, arms_of};
+ghost use Rattle.client_seats.specs.Seats.{HasCalledSettle, seat_of};
 ghost use Rattle.world_desks.specs.Desks.{desk_of};
 ghost use Rattle.world_desks.specs.Sent.{name_of, name_cmp};
 ghost use Rattle.world_actors.specs.Actors.{Shows};
@@ -47,13 +47,24 @@ fn is_same_actor(one: Actor, other: Actor) -> bool
     }
 }
 
+/// Of two orders that arm nothing.
 fn is_same_order(one: Order, other: Order) -> bool
-    ensures { IsTrue result ↔ (one ≡ other) }
+    ensures { arms_of other ≡ false → IsTrue result ↔ (one ≡ other) }
 {
     match (one, other) {
         (Order::Stop, Order::Stop) | (Order::Start, Order::Start) | (Order::Blank, Order::Blank) =>
             true,
         _ => false,
+    }
+}
+
+/// Whether the order arms a device.
+fn arms(order: Order) -> bool
+    ensures { result ≡ arms_of order }
+{
+    match order {
+        Order::Arm { which: _, plan: _ } => true,
+        Order::Stop | Order::Start | Order::Blank => false,
     }
 }
 
@@ -94,6 +105,7 @@ impl<H: Host> Actors<H> {
 
     /// The operator's open line, where it gives this server this order and was not glanced at.
     fn open_line(&self, order: Order, server: ServerId) -> Option<u32>
+        requires { arms_of order ≡ false }
         ensures { (setting : Setting) (w : World) (line : ℕ) → Shows setting w self.now → (result ≡ Some line) ↔ IsGivenBy w order server line }
     {
         let Some((line, own, other)) = self.open_order() else {
@@ -110,6 +122,7 @@ impl<H: Host> Actors<H> {
 
     /// Whether the operator's open line gives this server this order.
     fn is_given(&self, order: Order, server: ServerId) -> bool
+        requires { arms_of order ≡ false }
         ensures { (setting : Setting) (w : World) → Shows setting w self.now → IsTrue result ↔ IsGiven w order server }
     {
         match self.open_line(order, server) {
@@ -120,6 +133,7 @@ impl<H: Host> Actors<H> {
 
     /// Whether it is this line, and gives this server this order.
     fn is_given_by(&self, order: Order, server: ServerId, line: u32) -> bool
+        requires { arms_of order ≡ false }
         ensures { (setting : Setting) (w : World) → Shows setting w self.now → IsTrue result ↔ IsGivenBy w order server line }
     {
         match self.open_line(order, server) {
@@ -140,7 +154,7 @@ impl<H: Host> Actors<H> {
 
     /// Whether the server may take a step by itself.
     fn may_act(&self, desk: &Desk<H>, server: ServerId) -> bool
-        ensures { (setting : Setting) (w : World) → Shows setting w self.now → desk.now ≡ desk_of setting w server
+        ensures { (setting : Setting) (w : World) → Shows setting w self.now → desk.now.desk ≡ desk_of setting w server
             → IsTrue result ↔ MayAct w server }
     {
         if !desk.host.is_running() {
@@ -151,7 +165,7 @@ impl<H: Host> Actors<H> {
 
     /// Whether it may do a job.
     fn may_work(&self, desk: &Desk<H>, server: ServerId) -> bool
-        ensures { (setting : Setting) (w : World) → Shows setting w self.now → desk.now ≡ desk_of setting w server
+        ensures { (setting : Setting) (w : World) → Shows setting w self.now → desk.now.desk ≡ desk_of setting w server
             → IsTrue result ↔ MayWork w server }
     {
         if desk.host.is_idle() {
@@ -162,7 +176,7 @@ impl<H: Host> Actors<H> {
 
     /// Whether the server may stop.
     fn may_stop(&self, desk: &Desk<H>, server: ServerId) -> bool
-        ensures { (setting : Setting) (w : World) → Shows setting w self.now → desk.now ≡ desk_of setting w server
+        ensures { (setting : Setting) (w : World) → Shows setting w self.now → desk.now.desk ≡ desk_of setting w server
             → IsTrue result ↔ MayStop w server }
     {
         if !desk.host.is_running() {
@@ -176,7 +190,7 @@ impl<H: Host> Actors<H> {
 
     /// Whether the server's data device may be replaced by a blank one.
     fn may_blank(&self, desk: &Desk<H>, server: ServerId) -> bool
-        ensures { (setting : Setting) (w : World) → Shows setting w self.now → desk.now ≡ desk_of setting w server
+        ensures { (setting : Setting) (w : World) → Shows setting w self.now → desk.now.desk ≡ desk_of setting w server
             → IsTrue result ↔ MayBlank w server }
     {
         if desk.host.is_running() {
@@ -193,7 +207,7 @@ impl<H: Host> Actors<H> {
 
     /// Whether the server may boot.
     fn may_boot(&self, desk: &Desk<H>, server: ServerId) -> bool
-        ensures { (setting : Setting) (w : World) → Shows setting w self.now → desk.now ≡ desk_of setting w server
+        ensures { (setting : Setting) (w : World) → Shows setting w self.now → desk.now.desk ≡ desk_of setting w server
             → IsTrue result ↔ MayBoot w server }
     {
         if desk.host.is_running() {
@@ -213,7 +227,7 @@ impl<H: Host> Actors<H> {
 
     /// Whether the open line is this one, and has stopped the server.
     fn has_stopped(&self, desk: &Desk<H>, server: ServerId, line: u32) -> bool
-        ensures { (setting : Setting) (w : World) → Shows setting w self.now → desk.now ≡ desk_of setting w server
+        ensures { (setting : Setting) (w : World) → Shows setting w self.now → desk.now.desk ≡ desk_of setting w server
             → IsTrue result ↔ HasStopped w server line }
     {
         if desk.host.is_running() {
@@ -224,7 +238,7 @@ impl<H: Host> Actors<H> {
 
     /// Whether the open line is this one, and has started the server, which runs or has booted.
     fn has_started(&self, desk: &Desk<H>, server: ServerId, line: u32) -> bool
-        ensures { (setting : Setting) (w : World) → Shows setting w self.now → desk.now ≡ desk_of setting w server
+        ensures { (setting : Setting) (w : World) → Shows setting w self.now → desk.now.desk ≡ desk_of setting w server
             → IsTrue result ↔ HasStarted w server line }
     {
         if !self.is_given_by(Order::Start, server, line) {
@@ -256,34 +270,47 @@ impl<H: Host> Actors<H> {
         seat.core.settles()
     }
 
-    /// Whether the open line is this one, and a settle in this round.
-    fn is_settling(&self, line: u32, round: u32) -> bool
-        ensures { (setting : Setting) (w : World) → Shows setting w self.now → IsTrue result ↔ IsSettling w line round }
+    /// Whether the operator has called a settle of this number, which is open or answered.
+    fn has_called_settle(&self, line: u32) -> bool
+        ensures { (setting : Setting) (w : World) → Shows setting w self.now → IsTrue result ↔ HasCalledSettle (seat_of setting w operator) line }
     {
-        let Some((own, now)) = self.settling() else {
+        let Some(seat) = self.seats.get(OPERATOR) else {
             return false;
         };
+        seat.has_called_settle(line)
+    }
+
+    /// Whether the open line is this one, and arms one of the server's devices.
+    fn has_armed(&self, server: ServerId, line: u32) -> bool
+        ensures { (setting : Setting) (w : World) → Shows setting w self.now → IsTrue result ↔ HasArmed w server line }
+    {
+        let Some((own, order, other)) = self.open_order() else {
+            return false;
+        };
+        if !arms(order) {
+            return false;
+        }
         if own != line {
             return false;
         }
-        now == round
+        other == server
     }
 
-    /// Whether the server may be glanced at: after the steps that the line gives it, or in the present round of a settle.
+    /// Whether the server may be glanced at: once after the steps that the line gives it, or in a round of a settle.
     fn may_glance(&self, desk: &Desk<H>, server: ServerId, line: u32, round: u32) -> bool
-        ensures { (setting : Setting) (w : World) → Shows setting w self.now → desk.now ≡ desk_of setting w server
-            → IsTrue result ↔ MayGlance w server line round }
+        ensures { (setting : Setting) (w : World) → Shows setting w self.now → desk.now.desk ≡ desk_of setting w server
+            → IsTrue result ↔ MayGlance setting w server line round }
     {
-        if self.is_settling(line, round) {
-            return true;
-        }
         if round != 0 {
-            return false;
+            return self.has_called_settle(line);
         }
         if self.has_stopped(desk, server, line) {
             return true;
         }
         if self.has_blanked(server, line) {
+            return true;
+        }
+        if self.has_armed(server, line) {
             return true;
         }
         self.has_started(desk, server, line)
@@ -325,7 +352,7 @@ impl<H: Host> Actors<H> {
     }
 
     fn may_serve(&self, desk: &Desk<H>, server: ServerId, step: &Step) -> bool
-        ensures { (setting : Setting) (w : World) → Shows setting w self.now → desk.now ≡ desk_of setting w server
+        ensures { (setting : Setting) (w : World) → Shows setting w self.now → desk.now.desk ≡ desk_of setting w server
             → IsTrue result ↔ MayServer step.now setting w server }
     {
         match step {

@@ -5,7 +5,7 @@ ghost use Rattle.petal_rules.specs.World.{Setting, World, MayStep, clock_of, nex
 ghost use Rattle.petal_rules.specs.declared.step.Step.{Step};
 ghost use Rattle.world_desks.specs.Desks.{ended};
 ghost use Rattle.world_actors.specs.Steps.{Can, LeavesIn, phase_for, phase_of, rev_of, stamp_of};
-ghost use Rattle.world_actors.specs.Actors.{Shows};
+ghost use Rattle.world_actors.specs.Actors.{LeavesPlansBy, Shows};
 
 use crate::actors::Actors;
 use crate::deciding::received;
@@ -108,7 +108,8 @@ impl<H: Host> Actors<H> {
         stamp: Stamp,
     ) -> Result<Stepped, NoMemory>
         requires { Can self.old actor step.now }
-        ensures { IfOk result (λ stepped. LeavesIn self.old actor (ended step.now stepped.end) stamp self.new stepped) }
+        ensures step { IfOk result (λ stepped. LeavesIn self.old actor (ended step.now stepped.end) stamp self.new stepped) }
+        ensures plans { IfOk result (λ stepped. LeavesPlansBy actor (ended step.now stepped.end) self.old.desks self.new.desks) }
     {
         match actor {
             Actor::Server(server) => self.serve(alloc, server, step, stamp),

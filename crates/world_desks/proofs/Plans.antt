@@ -1,5 +1,5 @@
 -- What the step of one server leaves of all desks, and of the plans at them.
-use Rattle.std.proofs.Common.{◌≡◌, ◌≢◌, ℕ, zero, suc, ◌<◌, List, [], ◌∷◌, length, map, get_or, Some, refl, sym, ap, ◌∙◌, subst, arith}
+use Rattle.std.proofs.Common.{◌≡◌, ◌≢◌, ℕ, zero, suc, ◌<◌, List, [], ◌∷◌, length, map, get_or, Some, None, refl, sym, ap, ◌∙◌, subst, arith}
 use Rattle.std.specs.Prelude.{slice_get, slice_set}
 use Rattle.std.proofs.lemmas.Option.{slice_get_read}
 use Rattle.petal_msg.specs.declared.letter.Letter.{Letter}
@@ -25,13 +25,30 @@ module _ {A : Type 0} where
   get_apart (x ∷ xs) (suc i) zero y ne = refl
   get_apart (x ∷ xs) (suc i) (suc m) y ne = get_apart xs i m y (λ e. ne (ap (λ k. suc k) e))
 
+one_of : {X : Type 0} (x y : X) → Some x ≡ Some y → x ≡ y
+one_of x y e = cc
+
+-- the desk of a server, without its plans
+pub get_bare : (desks : List Equipped) (n : ℕ) (own : Equipped) → slice_get desks n ≡ Some own → slice_get (bare desks) n ≡ Some own.desk
+get_bare [] n own is = absurd cc
+get_bare (x ∷ desks) zero own is = let same : x ≡ own = cc in ap (λ (e : Equipped). Some e.desk) same
+get_bare (x ∷ desks) (suc n) own is = get_bare desks n own is
+
+pub none_bare : (desks : List Equipped) (n : ℕ) → slice_get desks n ≡ None → slice_get (bare desks) n ≡ None
+none_bare [] n is = refl
+none_bare (x ∷ desks) zero is = absurd cc
+none_bare (x ∷ desks) (suc n) is = none_bare desks n is
+
+pub get_equipped : (desks : List Equipped) (n : ℕ) (desk : Desk) → slice_get (bare desks) n ≡ Some desk
+    → (own : Equipped) × (slice_get desks n ≡ Some own) × (own.desk ≡ desk)
+get_equipped [] n desk is = absurd cc
+get_equipped (x ∷ desks) zero desk is = (x, refl, one_of x.desk desk is)
+get_equipped (x ∷ desks) (suc n) desk is = get_equipped desks n desk is
+
 -- the other desks stay as they are
 pub stepped_bare : (desks : List Equipped) (n : ℕ) (now : Equipped) (desk : Desk) → now.desk ≡ desk
     → bare (slice_set desks n now) ≡ slice_set (bare desks) n desk
 stepped_bare desks n now desk is = map_put (λ (own : Equipped). own.desk) desks n now ∙ ap (λ d. slice_set (bare desks) n d) is
-
-one_of : {X : Type 0} (x y : X) → Some x ≡ Some y → x ≡ y
-one_of x y e = cc
 
 pub stepped_plans : (desks : List Equipped) (n : ℕ) (what : Step) (at now : Equipped) → n < length desks → slice_get desks n ≡ Some at
     → LeavesPlans what at.armed now.armed → LeavesPlansAt n what desks (slice_set desks n now)

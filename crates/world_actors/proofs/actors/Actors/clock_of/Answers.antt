@@ -1,7 +1,7 @@
 -- The clock is that of the world, where the actor may take a step.
 use Rattle.std.proofs.Common.{sym, ap, ◌∙◌}
 use Rattle.std.specs.Prelude.{slice_get}
-use Rattle.world_desks.specs.Desks.{Desk}
+use Rattle.world_desks.specs.Desks.{Equipped}
 use Rattle.world_actors.specs.Actors.{Actors}
 use Rattle.world_actors.proofs.Acting.{server_clock_missing, server_clock_is, client_clock_is}
 use Rattle.world_actors.proofs.actors.Actors.clock_of.Goals as goal
@@ -13,7 +13,7 @@ returns-in-None g c = λ setting w what h may.
 
 pub returns-in-Some : goal.returns-in-Some
 returns-in-Some g c = λ setting w what h may.
-    ap (λ (d : Desk). d.clock) c.desk.view_is
+    ap (λ (d : Equipped). d.desk.clock) c.desk.view_is
     ∙ server_clock_is setting w c.args.self.now c.args.actor what h may c.in-Server.server c.in-Some.desk.now c.in-Server.is
     (ap (λ (k : Actors). slice_get k.desks c.in-Server.server) (sym c.self.view_is) ∙ sym c.in-Some.ensures)
 

@@ -15,7 +15,7 @@ returns-then-not-is_same_order g c = λ setting w line h. (
   (λ so. none_some refl so),
   (λ by.
       let given = same_some ((c.in-Some.ensures setting w line c.args.order c.args.server h).1 by) in
-      true_false (c.is_same_order.ensures.1 (ap (λ (t : ℕ × Order × ℕ). t.1) given)) c.if-not-is_same_order.true),
+      true_false ((c.is_same_order.ensures c.requires).1 (ap (λ (t : ℕ × Order × ℕ). t.1) given)) c.if-not-is_same_order.true),
 )
 
 pub returns-then-other-server : goal.returns-then-other-server
@@ -29,7 +29,7 @@ returns-then-other-server g c = λ setting w line h. (
 pub returns : goal.returns
 returns g c = λ setting w line h.
     let gives = c.in-Some.ensures setting w line c.args.order c.args.server h in
-    let same = c.is_same_order.ensures.0 c.if-not-is_same_order.false in (
+    let same = (c.is_same_order.ensures c.requires).0 c.if-not-is_same_order.false in (
       (λ so. gives.0 (λ i. Some (same_some so i, same i, c.if-other-server.false i))),
       (λ by. ap (λ (t : ℕ × Order × ℕ). Some t.0) (same_some (gives.1 by))),
     )

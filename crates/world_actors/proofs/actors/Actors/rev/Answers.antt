@@ -2,7 +2,7 @@
 use Rattle.std.proofs.Common.{Some, None, sym, ap, ◌∙◌}
 use Rattle.std.specs.Prelude.{slice_get, if◌then◌else◌}
 use Rattle.petal_rules.specs.Log.{rev_of}
-use Rattle.world_desks.specs.Desks.{Desk}
+use Rattle.world_desks.specs.Desks.{Equipped}
 use Rattle.world_actors.specs.Actors.{Actors}
 use Rattle.world_actors.proofs.Revs.{server_rev, server_no_rev, client_rev}
 use Rattle.world_actors.proofs.actors.Actors.rev.Goals as goal
@@ -15,7 +15,7 @@ returns-in-None g c = λ setting w h.
 pub returns-in-Some : goal.returns-in-Some
 returns-in-Some g c = λ setting w h.
     c.rev_if.ensures ∙ (λ i. if c.is_running.ensures i then Some (c.rev.ensures i) else None)
-    ∙ ap (λ (d : Desk). if d.site.server.life.running then Some (rev_of d.site.server.log) else None) c.desk.view_is
+    ∙ ap (λ (d : Equipped). if d.desk.site.server.life.running then Some (rev_of d.desk.site.server.log) else None) c.desk.view_is
     ∙ server_rev setting w c.args.self.now c.args.actor h c.in-Server.server c.in-Some.desk.now c.in-Server.is
     (ap (λ (k : Actors). slice_get k.desks c.in-Server.server) (sym c.self.view_is) ∙ sym c.in-Some.ensures)
 
