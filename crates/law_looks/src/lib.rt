@@ -1,0 +1,26 @@
+//! Each read that is answered with data looks exactly once: one record of the history tells a look for its line, after the line's
+//! call and before its answer, and no other record does.
+//!
+//! To the layers above it promises this of every legal history. It speaks of definitions alone, and knows nothing of code.
+#![tactic(auto)]
+
+ghost use Rattle.std.specs.Prelude.{◌≡◌, ℕ, List, [], ◌∷◌, map, None, Some};
+ghost use Rattle.petal_base.specs.Block.{fill_block};
+ghost use Rattle.petal_history.specs.Events.{looks};
+ghost use Rattle.petal_history.specs.Examples.{sevens, vol};
+ghost use Rattle.petal_machine.specs.declared.event.Event.TheVariants.{Look};
+ghost use Rattle.petal_rules.specs.World.{Setting, World, start};
+ghost use Rattle.petal_history.specs.declared.record.Record.{Record};
+ghost use Rattle.law_looks.specs.Looks.{record_looks};
+ghost use Rattle.law_looks.specs.Runs.{looks_along, sevens_records};
+
+/// The looks beside their lines are the ones of the events: without the numbers they are exactly those.
+pub fn the_looks_are_those_of_the_events()
+    ensures { (setting : Setting) (w next : World) (own : Record) (later : List Record)
+        → looks setting w next own later ≡ map (λ look. look.1) (record_looks setting w next own later) }
+{}
+
+/// In the run in which a block is written and read back, the read's line has one look, which the server's step tells.
+pub fn a_read_looks_where_the_server_answers()
+    ensures { looks_along sevens (start sevens) 0 sevens_records ≡ (48, (3, Look vol None 5 (fill_block 7))) ∷ [] }
+{}
