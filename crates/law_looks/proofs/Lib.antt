@@ -6,3 +6,4 @@ pub mod Replies
 pub mod Clients
 pub mod Searching
 pub mod Steps
+pub mod History

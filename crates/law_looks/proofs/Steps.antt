@@ -21,6 +21,7 @@ use Rattle.law_steps.specs.Happens.{Heard}
 use Rattle.law_steps.specs.Turned.{Turned, Goes_on, Is_told, Begins, Reads, Ends, Shown, Judges}
 use Rattle.law_steps.proofs.Fronts.{front_long}
 use Rattle.law_steps.proofs.Letters.{said}
+use Rattle.law_steps.proofs.Sending.{is_ask, turned_asks}
 use Rattle.law_steps.proofs.Turning.{Turning, client_turns, is_call}
 use Rattle.law_looks.proofs.Clients.{AnswersRead, As_before, Asks, HasWay, Is_called, Later, OnWay, Turns, Was_open, turned_answers, turned_asks_read, turned_way}
 use Rattle.law_looks.proofs.Ways.{Stays, heard_stays, tick_stays}
@@ -118,6 +119,15 @@ module _ (setting : Setting) (w : World) (c : ℕ) where
       let s = said (client_sender c r.client) stamp 0 r.posts letter i in
       (turned_asks_read (H what) setting.servers setting.lines c (w.clients c) (is_call what) r (turns_so what may).turned s.post s.there client seq cell epoch
       (sym s.body ∙ is), s.rev)
+
+  -- it sends reads, writes and words of the agreed log
+  pub own_says : (what : Step) → MayClient what setting w c → (stamp : ℕ) (letter : Letter) → In letter (reacts w c stamp (reacted_to what)).letters
+      → is_ask letter.body ≡ true
+  own_says what may stamp letter i =
+      let r = reacted_to what in
+      let s = said (client_sender c r.client) stamp 0 r.posts letter i in
+      ap is_ask s.body
+      ∙ turned_asks (H what) setting.servers setting.lines c (w.clients c) (is_call what) r (turns_so what may).turned s.post s.there
 
   -- an answer with data is that to the letter which it hears
   pub record IsAnswered (what : Step) (number : ℕ) (bytes : List ℕ) : Type 0 where
