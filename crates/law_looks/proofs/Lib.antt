@@ -7,3 +7,6 @@ pub mod Clients
 pub mod Searching
 pub mod Steps
 pub mod History
+pub mod Turnings
+pub mod Answering
+pub mod Sent
