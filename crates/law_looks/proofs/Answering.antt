@@ -23,7 +23,7 @@ use Rattle.petal_history.specs.declared.record.Record.{Record}
 use Rattle.law_answers.proofs.Once.{ahead_after, ahead_start, answered_more, stepped_is}
 use Rattle.law_steps.specs.Turned.{line_by}
 use Rattle.law_looks.proofs.History.{asked_at, at_end, follows_on, front_is_legal, named_at, sent_after}
-use Rattle.law_looks.proofs.Lists.{AreOrdered, Are_one, Is_former, Is_latter, ordered}
+use Rattle.law_looks.proofs.Lists.{AreOrdered, AreSame, Are_one, Is_former, Is_latter, ordered}
 use Rattle.law_looks.proofs.Searching.{accepted_in}
 use Rattle.law_looks.proofs.Steps.{own_answers}
 use Rattle.law_looks.proofs.Steps as steps
@@ -82,13 +82,13 @@ pub world_split : (setting : Setting) (w : World) (front : List Record) (own : R
 world_split setting w [] own later = refl
 world_split setting w (x ∷ front) own later = world_split setting (stepped setting w x).world front own later
 
-deliver_is : (one other : Letter) → Deliver one ≡ Deliver other → one ≡ other
+pub deliver_is : (one other : Letter) → Deliver one ≡ Deliver other → one ≡ other
 deliver_is one other e = cc
 
-client_is : (c d : ℕ) → actor.Client c ≡ actor.Client d → c ≡ d
+pub client_is : (c d : ℕ) → actor.Client c ≡ actor.Client d → c ≡ d
 client_is c d e = cc
 
-data_seq : (a b : ℕ) (xs ys : List ℕ) → body.Data a xs ≡ body.Data b ys → a ≡ b
+pub data_seq : (a b : ℕ) (xs ys : List ℕ) → body.Data a xs ≡ body.Data b ys → a ≡ b
 data_seq a b xs ys e = cc
 
 module _ (script : Script) (sound : IsSound script) where
@@ -150,11 +150,6 @@ module _ (script : Script) (sound : IsSound script) where
       legal_as e = subst (IsLegal script) e legal
 
       -- two records that answer one line are one
-      pub record AreSame (front : List Record) (own : Record) (following : List Record) (before : List Record) (other : Record) (after : List Record) : Type 0 where
-        pub front_is : front ≡ before
-        pub own_is : own ≡ other
-        pub following_is : following ≡ after
-
       pub one_answer : (front : List Record) (own : Record) (following : List Record) → records ≡ front ++ own ∷ following
           → (before : List Record) (other : Record) (after : List Record) → records ≡ before ++ other ∷ after → (number : ℕ) (one two : Answer)
           → own.answer ≡ Some (number, one) → other.answer ≡ Some (number, two) → AreSame front own following before other after

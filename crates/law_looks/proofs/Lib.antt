@@ -10,3 +10,5 @@ pub mod History
 pub mod Turnings
 pub mod Answering
 pub mod Sent
+pub mod Found
+pub mod Looking

@@ -14,6 +14,12 @@ pub data AreOrdered {A : Type 0} (front : List A) (x : A) (following : List A) (
   Is_former : (between : List A) → before ≡ front ++ x ∷ between → following ≡ between ++ y ∷ after → AreOrdered front x following before y after
   Is_latter : (between : List A) → front ≡ before ++ y ∷ between → after ≡ between ++ x ∷ following → AreOrdered front x following before y after
 
+-- they are one
+pub record AreSame {A : Type 0} (front : List A) (x : A) (following : List A) (before : List A) (y : A) (after : List A) : Type 0 where
+  pub front_is : front ≡ before
+  pub own_is : x ≡ y
+  pub following_is : following ≡ after
+
 one_more : {A : Type 0} {a b : A} {front : List A} {x : A} {following : List A} {before : List A} {y : A} {after : List A} → a ≡ b
     → AreOrdered front x following before y after → AreOrdered (a ∷ front) x following (b ∷ before) y after
 one_more e (Are_one same is rest) = Are_one (λ i. e i ∷ same i) is rest
