@@ -8,16 +8,28 @@ ghost use Rattle.std.specs.Prelude.{◌≡◌, ℕ, List, [], ◌∷◌, map, No
 ghost use Rattle.petal_base.specs.Block.{fill_block};
 ghost use Rattle.petal_history.specs.Events.{looks};
 ghost use Rattle.petal_history.specs.Examples.{sevens, vol};
+ghost use Rattle.petal_history.specs.Order.{AreRising};
 ghost use Rattle.petal_machine.specs.declared.event.Event.TheVariants.{Look};
-ghost use Rattle.petal_rules.specs.World.{Setting, World, start};
-ghost use Rattle.petal_history.specs.declared.record.Record.{Record};
-ghost use Rattle.law_looks.specs.Looks.{record_looks};
+ghost use Rattle.petal_rules.specs.World.{Setting, World};
+ghost use Rattle.script_lines.specs.declared.answer.Answer.TheVariants.{Data};
+ghost use Rattle.law_state.specs.Histories.{IsLegal, IsSound, Record, Script, setting_of, start};
+ghost use Rattle.law_state.specs.Moments.{IsMoment};
+ghost use Rattle.law_looks.specs.Looks.{HasItsLook, record_looks};
 ghost use Rattle.law_looks.specs.Runs.{looks_along, sevens_records};
 
 /// The looks beside their lines are the ones of the events: without the numbers they are exactly those.
 pub fn the_looks_are_those_of_the_events()
     ensures { (setting : Setting) (w next : World) (own : Record) (later : List Record)
         → looks setting w next own later ≡ map (λ look. look.1) (record_looks setting w next own later) }
+{}
+
+/// Each line that is answered with data is a read of the client that answers, and has exactly one look, with these bytes: one record tells it,
+/// after the record that called the line and before the one that answers it, and no other record tells a look for the line. The lines rise, so
+/// an answer's number names the place of one line.
+pub fn each_read_looks_once()
+    ensures { (script : Script) (records : List Record) → IsSound script → AreRising script.lines → IsLegal script records
+        → (answer : IsMoment records) (number : ℕ) (bytes : List ℕ) → answer.own.answer ≡ Some (number, Data bytes)
+        → HasItsLook (setting_of script) records answer number bytes }
 {}
 
 /// In the run in which a block is written and read back, the read's line has one look, which the server's step tells.
