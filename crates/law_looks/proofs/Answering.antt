@@ -1,6 +1,5 @@
 -- Which record answers a line with data: one alone, and so one letter alone is accepted for the line.
-use Rattle.std.proofs.Common.{◌≡◌, ◌+◌, ◌++◌, ℕ, List, [], ◌∷◌, Bool, true, false, Option, Some, None, refl, sym, ap, ◌∙◌, subst, inl, inr, append_assoc}
-use Rattle.petal_msg.specs.declared.body.Body.{Body}
+use Rattle.std.proofs.Common.{◌≡◌, ◌++◌, ℕ, List, [], ◌∷◌, true, Some, refl, sym, ap, ◌∙◌, subst, inl, append_assoc}
 use Rattle.petal_msg.specs.declared.body.Body.TheVariants as body
 use Rattle.petal_msg.specs.declared.letter.Actor.{Actor}
 use Rattle.petal_msg.specs.declared.letter.Actor.TheVariants as actor
@@ -15,19 +14,18 @@ use Rattle.petal_rules.specs.World.{IsAnswered, MayActor, MayClient, MayDeliver,
 use Rattle.petal_rules.specs.declared.step.Step.{Step}
 use Rattle.petal_rules.specs.declared.step.Step.TheVariants.{Deliver}
 use Rattle.petal_rules.proofs.Tests.{none_some, same_some}
-use Rattle.petal_history.specs.Events.{accepted}
-use Rattle.petal_history.specs.Legal.{Follows, IsLegal, stepped, world_after}
+use Rattle.petal_history.specs.Events.{accepted, same_name}
+use Rattle.petal_history.specs.Legal.{IsLegal, stepped, world_after}
 use Rattle.petal_history.specs.Order.{AreRising}
 use Rattle.petal_history.specs.Sound.{IsSound}
 use Rattle.petal_history.specs.declared.record.Record.{Record}
 use Rattle.law_answers.proofs.Once.{ahead_after, ahead_start, answered_more, stepped_is}
 use Rattle.law_steps.specs.Turned.{line_by}
-use Rattle.law_looks.proofs.History.{asked_at, at_end, follows_on, front_is_legal, named_at, sent_after}
+use Rattle.law_looks.proofs.History.{asked_at, follows_on, front_is_legal, named_at, sent_after}
 use Rattle.law_looks.proofs.Lists.{AreOrdered, AreSame, Are_one, Is_former, Is_latter, ordered}
 use Rattle.law_looks.proofs.Searching.{accepted_in}
 use Rattle.law_looks.proofs.Steps.{own_answers}
 use Rattle.law_looks.proofs.Steps as steps
-use Rattle.law_looks.proofs.Turnings.{WasCalled, was_called}
 
 -- this record answers the line of this number with data: a client hears them in the letter, for its read of the line
 pub record Answers (lines : List Line) (w : World) (own : Record) (number : ℕ) (bytes : List ℕ) : Type 0 where
@@ -187,7 +185,7 @@ module _ (script : Script) (sound : IsSound script) where
           let there = sent_after script sound front own following (legal_as e) letter i done k.front refl in
           let letter_is : letter ≡ a.letter =
           (named_at script sound done (front_is_legal script sound done (k.own ∷ k.following) now)).unique letter a.letter there a.sent
-          (subst (λ l. Rattle.petal_history.specs.Events.same_name letter l ≡ true) other_is k.so.same) in
+          (subst (λ l. same_name letter l ≡ true) other_is k.so.same) in
           record {
             between = k.front;
             other = k.own;
@@ -226,10 +224,11 @@ module _ (script : Script) (sound : IsSound script) where
 
         pub the_one : (before : List Record) (other : Record) (letter : Letter) → IsAcceptedBy before other letter number → IsTheOne before other letter
         the_one before other letter a =
-            let same = one_answer front own following e (before ++ other ∷ a.between) a.other a.following a.is number (answer.Data bytes) (answer.Data a.bytes)
-            answered a.answered in
+            let same = one_answer front own following e (before ++ other ∷ a.between) a.other a.following a.is number
+            (answer.Data bytes) (answer.Data a.bytes) answered a.answered in
             record {
-              letter_is = a.letter_is ∙ deliver_is a.so.letter the_answer.letter (sym a.so.what ∙ ap (λ (r : Record). r.step) (sym same.own_is) ∙ the_answer.what);
+              letter_is = a.letter_is
+                  ∙ deliver_is a.so.letter the_answer.letter (sym a.so.what ∙ ap (λ (r : Record). r.step) (sym same.own_is) ∙ the_answer.what);
               between = a.between;
               is = same.front_is;
             }

@@ -1,6 +1,5 @@
 -- What a client's step makes of its open request, what it sends for a read, and which letter it answers with data.
-use Rattle.std.proofs.Common.{◌≡◌, ◌≢◌, ◌≤◌, ◌<◌, ◌+◌, ◌==◌, ◌||◌, ℕ, List, [], ◌∷◌, Bool, true, false, Option, Some, None, is_some, length, refl, sym, ap, ◌∙◌, subst, inl, inr, arith}
-use Rattle.std.specs.Prelude.{if◌then◌else◌}
+use Rattle.std.proofs.Common.{◌≡◌, ◌≤◌, ◌<◌, ◌+◌, ◌==◌, ◌||◌, ℕ, List, Bool, true, false, Option, Some, None, is_some, length, refl, sym, ap, ◌∙◌, subst, inl, inr, arith}
 use Rattle.petal_base.specs.declared.cell.Cell.{Cell}
 use Rattle.petal_command.specs.declared.command.Command.{Command}
 use Rattle.global_tables.specs.declared.disk.Latest.{Latest}
@@ -9,8 +8,6 @@ use Rattle.global_tables.specs.declared.disk.Verdict.TheVariants as verdict
 use Rattle.petal_msg.specs.Kinds.{is_logged, subject_of}
 use Rattle.petal_msg.specs.declared.body.Body.{Body}
 use Rattle.petal_msg.specs.declared.body.Body.TheVariants as body
-use Rattle.petal_msg.specs.declared.letter.Actor.TheVariants as actor
-use Rattle.petal_msg.specs.declared.letter.Letter.{Letter}
 use Rattle.petal_msg.specs.declared.operation.Ending.{Ending}
 use Rattle.petal_msg.specs.declared.operation.Ending.TheVariants as ending
 use Rattle.script_lines.specs.declared.answer.Answer.{Answer}
@@ -22,7 +19,7 @@ use Rattle.petal_state.specs.CellState.{cell_asked}
 use Rattle.petal_state.specs.Command.{state_after}
 use Rattle.petal_state.specs.State.{latest}
 use Rattle.petal_state.specs.declared.answer.DiskView.{DiskView}
-use Rattle.petal_rules.specs.Clients.{Asked, Client, Reaction, Sight, command_of, is_read, is_unread, read_refusal, read_refusal_at, refusal, verdict_answer}
+use Rattle.petal_rules.specs.Clients.{Asked, Client, Reaction, Sight, is_read, is_unread, read_refusal, read_refusal_at, refusal, verdict_answer}
 use Rattle.petal_rules.specs.Clients.{epoch_for, verdict_for, write_refusal}
 use Rattle.petal_rules.specs.Lists.{In}
 use Rattle.petal_rules.specs.Server.{Post}
@@ -233,14 +230,16 @@ turned_answers heard servers lines c client _ _ (Goes_on reacted same stays says
 turned_answers heard servers lines c client _ _ (Is_told reacted asked told was reads same stays says) number bytes e = none_some says.unanswered e
 turned_answers heard servers lines c client _ _ (Begins reacted line asked next free same now called says) number bytes e = none_some says.unanswered e
 turned_answers heard servers lines c client _ _ (Reads asked shown told was reads) number bytes e =
-    let both = same_some e in
-    (record {
-      asked = asked;
-      is = was;
-      reads = reads;
-      told = subst (λ bs. heard asked.rev (body.Data asked.seq bs)) (data_is shown bytes (ap (λ (x : ℕ × Answer). x.1) both)) told;
-      line_is = ap (λ (x : ℕ × Answer). x.0) both;
-    }, refl)
+    let both = same_some e in (
+      record {
+        asked = asked;
+        is = was;
+        reads = reads;
+        told = subst (λ bs. heard asked.rev (body.Data asked.seq bs)) (data_is shown bytes (ap (λ (x : ℕ × Answer). x.1) both)) told;
+        line_is = ap (λ (x : ℕ × Answer). x.0) both;
+      },
+      refl,
+    )
 turned_answers heard servers lines c client _ _ (Ends asked how told was writes) number bytes e =
     other_answer asked.line number (answer_of how) bytes (ending_no_data how) e
 turned_answers heard servers lines c client _ _ (Shown asked rev sight given told was seen) number bytes e =

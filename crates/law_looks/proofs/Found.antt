@@ -1,7 +1,6 @@
 -- Which letter tells a look for a line, and what of a line's look is left.
 use Rattle.std.proofs.Common.{◌≡◌, ◌==◌, ◌<◌, ◌++◌, ℕ, Bool, true, false, List, [], ◌∷◌, Option, Some, None, refl, sym, ap, ◌∙◌, subst, inl, inr, arith}
-use Rattle.std.proofs.lemmas.Bool.Decides.{nat_tests}
-use Rattle.std.specs.Prelude.{map, if◌then◌else◌}
+use Rattle.std.specs.Prelude.{if◌then◌else◌}
 use Rattle.std.specs.List.{flat_map}
 use Rattle.petal_machine.specs.declared.event.Event.{Event}
 use Rattle.petal_machine.specs.declared.event.Event.TheVariants.{Look}
@@ -14,7 +13,7 @@ use Rattle.script_lines.specs.declared.request.Request.TheVariants.{Read}
 use Rattle.petal_rules.specs.Lists.{In}
 use Rattle.petal_rules.specs.World.{Setting, World}
 use Rattle.petal_rules.proofs.ListLemmas.{in-append}
-use Rattle.petal_rules.proofs.Tests.{by_bool, by_test, number_itself, same_numbers}
+use Rattle.petal_rules.proofs.Tests.{by_bool, number_itself, same_numbers, same_some}
 use Rattle.petal_history.specs.Events.{accepted, look_by, look_for, old_data, reads_old}
 use Rattle.petal_history.specs.Order.{AreRising}
 use Rattle.petal_history.specs.declared.record.Record.{Record}
@@ -34,7 +33,7 @@ in_look_data : (lines : List Line) (o : Option (ℕ × List ℕ)) (look : ℕ ×
     → (given : ℕ × List ℕ) × (o ≡ Some given) × (given.0 ≡ look.0)
 unfolding In
 in_look_data lines None look i = absurd i
-in_look_data lines (Some given) look i = (given, refl, Rattle.petal_rules.proofs.Tests.same_some (in_look lines (Some given.0) given.1 look i))
+in_look_data lines (Some given) look i = (given, refl, same_some (in_look lines (Some given.0) given.1 look i))
 
 -- a letter that tells the look: data that were not read by an old map, or what made the client ask there
 pub data TellsIt (setting : Setting) (w next : World) (who : Actor) (later : List Record) (letter : Letter) (number : ℕ) : Type 0 where
@@ -94,18 +93,18 @@ none_of_line number looks apart = none_pass (λ (look : ℕ × Event). look.0 ==
 abbrev looks_in : List Line → ℕ → List ℕ → List Event
 looks_in lines number bytes = look_for lines (Some number) bytes
 
-not_same : (a b : ℕ) → a < b → (b == a) ≡ false
-not_same a b lt = by_bool (b == a) (λ t. let e = same_numbers b a t in absurd (omega arith)) (λ f. f)
+is_above : (a b : ℕ) → a < b → (b == a) ≡ false
+is_above a b lt = by_bool (b == a) (λ t. let e = same_numbers b a t in absurd (omega arith)) (λ f. f)
 
-not_same' : (a b : ℕ) → a < b → (a == b) ≡ false
-not_same' a b lt = by_bool (a == b) (λ t. let e = same_numbers a b t in absurd (omega arith)) (λ f. f)
+is_below : (a b : ℕ) → a < b → (a == b) ≡ false
+is_below a b lt = by_bool (a == b) (λ t. let e = same_numbers a b t in absurd (omega arith)) (λ f. f)
 
 none_after : (lines : List Line) (number : ℕ) (bytes : List ℕ) → ((other : Line) → In other lines → number < other.number)
     → looks_in lines number bytes ≡ []
 unfolding In
 none_after [] number bytes above = refl
 none_after (line ∷ lines) number bytes above =
-    ap (λ b. (if b then look_by line.request bytes else []) ++ looks_in lines number bytes) (not_same number line.number (above line (inl refl)))
+    ap (λ b. (if b then look_by line.request bytes else []) ++ looks_in lines number bytes) (is_above number line.number (above line (inl refl)))
     ∙ none_after lines number bytes (λ other i. above other (inr i))
 
 -- a line of its own number has one look
@@ -121,7 +120,7 @@ line_looks (first ∷ lines) rise line (inl e) name snap block asks bytes =
     (λ i. (if same i == line.number then look_by (asked i) bytes else []) ++ rest i)
     ∙ ap (λ b. (if b then Look name snap block bytes ∷ [] else []) ++ []) (number_itself line.number)
 line_looks (first ∷ lines) rise line (inr i) name snap block asks bytes =
-    ap (λ b. (if b then look_by first.request bytes else []) ++ looks_in lines line.number bytes) (not_same' first.number line.number (rise.0 line i))
+    ap (λ b. (if b then look_by first.request bytes else []) ++ looks_in lines line.number bytes) (is_below first.number line.number (rise.0 line i))
     ∙ line_looks lines rise.1 line i name snap block asks bytes
 
 -- beside its number it is the line's

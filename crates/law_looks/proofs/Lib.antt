@@ -11,4 +11,5 @@ pub mod Turnings
 pub mod Answering
 pub mod Sent
 pub mod Found
+pub mod Unlost
 pub mod Looking

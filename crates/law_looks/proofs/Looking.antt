@@ -1,5 +1,5 @@
 -- Each read that is answered with data is looked at once.
-use Rattle.std.proofs.Common.{◌≡◌, ◌≢◌, ◌==◌, ◌++◌, ℕ, List, [], ◌∷◌, Bool, true, false, Option, Some, None, length, refl, sym, ap, ◌∙◌, subst, inl, inr, append_assoc}
+use Rattle.std.proofs.Common.{◌≡◌, ◌⊎◌, ◌++◌, ℕ, List, [], ◌∷◌, Bool, true, false, Option, Some, length, refl, sym, ap, ◌∙◌, subst, inl, inr, append_assoc}
 use Rattle.std.proofs.lemmas.List.{append-nil}
 use Rattle.std.specs.Prelude.{◌-◌, if◌then◌else◌}
 use Rattle.std.specs.List.{flat_map}
@@ -7,7 +7,6 @@ use Rattle.petal_machine.specs.declared.event.Event.{Event}
 use Rattle.petal_machine.specs.declared.event.Event.TheVariants.{Look}
 use Rattle.petal_msg.specs.declared.body.Body.{Body}
 use Rattle.petal_msg.specs.declared.body.Body.TheVariants as body
-use Rattle.petal_msg.specs.declared.letter.Actor.{Actor}
 use Rattle.petal_msg.specs.declared.letter.Actor.TheVariants as actor
 use Rattle.petal_msg.specs.declared.letter.Letter.{Letter}
 use Rattle.script_lines.specs.Requests.{is_read}
@@ -18,9 +17,7 @@ use Rattle.script_lines.specs.declared.request.Request.TheVariants as request
 use Rattle.script_lines.specs.declared.script.Script.{Script}
 use Rattle.petal_rules.specs.Lists.{In}
 use Rattle.petal_rules.specs.Log.{rev_of}
-use Rattle.petal_rules.specs.World.{MayActor, MayClient, MayDeliver, Setting, World, server_state, setting_of, start}
-use Rattle.petal_rules.specs.declared.step.Step.{Step}
-use Rattle.petal_rules.specs.declared.step.Step.TheVariants.{Deliver}
+use Rattle.petal_rules.specs.World.{MayActor, MayClient, MayDeliver, Setting, World, setting_of, start}
 use Rattle.petal_rules.proofs.Tests.{by_bool, none_some, same_some, true_false}
 use Rattle.petal_history.specs.Events.{NotThere, accepted, look_for, old_data, reads_old, turns}
 use Rattle.petal_history.specs.Legal.{IsLegal, stepped, world_after}
@@ -32,21 +29,22 @@ use Rattle.law_state.proofs.Steady.{log_rev}
 use Rattle.law_answers.proofs.Places.{line_at}
 use Rattle.law_run.proofs.Reading.{reads_old_is}
 use Rattle.law_run.proofs.Scenes.{Grounded}
-use Rattle.law_steps.specs.Happens.{Handled}
 use Rattle.law_steps.specs.Turned.{line_by}
 use Rattle.law_steps.proofs.Sending.{is_ask}
-use Rattle.law_looks.specs.Looks.{HasItsLook, IsCalledIn, IsLookedAtOnce, beside, letter_looks, look_beside, look_beside_data, looks_for, of_line, record_looks}
-use Rattle.law_looks.proofs.Answering.{Answers, IsAcceptedBy, accepted_by, answers_at, client_is, data_seq, deliver_is, same_line, the_answer, the_one}
+use Rattle.law_looks.specs.Links.{IsReadFrom}
+use Rattle.law_looks.specs.Looks.{HasItsLook, IsCalledIn, IsLookedAtOnce, beside, letter_looks, look_beside, look_beside_data, of_line, record_looks}
+use Rattle.law_looks.proofs.Answering.{Answers, accepted_by, client_is, data_seq, deliver_is, same_line, the_answer, the_one}
 use Rattle.law_looks.proofs.Answering.{world_split}
 use Rattle.law_looks.proofs.Found.{By_data, By_turning, IsToldBy, TellsIt, beside_one, line_looks, none_of_line, told_by}
 use Rattle.law_looks.proofs.History.{From_client, From_server, IsSentFrom, WasSent, follows_on, front_is_legal, sent_after, sent_by, sent_once, was_sent}
 use Rattle.law_looks.proofs.Lists.{AreOrdered, AreSame, Are_one, Is_former, Is_latter, ordered}
 use Rattle.law_looks.proofs.Replies.{IsReply, answers_read, is_of_read}
-use Rattle.law_looks.proofs.Searching.{HasData, HasTurn, IsFound, finds, found, is_accepted}
+use Rattle.law_looks.proofs.Searching.{HasData, HasTurn, finds, found, is_accepted}
 use Rattle.law_looks.proofs.Sent.{read_called, read_turned}
-use Rattle.law_looks.proofs.Standing.{Stands, stands_after}
+use Rattle.law_looks.proofs.Standing.{stands_after}
 use Rattle.law_looks.proofs.Steps.{own_says}
-use Rattle.law_looks.proofs.Turnings.{IsTurn, IsTurnOf, WasCalled, WasTurned, turn_is_seen, turn_of, turns_once}
+use Rattle.law_looks.proofs.Unlost.{unlost}
+use Rattle.law_looks.proofs.Turnings.{IsTurn, IsTurnOf, WasTurned, turn_is_seen, turn_of, turns_once}
 
 -- ### Words
 
@@ -65,9 +63,6 @@ record IsReadOf (asked : Request) : Type 0 where
 as_read : (asked : Request) → is_read asked ≡ true → IsReadOf asked
 as_read (request.Read name snap block) e = record { name = name; snap = snap; block = block; is = refl }
 as_read _ e = true_false e refl
-
-not_here_seq : (a b : ℕ) → body.NotHere a ≡ body.NotHere b → a ≡ b
-not_here_seq a b e = cc
 
 data_bytes : (a b : ℕ) (xs ys : List ℕ) → body.Data a xs ≡ body.Data b ys → xs ≡ ys
 data_bytes a b xs ys e = cc
@@ -90,6 +85,12 @@ module _ (script : Script) (sound : IsSound script) (rise : AreRising script.lin
 
   legal_so : {others : List Record} → records ≡ others → IsLegal script others
   legal_so e = subst (IsLegal script) e legal
+
+  -- what the laws below know of the world after these records
+  abbrev grounded_at : (front : List Record) → IsLegal script front → Grounded
+  grounded_at front fine =
+      let st = stands_after script front sound fine in
+      record { setting = setting; state = st.state; w = At front; firm = st.ground.ready.firm; ground = st.ground }
 
   -- ### Replies
 
@@ -244,7 +245,7 @@ module _ (script : Script) (sound : IsSound script) (rise : AreRising script.lin
         (data_seq seq a.seq given.1 bytes (sym f.has.says ∙ ap (λ (l : Letter). l.body) letter_is ∙ a.says))
         (sym (old_as (front ++ own ∷ f.front) f.own f.following same) ∙ ap (λ u. reads_old setting u f.own.actor) world_is ∙ f.old)
       where
-        by : (rs : List Record) → Rattle.std.proofs.Common.◌⊎◌ (false ≡ true) (HasTurn setting (stepped setting (At front) own).world rs letter)
+        by : (rs : List Record) → (false ≡ true) ⊎ HasTurn setting (stepped setting (At front) own).world rs letter
             → s.front ≡ front ++ own ∷ rs → letter.to ≡ actor.Client a.client → letter.rev ≡ a.letter.rev → seq ≡ a.seq → is_old ≡ true
             → IsFoundBy front own following letter seq
         by rs (inl never) same to rev seq_is old = true_false never refl
@@ -310,9 +311,7 @@ module _ (script : Script) (sound : IsSound script) (rise : AreRising script.lin
     turned on =
         let r = s_reply.reply in
         let fine = front_is_legal script sound s.front (s.own ∷ after_s) (legal_so s_is) in
-        let st = stands_after script s.front sound fine in
-        let g : Grounded = record { setting = setting; state = st.state; w = At s.front; firm = st.ground.ready.firm; ground = st.ground } in
-        let leaves = sym (reads_old_is g s_reply.server r.client r.seq r.cell r.epoch r.readable.asked)
+        let leaves = sym (reads_old_is (grounded_at s.front fine) s_reply.server r.client r.seq r.cell r.epoch r.readable.asked)
         ∙ ap (reads_old setting (At s.front)) (sym s_reply.who) ∙ on in
         let t = read_turned script sound s.front fine s_reply.server r.client r.seq r.cell r.epoch r.readable.asked leaves in
         let c = client_is r.client a.client (sym r.to ∙ a.to) in
@@ -481,3 +480,34 @@ module _ (script : Script) (sound : IsSound script) (rise : AreRising script.lin
       asks = asks.is;
       once = by_bool is_old old_way new_way;
     }
+
+    -- ### The link
+
+    pub its_link : IsReadFrom setting records m number bytes
+    its_link =
+        let r = s_reply.reply in
+        let c = client_is r.client a.client (sym r.to ∙ a.to) in
+        let k = same_some (sym r.is ∙ reply_is) in
+        record {
+          moment = record { front = s.front; own = s.own; following = after_s; is = s_is };
+          between = s.following;
+          answered = s.is;
+          letter = a.letter;
+          sent = s.there;
+          says = a.says ∙ ap (λ q. body.Data q bytes) (sym k);
+          accepted = a.what;
+          server = s_reply.server;
+          who = s_reply.who;
+          client = r.client;
+          seq = r.seq;
+          cell = r.cell;
+          epoch = r.epoch;
+          handled = r.readable.asked;
+          line = a.line;
+          line_is = (λ i. line_by script.lines (c i) (k i)) ∙ a.is;
+          number_is = a.number_is;
+          called = reply_called s.front s.own after_s s_is a.letter s_reply a.client a.seq a.to reply_is a.line a.is in_lines.1;
+          bytes_are = r.shown a.seq bytes a.says;
+          link = unlost (grounded_at s.front (front_is_legal script sound s.front (s.own ∷ after_s) (legal_so s_is))) s_reply.server r.cell r.runs
+              r.readable.seated r.readable.readable;
+        }

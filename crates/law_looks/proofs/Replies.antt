@@ -1,8 +1,8 @@
 -- What a server sends to whoever reads: the reply to the one read that it handles in the step.
-use Rattle.std.proofs.Common.{◌≡◌, ◌||◌, ℕ, List, [], ◌∷◌, Bool, true, false, Option, Some, None, refl, sym, ap, ◌∙◌, subst, inl, inr}
+use Rattle.std.proofs.Common.{◌≡◌, ℕ, List, [], ◌∷◌, Bool, true, false, Option, Some, None, refl, sym, ap, ◌∙◌, inl, inr}
 use Rattle.std.specs.Prelude.{map}
 use Rattle.petal_base.specs.declared.cell.Cell.{Cell}
-use Rattle.petal_msg.specs.Kinds.{Glanced, Subject, Logged, is_logged, subject_of}
+use Rattle.petal_msg.specs.Kinds.{Glanced, Subject, is_logged, subject_of}
 use Rattle.petal_msg.specs.declared.body.Body.{Body}
 use Rattle.petal_msg.specs.declared.body.Body.TheVariants as body
 use Rattle.petal_msg.specs.declared.letter.Actor.{Actor}
@@ -18,7 +18,7 @@ use Rattle.petal_rules.specs.State.{servers_of}
 use Rattle.petal_rules.specs.Store.{bytes_of, chain_in, entry_at}
 use Rattle.petal_rules.specs.World.{Setting, World, server_state, stamped}
 use Rattle.petal_rules.specs.declared.step.Step.{Step}
-use Rattle.petal_rules.proofs.Tests.{same_some, true_false}
+use Rattle.petal_rules.proofs.Tests.{true_false}
 use Rattle.law_steps.specs.Did.{By_read, Did}
 use Rattle.law_steps.specs.DidRead.{IsReadable, Not_here, Shows}
 use Rattle.law_steps.specs.Happens.{By_ballot, By_entry, By_job, Ends, Fails, Goes, Handled, IsSeated, Serving, Stays, Wakes, own_place, without_rev}
@@ -28,7 +28,6 @@ use Rattle.law_requests.proofs.Frames.{SaysOk, Scene}
 use Rattle.law_requests.specs.Known.{Lives}
 use Rattle.law_requests.proofs.Jobs.{job_tells}
 use Rattle.law_moves.proofs.Chains.{NeverDead}
-use Rattle.law_run.specs.Follow.{Ground}
 use Rattle.law_run.proofs.Grounds.{never_dead}
 use Rattle.law_run.proofs.Looks.{is_looked}
 use Rattle.law_run.proofs.Says.{quiet_data}
@@ -86,6 +85,9 @@ neither setting w lives n new to (body.NotHere seq) e ok = e
 neither setting w lives n new to (body.Read client seq cell epoch) e ok = absurd ok
 neither setting w lives n new to _ e ok = refl
 
+data_is : {a b : ℕ} {xs ys : List ℕ} → body.Data a xs ≡ body.Data b ys → xs ≡ ys
+data_is e = cc
+
 -- ### A server's step
 
 -- these letters are the one with which the server, which may, replies to the read that it handles
@@ -102,6 +104,7 @@ pub record IsReply (setting : Setting) (u : World) (n stamp : ℕ) (letters : Li
   pub «from» : letter.from ≡ actor.Server n
   pub at : letter.stamp ≡ stamp
   pub rev : letter.rev ≡ (server_state setting u n).rev
+  pub shown : (k : ℕ) (bytes : List ℕ) → letter.body ≡ body.Data k bytes → bytes ≡ bytes_of (entry_at (chain_in (owns_of u n).store.chains cell) epoch)
 
 -- a letter of a server's step is such a reply, or not of a read
 pub data IsSentBy (setting : Setting) (u : World) (n stamp : ℕ) (letters : List Letter) (letter : Letter) : Type 0 where
@@ -127,12 +130,13 @@ module _ (g : Grounded) (steady : IsSteady g.state) (n stamp : ℕ) where
   mine = sender (own_place setting w n)
 
   one_sent : (client seq : ℕ) (cell : Cell) (epoch : ℕ) (what : Body) → (w.servers n).life.running ≡ true
-      → IsReadable (Handled w n) (own_place setting w n) (owns_of w n) client seq cell epoch → answers_read what ≡ Some seq → (letter : Letter)
+      → IsReadable (Handled w n) (own_place setting w n) (owns_of w n) client seq cell epoch → answers_read what ≡ Some seq
+      → ((k : ℕ) (bytes : List ℕ) → what ≡ body.Data k bytes → bytes ≡ bytes_of (entry_at (chain_in (owns_of w n).store.chains cell) epoch)) → (letter : Letter)
       → In letter (sent_by mine (record { to = actor.Client client; body = what } ∷ []))
       → S mine (record { to = actor.Client client; body = what } ∷ []) letter
   unfolding In
-  one_sent client seq cell epoch what runs readable is letter (inr none) = absurd none
-  one_sent client seq cell epoch what runs readable is letter (inl e) = Replies (record {
+  one_sent client seq cell epoch what runs readable is shown letter (inr none) = absurd none
+  one_sent client seq cell epoch what runs readable is shown letter (inl e) = Replies (record {
     runs = runs;
     client = client;
     seq = seq;
@@ -145,6 +149,7 @@ module _ (g : Grounded) (steady : IsSteady g.state) (n stamp : ℕ) where
     «from» = ap (λ (l : Letter). l.from) e;
     at = ap (λ (l : Letter). l.stamp) e;
     rev = ap (λ (l : Letter). l.rev) e;
+    shown = λ k bytes says. shown k bytes (ap (λ (l : Letter). l.body) (sym e) ∙ says);
   })
 
   scene : Scene
@@ -163,9 +168,10 @@ module _ (g : Grounded) (steady : IsSteady g.state) (n stamp : ℕ) where
       → ((post : Post) → In post done.posts → SaysOk setting w ground.lives n done.own post.to post.body)
       → (letter : Letter) → In letter (sent_by mine done.posts) → S mine done.posts letter
   job_sends runs _ (By_read _ (Shows client seq cell epoch readable there)) ok letter h =
-      one_sent client seq cell epoch (body.Data seq (bytes_of (entry_at (chain_in (owns_of w n).store.chains cell) epoch))) runs readable refl letter h
+      one_sent client seq cell epoch (body.Data seq (bytes_of (entry_at (chain_in (owns_of w n).store.chains cell) epoch))) runs readable refl
+      (λ k bytes e. sym (data_is e)) letter h
   job_sends runs _ (By_read _ (Not_here client seq cell epoch readable comes none)) ok letter h =
-      one_sent client seq cell epoch (body.NotHere seq) runs readable refl letter h
+      one_sent client seq cell epoch (body.NotHere seq) runs readable refl (λ k bytes e. absurd cc) letter h
   job_sends runs done d ok letter h =
       let never : NeverDead (own_place setting w n) (owns_of w n) = never_dead g steady n runs in
       all_apart mine done.posts (λ post i. neither setting w ground.lives n done.own post.to post.body

@@ -1,5 +1,5 @@
 -- What the searches find by which looks are told: the record that accepts a letter, and the data that a read gets by the old map.
-use Rattle.std.proofs.Common.{◌≡◌, ◌==◌, ◌&&◌, ◌||◌, ◌++◌, ℕ, Bool, true, false, List, [], ◌∷◌, Option, Some, None, not, refl, sym, ap, ◌∙◌, subst}
+use Rattle.std.proofs.Common.{◌≡◌, ◌==◌, ◌&&◌, ◌||◌, ◌++◌, ℕ, Bool, true, false, List, [], ◌∷◌, Option, Some, None, refl, sym, ap, ◌∙◌, subst}
 use Rattle.std.proofs.Common.{◌⊎◌, inl, inr}
 use Rattle.std.specs.Prelude.{if◌then◌else◌, option_map}
 use Rattle.petal_msg.specs.declared.body.Body.{Body}
@@ -13,7 +13,7 @@ use Rattle.petal_rules.specs.Lists.{In}
 use Rattle.petal_rules.specs.World.{Setting, World}
 use Rattle.petal_rules.specs.declared.step.Step.{Step}
 use Rattle.petal_rules.specs.declared.step.Step.TheVariants.{Deliver}
-use Rattle.petal_rules.proofs.Tests.{both_true, by_bool, none_some, number_itself, same_numbers, same_some, true_false}
+use Rattle.petal_rules.proofs.Tests.{both_true, by_bool, none_some, number_itself, same_numbers, same_some}
 use Rattle.petal_history.specs.Events.{NotThere, accepted, accepts, data_among, data_line, data_of, first_data, first_of, line_of_data, old_data}
 use Rattle.petal_history.specs.Events.{reads_old, same_actor, same_name, turns}
 use Rattle.petal_history.specs.Legal.{stepped, world_after}

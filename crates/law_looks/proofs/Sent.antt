@@ -1,10 +1,9 @@
 -- A read that a server handles was called before; and where it is of an old map, its client was turned to that map before.
-use Rattle.std.proofs.Common.{◌≡◌, ◌≤◌, ◌++◌, ℕ, List, [], ◌∷◌, Bool, true, false, Option, Some, None, length, refl, sym, ap, ◌∙◌, subst, inl, inr, arith, append_assoc}
+use Rattle.std.proofs.Common.{◌≡◌, ◌++◌, ℕ, List, [], ◌∷◌, Bool, true, false, Some, length, refl, sym, ap, ◌∙◌, subst, arith, append_assoc}
 use Rattle.petal_base.specs.declared.cell.Cell.{Cell}
 use Rattle.petal_command.specs.declared.command.Command.{Command}
 use Rattle.petal_msg.specs.declared.body.Body.{Body}
 use Rattle.petal_msg.specs.declared.body.Body.TheVariants as body
-use Rattle.petal_msg.specs.declared.letter.Actor.{Actor}
 use Rattle.petal_msg.specs.declared.letter.Actor.TheVariants as actor
 use Rattle.petal_msg.specs.declared.letter.Letter.{Letter}
 use Rattle.petal_state.specs.CellState.{cell_asked}
@@ -12,12 +11,13 @@ use Rattle.petal_state.specs.Command.{state_after}
 use Rattle.petal_state.specs.declared.answer.DiskView.{DiskView}
 use Rattle.script_lines.specs.declared.request.Line.{Line}
 use Rattle.script_lines.specs.declared.script.Script.{Script}
-use Rattle.petal_rules.specs.Clients.{Asked, Client}
+use Rattle.petal_rules.specs.Clients.{Client}
 use Rattle.petal_rules.specs.Lists.{In}
 use Rattle.petal_rules.specs.Log.{rev_of}
-use Rattle.petal_rules.specs.State.{State, find, leaving}
+use Rattle.petal_rules.specs.State.{find, leaving}
 use Rattle.petal_rules.specs.World.{MayClient, Setting, World, chosen_log, reacts, setting_of, start, step}
 use Rattle.petal_rules.specs.declared.step.Step.{Step}
+use Rattle.petal_rules.specs.declared.step.Step.TheVariants.{Call}
 use Rattle.petal_rules.proofs.ListLemmas.{in_former, put_same}
 use Rattle.petal_rules.proofs.Tests.{by_bool, none_some, same_some, true_false}
 use Rattle.petal_history.specs.Claims.{IsPrefix}
@@ -34,7 +34,7 @@ use Rattle.law_steps.specs.Turned.{line_by}
 use Rattle.law_steps.proofs.Coming.{stage_facts}
 use Rattle.law_steps.proofs.Fronts.{front_on, one_front}
 use Rattle.law_looks.proofs.Clients.{Asks}
-use Rattle.law_looks.proofs.History.{From_client, From_server, IsSentFrom, WasSent, asked_at, front_is_legal, legal_upto, next_is, sent_by, was_sent}
+use Rattle.law_looks.proofs.History.{From_client, From_server, IsSentFrom, asked_at, legal_upto, next_is, sent_by, was_sent}
 use Rattle.law_looks.proofs.Replies.{answers_read, is_of_read}
 use Rattle.law_looks.proofs.Standing.{stands_after}
 use Rattle.law_looks.proofs.Steps.{own_asks, reacted_to}
@@ -62,6 +62,20 @@ client_sent setting w c what stamp may letter i client seq cell epoch is =
       long = a.1 ∙ ap (λ (x : Client). length x.applied) (sym here);
     } in
     subst (λ k. IsSentFor setting v k seq cell letter.rev) (sym a.0.same) so
+
+-- a turn of the first records is one of all
+turned_in : (setting : Setting) (records done following : List Record) → records ≡ done ++ following → (c seq rev : ℕ) → WasTurned setting done c seq rev
+    → WasTurned setting records c seq rev
+turned_in setting records done following e c seq rev t = record {
+  moment = record {
+    front = t.front;
+    own = t.own;
+    following = t.following ++ following;
+    is = e ∙ ap (λ rs. rs ++ following) t.is ∙ append_assoc t.front (t.own ∷ t.following) following;
+  };
+  letter = t.letter;
+  turn = t.turn;
+}
 
 no_reply : {B : Type 0} (what : Body) (client seq : ℕ) (cell : Cell) (epoch number : ℕ) → what ≡ body.Read client seq cell epoch
     → answers_read what ≡ Some number → B
@@ -121,7 +135,7 @@ module _ (script : Script) (sound : IsSound script) where
         call = k.call;
         there = subst (In k.call) (sym s.is) (in_former k.call (s.front ++ s.own ∷ []) s.following k.there);
         who = k.who;
-        what = k.what ∙ ap Rattle.petal_rules.specs.declared.step.Step.TheVariants.Call (of.number ∙ ap (λ (l : Line). l.number) line_is);
+        what = k.what ∙ ap Call (of.number ∙ ap (λ (l : Line). l.number) line_is);
       }
 
   -- ### It was turned
@@ -136,6 +150,14 @@ module _ (script : Script) (sound : IsSound script) where
       let most = (asked_takes script.servers s p name disk found block).1 in
       by_bool (leaving s (cell_asked s disk block false))
       (λ t. let three = (stage_facts script.servers log plain (cell_asked s disk block false)).leaves t in absurd (omega arith)) (λ f. f)
+
+  -- so one that is was asked for by the old way
+  old_way_of : (log : List Command) → IsPlainLog script.servers log → (cell : Cell) (name : List ℕ) (disk : DiskView) (block : ℕ) (way : Bool)
+      → find (state_after script.servers log) name ≡ Some disk → cell ≡ cell_asked (state_after script.servers log) disk block way
+      → leaving (state_after script.servers log) cell ≡ true → way ≡ true
+  old_way_of log plain cell name disk block true found is leaves = refl
+  old_way_of log plain cell name disk block false found is leaves =
+      true_false leaves (ap (leaving (state_after script.servers log)) is ∙ named_stays log plain name disk block found)
 
   pub read_turned : (records : List Record) → IsLegal script records → (n client seq : ℕ) (cell : Cell) (epoch : ℕ)
       → Handled (At records) n (body.Read client seq cell epoch) → leaving (state_after script.servers ((At records).servers n).log.applied) cell ≡ true
@@ -156,21 +178,9 @@ module _ (script : Script) (sound : IsSound script) where
       let leaves_then : leaving (state_after script.servers mine) cell ≡ true =
       ap (λ log. leaving (state_after script.servers log) cell) log_is ∙ leaves in
       let plain = front_plain script.servers mine (chosen_log setting (At done)) firm.plain (firm.clients client) in
-      let way : asks.asked.old_way ≡ true = by_bool asks.asked.old_way (λ t. t)
-      (λ f. true_false leaves_then
-      (ap (leaving (state_after script.servers mine)) (asks.cell_is ∙ ap (cell_asked (state_after script.servers mine) asks.disk asks.block) f)
-      ∙ named_stays mine plain asks.name asks.disk asks.block asks.found)) in
+      let way = old_way_of mine plain cell asks.name asks.disk asks.block asks.asked.old_way asks.found asks.cell_is leaves_then in
       let t = was_turned script sound done s.legal client asks.asked asks.is way in
       let rev_is : asks.asked.rev ≡ rev_of ((At records).servers n).log = asks.rev_is ∙ log_rev script.servers mine ∙ ap length log_is in
       let here : WasTurned setting done client seq (rev_of ((At records).servers n).log) =
       subst (WasTurned setting done client seq) rev_is (subst (λ k. WasTurned setting done client k asks.asked.rev) asks.seq_is t) in
-      record {
-        moment = record {
-          front = here.front;
-          own = here.own;
-          following = here.following ++ s.following;
-          is = s.is ∙ ap (λ rs. rs ++ s.following) here.is ∙ append_assoc here.front (here.own ∷ here.following) s.following;
-        };
-        letter = here.letter;
-        turn = here.turn;
-      }
+      turned_in setting records done s.following s.is client seq (rev_of ((At records).servers n).log) here

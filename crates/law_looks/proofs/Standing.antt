@@ -1,5 +1,5 @@
 -- What the laws below know of a world of a legal history, whatever front of it leads there.
-use Rattle.std.proofs.Common.{◌≡◌, ◌++◌, List, [], ◌∷◌, refl, sym, subst, append_assoc}
+use Rattle.std.proofs.Common.{◌++◌, List, [], ◌∷◌, sym, subst, append_assoc}
 use Rattle.petal_command.specs.declared.command.Command.{Command}
 use Rattle.script_lines.specs.declared.script.Script.{Script}
 use Rattle.petal_state.specs.Command.{state_after}
@@ -9,7 +9,6 @@ use Rattle.petal_history.specs.Claims.{IsPrefix}
 use Rattle.petal_history.specs.Legal.{IsLegal, IsLegalFrom, stepped, world_after}
 use Rattle.petal_history.specs.Sound.{IsSound}
 use Rattle.petal_history.specs.declared.record.Record.{Record}
-use Rattle.law_state.specs.Firm.{Firm}
 use Rattle.law_state.specs.Plain.{IsPlainLog}
 use Rattle.law_state.specs.Steady.{IsSteady}
 use Rattle.law_state.proofs.Steady.{log_steady}
@@ -20,7 +19,7 @@ use Rattle.law_steps.proofs.Fronts.{front_itself, front_on}
 use Rattle.law_steps.proofs.Histories.{firm_after, firm_now, front_legal, start_rests}
 use Rattle.law_steps.proofs.Waking.{wake_along}
 use Rattle.law_run.specs.Follow.{Ground}
-use Rattle.law_run.proofs.Footings.{FirstGround, Footing, along_at, first_ground, next_ground}
+use Rattle.law_run.proofs.Footings.{Footing, along_at, first_ground, next_ground}
 
 module _ (script : Script) (sound : IsSound script) (whole : List Command) (all : IsPlainLog (setting_of script).servers whole) where
   abbrev setting : Setting
@@ -70,7 +69,8 @@ stands_after script records sound legal =
     let last = firm_after setting begun records firm in
     let whole = chosen_log setting (world_after setting begun records) in
     let end = front_itself whole in
-    let along = along_at script sound whole last.plain begun (firm_now setting begun records firm) (reaches script sound whole last.plain begun records firm end) in
+    let along = along_at script sound whole last.plain begun (firm_now setting begun records firm)
+    (reaches script sound whole last.plain begun records firm end) in
     let first = first_ground (state_after script.servers whole) script sound (record { rests = start_rests script; firm = along.firm; below = along.below })
     (wake_now script sound whole last.plain begun records wakes) in
     let footing : Footing script sound whole last.plain begun = record { ground = first.now; known = first.known; lives_are = first.lives_are } in

@@ -1,5 +1,5 @@
 -- A client's step of a history, as its open request, its letters and its answer see it.
-use Rattle.std.proofs.Common.{◌≡◌, ◌≢◌, ◌≤◌, ◌<◌, ◌+◌, ◌++◌, ℕ, List, [], ◌∷◌, Bool, true, false, Option, Some, None, length, refl, sym, ap, ◌∙◌, subst, ◌⊎◌, inl, inr, arith}
+use Rattle.std.proofs.Common.{◌≡◌, ◌≤◌, ℕ, List, [], ◌∷◌, Bool, true, false, Some, length, refl, sym, ap, ◌∙◌, subst, inl, inr, arith}
 use Rattle.petal_base.specs.declared.cell.Cell.{Cell}
 use Rattle.petal_msg.specs.declared.body.Body.{Body}
 use Rattle.petal_msg.specs.declared.body.Body.TheVariants as body
@@ -7,7 +7,6 @@ use Rattle.petal_msg.specs.declared.letter.Actor.{Actor}
 use Rattle.petal_msg.specs.declared.letter.Actor.TheVariants as actor
 use Rattle.petal_msg.specs.declared.letter.Letter.{Letter}
 use Rattle.script_lines.specs.declared.answer.Answer.TheVariants as answer
-use Rattle.script_lines.specs.declared.request.Line.{Line}
 use Rattle.petal_state.specs.Command.{state_after}
 use Rattle.petal_rules.specs.Clients.{Asked, Client, Reaction, client_sender, is_read}
 use Rattle.petal_rules.specs.Lists.{In}
@@ -15,7 +14,7 @@ use Rattle.petal_rules.specs.World.{MayActor, MayClient, Setting, World, client_
 use Rattle.petal_rules.specs.declared.step.Step.{Step}
 use Rattle.petal_rules.specs.declared.step.Step.TheVariants.{Call, Deliver, Tick}
 use Rattle.petal_rules.proofs.ListLemmas.{put_apart, put_same}
-use Rattle.petal_rules.proofs.Tests.{none_some, same_or_apart, same_some, true_false}
+use Rattle.petal_rules.proofs.Tests.{same_or_apart, true_false}
 use Rattle.law_requests.specs.Asked.{IsAsked}
 use Rattle.law_steps.specs.Happens.{Heard}
 use Rattle.law_steps.specs.Turned.{Turned, Goes_on, Is_told, Begins, Reads, Ends, Shown, Judges}
@@ -23,7 +22,7 @@ use Rattle.law_steps.proofs.Fronts.{front_long}
 use Rattle.law_steps.proofs.Letters.{said}
 use Rattle.law_steps.proofs.Sending.{is_ask, turned_asks}
 use Rattle.law_steps.proofs.Turning.{Turning, client_turns, is_call}
-use Rattle.law_looks.proofs.Clients.{AnswersRead, As_before, Asks, HasWay, Is_called, Later, OnWay, Turns, Was_open, turned_answers, turned_asks_read, turned_way}
+use Rattle.law_looks.proofs.Clients.{As_before, Asks, HasWay, Is_called, Later, OnWay, Turns, Was_open, turned_answers, turned_asks_read, turned_way}
 use Rattle.law_looks.proofs.Ways.{Stays, heard_stays, tick_stays}
 
 -- the step is the delivery of a letter of this revision that says this
@@ -116,9 +115,11 @@ module _ (setting : Setting) (w : World) (c : ℕ) where
       × (letter.rev ≡ length (reacted_to what).client.applied)
   own_asks what may stamp letter i client seq cell epoch is =
       let r = reacted_to what in
-      let s = said (client_sender c r.client) stamp 0 r.posts letter i in
-      (turned_asks_read (H what) setting.servers setting.lines c (w.clients c) (is_call what) r (turns_so what may).turned s.post s.there client seq cell epoch
-      (sym s.body ∙ is), s.rev)
+      let s = said (client_sender c r.client) stamp 0 r.posts letter i in (
+        turned_asks_read (H what) setting.servers setting.lines c (w.clients c) (is_call what) r (turns_so what may).turned s.post s.there client seq cell epoch
+            (sym s.body ∙ is),
+        s.rev,
+      )
 
   -- it sends reads, writes and words of the agreed log
   pub own_says : (what : Step) → MayClient what setting w c → (stamp : ℕ) (letter : Letter) → In letter (reacts w c stamp (reacted_to what)).letters

@@ -1,5 +1,5 @@
 -- The looks beside their lines are those of the events.
-use Rattle.std.proofs.Common.{◌≡◌, ◌==◌, ◌++◌, ℕ, Bool, true, false, List, [], ◌∷◌, Option, Some, None, refl, sym, ap, ◌∙◌}
+use Rattle.std.proofs.Common.{◌≡◌, ◌++◌, ℕ, Bool, true, false, List, [], ◌∷◌, Option, Some, None, refl, sym, ap, ◌∙◌}
 use Rattle.std.specs.Prelude.{map, if◌then◌else◌}
 use Rattle.std.specs.List.{flat_map}
 use Rattle.petal_machine.specs.declared.event.Event.{Event}
@@ -9,7 +9,6 @@ use Rattle.petal_msg.specs.declared.letter.Actor.{Actor}
 use Rattle.petal_msg.specs.declared.letter.Letter.{Letter}
 use Rattle.script_lines.specs.declared.request.Line.{Line}
 use Rattle.petal_rules.specs.World.{Setting, World}
-use Rattle.petal_rules.proofs.Tests.{by_test}
 use Rattle.petal_history.specs.Events.{accepted, look_for, look_for_data, look_of, looks, old_data, reads_old}
 use Rattle.petal_history.specs.declared.record.Record.{Record}
 use Rattle.law_looks.specs.Looks.{beside, letter_looks, look_beside, look_beside_data, record_looks}

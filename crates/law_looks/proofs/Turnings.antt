@@ -1,8 +1,6 @@
 -- How reads come to ask the old map: by one delivery alone for each revision; and what is open was called.
-use Rattle.std.proofs.Common.{◌≡◌, ◌≤◌, ◌<◌, ◌+◌, ◌++◌, ◌&&◌, ℕ, List, [], ◌∷◌, Bool, true, false, not, Option, Some, None, refl, sym, ap, ◌∙◌, subst, ◌⊎◌, inl, inr, arith, append_assoc}
+use Rattle.std.proofs.Common.{◌≡◌, ◌≤◌, ◌<◌, ◌++◌, ◌&&◌, ℕ, List, [], ◌∷◌, Bool, true, false, not, Option, Some, None, refl, sym, ap, ◌∙◌, subst, ◌⊎◌, inl, inr, arith, append_assoc}
 use Rattle.std.proofs.lemmas.List.{append-nil}
-use Rattle.std.specs.Prelude.{if◌then◌else◌}
-use Rattle.petal_msg.specs.declared.body.Body.{Body}
 use Rattle.petal_msg.specs.declared.body.Body.TheVariants as body
 use Rattle.petal_msg.specs.declared.letter.Actor.{Actor}
 use Rattle.petal_msg.specs.declared.letter.Actor.TheVariants as actor
@@ -11,7 +9,7 @@ use Rattle.script_lines.specs.declared.request.Line.{Line}
 use Rattle.script_lines.specs.declared.script.Script.{Script}
 use Rattle.petal_rules.specs.Clients.{Asked}
 use Rattle.petal_rules.specs.Lists.{In}
-use Rattle.petal_rules.specs.World.{MayActor, MayClient, MayDeliver, Setting, World, next_line, setting_of, start}
+use Rattle.petal_rules.specs.World.{MayClient, MayDeliver, Setting, World, next_line, setting_of, start}
 use Rattle.petal_rules.specs.declared.step.Step.{Step}
 use Rattle.petal_rules.specs.declared.step.Step.TheVariants.{Call, Deliver}
 use Rattle.petal_rules.proofs.ListLemmas.{in_former, in_later}
@@ -24,7 +22,7 @@ use Rattle.law_state.specs.Moments.{IsMoment}
 use Rattle.law_state.proofs.Moments.{last_moment, moment_more}
 use Rattle.law_steps.proofs.Turning.{is_call}
 use Rattle.law_looks.proofs.Clients.{As_before, HasWay, Is_called, Later, OnWay, Turns, Was_open}
-use Rattle.law_looks.proofs.History.{asked_at, at_end, follows_on, front_is_legal, legal_upto, named_at, next_is}
+use Rattle.law_looks.proofs.History.{asked_at, follows_on, front_is_legal, named_at, next_is}
 use Rattle.law_looks.proofs.Searching.{name_itself}
 use Rattle.law_looks.proofs.Steps.{By_its_step, Delivers, Is_still, StepWay, step_seq, step_way}
 

@@ -19,8 +19,8 @@ use Rattle.petal_rules.specs.State.{State, servers_of}
 use Rattle.petal_rules.specs.Clients.{Client, Asked, Learning, Reaction, Sight, answers, answered_where, asks_and_sends, command_of, goes_out}
 use Rattle.petal_rules.specs.Clients.{goes_out_where, goes_the_old_way, heard, hears, hears_any, hears_of, is_read, is_witness, is_write, judged}
 use Rattle.petal_rules.specs.Clients.{judged_by, next_entries, refusal, replies, rests, rounds, sees, sees_for, sees_from, sends_or_proposes, settles, stays_open}
-use Rattle.petal_rules.specs.Clients.{takes_all, takes_entries, takes_entry, then_goes_out, ticked, to_propose, verdict_for, way_now, with_sight, witnessed}
-use Rattle.petal_rules.proofs.Tests.{by_bool, by_test, none_some, number_itself, same_some}
+use Rattle.petal_rules.specs.Clients.{takes_all, takes_entries, takes_entry, ticked, to_propose, verdict_for, way_now, with_sight, witnessed}
+use Rattle.petal_rules.proofs.Tests.{by_test, none_some, number_itself, same_some}
 
 -- the request that is open then asks the old map, if the one before did at the same revision
 abbrev pub Stays : Option Asked → Option Asked → Type 0

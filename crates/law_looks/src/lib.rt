@@ -14,6 +14,7 @@ ghost use Rattle.petal_rules.specs.World.{Setting, World};
 ghost use Rattle.script_lines.specs.declared.answer.Answer.TheVariants.{Data};
 ghost use Rattle.law_state.specs.Histories.{IsLegal, IsSound, Record, Script, setting_of, start};
 ghost use Rattle.law_state.specs.Moments.{IsMoment};
+ghost use Rattle.law_looks.specs.Links.{IsReadFrom};
 ghost use Rattle.law_looks.specs.Looks.{HasItsLook, record_looks};
 ghost use Rattle.law_looks.specs.Runs.{looks_along, sevens_records};
 
@@ -30,6 +31,15 @@ pub fn each_read_looks_once()
     ensures { (script : Script) (records : List Record) → IsSound script → AreRising script.lines → IsLegal script records
         → (answer : IsMoment records) (number : ℕ) (bytes : List ℕ) → answer.own.answer ≡ Some (number, Data bytes)
         → HasItsLook (setting_of script) records answer number bytes }
+{}
+
+/// The letter that is accepted for such a line was sent by a server that handled the read of the line, with the bytes of its own entry of the cell;
+/// and by what was chosen then the server serves the cell's link. So no read of a link that is Lost is answered with data. Where the cell has no
+/// link any more, its map is dead: the last of its regions has moved.
+pub fn no_lost_link_is_read()
+    ensures { (script : Script) (records : List Record) → IsSound script → AreRising script.lines → IsLegal script records
+        → (answer : IsMoment records) (number : ℕ) (bytes : List ℕ) → answer.own.answer ≡ Some (number, Data bytes)
+        → IsReadFrom (setting_of script) records answer number bytes }
 {}
 
 /// In the run in which a block is written and read back, the read's line has one look, which the server's step tells.
