@@ -12,4 +12,6 @@ pub mod Answering
 pub mod Sent
 pub mod Found
 pub mod Unlost
+pub mod Calls
+pub mod Answered
 pub mod Looking

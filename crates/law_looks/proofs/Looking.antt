@@ -32,7 +32,7 @@ use Rattle.law_run.proofs.Scenes.{Grounded}
 use Rattle.law_steps.specs.Turned.{line_by}
 use Rattle.law_steps.proofs.Sending.{is_ask}
 use Rattle.law_looks.specs.Links.{IsReadFrom}
-use Rattle.law_looks.specs.Looks.{HasItsLook, IsCalledIn, IsLookedAtOnce, beside, letter_looks, look_beside, look_beside_data, of_line, record_looks}
+use Rattle.law_looks.specs.Looks.{HasItsLook, IsCalledIn, IsLookedAtOnce, beside, letter_looks, look_beside, look_beside_data, of_line, record_looks, looks_at}
 use Rattle.law_looks.proofs.Answering.{Answers, accepted_by, client_is, data_seq, deliver_is, same_line, the_answer, the_one}
 use Rattle.law_looks.proofs.Answering.{world_split}
 use Rattle.law_looks.proofs.Found.{By_data, By_turning, IsToldBy, TellsIt, beside_one, line_looks, none_of_line, told_by}
@@ -270,15 +270,11 @@ module _ (script : Script) (sound : IsSound script) (rise : AreRising script.lin
     abbrev Once : Type 0
     Once = IsLookedAtOnce setting records a.line look m
 
-    -- the looks that a record tells
-    abbrev looks_at : IsMoment records → List (ℕ × Event)
-    looks_at other = record_looks setting (At other.front) (stepped setting (At other.front) other.own).world other.own other.following
-
-    told_at : (other : IsMoment records) (l : ℕ × Event) → In l (looks_at other)
+    told_at : (other : IsMoment records) (l : ℕ × Event) → In l (looks_at setting records other)
         → IsToldBy setting (At other.front) (stepped setting (At other.front) other.own).world other.own other.following l.0
     told_at other l i = told_by setting (At other.front) (stepped setting (At other.front) other.own).world other.own other.following l i
 
-    only_new : is_old ≡ false → (other : IsMoment records) (l : ℕ × Event) → In l (looks_at other) → l.0 ≡ n → other.front ≡ s.front
+    only_new : is_old ≡ false → (other : IsMoment records) (l : ℕ × Event) → In l (looks_at setting records other) → l.0 ≡ n → other.front ≡ s.front
     only_new off other l i same = by (told_at other l i).letter (told_at other l i).there (told_at other l i).tells
       where
         by : (letter : Letter) → In letter other.own.sent
@@ -298,7 +294,9 @@ module _ (script : Script) (sound : IsSound script) (rise : AreRising script.lin
               (ap (letter_looks setting (At s.front) next s.own.actor after_s a.letter) a.says
               ∙ ap (λ b. if b then [] else look_beside script.lines (accepted after_s a.letter) bytes) off
               ∙ ap (λ o. look_beside script.lines o bytes) accepted_here) one_event;
-          alone = λ other ne. none_of_line n (looks_at other) (λ l i same. ne (ap length (only_new off other l i same)));
+          alone = λ other ne. none_of_line n (looks_at setting records other) (λ l i same. ne (ap length (only_new off other l i same)));
+          server = s_reply.server;
+          who = s_reply.who;
           called = reply_called s.front s.own after_s s_is a.letter s_reply a.client a.seq a.to reply_is a.line a.is in_lines.1;
           between = s.following;
           answered = s.is;
@@ -444,7 +442,7 @@ module _ (script : Script) (sound : IsSound script) (rise : AreRising script.lin
               not_here a.client a.seq a.letter.rev turn_too
               (subst (λ rs. IsTurn setting (At rs) t.own not_here a.client a.seq a.letter.rev) same t.turn))
 
-      only_old : (other : IsMoment records) (l : ℕ × Event) → In l (looks_at other) → l.0 ≡ n → other.front ≡ o.front
+      only_old : (other : IsMoment records) (l : ℕ × Event) → In l (looks_at setting records other) → l.0 ≡ n → other.front ≡ o.front
       only_old other l i same = by (told_at other l i).letter (told_at other l i).there (told_at other l i).tells
         where
           by : (letter : Letter) → In letter other.own.sent
@@ -462,7 +460,9 @@ module _ (script : Script) (sound : IsSound script) (rise : AreRising script.lin
         moment = record { front = o.front; own = o.own; following = after_o; is = o_is };
         told = one_look setting (At o.front) next o.own after_o not_here n look events o_reply.reply.alone
             (ap (letter_looks setting (At o.front) next o.own.actor after_o not_here) t.turn.said ∙ search_is) one_event;
-        alone = λ other ne. none_of_line n (looks_at other) (λ l i same. ne (ap length (only_old other l i same)));
+        alone = λ other ne. none_of_line n (looks_at setting records other) (λ l i same. ne (ap length (only_old other l i same)));
+        server = o_reply.server;
+        who = o_reply.who;
         called = reply_called o.front o.own after_o o_is not_here o_reply a.client a.seq comes.own reply_n a.line a.is in_lines.1;
         between = between_o ++ s.own ∷ s.following;
         answered = s.is ∙ ap (λ rs. rs ++ s.own ∷ s.following) s_front_is ∙ append_assoc o.front (o.own ∷ between_o) (s.own ∷ s.following);

@@ -1,5 +1,5 @@
 -- A client's step of a history, as its open request, its letters and its answer see it.
-use Rattle.std.proofs.Common.{◌≡◌, ◌≤◌, ℕ, List, [], ◌∷◌, Bool, true, false, Some, length, refl, sym, ap, ◌∙◌, subst, inl, inr, arith}
+use Rattle.std.proofs.Common.{◌≡◌, ◌+◌, ◌≤◌, ℕ, List, [], ◌∷◌, Bool, true, false, Some, length, refl, sym, ap, ◌∙◌, subst, inl, inr, arith}
 use Rattle.petal_base.specs.declared.cell.Cell.{Cell}
 use Rattle.petal_msg.specs.declared.body.Body.{Body}
 use Rattle.petal_msg.specs.declared.body.Body.TheVariants as body
@@ -104,6 +104,20 @@ module _ (setting : Setting) (w : World) (c : ℕ) where
   seq_up _ what _ (Ends asked how told was writes) = omega arith
   seq_up _ what _ (Shown asked rev sight given told was seen) = omega arith
   seq_up _ what _ (Judges after asked given was gone same judged) = omega arith
+
+  -- a call has the next number
+  begun_seq : (in_call : Bool) (what : Step) (reacted : Reaction) → in_call ≡ true
+      → Turned (H what) setting.servers setting.lines c (w.clients c) in_call reacted → reacted.client.seq ≡ (w.clients c).seq + 1
+  begun_seq _ what _ e (Begins reacted line asked next free same now called says) = same
+  begun_seq _ what _ e (Goes_on reacted same stays says) = true_false e refl
+  begun_seq _ what _ e (Is_told reacted asked told was reads same stays says) = true_false e refl
+  begun_seq _ what _ e (Reads asked bytes told was reads) = true_false e refl
+  begun_seq _ what _ e (Ends asked how told was writes) = true_false e refl
+  begun_seq _ what _ e (Shown asked rev sight given told was seen) = true_false e refl
+  begun_seq _ what _ e (Judges after asked given was gone same judged) = true_false e refl
+
+  pub call_seq : (number : ℕ) → MayClient (Call number) setting w c → (reacted_to (Call number)).client.seq ≡ (w.clients c).seq + 1
+  call_seq number may = begun_seq true (Call number) (reacted_to (Call number)) refl (turns_so (Call number) may).turned
 
   own_seq : (what : Step) → MayClient what setting w c → (w.clients c).seq ≤ (reacted_to what).client.seq
   own_seq what may = seq_up (is_call what) what (reacted_to what) (turns_so what may).turned

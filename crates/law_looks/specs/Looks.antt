@@ -8,6 +8,7 @@ use Rattle.petal_msg.specs.declared.body.Body.TheVariants as body
 use Rattle.petal_msg.specs.declared.letter.Actor.{Actor}
 use Rattle.petal_msg.specs.declared.letter.Actor.TheVariants as actor
 use Rattle.petal_msg.specs.declared.letter.Letter.{Letter}
+use Rattle.script_lines.specs.declared.answer.Answer.TheVariants.{Data}
 use Rattle.script_lines.specs.declared.request.Line.{Line}
 use Rattle.script_lines.specs.declared.request.Request.TheVariants.{Read}
 use Rattle.petal_rules.specs.Lists.{In}
@@ -45,6 +46,12 @@ letter_looks setting w next who later letter _ = []
 abbrev pub record_looks : Setting → (w next : World) → Record → List Record → List (ℕ × Event)
 record_looks setting w next own later = flat_map (λ letter. letter_looks setting w next own.actor later letter letter.body) own.sent
 
+-- those that the record of this moment tells
+abbrev pub looks_at : Setting → (records : List Record) → IsMoment records → List (ℕ × Event)
+looks_at setting records moment =
+    let w = world_after setting (start setting) moment.front in
+    record_looks setting w (stepped setting w moment.own).world moment.own moment.following
+
 -- those of the line of this number
 abbrev pub of_line : ℕ → List (ℕ × Event) → List (ℕ × Event)
 of_line number looks = filter (λ look. look.0 == number) looks
@@ -64,16 +71,26 @@ pub record IsCalledIn (records : List Record) (line : Line) : Type 0 where
   pub who : call.actor ≡ actor.Client line.client
   pub what : call.step ≡ Call line.number
 
--- one record tells this look for the line, and tells it once; no other record tells a look for the line. The line's call stands before the
--- record, and the answer after it
+-- one record, a server's step, tells this look for the line, and tells it once; no other record tells a look for the line. The line's call stands
+-- before the record, and the answer after it
 pub record IsLookedAtOnce (setting : Setting) (records : List Record) (line : Line) (look : Event) (answer : IsMoment records) : Type 0 where
   pub moment : IsMoment records
   pub open moment use *
   pub told : looks_for setting front own following line.number ≡ (line.number, look) ∷ []
   pub alone : (other : IsMoment records) → length other.front ≢ length front → looks_for setting other.front other.own other.following line.number ≡ []
+  pub server : ℕ
+  pub who : own.actor ≡ actor.Server server
   pub called : IsCalledIn front line
   pub between : List Record
   pub answered : answer.front ≡ front ++ own ∷ between
+
+-- a record after this moment answers the line of this number with data
+pub record IsAnsweredAfter (records : List Record) (moment : IsMoment records) (number : ℕ) : Type 0 where
+  pub answer : IsMoment records
+  pub bytes : List ℕ
+  pub given : answer.own.answer ≡ Some (number, Data bytes)
+  pub between : List Record
+  pub after : answer.front ≡ moment.front ++ moment.own ∷ between
 
 -- the line of this number is a read of the client that the record answers with these bytes, and it is looked at once, with these bytes
 pub record HasItsLook (setting : Setting) (records : List Record) (answer : IsMoment records) (number : ℕ) (bytes : List ℕ) : Type 0 where

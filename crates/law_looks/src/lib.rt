@@ -9,13 +9,16 @@ ghost use Rattle.petal_base.specs.Block.{fill_block};
 ghost use Rattle.petal_history.specs.Events.{looks};
 ghost use Rattle.petal_history.specs.Examples.{sevens, vol};
 ghost use Rattle.petal_history.specs.Order.{AreRising};
+ghost use Rattle.petal_machine.specs.declared.event.Event.{Event};
 ghost use Rattle.petal_machine.specs.declared.event.Event.TheVariants.{Look};
+ghost use Rattle.petal_rules.specs.Lists.{In};
 ghost use Rattle.petal_rules.specs.World.{Setting, World};
+ghost use Rattle.petal_rules.specs.declared.step.Step.TheVariants.{Call};
 ghost use Rattle.script_lines.specs.declared.answer.Answer.TheVariants.{Data};
 ghost use Rattle.law_state.specs.Histories.{IsLegal, IsSound, Record, Script, setting_of, start};
 ghost use Rattle.law_state.specs.Moments.{IsMoment};
 ghost use Rattle.law_looks.specs.Links.{IsReadFrom};
-ghost use Rattle.law_looks.specs.Looks.{HasItsLook, record_looks};
+ghost use Rattle.law_looks.specs.Looks.{HasItsLook, IsAnsweredAfter, looks_at, record_looks};
 ghost use Rattle.law_looks.specs.Runs.{looks_along, sevens_records};
 
 /// The looks beside their lines are the ones of the events: without the numbers they are exactly those.
@@ -25,12 +28,25 @@ pub fn the_looks_are_those_of_the_events()
 {}
 
 /// Each line that is answered with data is a read of the client that answers, and has exactly one look, with these bytes: one record tells it,
-/// after the record that called the line and before the one that answers it, and no other record tells a look for the line. The lines rise, so
-/// an answer's number names the place of one line.
+/// a server's step after the record that called the line and before the one that answers it, and no other record tells a look for the line.
+/// The lines rise, so an answer's number names the place of one line.
 pub fn each_read_looks_once()
     ensures { (script : Script) (records : List Record) → IsSound script → AreRising script.lines → IsLegal script records
         → (answer : IsMoment records) (number : ℕ) (bytes : List ℕ) → answer.own.answer ≡ Some (number, Data bytes)
         → HasItsLook (setting_of script) records answer number bytes }
+{}
+
+/// A look is told only for a line that a later record answers with data: so looks and such answers belong together one by one.
+pub fn each_look_is_answered()
+    ensures { (script : Script) (records : List Record) → IsSound script → AreRising script.lines → IsLegal script records
+        → (moment : IsMoment records) (look : ℕ × Event) → In look (looks_at (setting_of script) records moment)
+        → IsAnsweredAfter records moment look.0 }
+{}
+
+/// A line is called once: two records that call it are one.
+pub fn a_line_is_called_once()
+    ensures { (script : Script) (records : List Record) → IsSound script → AreRising script.lines → IsLegal script records
+        → (one other : IsMoment records) (number : ℕ) → one.own.step ≡ Call number → other.own.step ≡ Call number → one.front ≡ other.front }
 {}
 
 /// The letter that is accepted for such a line was sent by a server that handled the read of the line, with the bytes of its own entry of the cell;
