@@ -11,12 +11,10 @@ use Rattle.petal_rules.specs.declared.step.Step.TheVariants.{Call}
 use Rattle.petal_rules.proofs.ListLemmas.{put_same}
 use Rattle.petal_history.specs.Legal.{IsLegal, IsLegalFrom, stepped, world_after}
 use Rattle.petal_history.specs.Order.{AreRising}
-use Rattle.petal_history.specs.Sound.{IsSound}
 use Rattle.petal_history.specs.declared.record.Record.{Record}
 use Rattle.law_answers.proofs.Places.{one_client, one_place}
 use Rattle.law_steps.proofs.Histories.{front_legal}
 use Rattle.law_looks.proofs.Answering.{world_split}
-use Rattle.law_looks.proofs.History.{follows_on}
 use Rattle.law_looks.proofs.Lists.{AreOrdered, Are_one, Is_former, Is_latter, ordered}
 use Rattle.law_looks.proofs.Steps.{call_seq, reacted_to, step_seq}
 
@@ -48,7 +46,7 @@ seq_along setting w (own ∷ later) legal c =
     let on = seq_along setting (stepped setting w own).world later legal.1 c in
     omega arith
 
-module _ (script : Script) (sound : IsSound script) (rise : AreRising script.lines) where
+module _ (script : Script) (rise : AreRising script.lines) where
   abbrev setting : Setting
   setting = setting_of script
 
@@ -58,7 +56,7 @@ module _ (script : Script) (sound : IsSound script) (rise : AreRising script.lin
   call_at : (front : List Record) (own : Record) (following : List Record) → IsLegal script (front ++ own ∷ following) → (number : ℕ)
       → own.step ≡ Call number → IsCall setting (At front) (stepped setting (At front) own).world number
   call_at front own following legal number what =
-      let may = (follows_on script sound front own following legal).may.may in
+      let may = (front_legal setting (start setting) front (own ∷ following) legal).1.0.may.may in
       subst (λ x. IsCall setting (At front) (step own.actor x setting (At front) own.stamp).world number) (sym what)
       (step_calls setting (At front) own.actor own.stamp number (subst (λ x. MayActor own.actor x setting (At front)) what may))
 

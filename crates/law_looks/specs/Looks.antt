@@ -56,11 +56,9 @@ looks_at setting records moment =
 abbrev pub of_line : ℕ → List (ℕ × Event) → List (ℕ × Event)
 of_line number looks = filter (λ look. look.0 == number) looks
 
--- the looks for the line that a record of a history tells, after these records and before those
-abbrev pub looks_for : Setting → (front : List Record) → Record → (following : List Record) → (number : ℕ) → List (ℕ × Event)
-looks_for setting front own following number =
-    let w = world_after setting (start setting) front in
-    of_line number (record_looks setting w (stepped setting w own).world own following)
+-- the looks for the line that the record of this moment tells
+abbrev pub looks_for : Setting → (records : List Record) → IsMoment records → (number : ℕ) → List (ℕ × Event)
+looks_for setting records moment number = of_line number (looks_at setting records moment)
 
 -- ### Exactly one
 
@@ -76,8 +74,8 @@ pub record IsCalledIn (records : List Record) (line : Line) : Type 0 where
 pub record IsLookedAtOnce (setting : Setting) (records : List Record) (line : Line) (look : Event) (answer : IsMoment records) : Type 0 where
   pub moment : IsMoment records
   pub open moment use *
-  pub told : looks_for setting front own following line.number ≡ (line.number, look) ∷ []
-  pub alone : (other : IsMoment records) → length other.front ≢ length front → looks_for setting other.front other.own other.following line.number ≡ []
+  pub told : looks_for setting records moment line.number ≡ (line.number, look) ∷ []
+  pub alone : (other : IsMoment records) → length other.front ≢ length front → looks_for setting records other line.number ≡ []
   pub server : ℕ
   pub who : own.actor ≡ actor.Server server
   pub called : IsCalledIn front line

@@ -45,7 +45,7 @@ pub fn each_look_is_answered()
 
 /// A line is called once: two records that call it are one.
 pub fn a_line_is_called_once()
-    ensures { (script : Script) (records : List Record) → IsSound script → AreRising script.lines → IsLegal script records
+    ensures { (script : Script) (records : List Record) → AreRising script.lines → IsLegal script records
         → (one other : IsMoment records) (number : ℕ) → one.own.step ≡ Call number → other.own.step ≡ Call number → one.front ≡ other.front }
 {}
 
