@@ -1,0 +1,17 @@
+pub mod Lists
+pub mod Told
+pub mod Ways
+pub mod Standing
+pub mod Replies
+pub mod Clients
+pub mod Searching
+pub mod Steps
+pub mod History
+pub mod Turnings
+pub mod Answering
+pub mod Sent
+pub mod Found
+pub mod Unlost
+pub mod Calls
+pub mod Answered
+pub mod Looking

@@ -1,0 +1,33 @@
+-- Where two elements of one list stand to each other, and lists of which no element passes.
+use Rattle.std.proofs.Common.{◌≡◌, ◌++◌, List, [], ◌∷◌, refl, ap, sym}
+
+first_is : {A : Type 0} {x z : A} {xs zs : List A} → x ∷ xs ≡ z ∷ zs → x ≡ z
+first_is e = cc
+
+rest_is : {A : Type 0} {x z : A} {xs zs : List A} → x ∷ xs ≡ z ∷ zs → xs ≡ zs
+rest_is e = cc
+
+-- how two places of one list stand to each other: they are one, or one of them stands before the other
+pub data AreOrdered {A : Type 0} (front : List A) (x : A) (following : List A) (before : List A) (y : A) (after : List A) : Type 0 where
+  Are_one : front ≡ before → x ≡ y → following ≡ after → AreOrdered front x following before y after
+  Is_former : (between : List A) → before ≡ front ++ x ∷ between → following ≡ between ++ y ∷ after → AreOrdered front x following before y after
+  Is_latter : (between : List A) → front ≡ before ++ y ∷ between → after ≡ between ++ x ∷ following → AreOrdered front x following before y after
+
+-- they are one
+pub record AreSame {A : Type 0} (front : List A) (x : A) (following : List A) (before : List A) (y : A) (after : List A) : Type 0 where
+  pub front_is : front ≡ before
+  pub own_is : x ≡ y
+  pub following_is : following ≡ after
+
+one_more : {A : Type 0} {a b : A} {front : List A} {x : A} {following : List A} {before : List A} {y : A} {after : List A} → a ≡ b
+    → AreOrdered front x following before y after → AreOrdered (a ∷ front) x following (b ∷ before) y after
+one_more e (Are_one same is rest) = Are_one (λ i. e i ∷ same i) is rest
+one_more {front} {x} e (Is_former between is rest) = Is_former between (λ i. sym e i ∷ is i) rest
+one_more e (Is_latter between is rest) = Is_latter between (λ i. e i ∷ is i) rest
+
+pub ordered : {A : Type 0} (front : List A) (x : A) (following : List A) (before : List A) (y : A) (after : List A)
+    → front ++ x ∷ following ≡ before ++ y ∷ after → AreOrdered front x following before y after
+ordered [] x following [] y after e = Are_one refl (first_is e) (rest_is e)
+ordered [] x following (b ∷ before) y after e = Is_former before (ap (λ k. k ∷ before) (sym (first_is e))) (rest_is e)
+ordered (a ∷ front) x following [] y after e = Is_latter front (ap (λ k. k ∷ front) (first_is e)) (sym (rest_is e))
+ordered (a ∷ front) x following (b ∷ before) y after e = one_more (first_is e) (ordered front x following before y after (rest_is e))
