@@ -5,7 +5,7 @@ use Rattle.petal_msg.specs.declared.letter.Letter.{Letter}
 use Rattle.script_lines.specs.declared.script.Script.{Script}
 use Rattle.petal_rules.specs.Lists.{In}
 use Rattle.petal_rules.specs.World.{Setting, World, setting_of, start}
-use Rattle.petal_history.specs.Legal.{IsLegal, stepped, world_after}
+use Rattle.petal_history.specs.Steps.{AreSteps, stepped, world_after}
 use Rattle.petal_history.specs.Order.{AreRising}
 use Rattle.petal_history.specs.Sound.{IsSound}
 use Rattle.petal_history.specs.declared.record.Record.{Record}
@@ -15,7 +15,7 @@ use Rattle.law_looks.proofs.Answering.{accepted_by}
 use Rattle.law_looks.proofs.Found.{By_data, By_turning, TellsIt, told_by}
 use Rattle.law_looks.proofs.Searching.{found}
 
-module _ (script : Script) (sound : IsSound script) (rise : AreRising script.lines) (records : List Record) (legal : IsLegal script records)
+module _ (script : Script) (sound : IsSound script) (rise : AreRising script.lines) (records : List Record) (legal : AreSteps script records)
     (m : IsMoment records) where
   abbrev setting : Setting
   setting = setting_of script

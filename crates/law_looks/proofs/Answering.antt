@@ -15,7 +15,7 @@ use Rattle.petal_rules.specs.declared.step.Step.{Step}
 use Rattle.petal_rules.specs.declared.step.Step.TheVariants.{Deliver}
 use Rattle.petal_rules.proofs.Tests.{none_some, same_some}
 use Rattle.petal_history.specs.Events.{accepted, same_name}
-use Rattle.petal_history.specs.Legal.{IsLegal, stepped, world_after}
+use Rattle.petal_history.specs.Steps.{AreSteps, stepped, world_after}
 use Rattle.petal_history.specs.Order.{AreRising}
 use Rattle.petal_history.specs.Sound.{IsSound}
 use Rattle.petal_history.specs.declared.record.Record.{Record}
@@ -96,7 +96,7 @@ module _ (script : Script) (sound : IsSound script) where
   abbrev At : List Record → World
   At records = world_after setting (start setting) records
 
-  pub answers_at : (front : List Record) (own : Record) (following : List Record) → IsLegal script (front ++ own ∷ following) → (number : ℕ) (bytes : List ℕ)
+  pub answers_at : (front : List Record) (own : Record) (following : List Record) → AreSteps script (front ++ own ∷ following) → (number : ℕ) (bytes : List ℕ)
       → own.answer ≡ Some (number, answer.Data bytes) → Answers script.lines (At front) own number bytes
   answers_at front own following legal number bytes e =
       let follows = follows_on script sound front own following legal in
@@ -123,12 +123,12 @@ module _ (script : Script) (sound : IsSound script) where
   module _ (rise : AreRising script.lines) where
     -- once the line has been answered it is not answered again
     not_again : (front : List Record) (own : Record) (between : List Record) (other : Record) (following : List Record)
-        → IsLegal script (front ++ own ∷ (between ++ other ∷ following)) → (number : ℕ) (one two : Answer) → own.answer ≡ Some (number, one)
+        → AreSteps script (front ++ own ∷ (between ++ other ∷ following)) → (number : ℕ) (one two : Answer) → own.answer ≡ Some (number, one)
         → other.answer ≡ Some (number, two) → ⊥
     not_again front own between other following legal number one two first again =
         let done = front ++ own ∷ between in
-        let joined : IsLegal script (done ++ other ∷ following) =
-        subst (IsLegal script) (sym (append_assoc front (own ∷ between) (other ∷ following))) legal in
+        let joined : AreSteps script (done ++ other ∷ following) =
+        subst (AreSteps script) (sym (append_assoc front (own ∷ between) (other ∷ following))) legal in
         let follows = follows_on script sound front own (between ++ other ∷ following) legal in
         let v = (stepped setting (At front) own).world in
         let now : IsAnswered v.answers number =
@@ -143,9 +143,9 @@ module _ (script : Script) (sound : IsSound script) where
         (ahead_after setting rise (start setting) done (ahead_start setting rise) (front_is_legal script sound done (other ∷ following) joined)) later in
         (fresh.new (number, two) (sym later.answer ∙ again)).new then
 
-    module _ (records : List Record) (legal : IsLegal script records) where
-      abbrev pub legal_as : {others : List Record} → records ≡ others → IsLegal script others
-      legal_as e = subst (IsLegal script) e legal
+    module _ (records : List Record) (legal : AreSteps script records) where
+      abbrev pub legal_as : {others : List Record} → records ≡ others → AreSteps script others
+      legal_as e = subst (AreSteps script) e legal
 
       -- two records that answer one line are one
       pub one_answer : (front : List Record) (own : Record) (following : List Record) → records ≡ front ++ own ∷ following

@@ -9,7 +9,7 @@ use Rattle.petal_rules.specs.Clients.{Client}
 use Rattle.petal_rules.specs.World.{MayActor, Setting, World, lines_of, setting_of, start, step}
 use Rattle.petal_rules.specs.declared.step.Step.TheVariants.{Call}
 use Rattle.petal_rules.proofs.ListLemmas.{put_same}
-use Rattle.petal_history.specs.Legal.{IsLegal, IsLegalFrom, stepped, world_after}
+use Rattle.petal_history.specs.Steps.{AreSteps, AreStepsFrom, stepped, world_after}
 use Rattle.petal_history.specs.Order.{AreRising}
 use Rattle.petal_history.specs.declared.record.Record.{Record}
 use Rattle.law_answers.proofs.Places.{one_client, one_place}
@@ -38,7 +38,7 @@ step_calls setting w (actor.Client c) stamp number may = record {
   next = ap (λ (x : Client). x.seq) (put_same w.clients c (reacted_to setting w c (Call number)).client) ∙ call_seq setting w c number may.1;
 }
 
-seq_along : (setting : Setting) (w : World) (records : List Record) → IsLegalFrom setting w records → (c : ℕ)
+seq_along : (setting : Setting) (w : World) (records : List Record) → AreStepsFrom setting w records → (c : ℕ)
     → (w.clients c).seq ≤ ((world_after setting w records).clients c).seq
 seq_along setting w [] legal c = omega arith
 seq_along setting w (own ∷ later) legal c =
@@ -53,7 +53,7 @@ module _ (script : Script) (rise : AreRising script.lines) where
   abbrev At : List Record → World
   At records = world_after setting (start setting) records
 
-  call_at : (front : List Record) (own : Record) (following : List Record) → IsLegal script (front ++ own ∷ following) → (number : ℕ)
+  call_at : (front : List Record) (own : Record) (following : List Record) → AreSteps script (front ++ own ∷ following) → (number : ℕ)
       → own.step ≡ Call number → IsCall setting (At front) (stepped setting (At front) own).world number
   call_at front own following legal number what =
       let may = (front_legal setting (start setting) front (own ∷ following) legal).1.0.may.may in
@@ -61,11 +61,11 @@ module _ (script : Script) (rise : AreRising script.lines) where
       (step_calls setting (At front) own.actor own.stamp number (subst (λ x. MayActor own.actor x setting (At front)) what may))
 
   not_again : (front : List Record) (own : Record) (between : List Record) (other : Record) (following : List Record)
-      → IsLegal script (front ++ own ∷ (between ++ other ∷ following)) → (number : ℕ) → own.step ≡ Call number → other.step ≡ Call number → ⊥
+      → AreSteps script (front ++ own ∷ (between ++ other ∷ following)) → (number : ℕ) → own.step ≡ Call number → other.step ≡ Call number → ⊥
   not_again front own between other following legal number first again =
       let done = front ++ own ∷ between in
-      let joined : IsLegal script (done ++ other ∷ following) =
-      subst (IsLegal script) (sym (append_assoc front (own ∷ between) (other ∷ following))) legal in
+      let joined : AreSteps script (done ++ other ∷ following) =
+      subst (AreSteps script) (sym (append_assoc front (own ∷ between) (other ∷ following))) legal in
       let v = (stepped setting (At front) own).world in
       let one = call_at front own (between ++ other ∷ following) legal number first in
       let two = call_at done other following joined number again in
@@ -83,7 +83,7 @@ module _ (script : Script) (rise : AreRising script.lines) where
       let next = one.next in
       omega arith
 
-  pub called_once : (records : List Record) → IsLegal script records → (front : List Record) (own : Record) (following : List Record)
+  pub called_once : (records : List Record) → AreSteps script records → (front : List Record) (own : Record) (following : List Record)
       → records ≡ front ++ own ∷ following → (before : List Record) (other : Record) (after : List Record) → records ≡ before ++ other ∷ after
       → (number : ℕ) → own.step ≡ Call number → other.step ≡ Call number → front ≡ before
   called_once records legal front own following e before other after f number first again =
@@ -92,6 +92,6 @@ module _ (script : Script) (rise : AreRising script.lines) where
       by : AreOrdered front own following before other after → front ≡ before
       by (Are_one same is rest) = same
       by (Is_former between is rest) = absurd (not_again front own between other after
-          (subst (IsLegal script) (e ∙ ap (λ rs. front ++ own ∷ rs) rest) legal) number first again)
+          (subst (AreSteps script) (e ∙ ap (λ rs. front ++ own ∷ rs) rest) legal) number first again)
       by (Is_latter between is rest) = absurd (not_again before other between own following
-          (subst (IsLegal script) (f ∙ ap (λ rs. before ++ other ∷ rs) rest) legal) number again first)
+          (subst (AreSteps script) (f ∙ ap (λ rs. before ++ other ∷ rs) rest) legal) number again first)

@@ -27,7 +27,7 @@ use Rattle.petal_rules.specs.State.{State, find, lead}
 use Rattle.petal_rules.specs.World.{next_line}
 use Rattle.petal_rules.proofs.Tests.{by_bool, by_test, none_some, same_or_apart, same_some, true_false}
 use Rattle.law_steps.specs.Turned.{Turned, Says, Of_the_log, A_write, A_read, IsSame, WasSent, As_it_was, Anew, StaysOpen, IsReason, IsSeenAs, answer_of}
-use Rattle.law_steps.specs.Turned.{By_verdict, By_witness, Stops_it, Starts_it, Blanks_it, Has_no_space, Is_settled, Goes_on, Is_told}
+use Rattle.law_steps.specs.Turned.{By_verdict, By_witness, Stops_it, Stops_at, Fails_it, Starts_it, Blanks_it, Has_no_space, Is_settled, Goes_on, Is_told}
 use Rattle.law_steps.specs.Turned.{Begins, Reads, Ends, Shown, Judges}
 use Rattle.law_looks.proofs.Ways.{Stays}
 
@@ -204,6 +204,8 @@ reason_no_data c asked given state entry (By_witness none is so) = refused_no_da
 
 seen_no_data : (state : State) (asked : Asked) (sight : Sight) (given : Answer) → IsSeenAs state asked sight given → is_data given ≡ false
 seen_no_data state asked sight given (Stops_it server is so) = ap is_data so
+seen_no_data state asked sight given (Stops_at server at is so) = ap is_data so
+seen_no_data state asked sight given (Fails_it server which kind at is so) = ap is_data so
 seen_no_data state asked sight given (Starts_it server is so) =
     ap is_data so ∙ by_test (λ x. is_data x ≡ false) sight.running answer.Ok answer.Failed (λ t. refl) (λ f. refl)
 seen_no_data state asked sight given (Blanks_it server is so) =

@@ -12,7 +12,7 @@ use Rattle.petal_rules.specs.declared.step.Step.{Step}
 use Rattle.petal_rules.specs.declared.step.Step.TheVariants.{Blank}
 use Rattle.petal_rules.proofs.ListLemmas.{in-append, in_former, in_later}
 use Rattle.petal_rules.proofs.Tests.{true_false}
-use Rattle.petal_history.specs.Legal.{Follows, IsLegal, IsLegalFrom, stepped, world_after}
+use Rattle.petal_history.specs.Steps.{Follows, AreSteps, AreStepsFrom, stepped, world_after}
 use Rattle.petal_history.specs.Sound.{IsSound}
 use Rattle.petal_history.specs.declared.record.Record.{Record}
 use Rattle.law_state.specs.Firm.{Firm}
@@ -56,7 +56,7 @@ module _ (setting : Setting) where
     pub is : records ≡ front ++ own ∷ following
     pub there : In letter own.sent
 
-  sent_from : (w : World) (records : List Record) → IsLegalFrom setting w records → (letter : Letter) → In letter (world_after setting w records).sent
+  sent_from : (w : World) (records : List Record) → AreStepsFrom setting w records → (letter : Letter) → In letter (world_after setting w records).sent
       → In letter w.sent ⊎ WasSent records letter
   sent_from w [] legal letter i = inl i
   sent_from w (own ∷ later) legal letter i = elim (sent_from (stepped setting w own).world later legal.1 letter i) [
@@ -101,36 +101,36 @@ module _ (script : Script) (sound : IsSound script) where
   abbrev pub at_end : List Record → World
   at_end records = world_after setting_now (start setting_now) records
 
-  pub front_is_legal : (front later : List Record) → IsLegal script (front ++ later) → IsLegal script front
+  pub front_is_legal : (front later : List Record) → AreSteps script (front ++ later) → AreSteps script front
   front_is_legal front later legal = (front_legal setting_now (start setting_now) front later legal).0
 
-  pub follows_on : (front : List Record) (own : Record) (following : List Record) → IsLegal script (front ++ own ∷ following)
+  pub follows_on : (front : List Record) (own : Record) (following : List Record) → AreSteps script (front ++ own ∷ following)
       → Follows setting_now (at_end front) own
   follows_on front own following legal = (front_legal setting_now (start setting_now) front (own ∷ following) legal).1.0
 
-  pub legal_upto : (front : List Record) (own : Record) (following : List Record) → IsLegal script (front ++ own ∷ following)
-      → IsLegal script (front ++ own ∷ [])
+  pub legal_upto : (front : List Record) (own : Record) (following : List Record) → AreSteps script (front ++ own ∷ following)
+      → AreSteps script (front ++ own ∷ [])
   legal_upto front own following legal =
-      front_is_legal (front ++ own ∷ []) following (subst (IsLegal script) (sym (append_assoc front (own ∷ []) following)) legal)
+      front_is_legal (front ++ own ∷ []) following (subst (AreSteps script) (sym (append_assoc front (own ∷ []) following)) legal)
 
   -- the world after one more
   pub next_is : (front : List Record) (own : Record) → at_end (front ++ own ∷ []) ≡ (stepped setting_now (at_end front) own).world
   next_is front own = world_more setting_now (start setting_now) front own
 
-  pub asked_at : (records : List Record) → IsLegal script records → (c : ℕ) (asked : Asked) → ((at_end records).clients c).asked ≡ Some asked
+  pub asked_at : (records : List Record) → AreSteps script records → (c : ℕ) (asked : Asked) → ((at_end records).clients c).asked ≡ Some asked
       → IsAsked script.lines c ((at_end records).clients c) asked
   asked_at records legal = (asking_after script records sound legal).known.asked
 
-  pub named_at : (records : List Record) → IsLegal script records → Named (at_end records)
+  pub named_at : (records : List Record) → AreSteps script records → Named (at_end records)
   named_at records legal = (stands_after script records sound legal).ground.named
 
-  pub was_sent : (records : List Record) → IsLegal script records → (letter : Letter) → In letter (at_end records).sent
+  pub was_sent : (records : List Record) → AreSteps script records → (letter : Letter) → In letter (at_end records).sent
       → WasSent setting_now records letter
   unfolding In
   was_sent records legal letter i = elim (sent_from setting_now (start setting_now) records legal letter i) [ inl none ↦ absurd none | inr s ↦ s ]
 
   -- what a record sent stays sent
-  pub sent_after : (front : List Record) (own : Record) (following : List Record) → IsLegal script (front ++ own ∷ following) → (letter : Letter)
+  pub sent_after : (front : List Record) (own : Record) (following : List Record) → AreSteps script (front ++ own ∷ following) → (letter : Letter)
       → In letter own.sent → (later between : List Record) → later ≡ front ++ own ∷ between → In letter (at_end later).sent
   sent_after front own following legal letter i later between e =
       let follows = follows_on front own following legal in
@@ -144,7 +144,7 @@ module _ (script : Script) (sound : IsSound script) where
       along w [] now = sent_on setting_now (stepped setting_now w own).world between letter now
       along w (r ∷ rs) now = along (stepped setting_now w r).world rs now
 
-  pub sent_by : (front : List Record) (own : Record) (following : List Record) → IsLegal script (front ++ own ∷ following) → (letter : Letter)
+  pub sent_by : (front : List Record) (own : Record) (following : List Record) → AreSteps script (front ++ own ∷ following) → (letter : Letter)
       → In letter own.sent → is_of_read letter.body ≡ true → IsSentFrom setting_now (at_end front) own letter
   sent_by front own following legal letter i of_read =
       let follows = follows_on front own following legal in
@@ -156,12 +156,12 @@ module _ (script : Script) (sound : IsSound script) where
 
   -- no reply is sent twice
   pub sent_once : (front : List Record) (own : Record) (between : List Record) (other : Record) (following : List Record)
-      → IsLegal script (front ++ own ∷ (between ++ other ∷ following)) → (letter : Letter) (n : ℕ) → In letter own.sent
+      → AreSteps script (front ++ own ∷ (between ++ other ∷ following)) → (letter : Letter) (n : ℕ) → In letter own.sent
       → other.actor ≡ actor.Server n → letter.«from» ≡ actor.Server n → letter.stamp ≡ other.stamp → ⊥
   sent_once front own between other following legal letter n i who from_is at =
       let done = front ++ own ∷ between in
-      let joined : IsLegal script (done ++ other ∷ following) =
-      subst (IsLegal script) (sym (append_assoc front (own ∷ between) (other ∷ following))) legal in
+      let joined : AreSteps script (done ++ other ∷ following) =
+      subst (AreSteps script) (sym (append_assoc front (own ∷ between) (other ∷ following))) legal in
       let there = sent_after front own (between ++ other ∷ following) legal letter i done between refl in
       let early = (named_at done (front_is_legal done (other ∷ following) joined)).early letter there in
       let later = (follows_on done other following joined).stamp in

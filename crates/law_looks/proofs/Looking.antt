@@ -20,7 +20,7 @@ use Rattle.petal_rules.specs.Log.{rev_of}
 use Rattle.petal_rules.specs.World.{MayActor, MayClient, MayDeliver, Setting, World, setting_of, start}
 use Rattle.petal_rules.proofs.Tests.{by_bool, none_some, same_some, true_false}
 use Rattle.petal_history.specs.Events.{NotThere, accepted, look_for, old_data, reads_old, turns}
-use Rattle.petal_history.specs.Legal.{IsLegal, stepped, world_after}
+use Rattle.petal_history.specs.Steps.{AreSteps, stepped, world_after}
 use Rattle.petal_history.specs.Order.{AreRising}
 use Rattle.petal_history.specs.Sound.{IsSound}
 use Rattle.petal_history.specs.declared.record.Record.{Record}
@@ -76,18 +76,18 @@ one_look setting w next own later letter number look events alone is one =
     ∙ ap (of_line number) (append-nil (letter_looks setting w next own.actor later letter letter.body) ∙ is)
     ∙ beside_one number look events one
 
-module _ (script : Script) (sound : IsSound script) (rise : AreRising script.lines) (records : List Record) (legal : IsLegal script records) where
+module _ (script : Script) (sound : IsSound script) (rise : AreRising script.lines) (records : List Record) (legal : AreSteps script records) where
   abbrev setting : Setting
   setting = setting_of script
 
   abbrev At : List Record → World
   At rs = world_after setting (start setting) rs
 
-  legal_so : {others : List Record} → records ≡ others → IsLegal script others
-  legal_so e = subst (IsLegal script) e legal
+  legal_so : {others : List Record} → records ≡ others → AreSteps script others
+  legal_so e = subst (AreSteps script) e legal
 
   -- what the laws below know of the world after these records
-  abbrev grounded_at : (front : List Record) → IsLegal script front → Grounded
+  abbrev grounded_at : (front : List Record) → AreSteps script front → Grounded
   grounded_at front fine =
       let st = stands_after script front sound fine in
       record { setting = setting; state = st.state; w = At front; firm = st.ground.ready.firm; ground = st.ground }
@@ -148,7 +148,7 @@ module _ (script : Script) (sound : IsSound script) (rise : AreRising script.lin
     abbrev n : ℕ
     n = a.line.number
 
-    front_fine : IsLegal script m.front
+    front_fine : AreSteps script m.front
     front_fine = front_is_legal script sound m.front (m.own ∷ m.following) (legal_so m.is)
 
     abbrev reply_is : answers_read a.letter.body ≡ Some a.seq
@@ -221,7 +221,7 @@ module _ (script : Script) (sound : IsSound script) (rise : AreRising script.lin
       turning : Record
       between : List Record
       is : s.front ≡ (front ++ own ∷ turned) ++ turning ∷ between
-      legal_then : IsLegal script ((front ++ own ∷ turned) ++ turning ∷ between)
+      legal_then : AreSteps script ((front ++ own ∷ turned) ++ turning ∷ between)
       so : turns letter (At (front ++ own ∷ turned)) turning (stepped setting (At (front ++ own ∷ turned)) turning).world ≡ true
       to : letter.to ≡ actor.Client a.client
       rev : letter.rev ≡ a.letter.rev
@@ -257,7 +257,7 @@ module _ (script : Script) (sound : IsSound script) (rise : AreRising script.lin
               turning = t.own;
               between = t.following;
               is = is;
-              legal_then = subst (IsLegal script) is (front_is_legal script sound s.front (s.own ∷ after_s) (legal_so s_is));
+              legal_then = subst (AreSteps script) is (front_is_legal script sound s.front (s.own ∷ after_s) (legal_so s_is));
               so = subst (λ u. turns letter u t.own (stepped setting u t.own).world ≡ true) (sym (world_split setting (start setting) front own t.front)) t.so;
               to = to;
               rev = rev;
@@ -326,13 +326,13 @@ module _ (script : Script) (sound : IsSound script) (rise : AreRising script.lin
       abbrev not_here : Letter
       not_here = t.letter
 
-      s_fine : IsLegal script s.front
+      s_fine : AreSteps script s.front
       s_fine = front_is_legal script sound s.front (s.own ∷ after_s) (legal_so s_is)
 
-      t_legal : IsLegal script (t.front ++ t.own ∷ t.following)
-      t_legal = subst (IsLegal script) t.is s_fine
+      t_legal : AreSteps script (t.front ++ t.own ∷ t.following)
+      t_legal = subst (AreSteps script) t.is s_fine
 
-      t_fine : IsLegal script t.front
+      t_fine : AreSteps script t.front
       t_fine = front_is_legal script sound t.front (t.own ∷ t.following) t_legal
 
       comes : MayDeliver (At t.front) (actor.Client a.client) not_here
@@ -417,7 +417,7 @@ module _ (script : Script) (sound : IsSound script) (rise : AreRising script.lin
           turned_front : List Record
           turned_front = other.front ++ other.own ∷ f.turned
 
-          fine : IsLegal script turned_front
+          fine : AreSteps script turned_front
           fine = front_is_legal script sound turned_front (f.turning ∷ f.between) f.legal_then
 
           k : IsTurnOf script sound (At turned_front) f.turning letter seq
@@ -436,9 +436,9 @@ module _ (script : Script) (sound : IsSound script) (rise : AreRising script.lin
               deliver_is letter not_here (sym turn_too.what ∙ ap (λ (r : Record). r.step) (sym own_is) ∙ t.turn.what) in
               (one_sender not_here a.seq reply_n other.front other.own other.following other.is (subst (λ l. In l other.own.sent) letter_is there)
               o.front o.own after_o o_is o.there).front_is
-          by (Is_former between same rest) = absurd (turns_once script sound t.front t.own between f.turning (subst (IsLegal script) same fine) not_here letter
+          by (Is_former between same rest) = absurd (turns_once script sound t.front t.own between f.turning (subst (AreSteps script) same fine) not_here letter
               a.client a.seq a.letter.rev t.turn (subst (λ rs. IsTurn setting (At rs) f.turning letter a.client a.seq a.letter.rev) same turn_too))
-          by (Is_latter between same rest) = absurd (turns_once script sound turned_front f.turning between t.own (subst (IsLegal script) same t_fine) letter
+          by (Is_latter between same rest) = absurd (turns_once script sound turned_front f.turning between t.own (subst (AreSteps script) same t_fine) letter
               not_here a.client a.seq a.letter.rev turn_too
               (subst (λ rs. IsTurn setting (At rs) t.own not_here a.client a.seq a.letter.rev) same t.turn))
 

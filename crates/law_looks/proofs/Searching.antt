@@ -16,7 +16,7 @@ use Rattle.petal_rules.specs.declared.step.Step.TheVariants.{Deliver}
 use Rattle.petal_rules.proofs.Tests.{both_true, by_bool, none_some, number_itself, same_numbers, same_some}
 use Rattle.petal_history.specs.Events.{NotThere, accepted, accepts, data_among, data_line, data_of, first_data, first_of, line_of_data, old_data}
 use Rattle.petal_history.specs.Events.{reads_old, same_actor, same_name, turns}
-use Rattle.petal_history.specs.Legal.{stepped, world_after}
+use Rattle.petal_history.specs.Steps.{stepped, world_after}
 use Rattle.petal_history.specs.declared.record.Record.{Record}
 use Rattle.law_run.proofs.Names.{one_actor}
 

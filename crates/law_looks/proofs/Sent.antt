@@ -21,7 +21,7 @@ use Rattle.petal_rules.specs.declared.step.Step.TheVariants.{Call}
 use Rattle.petal_rules.proofs.ListLemmas.{in_former, put_same}
 use Rattle.petal_rules.proofs.Tests.{by_bool, none_some, same_some, true_false}
 use Rattle.petal_history.specs.Claims.{IsPrefix}
-use Rattle.petal_history.specs.Legal.{IsLegal, stepped, world_after}
+use Rattle.petal_history.specs.Steps.{AreSteps, stepped, world_after}
 use Rattle.petal_history.specs.Sound.{IsSound}
 use Rattle.petal_history.specs.declared.record.Record.{Record}
 use Rattle.law_state.specs.Plain.{IsPlainLog}
@@ -94,14 +94,14 @@ module _ (script : Script) (sound : IsSound script) where
     own : Record
     following : List Record
     is : records ≡ (front ++ own ∷ []) ++ following
-    legal : IsLegal script (front ++ own ∷ [])
+    legal : AreSteps script (front ++ own ∷ [])
     so : IsSentFor setting (At (front ++ own ∷ [])) client seq cell rev
 
-  source : (records : List Record) → IsLegal script records → (letter : Letter) → In letter (At records).sent → (client seq : ℕ) (cell : Cell)
+  source : (records : List Record) → AreSteps script records → (letter : Letter) → In letter (At records).sent → (client seq : ℕ) (cell : Cell)
       (epoch : ℕ) → letter.body ≡ body.Read client seq cell epoch → IsSource records client seq cell letter.rev
   source records legal letter i client seq cell epoch says =
       let s = was_sent script sound records legal letter i in
-      let there : IsLegal script (s.front ++ s.own ∷ s.following) = subst (IsLegal script) s.is legal in
+      let there : AreSteps script (s.front ++ s.own ∷ s.following) = subst (AreSteps script) s.is legal in
       let of_read : is_of_read letter.body ≡ true = ap is_of_read says in
       let so = by s.front s.own (sent_by script sound s.front s.own s.following there letter s.there of_read) in
       record {
@@ -122,7 +122,7 @@ module _ (script : Script) (sound : IsSound script) where
 
   -- ### It was called
 
-  pub read_called : (records : List Record) → IsLegal script records → (n client seq : ℕ) (cell : Cell) (epoch : ℕ)
+  pub read_called : (records : List Record) → AreSteps script records → (n client seq : ℕ) (cell : Cell) (epoch : ℕ)
       → Handled (At records) n (body.Read client seq cell epoch) → (line : Line) → line_by script.lines client seq ≡ Some line
       → WasCalled records client line.number
   read_called records legal n client seq cell epoch h line is =
@@ -159,7 +159,7 @@ module _ (script : Script) (sound : IsSound script) where
   old_way_of log plain cell name disk block false found is leaves =
       true_false leaves (ap (leaving (state_after script.servers log)) is ∙ named_stays log plain name disk block found)
 
-  pub read_turned : (records : List Record) → IsLegal script records → (n client seq : ℕ) (cell : Cell) (epoch : ℕ)
+  pub read_turned : (records : List Record) → AreSteps script records → (n client seq : ℕ) (cell : Cell) (epoch : ℕ)
       → Handled (At records) n (body.Read client seq cell epoch) → leaving (state_after script.servers ((At records).servers n).log.applied) cell ≡ true
       → WasTurned setting records client seq (rev_of ((At records).servers n).log)
   read_turned records legal n client seq cell epoch h leaves =

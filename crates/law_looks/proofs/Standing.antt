@@ -6,7 +6,7 @@ use Rattle.petal_state.specs.Command.{state_after}
 use Rattle.petal_rules.specs.State.{State}
 use Rattle.petal_rules.specs.World.{Setting, World, chosen_log, setting_of, start}
 use Rattle.petal_history.specs.Claims.{IsPrefix}
-use Rattle.petal_history.specs.Legal.{IsLegal, IsLegalFrom, stepped, world_after}
+use Rattle.petal_history.specs.Steps.{AreSteps, AreStepsFrom, stepped, world_after}
 use Rattle.petal_history.specs.Sound.{IsSound}
 use Rattle.petal_history.specs.declared.record.Record.{Record}
 use Rattle.law_state.specs.Plain.{IsPlainLog}
@@ -40,18 +40,18 @@ module _ (script : Script) (sound : IsSound script) (whole : List Command) (all 
 
   -- the ground holds at the end of these records
   ground_on : (w : World) (records : List Record) → AreFirm setting w records → WakeAlong setting w records
-      → IsPrefix (chosen_log setting (world_after setting w records)) whole → (footing : F w) → IsLegal script (footing.ground.records ++ records)
-      → IsLegalFrom setting w records → F (world_after setting w records)
+      → IsPrefix (chosen_log setting (world_after setting w records)) whole → (footing : F w) → AreSteps script (footing.ground.records ++ records)
+      → AreStepsFrom setting w records → F (world_after setting w records)
   ground_on w [] firm wakes end footing all_legal legal = footing
   ground_on w (own ∷ later) firm wakes end footing all_legal legal =
       let v = (stepped setting w own).world in
       let done = footing.ground.records in
       let front = reaches v later firm.2 end in
-      let joined : IsLegal script ((done ++ own ∷ []) ++ later) = subst (IsLegal script) (sym (append_assoc done (own ∷ []) later)) all_legal in
+      let joined : AreSteps script ((done ++ own ∷ []) ++ later) = subst (AreSteps script) (sym (append_assoc done (own ∷ []) later)) all_legal in
       let next = next_ground script sound whole all w own footing (front_legal setting (start setting) (done ++ own ∷ []) later joined).0
       (along_at script sound whole all w firm.0 (front_on _ _ _ firm.1 front)) (along_at script sound whole all v (firm_now setting v later firm.2) front)
       firm.1 (wake_now v later wakes.1) legal.0 in
-      ground_on v later firm.2 wakes.1 end next.now (subst (λ ds. IsLegal script (ds ++ later)) (sym next.records_are) joined) legal.1
+      ground_on v later firm.2 wakes.1 end next.now (subst (λ ds. AreSteps script (ds ++ later)) (sym next.records_are) joined) legal.1
 
 -- a world with what is known of it, at a steady state from what is chosen on
 pub record Stands (setting : Setting) (w : World) : Type 0 where
@@ -59,7 +59,7 @@ pub record Stands (setting : Setting) (w : World) : Type 0 where
   pub steady : IsSteady state
   pub ground : Ground setting state w
 
-pub stands_after : (script : Script) (records : List Record) → IsSound script → IsLegal script records
+pub stands_after : (script : Script) (records : List Record) → IsSound script → AreSteps script records
     → Stands (setting_of script) (world_after (setting_of script) (start (setting_of script)) records)
 stands_after script records sound legal =
     let setting = setting_of script in
@@ -75,5 +75,5 @@ stands_after script records sound legal =
     (wake_now script sound whole last.plain begun records wakes) in
     let footing : Footing script sound whole last.plain begun = record { ground = first.now; known = first.known; lives_are = first.lives_are } in
     let f = ground_on script sound whole last.plain begun records firm wakes end footing
-    (subst (λ done. IsLegal script (done ++ records)) (sym first.records_are) legal) legal in
+    (subst (λ done. AreSteps script (done ++ records)) (sym first.records_are) legal) legal in
     record { state = state_after script.servers whole; steady = log_steady script.servers whole last.plain; ground = f.ground }

@@ -15,7 +15,7 @@ use Rattle.petal_rules.specs.declared.step.Step.TheVariants.{Call, Deliver}
 use Rattle.petal_rules.proofs.ListLemmas.{in_former, in_later}
 use Rattle.petal_rules.proofs.Tests.{both_true, none_some, not_true, same_some, true_false}
 use Rattle.petal_history.specs.Events.{delivers, goes_old, is_old_way, same_name, turns}
-use Rattle.petal_history.specs.Legal.{Follows, IsLegal, stepped, world_after}
+use Rattle.petal_history.specs.Steps.{Follows, AreSteps, stepped, world_after}
 use Rattle.petal_history.specs.Sound.{IsSound}
 use Rattle.petal_history.specs.declared.record.Record.{Record}
 use Rattle.law_state.specs.Moments.{IsMoment}
@@ -77,7 +77,7 @@ module _ (script : Script) (sound : IsSound script) where
 
   -- ### One step
 
-  module _ (done : List Record) (own : Record) (legal : IsLegal script done) (follows : Follows setting (At done) own) (kept : Kept done (At done)) where
+  module _ (done : List Record) (own : Record) (legal : AreSteps script done) (follows : Follows setting (At done) own) (kept : Kept done (At done)) where
     abbrev v : World
     v = (stepped setting (At done) own).world
 
@@ -145,7 +145,7 @@ module _ (script : Script) (sound : IsSound script) where
 
   -- ### A history
 
-  kept_from : (done later : List Record) → IsLegal script (done ++ later) → Kept done (At done) → Kept (done ++ later) (At (done ++ later))
+  kept_from : (done later : List Record) → AreSteps script (done ++ later) → Kept done (At done) → Kept (done ++ later) (At (done ++ later))
   kept_from done [] legal kept = subst (λ rs. Kept rs (At rs)) (sym (append-nil done)) kept
   kept_from done (own ∷ later) legal kept =
       let e = append_assoc done (own ∷ []) later in
@@ -153,18 +153,18 @@ module _ (script : Script) (sound : IsSound script) where
       let now : Kept (done ++ own ∷ []) (At (done ++ own ∷ [])) =
       subst (Kept (done ++ own ∷ [])) (sym (next_is script sound done own))
       (kept_more done own (front_is_legal script sound done (own ∷ later) legal) follows kept) in
-      subst (λ rs. Kept rs (At rs)) e (kept_from (done ++ own ∷ []) later (subst (IsLegal script) (sym e) legal) now)
+      subst (λ rs. Kept rs (At rs)) e (kept_from (done ++ own ∷ []) later (subst (AreSteps script) (sym e) legal) now)
 
-  kept_after : (records : List Record) → IsLegal script records → Kept records (At records)
+  kept_after : (records : List Record) → AreSteps script records → Kept records (At records)
   kept_after records legal = kept_from [] records legal (record { turned = λ c asked e. none_some refl e; called = λ c asked e. none_some refl e })
 
   -- a read that asks the old map was turned to it at the revision of its latest send
-  pub was_turned : (records : List Record) → IsLegal script records → (c : ℕ) (asked : Asked) → ((At records).clients c).asked ≡ Some asked
+  pub was_turned : (records : List Record) → AreSteps script records → (c : ℕ) (asked : Asked) → ((At records).clients c).asked ≡ Some asked
       → asked.old_way ≡ true → WasTurned setting records c asked.seq asked.rev
   was_turned records legal = (kept_after records legal).turned
 
   -- an open request was called
-  pub was_called : (records : List Record) → IsLegal script records → (c : ℕ) (asked : Asked) → ((At records).clients c).asked ≡ Some asked
+  pub was_called : (records : List Record) → AreSteps script records → (c : ℕ) (asked : Asked) → ((At records).clients c).asked ≡ Some asked
       → WasCalled records c asked.line
   was_called records legal = (kept_after records legal).called
 
@@ -175,7 +175,7 @@ module _ (script : Script) (sound : IsSound script) where
     low : seq ≤ (w.clients c).seq
     past : (asked : Asked) → (w.clients c).asked ≡ Some asked → asked.seq ≡ seq → (rev < asked.rev) ⊎ ((asked.rev ≡ rev) × (asked.old_way ≡ true))
 
-  past_next : (done : List Record) (own : Record) → IsLegal script done → Follows setting (At done) own → (c seq rev : ℕ) → IsPast (At done) c seq rev
+  past_next : (done : List Record) (own : Record) → AreSteps script done → Follows setting (At done) own → (c seq rev : ℕ) → IsPast (At done) c seq rev
       → IsPast (stepped setting (At done) own).world c seq rev
   past_next done own legal follows c seq rev p = record {
     low = let up = step_seq setting (At done) own.actor own.step own.stamp follows.may.may c in let low = p.low in omega arith;
@@ -209,7 +209,7 @@ module _ (script : Script) (sound : IsSound script) where
       by new at (Is_still was) = p.past new was at
       by new at (By_its_step who may way) = has new at (is_call own.step) way
 
-  past_along : (done later : List Record) → IsLegal script (done ++ later) → (c seq rev : ℕ) → IsPast (At done) c seq rev
+  past_along : (done later : List Record) → AreSteps script (done ++ later) → (c seq rev : ℕ) → IsPast (At done) c seq rev
       → IsPast (At (done ++ later)) c seq rev
   past_along done [] legal c seq rev p = subst (λ rs. IsPast (At rs) c seq rev) (sym (append-nil done)) p
   past_along done (own ∷ later) legal c seq rev p =
@@ -217,15 +217,15 @@ module _ (script : Script) (sound : IsSound script) where
       let now : IsPast (At (done ++ own ∷ [])) c seq rev =
       subst (λ u. IsPast u c seq rev) (sym (next_is script sound done own))
       (past_next done own (front_is_legal script sound done (own ∷ later) legal) (follows_on script sound done own later legal) c seq rev p) in
-      subst (λ rs. IsPast (At rs) c seq rev) e (past_along (done ++ own ∷ []) later (subst (IsLegal script) (sym e) legal) c seq rev now)
+      subst (λ rs. IsPast (At rs) c seq rev) e (past_along (done ++ own ∷ []) later (subst (AreSteps script) (sym e) legal) c seq rev now)
 
   -- a read does not turn to the old map a second time at one revision
-  pub turns_once : (front : List Record) (own : Record) (between : List Record) (other : Record) → IsLegal script (front ++ own ∷ between)
+  pub turns_once : (front : List Record) (own : Record) (between : List Record) (other : Record) → AreSteps script (front ++ own ∷ between)
       → (letter again : Letter) (c seq rev : ℕ)
       → IsTurn setting (At front) own letter c seq rev → IsTurn setting (At (front ++ own ∷ between)) other again c seq rev → ⊥
   turns_once front own between other legal letter again c seq rev one two =
       let e = append_assoc front (own ∷ []) between in
-      let joined : IsLegal script ((front ++ own ∷ []) ++ between) = subst (IsLegal script) (sym e) legal in
+      let joined : AreSteps script ((front ++ own ∷ []) ++ between) = subst (AreSteps script) (sym e) legal in
       let next = next_is script sound front own in
       let after : IsAskedSo (At (front ++ own ∷ [])) c seq rev true = subst (λ u. IsAskedSo u c seq rev true) (sym next) one.after in
       let last = (asked_at script sound (front ++ own ∷ []) (front_is_legal script sound (front ++ own ∷ []) between joined) c after.asked after.is).last in
@@ -255,7 +255,7 @@ module _ (script : Script) (sound : IsSound script) where
     pub to : letter.to ≡ actor.Client client
     pub turn : IsTurn setting w own letter client seq letter.rev
 
-  module _ (front : List Record) (own : Record) (legal : IsLegal script front) (follows : Follows setting (At front) own) (letter : Letter) (seq : ℕ)
+  module _ (front : List Record) (own : Record) (legal : AreSteps script front) (follows : Follows setting (At front) own) (letter : Letter) (seq : ℕ)
       (sent : In letter (At front).sent) (said : letter.body ≡ body.NotHere seq) where
     abbrev w : World
     w = At front

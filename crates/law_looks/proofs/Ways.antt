@@ -134,6 +134,8 @@ module _ (state : State) (c : ℕ) where
   seen_for_stays : (client : Client) (asked : Asked) (sight : Sight) → client.asked ≡ Some asked → (what : Request)
       → S client (sees_for state client asked sight what)
   seen_for_stays client asked sight is (request.Stop server) = gives_stays client asked answer.Ok
+  seen_for_stays client asked sight is (request.StopAt server at) = gives_stays client asked answer.Ok
+  seen_for_stays client asked sight is (request.Fault server which kind at) = gives_stays client asked answer.Ok
   seen_for_stays client asked sight is (request.Start server) = gives_stays client asked (if sight.running then answer.Ok else answer.Failed)
   seen_for_stays client asked sight is (request.Blank server) = gives_stays client asked (if sight.running then answer.Ok else answer.Failed)
   seen_for_stays client asked sight is request.Settle = settles_stay client asked sight is

@@ -13,7 +13,7 @@ use Rattle.petal_rules.specs.State.{State}
 use Rattle.petal_rules.specs.Store.{bytes_of, chain_in, entry_at}
 use Rattle.petal_rules.specs.World.{Setting, chosen_state, start}
 use Rattle.petal_rules.specs.declared.step.Step.TheVariants.{Deliver}
-use Rattle.petal_history.specs.Legal.{world_after}
+use Rattle.petal_history.specs.Steps.{world_after}
 use Rattle.petal_history.specs.declared.record.Record.{Record}
 use Rattle.law_state.specs.Homes.{stage_at}
 use Rattle.law_state.specs.Moments.{IsMoment}

@@ -15,7 +15,7 @@ use Rattle.petal_rules.specs.Lists.{In}
 use Rattle.petal_rules.specs.World.{Setting, World, start}
 use Rattle.petal_rules.specs.declared.step.Step.TheVariants.{Call}
 use Rattle.petal_history.specs.Events.{accepted, look_for, old_data, reads_old}
-use Rattle.petal_history.specs.Legal.{stepped, world_after}
+use Rattle.petal_history.specs.Steps.{stepped, world_after}
 use Rattle.petal_history.specs.declared.record.Record.{Record}
 use Rattle.law_state.specs.Moments.{IsMoment}
 

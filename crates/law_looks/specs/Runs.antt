@@ -3,7 +3,7 @@ use Rattle.std.specs.Prelude.{ℕ, ◌+◌, List, [], ◌∷◌, ◌++◌, map}
 use Rattle.petal_machine.specs.declared.event.Event.{Event}
 use Rattle.petal_rules.specs.World.{Setting, World, start}
 use Rattle.petal_history.specs.Examples.{make_moves, read_moves, sevens, write_moves}
-use Rattle.petal_history.specs.Legal.{stepped}
+use Rattle.petal_history.specs.Steps.{stepped}
 use Rattle.petal_history.specs.Play.{records_of}
 use Rattle.petal_history.specs.declared.record.Record.{Record}
 use Rattle.law_looks.specs.Looks.{record_looks}

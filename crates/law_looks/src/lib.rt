@@ -15,7 +15,7 @@ ghost use Rattle.petal_rules.specs.Lists.{In};
 ghost use Rattle.petal_rules.specs.World.{Setting, World};
 ghost use Rattle.petal_rules.specs.declared.step.Step.TheVariants.{Call};
 ghost use Rattle.script_lines.specs.declared.answer.Answer.TheVariants.{Data};
-ghost use Rattle.law_state.specs.Histories.{IsLegal, IsSound, Record, Script, setting_of, start};
+ghost use Rattle.law_state.specs.Histories.{AreSteps, IsSound, Record, Script, setting_of, start};
 ghost use Rattle.law_state.specs.Moments.{IsMoment};
 ghost use Rattle.law_looks.specs.Links.{IsReadFrom};
 ghost use Rattle.law_looks.specs.Looks.{HasItsLook, IsAnsweredAfter, looks_at, record_looks};
@@ -31,21 +31,21 @@ pub fn the_looks_are_those_of_the_events()
 /// a server's step after the record that called the line and before the one that answers it, and no other record tells a look for the line.
 /// The lines rise, so an answer's number names the place of one line.
 pub fn each_read_looks_once()
-    ensures { (script : Script) (records : List Record) → IsSound script → AreRising script.lines → IsLegal script records
+    ensures { (script : Script) (records : List Record) → IsSound script → AreRising script.lines → AreSteps script records
         → (answer : IsMoment records) (number : ℕ) (bytes : List ℕ) → answer.own.answer ≡ Some (number, Data bytes)
         → HasItsLook (setting_of script) records answer number bytes }
 {}
 
 /// A look is told only for a line that a later record answers with data: so looks and such answers belong together one by one.
 pub fn each_look_is_answered()
-    ensures { (script : Script) (records : List Record) → IsSound script → AreRising script.lines → IsLegal script records
+    ensures { (script : Script) (records : List Record) → IsSound script → AreRising script.lines → AreSteps script records
         → (moment : IsMoment records) (look : ℕ × Event) → In look (looks_at (setting_of script) records moment)
         → IsAnsweredAfter records moment look.0 }
 {}
 
 /// A line is called once: two records that call it are one.
 pub fn a_line_is_called_once()
-    ensures { (script : Script) (records : List Record) → AreRising script.lines → IsLegal script records
+    ensures { (script : Script) (records : List Record) → AreRising script.lines → AreSteps script records
         → (one other : IsMoment records) (number : ℕ) → one.own.step ≡ Call number → other.own.step ≡ Call number → one.front ≡ other.front }
 {}
 
@@ -53,7 +53,7 @@ pub fn a_line_is_called_once()
 /// and by what was chosen then the server serves the cell's link. So no read of a link that is Lost is answered with data. Where the cell has no
 /// link any more, its map is dead: the last of its regions has moved.
 pub fn no_lost_link_is_read()
-    ensures { (script : Script) (records : List Record) → IsSound script → AreRising script.lines → IsLegal script records
+    ensures { (script : Script) (records : List Record) → IsSound script → AreRising script.lines → AreSteps script records
         → (answer : IsMoment records) (number : ℕ) (bytes : List ℕ) → answer.own.answer ≡ Some (number, Data bytes)
         → IsReadFrom (setting_of script) records answer number bytes }
 {}

@@ -1,2 +1,4 @@
 pub mod Playing
 pub mod Starting
+pub mod Errands
+pub mod Planning

@@ -1,3 +1,4 @@
 pub use Rattle.world_desks.specs.Desks
 pub use Rattle.world_desks.specs.Playable
 pub mod Play
+pub mod Errands

@@ -1,23 +1,30 @@
 //! The world.
 
-ghost use Rattle.std.specs.Prelude.{◌≡◌, ◌+◌, ◌++◌, ◌∷◌, [], map, min, false, true, IfOk, OnOk, OnErr, IsErrOf};
+ghost use Rattle.std.specs.Prelude.{◌≡◌, ◌↔◌, ◌+◌, ◌++◌, ◌∷◌, [], All, map, min, false, true, option_copied, IfOk, IsTrue, OnOk, OnErr, IsErrOf};
+ghost use Rattle.petal_history.specs.Controls.{Obeys};
+ghost use Rattle.petal_history.specs.Legal.{IsLegal};
 ghost use Rattle.petal_history.specs.Steps.{AreSteps};
+ghost use Rattle.petal_rules.specs.Plans.{unarmed};
+ghost use Rattle.petal_rules.specs.declared.step.Step.{Step};
+ghost use Rattle.petal_world.specs.Errands.{Runs};
 ghost use Rattle.client_seats.specs.Core.{settle_of};
 ghost use Rattle.petal_rules.specs.Jobs.{operator};
-ghost use Rattle.petal_rules.specs.World.{MayStep, greatest_u64, setting_of};
-ghost use Rattle.petal_world.specs.Play.{entered, played, told_by, world_of};
+ghost use Rattle.petal_rules.specs.World.{MayStep, greatest_u64, next_line, setting_of};
+ghost use Rattle.petal_world.specs.Play.{MayPlay, entered, errand_in, played, told_by, world_of};
+ghost use Rattle.world_actors.specs.Actors.{LeavesPlansBy};
 ghost use Rattle.world_actors.specs.Steps.{Can, LeavesIn, rev_of};
 ghost use Rattle.world_desks.specs.Desks.{ended, first_sites};
 ghost use Rattle.world_desks.specs.Playable.{AreNumbered, AreOrdered};
 ghost use Rattle.petal_world.specs.declared.error.WorldError.TheVariants as error;
 
 use crate::WorldError;
+use crate::errand::Errand;
 use client_seats::Seats;
-use petal_base::{NoMemory, Rev, Sequence, Stamp};
+use petal_base::{NoMemory, OPERATOR, Rev, Sequence, Stamp};
 use petal_history::{History, Record};
 use petal_msg::{Actor, SharedLetter};
 use petal_rules::Step;
-use script_lines::{Answer, Script};
+use script_lines::{Answer, Line, Script};
 use std::alloc::Global;
 use std::marker::Model;
 use world_actors::{Actors, Control, Stepped};
@@ -28,7 +35,8 @@ use world_desks::sent::Sent;
 use world_desks::waiting::Waiting;
 
 /// All servers and clients of a script's run, and the records of their steps. Contracts see the script, the records, the
-/// phase, and the least stamp of a client's next step. The records are a legal history of the script.
+/// phase, the least stamp of a client's next step, and whether a step may have been taken that no line gives. The records are allowed steps,
+/// and a legal history of the script where no step was free.
 #[derive(Drop)]
 pub struct World<H: Host> {
     script: Script,
@@ -36,7 +44,10 @@ pub struct World<H: Host> {
     phase: u32,
     floor: Stamp,
     over: bool,
+    // A step may have been taken that no line of the script gives.
+    free: bool,
     actors: Actors<H>,
+    errand: Errand,
 }
 
 impl<H: Host> Model for World<H> {
@@ -44,9 +55,10 @@ impl<H: Host> Model for World<H> {
 
     ghost Value = { Play };
 
-    ghost view = { λ w. record { script = w.script; records = w.records; phase = w.phase; floor = w.floor; over = w.over } };
+    ghost view = { λ w. record { script = w.script; records = w.records; phase = w.phase; floor = w.floor; over = w.over; free = w.free } };
 
-    ghost invariant = { λ w. IsKept (record { script = w.script; records = w.records; phase = w.phase; floor = w.floor; over = w.over }) w.actors };
+    ghost invariant = { λ w. IsKept
+        (record { script = w.script; records = w.records; phase = w.phase; floor = w.floor; over = w.over; free = w.free }) w.actors w.errand };
 }
 
 fn shared(letters: &[SharedLetter], alloc: Global) -> Result<Sequence<SharedLetter>, NoMemory>
@@ -108,6 +120,7 @@ fn take<H: Host>(
     step: &Step,
 ) -> Result<Stepped, NoMemory>
     requires { Can actors.old actor step.now }
+    ensures plans { IfOk result (λ stepped. LeavesPlansBy actor (ended step.now stepped.end) actors.old.desks actors.new.desks) }
     ensures ok { IfOk result (λ stepped. (records.new
         ≡ records.old ++ record {
           actor = actor;
@@ -140,7 +153,8 @@ impl<H: Host> World<H> {
         requires numbered { AreNumbered script.lines }
         requires ordered { AreOrdered script.lines }
         requires hosts { map H.seen hosts ≡ first_sites script }
-        ensures { IfOk result (λ world. world ≡ record { script = script; records = []; phase = 0; floor = 0; over = false }) }
+        requires unarmed { All (λ host. H.armed host ≡ unarmed) hosts }
+        ensures { IfOk result (λ world. world ≡ record { script = script; records = []; phase = 0; floor = 0; over = false; free = false }) }
     {
         let actors = Actors {
             seats: Seats::start(alloc, &script)?,
@@ -155,7 +169,9 @@ impl<H: Host> World<H> {
             phase: 0,
             floor: 0,
             over: false,
+            free: false,
             actors,
+            errand: Errand::none(),
         })
     }
 
@@ -187,15 +203,75 @@ impl<H: Host> World<H> {
         self.actors.settling()
     }
 
-    /// Takes a step, and tells the letters that it sent, the answer that it gave and how its job ended. How a job ends is for
-    /// the devices to say, whatever end the step names: the step with the end that is told is the one that was taken, and its
-    /// record is kept. `NotAllowed` comes exactly where the step is not one of the world's in this state, which is so of a job
-    /// with each end or with none, also where the plan of a device stops the server in it. After it ran out of memory the step did not happen, and none follows.
-    pub fn step(&mut self, alloc: Global, actor: Actor, step: &Step) -> Result<Stepped, WorldError>
-        ensures allowed { OnOk result (MayStep (setting_of self.old.script) (world_of self.old) actor step.now) }
+    /// The line that the operator calls next.
+    fn next_order(&self) -> Option<&Line>
+        ensures { self.now.over ≡ false
+            → option_copied result ≡ next_line self.now.script.lines operator ((world_of self.now).clients operator) }
+    {
+        match self.actors.seats.get(OPERATOR) {
+            None => None,
+            Some(seat) => seat.next_line(),
+        }
+    }
+
+    /// Whether an actor that may take the step runs, where it is a server.
+    fn runs(&self, actor: Actor) -> bool
+        ensures { self.now.over ≡ false → (what : Step) → MayStep (setting_of self.now.script) (world_of self.now) actor what
+            → Runs (world_of self.now) actor result }
+    {
+        self.actors.rev(actor).is_some()
+    }
+
+    /// Whether the operator's line allows a step that the rules allow.
+    fn obeys(&self, actor: Actor, step: &Step) -> bool
+        ensures { self.now.over ≡ false → MayStep (setting_of self.now.script) (world_of self.now) actor step.now
+            → IsTrue result ↔ Obeys actor step.now (world_of self.now) (errand_in self.now) }
+    {
+        self.errand.allows(actor, self.runs(actor), step)
+    }
+
+    /// Takes a step that the rules allow.
+    fn take_allowed(
+        &mut self,
+        alloc: Global,
+        actor: Actor,
+        step: &Step,
+    ) -> Result<Stepped, NoMemory>
+        requires going { self.old.over ≡ false }
+        requires may { MayStep (setting_of self.old.script) (world_of self.old) actor step.now }
+        requires obeys { self.old.free ≡ false → Obeys actor step.now (world_of self.old) (errand_in self.old) }
         ensures ok { IfOk result (λ stepped. self.new ≡ played self.old actor (ended step.now stepped.end)) }
         ensures told { IfOk result (λ stepped. stepped ≡ told_by self.old actor (ended step.now stepped.end)) }
-        ensures not_allowed { IsErrOf result error.NotAllowed → MayStep (setting_of self.old.script) (world_of self.old) actor step.now → ⊥ }
+        ensures no_memory { OnErr result (self.new ≡ record self.old { over = true }) }
+    {
+        let stamp = self.actors.stamp_of(self.floor, actor, step);
+        let phase = self.actors.phase_for(self.phase, actor, step);
+        let errand = self
+            .errand
+            .after(actor, self.runs(actor), step, self.next_order());
+        let (actors, records) = (&mut self.actors, &mut self.records);
+        match take(alloc, actors, records, actor, stamp, phase, step) {
+            Ok(stepped) => {
+                self.errand = errand;
+                Ok(stepped)
+            }
+            Err(NoMemory) => {
+                self.over = true;
+                Err(NoMemory)
+            }
+        }
+    }
+
+    /// Takes a step, and tells the letters that it sent, the answer that it gave and how its job ended. How a job ends is for
+    /// the devices to say, whatever end the step names: the step with the end that is told is the one that was taken, and its
+    /// record is kept. `NotAllowed` comes exactly where the step is not one of the world's in this state, or stops, blanks, arms, boots or
+    /// glances at a server otherwise than the operator's line says; a job is allowed with each end or with none, also where the plan of a
+    /// device stops the server in it. After it ran out of memory the step did not happen, and none follows.
+    pub fn step(&mut self, alloc: Global, actor: Actor, step: &Step) -> Result<Stepped, WorldError>
+        ensures allowed { OnOk result (MayPlay self.old actor step.now) }
+        ensures ok { IfOk result (λ stepped. self.new ≡ played self.old actor (ended step.now stepped.end)) }
+        ensures told { IfOk result (λ stepped. stepped ≡ told_by self.old actor (ended step.now stepped.end)) }
+        ensures not_allowed { IsErrOf result error.NotAllowed → MayPlay self.old actor step.now → ⊥ }
         ensures unchanged { IsErrOf result error.NotAllowed → self.new ≡ self.old }
         ensures no_memory { IsErrOf result error.NoMemory → self.new ≡ record self.old { over = true } }
     {
@@ -205,22 +281,40 @@ impl<H: Host> World<H> {
         if !self.actors.may(actor, step) {
             return Err(WorldError::NotAllowed);
         }
-        let stamp = self.actors.stamp_of(self.floor, actor, step);
-        let phase = self.actors.phase_for(self.phase, actor, step);
-        match take(
-            alloc,
-            &mut self.actors,
-            &mut self.records,
-            actor,
-            stamp,
-            phase,
-            step,
-        ) {
+        if !self.obeys(actor, step) {
+            return Err(WorldError::NotAllowed);
+        }
+        match self.take_allowed(alloc, actor, step) {
             Ok(stepped) => Ok(stepped),
-            Err(_) => {
-                self.over = true;
-                Err(WorldError::NoMemory)
-            }
+            Err(NoMemory) => Err(WorldError::NoMemory),
+        }
+    }
+
+    /// Takes a step that the rules allow, also where no line of the script gives it: a device may be armed at any time, and a server boots
+    /// with the plans that its devices have. The records are allowed steps still, and no more is said of them.
+    pub fn step_freely(
+        &mut self,
+        alloc: Global,
+        actor: Actor,
+        step: &Step,
+    ) -> Result<Stepped, WorldError>
+        ensures allowed { OnOk result (MayStep (setting_of self.old.script) (world_of self.old) actor step.now) }
+        ensures ok { IfOk result (λ stepped. self.new ≡ played (record self.old { free = true }) actor (ended step.now stepped.end)) }
+        ensures told { IfOk result (λ stepped. stepped ≡ told_by self.old actor (ended step.now stepped.end)) }
+        ensures not_allowed { IsErrOf result error.NotAllowed → MayStep (setting_of self.old.script) (world_of self.old) actor step.now → ⊥ }
+        ensures unchanged { IsErrOf result error.NotAllowed → self.new ≡ self.old }
+        ensures no_memory { IsErrOf result error.NoMemory → (self.new.script ≡ self.old.script) × (self.new.records ≡ self.old.records) × (self.new.over ≡ true) }
+    {
+        if self.over {
+            return Err(WorldError::NoMemory);
+        }
+        if !self.actors.may(actor, step) {
+            return Err(WorldError::NotAllowed);
+        }
+        self.free = true;
+        match self.take_allowed(alloc, actor, step) {
+            Ok(stepped) => Ok(stepped),
+            Err(NoMemory) => Err(WorldError::NoMemory),
         }
     }
 
@@ -231,18 +325,20 @@ impl<H: Host> World<H> {
         &self.script
     }
 
-    /// The records so far, which are a legal history of the script.
+    /// The records so far: allowed steps, and a legal history of the script where no step was free.
     pub fn records(&self) -> &[Record]
         ensures value { result.now ≡ self.now.records }
-        ensures legal { AreSteps self.now.script self.now.records }
+        ensures steps { AreSteps self.now.script self.now.records }
+        ensures legal { self.now.free ≡ false → IsLegal self.now.script self.now.records }
     {
         self.records.as_slice()
     }
 
-    /// The history of all steps, which is legal for the script.
+    /// The history of all steps, which is legal for the script where no step was free.
     pub fn into_history(self) -> History
         ensures value { result ≡ record { records = self.records } }
-        ensures legal { AreSteps self.script self.records }
+        ensures steps { AreSteps self.script self.records }
+        ensures legal { self.free ≡ false → IsLegal self.script self.records }
     {
         History {
             records: self.records,

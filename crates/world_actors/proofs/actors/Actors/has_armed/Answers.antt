@@ -1,9 +1,9 @@
 -- The open line arms one of the server's devices, or another's, or none.
-use Rattle.std.proofs.Common.{ℕ, Some, refl, ap, sym, ◌∙◌, subst}
+use Rattle.std.proofs.Common.{ℕ, refl, ap, sym, ◌∙◌, subst}
 use Rattle.std.specs.Prelude.{◌==◌}
 use Rattle.open_request.specs.declared.order.Order.{Order}
 use Rattle.petal_rules.proofs.Tests.{none_some, number_itself, same_numbers, same_some, true_false}
-use Rattle.world_actors.specs.Lines.{HasArmed, IsGivenBy, arms_of}
+use Rattle.world_actors.specs.Lines.{HasArmed, arms_of}
 use Rattle.world_actors.proofs.Allowed.{hindered}
 use Rattle.world_actors.proofs.Lines.{armed_by, by_armed}
 use Rattle.world_actors.proofs.actors.Actors.has_armed.Goals as goal

@@ -1,7 +1,6 @@
 -- The line is a settle that was called, or it has stopped the server, blanked it, armed one of its devices, or started it.
 use Rattle.std.proofs.Common.{◌<◌, inl, inr, refl, arith}
 use Rattle.petal_rules.proofs.Tests.{true_false}
-use Rattle.world_actors.proofs.Allowed.{hindered}
 use Rattle.world_actors.proofs.Lines.{due_of, glance_settle, is_due, settle_glance}
 use Rattle.world_actors.proofs.actors.Actors.may_glance.Goals as goal
 
