@@ -59,7 +59,11 @@ fn boots_in_which_both_devices_fail(rt: HostRuntime) -> Result<(), Fail> {
 /// Each device of server 0 fails once as it is read again, is asked once more, and the boot is done.
 #[test]
 fn a_boot_reads_both_devices_again(rt: HostRuntime) -> Result<(), Fail> {
-    for (data, state) in [("read 1", "read 1"), ("sync 1", "read 2"), ("sync 2", "sync 2")] {
+    for (data, state) in [
+        ("read 1", "read 1"),
+        ("sync 1", "read 2"),
+        ("sync 2", "sync 2"),
+    ] {
         let steps = format!(in rt.alloc();
             "op calls 2; 0 stops; 0 shows 2; seen 0>op; wait; op calls 4; 0 arms data {data}; 0 arms state {state}; 0 boots; failed 0; stopped 0;
             sent 2 down 0>1; 0 shows 4; seen 0>op; line 4 ok; play out; line 6 ok; line 8 ok; line 10 fill 7"
