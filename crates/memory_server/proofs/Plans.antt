@@ -8,13 +8,13 @@ use Rattle.petal_disk.specs.Plans.{CameTo, MetOnce, PlanState, WaitsOn, plan_sta
 use Rattle.petal_disk.specs.declared.planned.Planned.{Planned}
 use Rattle.petal_rules.specs.declared.step.CommitEnd.{CommitEnd}
 use Rattle.petal_rules.specs.declared.step.Step.{Step}
-use Rattle.petal_rules.specs.declared.step.Step.TheVariants.{Boot, StopIn, Work}
+use Rattle.petal_rules.specs.declared.step.Step.TheVariants.{Boot, StopIn}
 use Rattle.petal_rules.specs.declared.step.WorkEnd.{WorkEnd}
 use Rattle.petal_rules.specs.declared.step.WorkEnd.TheVariants.{Done, Fault}
 use Rattle.server_recovery.specs.Ends.{job_end}
 use Rattle.server_recovery.specs.Server.{Mounted}
 use Rattle.world_desks.specs.Desks.{IsFault, as_end, boot_end, job_ended}
-use Rattle.world_desks.specs.Plans.{AreLeftOf, Armed, IsLeftOf, LeavesPlans, Spends, SpendsOnStop, Uses}
+use Rattle.world_desks.specs.Plans.{AreLeftOf, Armed, IsLeftOf, LeavesPlans, Spends, Uses}
 use Rattle.memory_server.specs.Armed.{BothCameTo, armed_of, stops_of}
 use Rattle.memory_server.specs.contracts.taken.StopsPartialEq.TheImpl as flags
 use Rattle.memory_server.specs.declared.taken.Stops.{Stops}
