@@ -24,5 +24,5 @@ returns-clause-plans c =
     let worked = c.in_ok-attempt.ensures in
     rw c.job_taken.ensures
     (job_plans c.args.self.now c.first_job.new.self worked.run c.in_ok-attempt.attempt.end _
-    (λ fault. let failed = worked.cause fault in omega (arith, failed)) 
+    (λ fault. let failed = worked.cause fault in omega (arith, failed))
     (λ on same. flags_apart c.stops.result c.stops-before.result (sym c.ne-stopped.ensures ∙ on) (c.stops.ensures ∙ same ∙ sym c.stops-before.ensures)))
