@@ -56,22 +56,25 @@ fn boots_in_which_both_devices_fail(rt: HostRuntime) -> Result<(), Fail> {
     failing_boot(rt.alloc(), "sync 4 late; 0 arms data sync 4", 1)
 }
 
-/// Each device of server 0 fails once as it is read again, is asked once more, and the boot is done.
+/// Each device of server 0 fails once in such a call as it is read again, is asked once more, and the boot is done.
+fn boot_that_reads_twice(alloc: Global, data: &str, state: &str) -> Result<(), Fail> {
+    let steps = format!(in alloc;
+        "op calls 2; 0 stops; 0 shows 2; seen 0>op; wait; op calls 4; 0 arms data {data}; 0 arms state {state}; 0 boots; failed 0; stopped 0;
+        sent 2 down 0>1; 0 shows 4; seen 0>op; line 4 ok; play out; line 6 ok; line 8 ok; line 10 fill 7"
+    )?;
+    play_steps(
+        alloc,
+        "both devices fail as they are read again in a boot, each once, and the server runs",
+        "servers 3 slots 4\nop stop 0\nwait\nop start 0\nwait\na disk vol on 0 1 2\nwait\na write vol 0 fill 7\nwait\nb read vol 0\n",
+        steps.as_str(),
+    )
+}
+
 #[test]
 fn a_boot_reads_both_devices_again(rt: HostRuntime) -> Result<(), Fail> {
-    for (data, state) in [("read 1", "read 1"), ("sync 1", "read 2"), ("sync 2", "sync 2")] {
-        let steps = format!(in rt.alloc();
-            "op calls 2; 0 stops; 0 shows 2; seen 0>op; wait; op calls 4; 0 arms data {data}; 0 arms state {state}; 0 boots; failed 0; stopped 0;
-            sent 2 down 0>1; 0 shows 4; seen 0>op; line 4 ok; play out; line 6 ok; line 8 ok; line 10 fill 7"
-        )?;
-        play_steps(
-            rt.alloc(),
-            "both devices fail as they are read again in a boot, each once, and the server runs",
-            "servers 3 slots 4\nop stop 0\nwait\nop start 0\nwait\na disk vol on 0 1 2\nwait\na write vol 0 fill 7\nwait\nb read vol 0\n",
-            steps.as_str(),
-        )?;
-    }
-    Ok(())
+    boot_that_reads_twice(rt.alloc(), "read 1", "read 1")?;
+    boot_that_reads_twice(rt.alloc(), "sync 1", "read 2")?;
+    boot_that_reads_twice(rt.alloc(), "sync 2", "sync 2")
 }
 
 /// A device fails in the boot of server 1 after its blank, which has raised the incarnation or not. It does so no less where the plan

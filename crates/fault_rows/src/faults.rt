@@ -230,7 +230,8 @@ fn writes_that_are_late(rt: HostRuntime) -> Result<(), Fail> {
 /// once more.
 #[test]
 fn the_other_device_fails_as_both_are_opened_again(rt: HostRuntime) -> Result<(), Fail> {
-    let shows = "a device fails in a job, the other as both are opened again, and it is one fault of the server";
+    let shows =
+        "a device fails in a job, the other as both are opened again, and it is one fault of the server";
     for plans in [
         "0 arms data write 2; 0 arms state read 1",
         "0 arms data sync 2; 0 arms state sync 1",

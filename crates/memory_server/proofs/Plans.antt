@@ -1,20 +1,23 @@
 -- What a server's steps leave of its plans.
 use Rattle.std.proofs.Common.{◌≡◌, ◌≢◌, ◌⊎◌, ◌<◌, ◌+◌, ℕ, inl, inr, Bool, true, false, Option, None, Some, refl, sym, ap, subst, ◌∙◌, arith}
-use Rattle.std.specs.Prelude.{◌||◌}
+use Rattle.std.specs.Prelude.{◌||◌, not}
 use Rattle.device_faults.specs.declared.plan.Plan.{Plan}
 use Rattle.device_faults.specs.declared.which.Which.TheVariants.{Data, State}
 use Rattle.petal_disk.specs.PlanRuns.{CameTo-later, CameTo-same}
 use Rattle.petal_disk.specs.Plans.{CameTo, MetOnce, PlanState, WaitsOn, plan_state}
 use Rattle.petal_disk.specs.declared.planned.Planned.{Planned}
 use Rattle.petal_rules.specs.declared.step.CommitEnd.{CommitEnd}
-use Rattle.petal_rules.specs.declared.step.Step.TheVariants.{Boot, StopIn, Work}
+use Rattle.petal_rules.specs.declared.step.Step.{Step}
+use Rattle.petal_rules.specs.declared.step.Step.TheVariants.{Boot, StopIn}
 use Rattle.petal_rules.specs.declared.step.WorkEnd.{WorkEnd}
 use Rattle.petal_rules.specs.declared.step.WorkEnd.TheVariants.{Done, Fault}
 use Rattle.server_recovery.specs.Ends.{job_end}
 use Rattle.server_recovery.specs.Server.{Mounted}
 use Rattle.world_desks.specs.Desks.{IsFault, as_end, boot_end, job_ended}
-use Rattle.petal_rules.specs.Plans.{AreLeftOf, Armed, IsLeftOf, LeavesPlans, Spends, SpendsOnStop}
+use Rattle.petal_rules.specs.Plans.{AreLeftOf, Armed, IsLeftOf, LeavesPlans, Spends, Uses}
 use Rattle.memory_server.specs.Armed.{BothCameTo, armed_of, stops_of}
+use Rattle.memory_server.specs.contracts.taken.StopsPartialEq.TheImpl as flags
+use Rattle.memory_server.specs.declared.taken.Stops.{Stops}
 
 -- ### One device
 
@@ -80,6 +83,24 @@ both_later first mid last one two = record {
   kept = CameTo-later (plan_state first.state.disk) (plan_state mid.state.disk) (plan_state last.state.disk) one.kept two.kept;
 }
 
+-- a step that uses up no plan
+pub uses_none : {what : Step} {before now : Armed} → ((armed left : Armed) → left ≡ armed → Uses what armed left) → AreLeftOf before now
+    → LeavesPlans what before now
+uses_none {what} {before} {now} none rest = record { used = before; uses = none before before refl; rest = rest }
+
+-- flags that compare as other ones are other ones
+flags_itself : (stored kept : Bool) → flags.ghosts.eq (record { stored = stored; kept = kept }) (record { stored = stored; kept = kept }) ≡ true
+flags_itself true true = refl
+flags_itself true false = refl
+flags_itself false true = refl
+flags_itself false false = refl
+
+pub flags_apart : (now before : Stops) → not (flags.ghosts.eq now before) ≡ true → now ≢ before
+flags_apart now before differs same =
+    let equal : flags.ghosts.eq now before ≡ true
+    = ap (λ (it : Stops). flags.ghosts.eq it before) same ∙ flags_itself before.stored before.kept in
+    let no : false ≡ true = sym (ap not equal) ∙ differs in cc
+
 -- how often plans have made calls fail
 abbrev pub strikes_of : {D : Type 0} → Mounted (Planned D) → ℕ
 strikes_of server = (plan_state server.store.disk).strikes + (plan_state server.state.disk).strikes
@@ -128,6 +149,7 @@ module _ {D : Type 0} (old new : Mounted (Planned D)) (came : BothCameTo old new
 
   -- so where the server was stopped, by a plan that stops it
   stopped_by : (commit : CommitEnd) → stops_of new ≢ stops_of old → LeavesPlans (StopIn commit) before now
+  unfolding stored_spends kept_spends
   stopped_by commit differs =
       elim (on_stop (plan_state old.store.disk) (plan_state new.store.disk) came.stored) [
         | inl it ↦ record {

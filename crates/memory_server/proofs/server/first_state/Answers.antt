@@ -1,5 +1,7 @@
 use Rattle.std.proofs.Common.{◌≡◌, ap, ◌∙◌, arith}
 use Rattle.petal_disk.specs.declared.memory_disk.MemDisk.{MemDisk}
+use Rattle.petal_disk.specs.Plans.{PlanState, plan_state}
+use Rattle.memory_server.proofs.Plans.{none_left}
 use Rattle.memory_server.proofs.server.first_state.Goals as goal
 
 pub format-requires-after_bounds : goal.format-requires-after_bounds
@@ -9,3 +11,8 @@ format-requires-after_bounds c =
 
 pub returns-in-Ok-format-clause-holds : goal.returns-in-Ok-format-clause-holds
 returns-in-Ok-format-clause-holds c = c.in-Ok-format.ensures.holds tt
+
+pub returns-in-Ok-format-clause-plan : goal.returns-in-Ok-format-clause-plan
+returns-in-Ok-format-clause-plan c =
+    none_left (plan_state c.new-2.result) (plan_state c.in-Ok-format.state.disk) c.in-Ok-format.ensures.run.1
+    (ap (λ (state : PlanState). state.plan) c.new-2.ensures.state)

@@ -20,7 +20,8 @@ returns-in-Ok-Some g c = λ told.
     let worked = c.in-Ok-Some.ensures in
     rw (c.done.ensures, c.in-Ok-Some.letters-is)
     (work_done g.D.Disk told old stands new c.in-Ok-Some.letters ((rw c.in-Ok-Some.field-0-is at worked.work) told told stands.store stands.state)
-    worked.life.1 worked.keeps (worked.holds told stands.store) (worked.state_holds told stands.state) (record { run = worked.run; state_run = worked.state_run }))
+    worked.life.1 worked.keeps (worked.holds told stands.store) (worked.state_holds told stands.state)
+    (record { run = worked.run; state_run = worked.state_run }))
 
 pub returns-in-Ok-None : goal.returns-in-Ok-None
 returns-in-Ok-None g c = λ told.
@@ -31,7 +32,8 @@ returns-in-Ok-None g c = λ told.
     rw (c.done-in-Ok-None.ensures, c.new.ensures)
     (work_done g.D.Disk told old stands new []
     (none_done g.D.Disk told old stands new ((rw c.in-Ok-None.field-0-is at worked.work) told told stands.store stands.state))
-    worked.life.1 worked.keeps (worked.holds told stands.store) (worked.state_holds told stands.state) (record { run = worked.run; state_run = worked.state_run }))
+    worked.life.1 worked.keeps (worked.holds told stands.store) (worked.state_holds told stands.state)
+    (record { run = worked.run; state_run = worked.state_run }))
 
 pub returns-in-Err-JournalFull : goal.returns-in-Err-JournalFull
 returns-in-Err-JournalFull g c = λ told.

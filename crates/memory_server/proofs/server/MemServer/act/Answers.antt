@@ -1,10 +1,13 @@
-use Rattle.std.proofs.Common.{ap, ◌∙◌}
-use Rattle.std.proofs.lemmas.Result.{on_ok_weaker}
+use Rattle.std.proofs.Common.{sym, ap, subst, ◌∙◌}
+use Rattle.std.proofs.lemmas.Result.{IfOk-weaker, on_ok_weaker}
 use Rattle.kept_chains.specs.Kept.{store_of}
 use Rattle.petal_rules.specs.Jobs.{Acted}
 use Rattle.server_recovery.specs.Server.{left_at}
 use Rattle.world_desks.specs.Desks.{Site}
+use Rattle.petal_rules.specs.Plans.{AreLeftOf}
 use Rattle.world_desks.specs.declared.host.Taken.{Taken}
+use Rattle.memory_server.proofs.Plans.{are_left, are_same, uses_none}
+use Rattle.memory_server.specs.Armed.{armed_of}
 use Rattle.memory_server.proofs.server.MemServer.act.Goals as goal
 
 pub returns-in-Tick-clause-site : goal.returns-in-Tick-clause-site
@@ -16,3 +19,31 @@ returns-in_ok-glance-in-Glance-clause-letters c =
     rw (c.in-Glance.is, ← c.self-in-Glance.view_is)
     (ap (λ (taken : Taken). taken.letters) c.done-in-Glance.ensures
     ∙ ap (λ (acted : Acted). acted.letters) (c.in_ok-glance-in-Glance.ensures (store_of it.store) it.state.records))
+
+-- ### The plans
+
+pub returns-in-Call-clause-plans : goal.returns-in-Call-clause-plans
+returns-in-Call-clause-plans c = rw c.in-Call.is (uses_none (λ armed left same. same) (are_same (armed_of c.args.self.now)))
+
+pub returns-in_ok-deliver-in-Deliver-clause-plans : goal.returns-in_ok-deliver-in-Deliver-clause-plans
+returns-in_ok-deliver-in-Deliver-clause-plans c =
+    rw (c.in-Deliver.is, ← c.self.view_is) (uses_none (λ armed left same. same) (are_same _))
+
+pub returns-in_ok-glance-in-Glance-clause-plans : goal.returns-in_ok-glance-in-Glance-clause-plans
+returns-in_ok-glance-in-Glance-clause-plans c = rw c.in-Glance.is (uses_none (λ armed left same. same) (are_same (armed_of c.args.self.now)))
+
+pub returns-in-Tick-clause-plans : goal.returns-in-Tick-clause-plans
+returns-in-Tick-clause-plans c =
+    rw c.in-Tick.is
+    (IfOk-weaker c.tick.result _ _ (λ taken told. uses_none (λ armed left same. same) (are_left c.args.self.now c.tick.new.self c.tick.ensures.run))
+    c.tick.ensures.taken)
+
+pub returns-in_ok-stop-in-Stop-clause-plans : goal.returns-in_ok-stop-in-Stop-clause-plans
+returns-in_ok-stop-in-Stop-clause-plans c =
+    let before = armed_of c.args.self.now in
+    rw c.in-Stop.is (uses_none (λ armed left same. same) (subst (AreLeftOf before) (sym c.stop.ensures.plans) (are_same before)))
+
+-- an arming puts its plan in the place of an earlier one
+pub returns-in-Arm-clause-plans : goal.returns-in-Arm-clause-plans
+returns-in-Arm-clause-plans c =
+    let now = armed_of c.arm.new.self in rw c.in-Arm.is (record { used = now; uses = c.arm.ensures.plans; rest = are_same now })

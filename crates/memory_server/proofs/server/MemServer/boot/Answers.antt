@@ -25,4 +25,4 @@ pub returns-clause-plans : goal.returns-clause-plans
 returns-clause-plans c =
     let booted = c.in_ok-attempt.ensures in
     rw c.boot_taken.ensures
-    (boot_plans c.args.self.now c.boot_up-attempt.new.self booted.run c.in_ok-attempt.attempt.end (λ fault. let failed = booted.cause fault in omega (arith, failed)))
+    (boot_plans c.args.self.now c.boot_up.new.self booted.run c.in_ok-attempt.attempt.end (λ fault. let failed = booted.cause fault in omega (arith, failed)))

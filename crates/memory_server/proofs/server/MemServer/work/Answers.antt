@@ -1,7 +1,7 @@
 -- The first job, whose step is called by what the devices tell.
-use Rattle.std.proofs.Common.{◌∙◌, arith}
+use Rattle.std.proofs.Common.{sym, ◌∙◌, arith}
 use Rattle.memory_server.proofs.Ends.{job_fault, job_left, job_sends, job_told}
-use Rattle.memory_server.proofs.Plans.{job_plans}
+use Rattle.memory_server.proofs.Plans.{flags_apart, job_plans}
 use Rattle.server_recovery.specs.Server.{whole_of}
 use Rattle.memory_server.proofs.server.MemServer.work.Goals as goal
 
@@ -23,5 +23,6 @@ pub returns-clause-plans : goal.returns-clause-plans
 returns-clause-plans c =
     let worked = c.in_ok-attempt.ensures in
     rw c.job_taken.ensures
-    (job_plans c.args.self.now c.first_job-attempt.new.self worked.run c.in_ok-attempt.attempt.end _
-    (λ fault. let failed = worked.cause fault in omega (arith, failed)) (λ on same. ?))
+    (job_plans c.args.self.now c.first_job.new.self worked.run c.in_ok-attempt.attempt.end _
+    (λ fault. let failed = worked.cause fault in omega (arith, failed))
+    (λ on same. flags_apart c.stops.result c.stops-before.result (sym c.ne-stopped.ensures ∙ on) (c.stops.ensures ∙ same ∙ sym c.stops-before.ensures)))
