@@ -145,8 +145,8 @@ module _ (script : Script) (sound : IsSound script) (whole : List Command) (all 
         → Tells m (step who what setting w stamp).world
         (told_with (begins what who (step who what setting w stamp).world) (takes (change_by setting w (step who what setting w stamp).world))
         (makes (change_by setting w (step who what setting w stamp).world) ++ freezes (change_by setting w (step who what setting w stamp).world)
-        ++ flat_map (look_told who (step who what setting w stamp).world) (step who what setting w stamp).letters
-        ++ ends who w (step who what setting w stamp).answer))
+        ++ flat_map (look_told who (step who what setting w stamp).world) (step who what setting w stamp).letters)
+        (ends who w (step who what setting w stamp).answer))
     unfolding step
     step_tells (actor.Server n) Blank may next = record {
       es = [];
@@ -181,7 +181,7 @@ module _ (script : Script) (sound : IsSound script) (whole : List Command) (all 
           es = t.es;
           is = ap (λ b. told_with b (takes (change_by setting w v))
               (makes (change_by setting w v) ++ freezes (change_by setting w v)
-              ++ flat_map (look_told (actor.Server n) v) (acts setting w n what stamp acted).letters ++ []))
+              ++ flat_map (look_told (actor.Server n) v) (acts setting w n what stamp acted).letters) (Some []))
               (server_begins what n v) ∙ t.is;
           may = t.may;
           follows = t.follows;
@@ -194,8 +194,8 @@ module _ (script : Script) (sound : IsSound script) (whole : List Command) (all 
           es = t.es;
           is = ap (λ b. told_with b (takes (change_by setting w (reacts w c stamp reacted).world))
               (makes (change_by setting w (reacts w c stamp reacted).world) ++ freezes (change_by setting w (reacts w c stamp reacted).world)
-              ++ flat_map (look_told (actor.Client c) (reacts w c stamp reacted).world) (reacts w c stamp reacted).letters
-              ++ ended (open_write w c) reacted.answer))
+              ++ flat_map (look_told (actor.Client c) (reacts w c stamp reacted).world) (reacts w c stamp reacted).letters)
+              (ended (open_write w c) reacted.answer))
               (client_begins c what (reacts w c stamp reacted).world) ∙ t.is;
           may = t.may;
           follows = t.follows;
@@ -217,8 +217,8 @@ module _ (script : Script) (sound : IsSound script) (whole : List Command) (all 
         es = t.es;
         is = (λ i. told_with (begins own.step own.actor v) (takes (change_by setting w v))
             (makes (change_by setting w v) ++ freezes (change_by setting w v)
-            ++ flat_map (λ (letter : Letter). look_of setting w v own.actor later letter letter.body) (follows.sent i)
-            ++ ends own.actor w (follows.answer i))) ∙ t.is;
+            ++ flat_map (λ (letter : Letter). look_of setting w v own.actor later letter letter.body) (follows.sent i))
+            (ends own.actor w (follows.answer i))) ∙ t.is;
         may = t.may;
         follows = t.follows;
       }
