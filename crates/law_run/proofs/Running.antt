@@ -39,7 +39,8 @@ use Rattle.law_copies.proofs.First.{marks_first}
 use Rattle.law_copies.proofs.Rules.{copies_after, covered_after}
 use Rattle.law_steps.proofs.Waking.{wake_along}
 use Rattle.law_requests.proofs.Histories.{requests_after}
-use Rattle.law_log.proofs.Histories.{history_agrees, history_is_firm, history_grows}
+use Rattle.law_reports.proofs.Reports.{reports_hold}
+use Rattle.law_log.proofs.Histories.{history_agrees, history_is_firm, history_grows, out_has_stopped}
 use Rattle.law_run.specs.Follow.{Follow, Ground}
 use Rattle.law_moves.proofs.Afterwards.{rule_after}
 use Rattle.petal_msg.specs.declared.letter.Letter.{Letter}
@@ -48,6 +49,7 @@ use Rattle.law_run.proofs.ClientFrames.{ClientStep}
 use Rattle.law_run.proofs.ClientSteps.{begins_by, turn_told}
 use Rattle.law_run.proofs.LogSteps.{step_kind}
 use Rattle.law_run.proofs.Looks.{AreGrounded}
+use Rattle.law_run.proofs.Proposed.{caught_up_after}
 use Rattle.law_run.proofs.Machine.{Obeys-append, replay-append}
 use Rattle.law_run.proofs.ServerSteps.{step_told}
 use Rattle.law_run.proofs.Blanks.{blank_follow, blank_told}
@@ -404,12 +406,15 @@ law_with requests script records sound legal = record {
     empty = λ n fresh. let e = always_empty script records sound legal n fresh in (e.chains, e.marks);
     requests = requests script records sound legal;
     moves = rule_after script records sound legal;
+    stopped = out_has_stopped script records sound legal;
+    caught = caught_up_after script records sound legal;
   };
   grows = history_grows script records sound legal;
   marks = marks_first script records sound legal;
   run = run_after script records sound legal;
   holds = held_after script records sound legal;
   snapshots = snapshots_after script records sound legal;
+  reports = reports_hold script records sound legal;
 }
 
 pub law : Law
