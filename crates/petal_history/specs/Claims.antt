@@ -33,6 +33,8 @@ use Rattle.petal_rules.specs.Progress.{copying_on, has_proposed}
 use Rattle.petal_state.specs.CellState.{cell_link, source}
 use Rattle.petal_state.specs.CellState.{noted as is_noted}
 use Rattle.petal_state.specs.Command.{is_alone, state_after}
+use Rattle.petal_state.specs.Place.{places_from}
+use Rattle.petal_state.specs.State.{start as first_state}
 use Rattle.petal_state.specs.declared.answer.Hold.TheVariants.{No}
 use Rattle.petal_rules.specs.State.{State, authority, coming, first, second, is_in, is_lead, is_whole, lead, leads_link, leaving, live, held}
 use Rattle.petal_rules.specs.Store.{Chain, Store, cell_cmp, chain_in, version_of, is_marked}
@@ -233,6 +235,22 @@ AreCaughtUp setting w =
     → has_proposed (server_state setting w n) (w.servers n).own cell ≡ true
     → (at cell_cmp (w.servers n).own.pairs.pending cell ≡ None) × (copying_on (w.servers n).own cell ≡ None)
 
+-- the server is at work by its own state, by which it holds the cell's link alone, and has started a ballot for the link's Caught
+pub record IsCatching (setting : Setting) (w : World) (n : ℕ) (cell : Cell) (row : LinkRow) : Type 0 where
+  pub works : is_at_work (server_state setting w n) w n ≡ true
+  pub linked : cell_link (server_state setting w n) cell ≡ Some row
+  pub alone : is_alone n row.state ≡ true
+  pub started : has_proposed (server_state setting w n) (w.servers n).own cell ≡ true
+
+-- the two copies of the cell at the link's servers are equal, by the stores that count
+abbrev pub HasEqualCopies : Setting → World → (n : ℕ) → LinkRow → Cell → Type 0
+HasEqualCopies setting w n row cell =
+    chain_in ((counted setting w).servers n).own.store.chains cell ≡ chain_in ((counted setting w).servers (other_of n row)).own.store.chains cell
+
+-- the place of a link by these entries: how many of them have touched it
+abbrev pub place_in : (servers : ℕ) → List Command → LinkRow → ℕ
+place_in servers log row = places_from (first_state servers) log row
+
 -- by each state from these entries' to those', the writes of the cell are held
 abbrev pub AreHeldAlong : (servers : ℕ) → (front whole : List Command) → Cell → Type 0
 AreHeldAlong servers front whole cell =
@@ -283,6 +301,17 @@ SnapshotsStay script records =
     → IsStill (setting_of script) (world_after (setting_of script) (start (setting_of script)) front)
     (world_after (setting_of script) (start (setting_of script)) records)
 
+-- from where a server had started a ballot for a link's Caught, the two copies of each live cell of the link are equal while no entry that is chosen
+-- has touched the link since: also where the server has stopped
+abbrev pub CopiesStayEqual : Script → List Record → Type 0
+CopiesStayEqual script records =
+    (front back : List Record) (n : ℕ) (cell : Cell) (row : LinkRow) → records ≡ front ++ back
+    → IsCatching (setting_of script) (world_after (setting_of script) (start (setting_of script)) front) n cell row
+    → live (chosen_state (setting_of script) (world_after (setting_of script) (start (setting_of script)) records)) cell ≡ true
+    → place_in script.servers (chosen_log (setting_of script) (world_after (setting_of script) (start (setting_of script)) records)) row
+    ≡ place_in script.servers ((world_after (setting_of script) (start (setting_of script)) front).servers n).log.applied row
+    → HasEqualCopies (setting_of script) (world_after (setting_of script) (start (setting_of script)) records) n row cell
+
 -- from where a server wanted its report chosen it takes no client's write that the fence holds, until it has applied the entry at which the fence
 -- takes effect
 abbrev pub ReportsHold : Script → List Record → Type 0
@@ -294,7 +323,7 @@ ReportsHold script records =
 
 -- what every legal history of a script keeps: the rules of its world at its end, that the chosen log has only grown, that
 -- leads put only on marked blocks, that its events are a run of the plain machine, that the contents are the machine's, that snapshots
--- never change, and that who wanted to report writes nothing that is held
+-- never change, that copies are equal once a ballot for their Caught was started, and that who wanted to report writes nothing that is held
 pub record Keeps (script : Script) (records : List Record) : Type 0 where
   pub world : Stands (setting_of script) (world_after (setting_of script) (start (setting_of script)) records)
   pub grows : Grows script records
@@ -302,6 +331,7 @@ pub record Keeps (script : Script) (records : List Record) : Type 0 where
   pub run : IsRunOf (events_of script records)
   pub holds : AreHeld (setting_of script) (world_after (setting_of script) (start (setting_of script)) records) (machine_after (events_of script records)).disks
   pub snapshots : SnapshotsStay script records
+  pub equal : CopiesStayEqual script records
   pub reports : ReportsHold script records
 
 -- the whole law, of each sound script

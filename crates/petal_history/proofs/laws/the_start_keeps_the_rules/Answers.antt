@@ -116,5 +116,6 @@ returns c script = record {
     unknown = λ name none. refl;
   };
   snapshots = snapshots script;
+  equal = λ front back n cell row e catching lives same. refl;
   reports = reports script;
 }
