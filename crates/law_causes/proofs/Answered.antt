@@ -23,10 +23,11 @@ use Rattle.script_lines.specs.declared.request.Request.{Request}
 use Rattle.script_lines.specs.declared.request.Request.TheVariants as request
 use Rattle.petal_state.specs.State.{start as first_state, latest}
 use Rattle.petal_state.specs.Command.{state_after}
-use Rattle.petal_history.specs.Causes.{HasWitness, HasVerdict, CauseOf, AreCaused, WasTold}
+use Rattle.petal_history.specs.Causes.{HasWitness, HasVerdict, CauseOf, AreCaused, WasTold, may_answer}
 use Rattle.petal_history.specs.Claims.{IsPrefix}
 use Rattle.petal_history.specs.Steps.{AreSteps, AreStepsFrom, stepped, world_after}
 use Rattle.petal_history.specs.Order.{AreRising}
+use Rattle.petal_history.specs.Sound.{IsSound}
 use Rattle.petal_history.specs.declared.record.Record.{Record}
 use Rattle.script_lines.specs.declared.script.Script.{Script}
 use Rattle.petal_rules.specs.Lists.{In}
@@ -49,7 +50,8 @@ use Rattle.law_steps.specs.Ready.{AreFirm, Rests}
 use Rattle.law_steps.proofs.Fronts.{front_itself, front_on, below_itself}
 use Rattle.law_steps.proofs.Histories.{rests_next, happens, firm_now, firm_after, start_rests}
 use Rattle.law_causes.specs.Asked.{AreAsked, asker}
-use Rattle.law_answers.proofs.Places.{one_client, one_place}
+use Rattle.law_answers.proofs.Places.{line_at, one_client, one_place}
+use Rattle.law_causes.proofs.Fits.{cause_fits, read_may, refusal_fits, verdict_fits, write_may}
 use Rattle.law_causes.proofs.Numbers.{judged_low}
 use Rattle.law_causes.proofs.Verdicts.{has_at, judged_at_once, judged_first, judged_made, placed_before, placed_first}
 use Rattle.law_causes.proofs.Wanted.{plain_front}
@@ -121,7 +123,12 @@ module _ (setting : Setting) (last : World) (plain : IsPlainLog setting.servers 
   witness_causes c seq asked answer.NoDisk h = h
   witness_causes c seq asked answer.NoSnap h = h
   witness_causes c seq asked answer.Unavailable h = h
-  witness_causes c seq asked _ h = tt
+  witness_causes c seq asked answer.Ok h = h.fits
+  witness_causes c seq asked (answer.Data bytes) h = h.fits
+  witness_causes c seq asked answer.NoSpace h = h.fits
+  witness_causes c seq asked answer.Exists h = h.fits
+  witness_causes c seq asked answer.Moving h = h.fits
+  witness_causes c seq asked answer.Failed h = h.fits
 
   -- the request's verdict after so many entries comes of its own command
   verdict_causes : (k c seq : ℕ) (asked : Request) (given : Answer) → k ≤ length (chosen_log setting last)
@@ -157,6 +164,8 @@ module _ (setting : Setting) (last : World) (plain : IsPlainLog setting.servers 
         free = placed.free;
         known = placed.known;
         made = λ ok. judged_made setting.servers log plain c seq few asked own first.0 upto given first.2 placed at_once (was.1 ok) ok;
+        fits = verdict_fits (state_at setting last placed.place) c seq asked given placed.command (latest (state_at setting last (first.0 + 1)) c)
+            placed.of_it first.2 placed.taken placed.unknown placed.moving;
       }
 
   -- a command of the open request's number is its own
@@ -207,6 +216,7 @@ module _ (setting : Setting) (last : World) (plain : IsPlainLog setting.servers 
             why = was_told;
             is = there ∙ ap Some w.1;
             so = ap (λ (s : State). refusal s asked.told asked.request) state ∙ so;
+            fits = refusal_fits (state_after setting.servers upto) asked.told asked.request given so;
           }))
 
   -- ### A step
@@ -258,11 +268,14 @@ module _ (setting : Setting) (last : World) (plain : IsPlainLog setting.servers 
 
   read_cause : (c seq : ℕ) (asked : Request) (bytes : List ℕ) → is_read asked ≡ true
       → CauseOf setting last c seq asked (command_of c seq asked) (answer.Data bytes)
-  read_cause c seq asked bytes is = subst (λ o. CauseOf setting last c seq asked o (answer.Data bytes)) (sym (no_command_read c seq asked is)) tt
+  read_cause c seq asked bytes is = subst (λ o. CauseOf setting last c seq asked o (answer.Data bytes)) (sym (no_command_read c seq asked is))
+      (read_may asked bytes is)
 
   write_cause : (c seq : ℕ) (asked : Request) (how : Ending) → is_write asked ≡ true → CauseOf setting last c seq asked (command_of c seq asked) (answer_of how)
-  write_cause c seq asked ending.Written is = subst (λ o. CauseOf setting last c seq asked o answer.Ok) (sym (no_command_write c seq asked is)) tt
-  write_cause c seq asked ending.Full is = subst (λ o. CauseOf setting last c seq asked o answer.NoSpace) (sym (no_command_write c seq asked is)) tt
+  write_cause c seq asked ending.Written is = subst (λ o. CauseOf setting last c seq asked o answer.Ok) (sym (no_command_write c seq asked is))
+      (write_may asked ending.Written is)
+  write_cause c seq asked ending.Full is = subst (λ o. CauseOf setting last c seq asked o answer.NoSpace) (sym (no_command_write c seq asked is))
+      (write_may asked ending.Full is)
 
   -- an answer that a glance gives needs no entry
   seen_cause : (state : State) (c : ℕ) (asked : Asked) (sight : Sight) (given : Answer) → IsSeenAs state asked sight given
@@ -290,15 +303,15 @@ module _ (setting : Setting) (last : World) (plain : IsPlainLog setting.servers 
       told (Is_settled is round seen all e) = (answer.Ok, e)
 
       none : (s : IsSeenAs state asked sight given) → CauseOf setting last c asked.seq (asks s).0 (command_of c asked.seq (asks s).0) (told s).0
-      none (Stops_it server is e) = tt
-      none (Stops_at server at is e) = tt
-      none (Fails_it server which kind at is e) = tt
+      none (Stops_it server is e) = refl
+      none (Stops_at server at is e) = refl
+      none (Fails_it server which kind at is e) = refl
       none (Starts_it server is e) =
-          by_test (CauseOf setting last c asked.seq (request.Start server) None) sight.running answer.Ok answer.Failed (λ t. tt) (λ t. tt)
+          by_test (CauseOf setting last c asked.seq (request.Start server) None) sight.running answer.Ok answer.Failed (λ t. refl) (λ t. refl)
       none (Blanks_it server is e) =
-          by_test (CauseOf setting last c asked.seq (request.Blank server) None) sight.running answer.Ok answer.Failed (λ t. tt) (λ t. tt)
-      none (Has_no_space is full e) = tt
-      none (Is_settled is round seen all e) = tt
+          by_test (CauseOf setting last c asked.seq (request.Blank server) None) sight.running answer.Ok answer.Failed (λ t. refl) (λ t. refl)
+      none (Has_no_space is full e) = refl
+      none (Is_settled is round seen all e) = refl
 
   module _ (heard : ℕ → Body → Type 0) (c : ℕ) (hears : (rev seq : ℕ) → heard rev (body.NotHere seq) → WasTold last c seq) where
     -- the same request, told that the new map has nothing
@@ -477,6 +490,15 @@ module _ (script : Script) (records : List Record) (firm : AreFirm (setting_of s
           subst (λ c. CauseOf setting last c (before + 1) line.request (command_of c (before + 1) line.request) given) client
           (subst (λ k. CauseOf setting last h.client (k + 1) line.request (command_of h.client (k + 1) line.request) given) place
           (subst (λ (l : Line). CauseOf setting last h.client (h.before + 1) l.request (command_of h.client (h.before + 1) l.request) given) same h.cause))
+
+  -- an answer is one that its line's request may get
+  pub fits_after : IsSound script → (line : Line) (given : Answer) → In line script.lines → In (line.number, given) last.answers
+      → may_answer line.request given ≡ true
+  fits_after sound line given there told =
+      let h = kept_end.answers line.number given told in
+      let same : h.line ≡ line = sound.numbered h.line line (line_at script.lines h.client h.before h.line h.is).0 there h.number_is in
+      subst (λ (l : Line). may_answer l.request given ≡ true) same
+      (cause_fits setting last h.client (h.before + 1) h.line.request (command_of h.client (h.before + 1) h.line.request) given h.cause)
 
   -- where every server still is In as its first incarnation, no answer is `Unavailable`
   pub never_unavailable_after : ((n : ℕ) → n < script.servers → is_in (chosen_state setting last) n 1 ≡ true) → (number : ℕ)

@@ -4,6 +4,7 @@ pub mod Wanted
 pub mod Numbers
 pub mod Verdicts
 pub mod Answered
+pub mod Fits
 pub mod Served
 pub mod Mute
 pub mod JobSayings

@@ -23,7 +23,7 @@ use Rattle.petal_rules.specs.Clients.{hears_of, heard, hears_any, command_of, re
 use Rattle.petal_rules.specs.Clients.{takes_entry, takes_all, then_goes_out, takes_entries, next_entries, ticked}
 use Rattle.petal_rules.specs.World.{Setting, World, MayClient, client_state, client_step, calls, next_line}
 use Rattle.petal_rules.specs.declared.step.Step.{Step}
-use Rattle.petal_rules.specs.declared.step.Step.TheVariants.{Call, Deliver, Tick, Work, StopIn, Stop, Blank, Boot, Arm, Glance}
+use Rattle.petal_rules.specs.declared.step.Step.TheVariants.{Call, Deliver, Tick}
 use Rattle.petal_rules.proofs.Tests.{by_test, both_true, none_some, same_numbers, same_some, true_false}
 
 -- the request is open as before, in the same round

@@ -7,7 +7,7 @@
 //! of definitions alone, and knows nothing of code.
 #![tactic(auto)]
 
-ghost use Rattle.std.specs.Prelude.{◌≡◌, ◌<◌, ℕ, List, false, Some};
+ghost use Rattle.std.specs.Prelude.{◌≡◌, ◌<◌, ℕ, List, false, true, Some};
 ghost use Rattle.petal_msg.specs.declared.body.Body.TheVariants.{WrongRev};
 ghost use Rattle.petal_msg.specs.declared.letter.Letter.{Letter};
 ghost use Rattle.script_lines.specs.Requests.{names};
@@ -16,7 +16,7 @@ ghost use Rattle.script_lines.specs.declared.request.Request.TheVariants.{Settle
 ghost use Rattle.script_lines.specs.declared.answer.Answer.{Answer};
 ghost use Rattle.script_lines.specs.declared.answer.Answer.TheVariants.{Failed, Unavailable};
 ghost use Rattle.petal_rules.specs.Lists.{In};
-ghost use Rattle.petal_history.specs.Causes.{AreCaused};
+ghost use Rattle.petal_history.specs.Causes.{AreCaused, may_answer};
 ghost use Rattle.petal_history.specs.Order.{AreRising};
 ghost use Rattle.law_state.specs.Histories.{AreSteps, IsSound, Record, Script, setting_of, start, world_after};
 ghost use Rattle.law_causes.specs.Fails.{HasReasonToFail};
@@ -29,6 +29,16 @@ ghost use Rattle.law_causes.specs.Stops.{HasReasonToStop, NoneIsStopped, NoneSto
 pub fn answers_are_caused()
     ensures { (script : Script) (records : List Record) → IsSound script → AreRising script.lines → AreSteps script records
         → AreCaused (setting_of script) (world_after (setting_of script) (start (setting_of script)) records) }
+{}
+
+/// Each answer is one that its line's request may get. A `disk` line is answered `ok` or `exists`; a `write` `ok`, `nospace`, `nodisk` or
+/// `unavailable`; a `read` `data`, `nodisk` or `unavailable`, and where it names a snapshot also `nosnap`; a `snap` `ok`, `nodisk` or `exists`;
+/// a `move` `ok`, `nodisk` or `moving`; a `stop`, also one at a call of a device, and a `fault` `ok`; a `start` and a `blank` `ok` or `failed`;
+/// a `settle` `ok` or `nospace`.
+pub fn each_request_gets_an_answer_of_its_kind()
+    ensures { (script : Script) (records : List Record)
+        → IsSound script → AreSteps script records → (line : Line) (given : Answer) → In line script.lines
+        → In (line.number, given) (world_after (setting_of script) (start (setting_of script)) records).answers → may_answer line.request given ≡ true }
 {}
 
 /// A server of the script that does not run at the end stopped in a step of its own, and has not run since, for a reason: the

@@ -22,7 +22,7 @@ use Rattle.petal_rules.specs.Server.{letters_of}
 use Rattle.petal_rules.specs.World.{Setting, World, start, stamped, reacts, step, MayActor, MayClient, client_step, client_state}
 use Rattle.petal_rules.specs.World.{calls, next_line, server_state, server_step}
 use Rattle.petal_rules.specs.declared.step.Step.{Step}
-use Rattle.petal_rules.specs.declared.step.Step.TheVariants.{Call, Deliver, Tick, Work, StopIn, Stop, Blank, Boot, Arm, Glance}
+use Rattle.petal_rules.specs.declared.step.Step.TheVariants.{Call, Deliver, Tick}
 use Rattle.petal_rules.proofs.ListLemmas.{in-append, in_later, put_same}
 use Rattle.petal_rules.proofs.Tests.{all_put_apart, none_some}
 use Rattle.petal_history.specs.Steps.{AreStepsFrom, stepped, world_after}

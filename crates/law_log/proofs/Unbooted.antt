@@ -12,9 +12,9 @@ use Rattle.petal_rules.specs.State.{State}
 use Rattle.petal_rules.specs.World.{Setting, World, server_state, server_step, setting_of, start, step}
 use Rattle.petal_rules.specs.declared.job.Job.{Job}
 use Rattle.petal_rules.specs.declared.job.Job.TheVariants as job
-use Rattle.petal_rules.specs.declared.step.CommitEnd.TheVariants.{Before, After}
+use Rattle.petal_rules.specs.declared.step.CommitEnd.TheVariants.{After}
 use Rattle.petal_rules.specs.declared.step.Step.{Step}
-use Rattle.petal_rules.specs.declared.step.Step.TheVariants.{Call, Deliver, Tick, Work, StopIn, Stop, Blank, Boot, Arm, Glance}
+use Rattle.petal_rules.specs.declared.step.Step.TheVariants.{Deliver, Work, StopIn, Boot}
 use Rattle.petal_rules.specs.declared.step.WorkEnd.{WorkEnd}
 use Rattle.petal_rules.specs.declared.step.WorkEnd.TheVariants as work_end
 use Rattle.petal_rules.proofs.Tests.{all_put, by_test}

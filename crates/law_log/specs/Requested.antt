@@ -10,6 +10,7 @@ use Rattle.petal_command.specs.declared.command.Command.{Command}
 use Rattle.petal_command.specs.declared.command.Command.TheVariants.{Join, Leave, Caught, Drained, Moved, Witness}
 use Rattle.script_lines.specs.declared.request.Line.{Line}
 use Rattle.petal_msg.specs.declared.copying.LinkId.{LinkId}
+pub use Rattle.petal_history.specs.Claims.{HasStopped}
 use Rattle.petal_history.specs.Claims.{IsPrefix}
 use Rattle.petal_history.specs.Steps.{world_after}
 use Rattle.petal_history.specs.declared.record.Record.{Record}
@@ -42,10 +43,6 @@ calls_in w c = (w.clients c).seq
 -- the command is that of a line that its client has called, or a Witness of it
 abbrev pub IsScripted : Setting → World → Command → Type 0
 IsScripted setting w command = IsRequested setting.lines (calls_in w) command
-
--- this incarnation of the server has stopped: the server does not run, or runs as a later one
-abbrev pub HasStopped : World → (server inc : ℕ) → Type 0
-HasStopped w server inc = (((w.servers server).life.running ≡ false) × (inc ≤ (w.servers server).life.inc)) ⊎ (inc < (w.servers server).life.inc)
 
 -- this incarnation of the server has begun: the server has it, or a later one
 abbrev pub HasBegun : World → (server inc : ℕ) → Type 0

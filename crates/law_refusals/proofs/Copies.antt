@@ -55,6 +55,7 @@ use Rattle.law_refusals.specs.Full.{By_copy, By_fill, HasEndedFull, HasFilledFul
 use Rattle.law_refusals.proofs.Along.{IsNext, along}
 use Rattle.law_refusals.proofs.Leads.{asks_quiet, is_no_leads, lead_quiet}
 use Rattle.law_refusals.proofs.Refused.{fill_now}
+use Rattle.law_refusals.proofs.Seconds.{AreTold, start_told, told_next}
 use Rattle.law_refusals.proofs.Sent.{is_aside, step_sent}
 
 -- ### What is remembered
@@ -208,14 +209,6 @@ module _ (heard : Body → Type 0) (here : Here) (own : Own) where
   other_declines _ (Puts_entry entry holder last of_copy so room) post i number cell says =
       unsaid post.body number cell (ap is_no_leads (posted (Some holder) (body.Synced entry.op (cell_of entry.key) entry.index) post i)) says
 
-  paired_quiet : (said : Body) → subject_of said ≡ Paired → is_no_leads said ≡ false
-  paired_quiet (body.NotHere seq) e = let f : Refused ≡ Paired = e in absurd cc
-  paired_quiet (body.BlockBusy seq) e = let f : Refused ≡ Paired = e in absurd cc
-  paired_quiet (body.Held seq) e = let f : Refused ≡ Paired = e in absurd cc
-  paired_quiet (body.WrongRev seq) e = let f : Refused ≡ Paired = e in absurd cc
-  paired_quiet (body.SyncFull number cell) e = let f : Copied ≡ Paired = e in absurd cc
-  paired_quiet _ e = refl
-
   did_decline : (done : Done) → Did heard here own done → (post : Post) → In post done.posts → (number : ℕ) (cell : Cell) → Says post number cell
       → Declines post number cell
   unfolding In
@@ -228,7 +221,7 @@ module _ (heard : Body → Type 0) (here : Here) (own : Own) where
   ]
   did_decline _ (By_lead done d) post i number cell says = unsaid post.body number cell (lead_quiet heard here own done d post i) says
   did_decline _ (By_second done d) post i number cell says =
-      unsaid post.body number cell (paired_quiet post.body ((of_second heard here own done d).says post i)) says
+      let f : Copied ≡ Paired = sym (ap subject_of says) ∙ (of_second heard here own done d).says post i in absurd cc
   did_decline _ (By_holder done d) post i number cell says = unsaid post.body number cell (holder_quiet done d post i) says
   did_decline _ (By_other done d) post i number cell says = other_declines done d post i number cell says
   did_decline _ (By_filler done d) post i number cell says =
@@ -320,6 +313,7 @@ module _ (setting : Setting) where
     letters : (letter : Letter) (number : ℕ) (cell : Cell) → In letter (W records).sent → letter.body ≡ body.SyncFull number cell
         → Tells records letter number cell
     fills : (letter : Letter) (key : Key) → In letter (W records).sent → letter.body ≡ body.FillFull key → WasDeclined setting records letter key
+    seconds : AreTold setting records
 
   abbrev job_more : (records : List Record) (next : Record) (n inc : ℕ) → HasJob setting records n inc → HasJob setting (records ++ next ∷ []) n inc
   job_more records next n inc h =
@@ -443,7 +437,7 @@ module _ (setting : Setting) where
           | inl s ↦ record {
             moment = last_moment done own;
             sent = subst (In letter) (sym follows.sent) h;
-            reason = fill_now setting w kept.rests own.actor own.step letter s key says;
+            reason = fill_now setting done kept.seconds own.actor own.step letter s key says;
           }
         ]
 
@@ -471,6 +465,7 @@ module _ (setting : Setting) where
                 | inl new ↦ fill_sent letter key new says
                 | inr old ↦ declined_more done own letter key (kept.fills letter key old says)
               ]);
+          seconds = told_next setting done own kept.seconds on;
         }
 
 pub ended_full : (script : Script) (records : List Record) → AreFirm (setting_of script) (start (setting_of script)) records → AreSteps script records
@@ -485,4 +480,5 @@ ended_full script records firm legal =
       ended = λ n runs full. true_false full refl;
       letters = λ letter number cell h says. absurd h;
       fills = λ letter key h says. absurd h;
+      seconds = start_told script;
     }) records firm legal).ended

@@ -1,4 +1,4 @@
--- What no lead says, and nobody that asks: refusals, and that a copy finds no slot.
+-- What no lead says, and nobody that asks: refusals, and that a copy, or a lead's operation, finds no slot.
 use Rattle.std.proofs.Common.{◌≡◌, Bool, true, false, refl, ap, ◌∙◌}
 use Rattle.petal_msg.specs.Kinds.{is_logged, is_refused, subject_of}
 use Rattle.petal_msg.specs.declared.body.Body.{Body}
@@ -20,6 +20,7 @@ is_no_leads (body.BlockBusy seq) = true
 is_no_leads (body.Held seq) = true
 is_no_leads (body.WrongRev seq) = true
 is_no_leads (body.SyncFull number cell) = true
+is_no_leads (body.PairFull number cell) = true
 is_no_leads _ = false
 
 pub refused_no_leads : (said : Body) → is_refused (subject_of said) ≡ true → is_no_leads said ≡ true
@@ -36,6 +37,7 @@ no_leads_apart (body.BlockBusy seq) e = (refl, refl)
 no_leads_apart (body.Held seq) e = (refl, refl)
 no_leads_apart (body.WrongRev seq) e = (refl, refl)
 no_leads_apart (body.SyncFull number cell) e = (refl, refl)
+no_leads_apart (body.PairFull number cell) e = (refl, refl)
 no_leads_apart _ e = true_false e refl
 
 logged_quiet : (said : Body) → is_logged (subject_of said) ≡ true → is_no_leads said ≡ false

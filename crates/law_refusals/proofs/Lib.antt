@@ -4,6 +4,7 @@ pub mod Jobs
 pub mod Along
 pub mod Leads
 pub mod Sent
+pub mod Seconds
 pub mod Filled
 pub mod Refused
 pub mod Copies

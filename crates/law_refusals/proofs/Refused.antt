@@ -32,10 +32,11 @@ use Rattle.law_steps.proofs.Histories.{firm_now, front_firm, front_legal, rests_
 use Rattle.law_steps.proofs.Letters.{one_post}
 use Rattle.law_steps.proofs.Operating.{is_fill_full}
 use Rattle.law_steps.proofs.Subjects.{of_filler, of_second, of_sweep}
-use Rattle.law_refusals.specs.Full.{HadNoFill, At_the_lead, At_the_second}
+use Rattle.law_refusals.specs.Full.{HadNoFill, At_the_lead, At_the_second, world_at}
 use Rattle.law_refusals.specs.Reasons.{FoundBusy, FoundHeld, FoundNothing, HasNothingOf}
 use Rattle.law_refusals.proofs.Filled.{SaysNone, Has_none, Is_declined, asks_unfilled, did_none}
 use Rattle.law_refusals.proofs.Leads.{lead_quiet, refused_no_leads}
+use Rattle.law_refusals.proofs.Seconds.{AreTold, seconds_told, told_lead}
 use Rattle.law_refusals.proofs.Sent.{SentBy, is_aside, step_sent}
 
 abbrev is_refusal : Body → Bool
@@ -89,23 +90,28 @@ record FoundGround (setting : Setting) (w : World) (who to : Actor) (said : Body
   is : who ≡ actor.Server server
   ground : HasGround (Handled w server) (own_place setting w server) (w.servers server).own to said
 
--- the job that says that an entry found no slot
-pub fill_now : (setting : Setting) (w : World) → Rests setting w → (who : Actor) (what : Step) (letter : Letter) → SentBy setting w who what letter
-    → (key : Key) → letter.body ≡ body.FillFull key → HadNoFill setting w who what key
-fill_now setting w rests who what letter s key says = elim s.works [
-  | inr idle ↦ true_false (ap is_fill_full (sym s.body ∙ says))
-      (asks_unfilled (own_place setting w s.server) (w.servers s.server).own s.post (idle.asks s.post s.there))
-  | inl works ↦ by works (did_none (Handled w s.server) (own_place setting w s.server) (w.servers s.server).own keyed s.done s.did s.post s.there key
-      (sym s.body ∙ says))
-]
-  where
-    keyed : (cell : Cell) (op : Pending) → at cell_cmp (w.servers s.server).own.pairs.pending cell ≡ Some op → cell_of op.key ≡ cell
-    keyed cell op is = ((rests.pending s.server).staged cell op is).keyed
+module _ (setting : Setting) (records : List Record) (told : AreTold setting records) where
+  abbrev reached : World
+  reached = world_at setting records
 
-    by : what ≡ Work work_end.Done → SaysNone (Handled w s.server) (own_place setting w s.server) (w.servers s.server).own keyed key
-        → HadNoFill setting w who what key
-    by works (Has_none moving is new full) = At_the_lead s.server moving s.is works is new full
-    by works (Is_declined op is fill of h) = At_the_second s.server op s.is works is fill of h
+  -- the job that says that an entry found no slot
+  pub fill_now : (who : Actor) (what : Step) (letter : Letter) → SentBy setting reached who what letter → (key : Key) → letter.body ≡ body.FillFull key
+      → HadNoFill setting records who what key
+  fill_now who what letter s key says = elim s.works [
+    | inr idle ↦ true_false (ap is_fill_full (sym s.body ∙ says))
+        (asks_unfilled (own_place setting reached s.server) (reached.servers s.server).own s.post (idle.asks s.post s.there))
+    | inl works ↦ by works (did_none (Handled reached s.server) (own_place setting reached s.server) (reached.servers s.server).own keyed s.done s.did s.post
+        s.there key (sym s.body ∙ says))
+  ]
+    where
+      keyed : (cell : Cell) (op : Pending) → at cell_cmp (reached.servers s.server).own.pairs.pending cell ≡ Some op → cell_of op.key ≡ cell
+      keyed cell op is = ((told.rests.pending s.server).staged cell op is).keyed
+
+      by : what ≡ Work work_end.Done → SaysNone (Handled reached s.server) (own_place setting reached s.server) (reached.servers s.server).own keyed key
+          → HadNoFill setting records who what key
+      by works (Has_none moving is new full) = At_the_lead s.server moving s.is works is new full
+      by works (Is_declined op is fill of h) =
+          At_the_second s.server op s.is works is fill of h (told_lead setting records told s.server op.op (cell_of key) h)
 
 aside_quiet : (subject : Subject) → is_refused subject ≡ true → is_aside subject ≡ false
 aside_quiet Refused e = refl
@@ -158,10 +164,14 @@ module _ (script : Script) (front : List Record) (own : Record) (firm : AreFirm 
         nothing = g;
       }
 
-  pub fill_reason : (key : Key) → In letter own.sent → letter.body ≡ body.FillFull key → HadNoFill setting w own.actor own.step key
+  told_before : AreTold setting front
+  told_before = seconds_told script front (front_firm setting (start setting) front (own ∷ []) firm).0
+      (front_legal setting (start setting) front (own ∷ []) legal).0
+
+  pub fill_reason : (key : Key) → In letter own.sent → letter.body ≡ body.FillFull key → HadNoFill setting front own.actor own.step key
   fill_reason key h says = elim (sent_by h) [
     | inr aside ↦ true_false aside (ap (λ b. is_aside (subject_of b)) says)
-    | inl s ↦ fill_now setting w rests own.actor own.step letter s key says
+    | inl s ↦ fill_now setting front told_before own.actor own.step letter s key says
   ]
 
   pub busy_reason : (seq : ℕ) → In letter own.sent → letter.body ≡ body.BlockBusy seq → FoundBusy setting w own.actor seq

@@ -21,7 +21,8 @@ use Rattle.petal_rules.specs.Lists.{In}
 use Rattle.petal_rules.specs.Progress.{copying_on}
 use Rattle.petal_rules.specs.Server.{Here, Own}
 use Rattle.petal_rules.specs.Store.{cell_cmp, chain_in, free_of}
-use Rattle.petal_rules.specs.World.{Setting, World, start}
+use Rattle.petal_rules.specs.State.{first, second}
+use Rattle.petal_rules.specs.World.{Setting, World, server_state, start}
 use Rattle.petal_rules.specs.declared.step.Step.{Step}
 use Rattle.petal_rules.specs.declared.step.Step.TheVariants.{Work}
 use Rattle.petal_rules.specs.declared.step.WorkEnd.TheVariants as work_end
@@ -32,6 +33,7 @@ use Rattle.law_causes.specs.Settles.{HasFoundFull}
 use Rattle.law_steps.specs.DidFiller.{IsNextKey}
 use Rattle.law_steps.specs.DidLead.{IsNewFill}
 use Rattle.law_steps.specs.DidOther.{IsOfCopy}
+use Rattle.law_steps.specs.DidSecond.{FoundNoSlot}
 use Rattle.law_steps.specs.Happens.{Handled, own_place}
 
 -- a server is to put the next entry of the copy of this number, the last one of the cell to this server, by the one that holds the
@@ -89,23 +91,47 @@ pub record HasEndedFull (setting : Setting) (records : List Record) (server inc 
 
 -- ### Entries that move
 
--- a server's job told the old map's lead that there is no slot for this entry. At the lead of the new map's cell, by its own state, the entry is
--- new, nothing is under way on the cell, and no slot is free; or the operation that is pending there for the entry is declined, since its
--- second server told so
-pub data HadNoFill (setting : Setting) (w : World) (who : Actor) (what : Step) (key : Key) : Type 0 where
+-- in a job the second server of a cell whose first server is this lead, by its own state, handled the Reserve letter of the operation of this number,
+-- which is newer than the last one on the cell, of which no slot is left over; and no slot is free
+pub record SecondHadNone (setting : Setting) (w : World) (who : Actor) (what : Step) (lead number : ℕ) (cell : Cell) : Type 0 where
+  pub server : ℕ
+  pub is : who ≡ actor.Server server
+  pub works : what ≡ Work work_end.Done
+  pub leads : first (server_state setting w server) cell ≡ Some lead
+  pub follows : second (server_state setting w server) cell ≡ Some server
+  pub asked : Handled w server (body.Reserve number cell)
+  pub none : FoundNoSlot (w.servers server).own cell number
+
+-- one of these records tells of such a step, which sent the letter to the lead
+pub record WasToldBySecond (setting : Setting) (records : List Record) (letter : Letter) (lead number : ℕ) (cell : Cell) : Type 0 where
+  pub moment : IsMoment records
+  pub open moment use *
+  pub sent : In letter own.sent
+  pub to : letter.to ≡ actor.Server lead
+  pub reason : SecondHadNone setting (world_after setting (start setting) front) own.actor own.step lead number cell
+
+-- the world after these records
+abbrev pub world_at : Setting → List Record → World
+world_at setting records = world_after setting (start setting) records
+
+-- after these records a server's job told the old map's lead that there is no slot for this entry. At the lead of the new map's cell, by its own
+-- state, the entry is new, nothing is under way on the cell, and no slot is free; or the operation that is pending there for the entry is
+-- declined, since its second server told so, in an earlier step in which it was asked for a slot for this operation and had none
+pub data HadNoFill (setting : Setting) (records : List Record) (who : Actor) (what : Step) (key : Key) : Type 0 where
   At_the_lead : (n : ℕ) (moving : Moving) → who ≡ actor.Server n → what ≡ Work work_end.Done → moving.key ≡ key
-      → IsNewFill (Handled w n) (own_place setting w n) (w.servers n).own moving → free_of (w.servers n).own.store ≡ 0
-      → HadNoFill setting w who what key
+      → IsNewFill (Handled (world_at setting records) n) (own_place setting (world_at setting records) n) ((world_at setting records).servers n).own moving
+      → free_of ((world_at setting records).servers n).own.store ≡ 0 → HadNoFill setting records who what key
   At_the_second : (n : ℕ) (op : Pending) → who ≡ actor.Server n → what ≡ Work work_end.Done
-      → at cell_cmp (w.servers n).own.pairs.pending (cell_of key) ≡ Some op → op.kind ≡ kind.Fill → op.key ≡ key
-      → Handled w n (body.PairFull op.op (cell_of key)) → HadNoFill setting w who what key
+      → at cell_cmp ((world_at setting records).servers n).own.pairs.pending (cell_of key) ≡ Some op → op.kind ≡ kind.Fill → op.key ≡ key
+      → (heard : Handled (world_at setting records) n (body.PairFull op.op (cell_of key)))
+      → WasToldBySecond setting records heard.letter n op.op (cell_of key) → HadNoFill setting records who what key
 
 -- one of these records tells of such a step, which sent the letter
 pub record WasDeclined (setting : Setting) (records : List Record) (letter : Letter) (key : Key) : Type 0 where
   pub moment : IsMoment records
   pub open moment use *
   pub sent : In letter own.sent
-  pub reason : HadNoFill setting (world_after setting (start setting) front) own.actor own.step key
+  pub reason : HadNoFill setting front own.actor own.step key
 
 -- such a job, in which the server heard that there is no slot for the next entry of a link
 -- that it is to move; and of the earlier step that sent the letter

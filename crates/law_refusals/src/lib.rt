@@ -51,16 +51,19 @@ pub fn not_here_has_a_reason()
 {}
 
 /// A letter that says that there is no slot for an entry that moves is sent by the lead of the new map's cell, in a job in which it handled
-/// the entry and had no free slot, or heard that its second server has none for the operation that is pending for the entry.
+/// the entry and had no free slot, or heard that its second server has none for the operation that is pending for the entry. That server sent
+/// the letter in an earlier step, in which it was asked for a slot for this operation, which was new to it, and had none: neither free nor left
+/// over on the cell.
 pub fn a_full_fill_found_no_slot()
     ensures { (script : Script) (front : List Record) (own : Record) → IsSound script → AreSteps script (front ++ own ∷ []) → (letter : Letter) (key : Key)
         → In letter own.sent → letter.body ≡ FillFull key
-        → HadNoFill (setting_of script) (world_after (setting_of script) (start (setting_of script)) front) own.actor own.step key }
+        → HadNoFill (setting_of script) front own.actor own.step key }
 {}
 
 /// Where a running server remembers that a slot was wanting, it heard so in a job of this life: while a copy of its was under way and waited for
 /// its next entry to be put, from the link's other server, which was to put that entry in an earlier job and found no free slot; or of the next
-/// entry of a link that it was to move, from the new map's lead, which had none in an earlier job, or whose second server had none.
+/// entry of a link that it was to move, from the new map's lead, which had none in an earlier job, or whose second server had none in one still
+/// earlier.
 pub fn a_full_copy_found_no_slot()
     ensures { (script : Script) (records : List Record) → IsSound script → AreSteps script records → (server : ℕ)
         → ((world_after (setting_of script) (start (setting_of script)) records).servers server).life.running ≡ true

@@ -1,1 +1,1 @@
-mod Reports
+pub mod Reports

@@ -5,17 +5,11 @@ use Rattle.petal_command.specs.declared.command.Command.{Command}
 use Rattle.petal_command.specs.declared.command.Command.TheVariants.{Drained}
 use Rattle.petal_msg.specs.declared.operation.Pending.{Pending}
 use Rattle.petal_table.specs.Table.{at}
-use Rattle.petal_state.specs.Command.{state_after}
-use Rattle.petal_rules.specs.State.{held}
 use Rattle.petal_rules.specs.Store.{cell_cmp}
-use Rattle.petal_rules.specs.Writes.{is_clients, is_writes_held}
+use Rattle.petal_rules.specs.Writes.{is_clients}
 use Rattle.petal_rules.specs.World.{Setting, World, chosen_log}
+pub use Rattle.petal_history.specs.Claims.{AreHeldAlong}
 use Rattle.petal_history.specs.Claims.{IsPrefix}
-
--- by each state from these entries' to those', the writes of the cell are held
-abbrev pub AreHeldAlong : (servers : ℕ) → (front whole : List Command) → Cell → Type 0
-AreHeldAlong servers front whole cell =
-    (log : List Command) → IsPrefix front log → IsPrefix log whole → is_writes_held (held (state_after servers log) cell) ≡ true
 
 -- where a running server's report to a fence is chosen, nothing of a client is pending there on a cell whose writes were held from the state at
 -- the report's place up to the server's own

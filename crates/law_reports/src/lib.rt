@@ -2,6 +2,7 @@
 #![tactic(auto)]
 
 ghost use Rattle.std.specs.Prelude.{List};
+ghost use Rattle.petal_history.specs.Claims.{ReportsHold};
 ghost use Rattle.law_state.specs.Histories.{AreSteps, IsSound, Record, Script, setting_of, start, world_after};
 ghost use Rattle.law_reports.specs.Reports.{WritesNothingHeld};
 
@@ -11,4 +12,10 @@ ghost use Rattle.law_reports.specs.Reports.{WritesNothingHeld};
 pub fn a_server_that_reported_writes_nothing()
     ensures { (script : Script) (records : List Record) → IsSound script → AreSteps script records
         → WritesNothingHeld (setting_of script) (world_after (setting_of script) (start (setting_of script)) records) }
+{}
+
+/// And from where a server wanted its report to the active fence chosen, for which alone it starts a ballot, whether the report is chosen or
+/// not: no client's write is pending there on a cell whose writes were held ever since.
+pub fn a_server_that_wants_to_report_writes_nothing()
+    ensures { (script : Script) (records : List Record) → IsSound script → AreSteps script records → ReportsHold script records }
 {}

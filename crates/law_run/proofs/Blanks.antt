@@ -132,8 +132,8 @@ module _ (setting : Setting) (w : World) (n stamp : ℕ) where
         ap (λ s. flat_map (freezes_on (change_by setting w v)) s.disks.rows) state_same
         ∙ no_freezes (rows_in setting w) (rows_in setting w) (λ row h. (disks_now setting w firm).at row h)
 
-    pub blank_told : told_with [] (takes (change_by setting w v)) (makes (change_by setting w v) ++ freezes (change_by setting w v) ++ [] ++ []) ≡ Some []
-    blank_told = (λ i. told_with [] (blank_takes i) (blank_makes i ++ blank_freezes i ++ [] ++ []))
+    pub blank_told : told_with [] (takes (change_by setting w v)) (makes (change_by setting w v) ++ freezes (change_by setting w v) ++ []) (Some []) ≡ Some []
+    blank_told = (λ i. told_with [] (blank_takes i) (blank_makes i ++ blank_freezes i ++ []) (Some []))
 
   -- ### Servers and clients stay tied to the machine
 

@@ -7,6 +7,8 @@ use Rattle.std.specs.Prelude.{if◌then◌else◌, length}
 use Rattle.petal_machine.specs.declared.event.Event.{Event}
 use Rattle.petal_machine.specs.declared.event.Event.TheVariants.{Begin, End}
 use Rattle.petal_machine.specs.declared.event.Write.{Write}
+use Rattle.petal_machine.specs.declared.event.WriteEnd.{WriteEnd}
+use Rattle.petal_machine.specs.declared.event.WriteEnd.TheVariants as write_end
 use Rattle.petal_machine.specs.declared.state.Open.{Open}
 use Rattle.petal_machine.specs.Machine.{open_of}
 use Rattle.petal_machine.specs.Run.{Obeys, May, MayEnd, IsOpen as IsUnderWay, after, replay}
@@ -28,7 +30,7 @@ use Rattle.petal_rules.specs.Clients.{Client, Asked, Reaction, answers, Sight, i
 use Rattle.petal_rules.specs.World.{World, reacts, next_line}
 use Rattle.petal_rules.proofs.ListLemmas.{put_same}
 use Rattle.petal_history.specs.Events as events
-use Rattle.petal_history.specs.Events.{open_write, write_asked, write_by, begun, end_of, change_by, freezes, takes, makes, looks, told_with}
+use Rattle.petal_history.specs.Events.{open_write, write_asked, write_by, begun, end_by, end_of, change_by, freezes, takes, makes, looks, told_with}
 use Rattle.law_steps.specs.Happens.{Heard}
 use Rattle.law_steps.specs.Turned.{StaysOpen, IsCalled, OnlySays, IsReason, By_verdict, By_witness, IsJudged, Goes_on, Begins, Reads, Ends, Shown, Judges}
 use Rattle.law_steps.specs.Turned.{IsSeenAs, Stops_it, Stops_at, Fails_it, Starts_it, Blanks_it, Has_no_space, Is_settled, answer_of, Is_told}
@@ -41,6 +43,15 @@ use Rattle.law_run.proofs.Machine.{disks_after, after_mindful, begin_seat, begin
 use Rattle.law_run.proofs.Takes.{open_own}
 use Rattle.law_run.proofs.ClientFrames.{ClientStep, TurnFollow, Turn, after_turn, no_looks, unwritten, nothing_taken, nothing_made}
 use Rattle.law_run.proofs.ClientFrames.{nothing_frozen, turn_follow, look_here}
+
+-- how a write ends that a reply ends so
+abbrev ends_as : Ending → WriteEnd
+ends_as ending.Written = write_end.Ok
+ends_as ending.Full = write_end.NoSpace
+
+ends_so : (how : Ending) → end_of (answer_of how) ≡ Some (ends_as how)
+ends_so ending.Written = refl
+ends_so ending.Full = refl
 
 -- no write of this request
 not_write : (c seq : ℕ) (asked : Request) → is_read asked ≡ true → write_by c seq asked ≡ None
@@ -83,17 +94,25 @@ stays_back rev old new seq stays h = by old.asked new.asked refl refl stays
     by None (Some two) e f s = absurd s
     by (Some one) None e f s = absurd s
 
+-- the write may end as it is answered
+record EndsSo (opened : List Open) (write : Write) (given : Answer) : Type 0 where
+  how : WriteEnd
+  is : end_of given ≡ Some how
+  may : MayEnd opened write how
+
 -- a write that can't be served ends otherwise than as written
 refused_end : (state : State) (o : Option DiskView) (block : ℕ) (given : Answer) (opened : List Open) (write : Write) → write_refusal state o block ≡ Some given
-    → IsUnderWay opened write → MayEnd opened write (end_of given)
-refused_end state None block given opened write e under_way = subst (λ g. MayEnd opened write (end_of g)) (same_some e) under_way
+    → IsUnderWay opened write → EndsSo opened write given
+refused_end state None block given opened write e under_way =
+    subst (EndsSo opened write) (same_some e) (record { how = write_end.NoDisk; is = refl; may = under_way })
 refused_end state (Some disk) block given opened write e under_way = by_bool (is_some (lead state (cell_asked state disk block false)))
     (λ t. none_some (ap (λ b. if b then None else Some answer.Unavailable) t) e)
-    (λ f. subst (λ g. MayEnd opened write (end_of g)) (same_some (sym (ap (λ b. if b then None else Some answer.Unavailable) f) ∙ e)) under_way)
+    (λ f. subst (EndsSo opened write) (same_some (sym (ap (λ b. if b then None else Some answer.Unavailable) f) ∙ e))
+    (record { how = write_end.Unavailable; is = refl; may = under_way }))
 
 judged_end : (c seq : ℕ) (told : Bool) (asked : Request) (write : Write) (given : Answer) (state : State) (opened : List Open)
     → write_by c seq asked ≡ Some write
-    → refusal state told asked ≡ Some given → IsUnderWay opened write → MayEnd opened write (end_of given)
+    → refusal state told asked ≡ Some given → IsUnderWay opened write → EndsSo opened write given
 unfolding refusal
 judged_end c seq told (request.Write name block pattern) write given state opened is e under_way =
     refused_end state (find state name) block given opened write e under_way
@@ -116,23 +135,23 @@ module _ (this : ClientStep) where
     pub es : List Event
     pub is : told_with (begins_by this.c in_call (after_turn this reacted)) (takes (change_by this.setting this.w (after_turn this reacted)))
         (makes (change_by this.setting this.w (after_turn this reacted)) ++ freezes (change_by this.setting this.w (after_turn this reacted))
-        ++ flat_map (look_here this reacted) (reacts this.w this.c this.stamp reacted).letters
-        ++ events.ended (open_write this.w this.c) reacted.answer) ≡ Some es
+        ++ flat_map (look_here this reacted) (reacts this.w this.c this.stamp reacted).letters)
+        (events.ended (open_write this.w this.c) reacted.answer) ≡ Some es
     pub may : Obeys this.m es
     pub follows : Follow this.setting (rows_in this.setting this.w) (after_turn this reacted) (replay this.m es)
 
-  ended_none : (o : Option Write) → events.ended o None ≡ []
+  ended_none : (o : Option Write) → events.ended o None ≡ Some []
   ended_none None = refl
   ended_none (Some write) = refl
 
   -- nothing is told
   silent : (in_call : Bool) (reacted : Reaction) → Turn this in_call reacted
       → begins_by this.c in_call (after_turn this reacted) ≡ []
-      → events.ended (open_write this.w this.c) reacted.answer ≡ [] → TurnFollow this.w this.m this.m this.c reacted.client → ClientTold in_call reacted
+      → events.ended (open_write this.w this.c) reacted.answer ≡ Some [] → TurnFollow this.w this.m this.m this.c reacted.client → ClientTold in_call reacted
   silent in_call reacted turned begins ends turn = record {
     es = [];
     is = (λ i. told_with (begins i) (nothing_taken this reacted i)
-        (nothing_made this reacted i ++ nothing_frozen this reacted i ++ no_looks this in_call reacted turned i ++ ends i));
+        (nothing_made this reacted i ++ nothing_frozen this reacted i ++ no_looks this in_call reacted turned i) (ends i));
     may = tt;
     follows = turn_follow this this.m reacted turn (unwritten this in_call reacted turned);
   }
@@ -142,7 +161,7 @@ module _ (this : ClientStep) where
       → TurnFollow this.w this.m this.m this.c to
   quiet_turn to seat helds = record { disks = refl; mindful = this.follow.stores.mindful; others = λ j ne. refl; seat = seat; helds = helds }
 
-  unanswered : (reacted : Reaction) → OnlySays this.setting.servers this.c reacted → events.ended (open_write this.w this.c) reacted.answer ≡ []
+  unanswered : (reacted : Reaction) → OnlySays this.setting.servers this.c reacted → events.ended (open_write this.w this.c) reacted.answer ≡ Some []
   unanswered reacted only = ap (events.ended (open_write this.w this.c)) only.unanswered ∙ ended_none (open_write this.w this.c)
 
   goes_on_told : (reacted : Reaction) (seq : reacted.client.seq ≡ client.seq)
@@ -209,7 +228,7 @@ module _ (this : ClientStep) where
           record {
             es = Begin write ∷ [];
             is = (λ i. told_with (begun ((open_now reacted ∙ asked_is ∙ e) i)) (nothing_taken this reacted i)
-                (nothing_made this reacted i ++ nothing_frozen this reacted i ++ no_looks this true reacted turned i ++ unanswered reacted only i));
+                (nothing_made this reacted i ++ nothing_frozen this reacted i ++ no_looks this true reacted turned i) (unanswered reacted only i));
             may = (none, tt);
             follows = turn_follow this k reacted (record {
               disks = disks_after this.m (Begin write);
@@ -243,7 +262,7 @@ module _ (this : ClientStep) where
 
   -- a write ends as its reply says
   may_end : (write : Write) (how : Ending) (asked : Asked) → write.client ≡ this.c → open_write this.w this.c ≡ Some write → client.asked ≡ Some asked
-      → Heard this.w (actor.Client this.c) asked.rev (ended asked.seq how) → May this.m (End write (end_of (answer_of how)))
+      → Heard this.w (actor.Client this.c) asked.rev (ended asked.seq how) → May this.m (End write (ends_as how))
   may_end write ending.Written asked own is there h =
       let seat : Seat (Some write) (open_of this.m.opened this.c) = subst (λ o. Seat o (open_of this.m.opened this.c)) is (this.follow.seats this.c) in
       let held : is_held this.m this.c ≡ true =
@@ -261,19 +280,19 @@ module _ (this : ClientStep) where
       let wr = a_write this.c asked.seq asked.request writes in
       let there : open_write this.w this.c ≡ Some wr.0 = ap (write_asked this.c) is ∙ wr.1 in
       let own : wr.0.client ≡ this.c = open_own this.w this.c wr.0 there in
-      let e = End wr.0 (end_of (answer_of how)) in
+      let e = End wr.0 (ends_as how) in
       let k = after this.m e in
       record {
         es = e ∷ [];
         is = (λ i. told_with [] (nothing_taken this reacted i)
-            (nothing_made this reacted i ++ nothing_frozen this reacted i ++ no_looks this false reacted (Ends asked how h is writes) i
-            ++ events.ended (there i) (Some (asked.line, answer_of how))));
+            (nothing_made this reacted i ++ nothing_frozen this reacted i ++ no_looks this false reacted (Ends asked how h is writes) i)
+            ((ap (λ o. events.ended o (Some (asked.line, answer_of how))) there ∙ ap (end_by wr.0) (ends_so how)) i));
         may = (may_end wr.0 how asked own there is h, tt);
         follows = turn_follow this k reacted (record {
           disks = disks_after this.m e;
           mindful = after_mindful this.m e;
-          others = λ j ne. end_others this.m wr.0 (end_of (answer_of how)) j this.follow.stores.mindful (λ f. ne (f ∙ own));
-          seat = subst (λ i. open_of k.opened i ≡ None) own (end_seat this.m wr.0 (end_of (answer_of how)));
+          others = λ j ne. end_others this.m wr.0 (ends_as how) j this.follow.stores.mindful (λ f. ne (f ∙ own));
+          seat = subst (λ i. open_of k.opened i ≡ None) own (end_seat this.m wr.0 (ends_as how));
           helds = λ seq o. none_some refl o.is;
         }) (unwritten this false reacted (Ends asked how h is writes));
       }
@@ -292,7 +311,7 @@ module _ (this : ClientStep) where
 
       may_so : (write : Write) → write_by this.c asked.seq asked.request ≡ Some write → IsUnderWay this.m.opened write
           → (state : State) (entry : Command) → IsReason this.c asked given state entry
-          → MayEnd this.m.opened write (end_of given)
+          → EndsSo this.m.opened write given
       may_so write e under_way state entry (By_verdict command own verdict) = none_some (no_command this.c asked.seq asked.request write e) own
       may_so write e under_way state entry (By_witness none own refused) =
           judged_end this.c asked.seq asked.told asked.request write given state this.m.opened e refused under_way
@@ -308,20 +327,21 @@ module _ (this : ClientStep) where
           let own : write.client ≡ this.c = open_own this.w this.c write there in
           let seat : Seat (Some write) (open_of this.m.opened this.c) = subst (λ o. Seat o (open_of this.m.opened this.c)) there (this.follow.seats this.c) in
           let under_way : IsUnderWay this.m.opened write = record { held = seat.0; is = ap (open_of this.m.opened) own ∙ seat.1 } in
-          let event = End write (end_of given) in
+          let so = may_so write e under_way _ _ judged.reason in
+          let event = End write so.how in
           let k = after this.m event in
           record {
             es = event ∷ [];
             is = (λ i. told_with [] (nothing_taken this reacted i)
-                (nothing_made this reacted i ++ nothing_frozen this reacted i ++ no_looks this false reacted turned i
-                ++ events.ended (there i) (Some (asked.line, given))));
-            may = (may_so write e under_way _ _ judged.reason, tt);
+                (nothing_made this reacted i ++ nothing_frozen this reacted i ++ no_looks this false reacted turned i)
+                ((ap (λ o. events.ended o (Some (asked.line, given))) there ∙ ap (end_by write) so.is) i));
+            may = (so.may, tt);
             follows = turn_follow this k reacted (record {
               disks = disks_after this.m event;
               mindful = after_mindful this.m event;
-              others = λ j ne. end_others this.m write (end_of given) j this.follow.stores.mindful (λ f. ne (f ∙ own));
+              others = λ j ne. end_others this.m write so.how j this.follow.stores.mindful (λ f. ne (f ∙ own));
               seat = subst (λ o. Seat (write_asked this.c o) (open_of k.opened this.c)) (sym gone)
-                  (subst (λ i. open_of k.opened i ≡ None) own (end_seat this.m write (end_of given)));
+                  (subst (λ i. open_of k.opened i ≡ None) own (end_seat this.m write so.how));
               helds = λ number o. none_some gone o.is;
             }) (unwritten this false reacted turned);
           }

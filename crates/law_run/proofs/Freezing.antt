@@ -364,7 +364,8 @@ module _ (this : ServerStep) where
       } in
       record {
         es = taken.es ++ (following ++ ls);
-        is = (λ i. told_with [] (taken.is i) (append-nil (sym (made_same more) i ++ fs taken ++ ls) i));
+        is = (λ i. told_with [] (taken.is i) (sym (made_same more) i ++ fs taken ++ ls) (Some []))
+            ∙ ap (λ told. Some (taken.es ++ told)) (append-nil (following ++ ls));
         may = Obeys-append this.m taken.es (following ++ ls) taken.may
             (Obeys-append m1 following ls (Obeys-append m1 (ms taken) (fs taken) made_now.may frozen.may) (subst (λ k. Obeys k ls) (sym there) seen.may));
         follows = subst (Follow this.setting new_rows v)

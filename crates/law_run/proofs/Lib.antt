@@ -51,4 +51,5 @@ pub mod OldReads
 pub mod NotHere
 pub mod MovesKnown
 pub mod Footings
+pub mod Proposed
 pub mod Running

@@ -39,7 +39,8 @@ use Rattle.law_copies.proofs.First.{marks_first}
 use Rattle.law_copies.proofs.Rules.{copies_after, covered_after}
 use Rattle.law_steps.proofs.Waking.{wake_along}
 use Rattle.law_requests.proofs.Histories.{requests_after}
-use Rattle.law_log.proofs.Histories.{history_agrees, history_is_firm, history_grows}
+use Rattle.law_reports.proofs.Reports.{reports_hold}
+use Rattle.law_log.proofs.Histories.{history_agrees, history_is_firm, history_grows, out_has_stopped}
 use Rattle.law_run.specs.Follow.{Follow, Ground}
 use Rattle.law_moves.proofs.Afterwards.{rule_after}
 use Rattle.petal_msg.specs.declared.letter.Letter.{Letter}
@@ -48,6 +49,7 @@ use Rattle.law_run.proofs.ClientFrames.{ClientStep}
 use Rattle.law_run.proofs.ClientSteps.{begins_by, turn_told}
 use Rattle.law_run.proofs.LogSteps.{step_kind}
 use Rattle.law_run.proofs.Looks.{AreGrounded}
+use Rattle.law_run.proofs.Proposed.{caught_up_after, equal_after}
 use Rattle.law_run.proofs.Machine.{Obeys-append, replay-append}
 use Rattle.law_run.proofs.ServerSteps.{step_told}
 use Rattle.law_run.proofs.Blanks.{blank_follow, blank_told}
@@ -145,8 +147,8 @@ module _ (script : Script) (sound : IsSound script) (whole : List Command) (all 
         → Tells m (step who what setting w stamp).world
         (told_with (begins what who (step who what setting w stamp).world) (takes (change_by setting w (step who what setting w stamp).world))
         (makes (change_by setting w (step who what setting w stamp).world) ++ freezes (change_by setting w (step who what setting w stamp).world)
-        ++ flat_map (look_told who (step who what setting w stamp).world) (step who what setting w stamp).letters
-        ++ ends who w (step who what setting w stamp).answer))
+        ++ flat_map (look_told who (step who what setting w stamp).world) (step who what setting w stamp).letters)
+        (ends who w (step who what setting w stamp).answer))
     unfolding step
     step_tells (actor.Server n) Blank may next = record {
       es = [];
@@ -181,7 +183,7 @@ module _ (script : Script) (sound : IsSound script) (whole : List Command) (all 
           es = t.es;
           is = ap (λ b. told_with b (takes (change_by setting w v))
               (makes (change_by setting w v) ++ freezes (change_by setting w v)
-              ++ flat_map (look_told (actor.Server n) v) (acts setting w n what stamp acted).letters ++ []))
+              ++ flat_map (look_told (actor.Server n) v) (acts setting w n what stamp acted).letters) (Some []))
               (server_begins what n v) ∙ t.is;
           may = t.may;
           follows = t.follows;
@@ -194,8 +196,8 @@ module _ (script : Script) (sound : IsSound script) (whole : List Command) (all 
           es = t.es;
           is = ap (λ b. told_with b (takes (change_by setting w (reacts w c stamp reacted).world))
               (makes (change_by setting w (reacts w c stamp reacted).world) ++ freezes (change_by setting w (reacts w c stamp reacted).world)
-              ++ flat_map (look_told (actor.Client c) (reacts w c stamp reacted).world) (reacts w c stamp reacted).letters
-              ++ ended (open_write w c) reacted.answer))
+              ++ flat_map (look_told (actor.Client c) (reacts w c stamp reacted).world) (reacts w c stamp reacted).letters)
+              (ended (open_write w c) reacted.answer))
               (client_begins c what (reacts w c stamp reacted).world) ∙ t.is;
           may = t.may;
           follows = t.follows;
@@ -217,8 +219,8 @@ module _ (script : Script) (sound : IsSound script) (whole : List Command) (all 
         es = t.es;
         is = (λ i. told_with (begins own.step own.actor v) (takes (change_by setting w v))
             (makes (change_by setting w v) ++ freezes (change_by setting w v)
-            ++ flat_map (λ (letter : Letter). look_of setting w v own.actor later letter letter.body) (follows.sent i)
-            ++ ends own.actor w (follows.answer i))) ∙ t.is;
+            ++ flat_map (λ (letter : Letter). look_of setting w v own.actor later letter letter.body) (follows.sent i))
+            (ends own.actor w (follows.answer i))) ∙ t.is;
         may = t.may;
         follows = t.follows;
       }
@@ -404,12 +406,16 @@ law_with requests script records sound legal = record {
     empty = λ n fresh. let e = always_empty script records sound legal n fresh in (e.chains, e.marks);
     requests = requests script records sound legal;
     moves = rule_after script records sound legal;
+    stopped = out_has_stopped script records sound legal;
+    caught = caught_up_after script records sound legal;
   };
   grows = history_grows script records sound legal;
   marks = marks_first script records sound legal;
   run = run_after script records sound legal;
   holds = held_after script records sound legal;
   snapshots = snapshots_after script records sound legal;
+  equal = equal_after script records sound legal;
+  reports = reports_hold script records sound legal;
 }
 
 pub law : Law

@@ -316,7 +316,7 @@ module _ (this : ServerStep) where
   pub record ServerTold : Type 0 where
     pub es : List Event
     pub is : told_with [] (takes (change_by this.setting this.w v))
-        (makes (change_by this.setting this.w v) ++ freezes (change_by this.setting this.w v) ++ looks_here ++ [])
+        (makes (change_by this.setting this.w v) ++ freezes (change_by this.setting this.w v) ++ looks_here) (Some [])
         ≡ Some es
     pub may : Obeys this.m es
     pub follows : Follow this.setting (rows_in this.setting v) v (replay this.m es)

@@ -1,8 +1,8 @@
 //! The law of lock step: the events of every legal history of a sound script are a run of the plain machine, and the contents
 //! are its disks', also where servers come back with nothing.
 //!
-//! To the layer above it promises the whole law: agreement, the two-copy rule, marks before puts, the rules of requests and of moves, the
-//! run, the contents and the snapshots. It speaks of definitions alone and knows nothing of code.
+//! To the layer above it promises the whole law: agreement, the two-copy rule, marks before puts, the rules of requests, of moves, of who is
+//! Out and of proposals, the run, the contents and the snapshots. It speaks of definitions alone and knows nothing of code.
 #![tactic(auto)]
 
 ghost use Rattle.std.specs.Prelude.{◌≡◌, ℕ, List, Ok};
@@ -24,7 +24,8 @@ pub fn contents_are_the_machines()
 {}
 
 /// The whole law: every legal history of a sound script keeps agreement, the two-copy rule, that of empty stores and those of requests and
-/// of moves, has leads put only on marked blocks, is a run of the plain machine, has the machine's contents, and never changes a snapshot.
+/// of moves, has leads put only on marked blocks, is a run of the plain machine, has the machine's contents, and never changes a snapshot;
+/// who is Out has stopped, and who has started a ballot for a `Caught`, or wants to report to a fence, has nothing under way that this holds.
 pub fn every_history_keeps_the_law()
     ensures { Law }
 {}

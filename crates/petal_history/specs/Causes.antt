@@ -20,6 +20,35 @@ use Rattle.petal_rules.specs.Lists.{In}
 use Rattle.petal_rules.specs.State.{State}
 use Rattle.petal_rules.specs.World.{Setting, World, lines_of, chosen_log, state_at}
 
+-- what a request of each kind may be answered: this, and nothing else. Only a read that names a snapshot may hear that there is none
+abbrev pub may_answer : Request → Answer → Bool
+may_answer (request.Disk name tuple) answer.Ok = true
+may_answer (request.Disk name tuple) answer.Exists = true
+may_answer (request.Write name block pattern) answer.Ok = true
+may_answer (request.Write name block pattern) answer.NoSpace = true
+may_answer (request.Write name block pattern) answer.NoDisk = true
+may_answer (request.Write name block pattern) answer.Unavailable = true
+may_answer (request.Read name snap block) (answer.Data bytes) = true
+may_answer (request.Read name snap block) answer.NoDisk = true
+may_answer (request.Read name snap block) answer.Unavailable = true
+may_answer (request.Read name (Some snap) block) answer.NoSnap = true
+may_answer (request.Snap name snap) answer.Ok = true
+may_answer (request.Snap name snap) answer.NoDisk = true
+may_answer (request.Snap name snap) answer.Exists = true
+may_answer (request.Move name tuple) answer.Ok = true
+may_answer (request.Move name tuple) answer.NoDisk = true
+may_answer (request.Move name tuple) answer.Moving = true
+may_answer (request.Stop server) answer.Ok = true
+may_answer (request.StopAt server at) answer.Ok = true
+may_answer (request.Fault server which kind at) answer.Ok = true
+may_answer (request.Start server) answer.Ok = true
+may_answer (request.Start server) answer.Failed = true
+may_answer (request.Blank server) answer.Ok = true
+may_answer (request.Blank server) answer.Failed = true
+may_answer request.Settle answer.Ok = true
+may_answer request.Settle answer.NoSpace = true
+may_answer _ _ = false
+
 -- a letter told the client that the new map has nothing for this request
 pub record WasTold (w : World) (client seq : ℕ) : Type 0 where
   pub letter : Letter
@@ -28,7 +57,7 @@ pub record WasTold (w : World) (client seq : ℕ) : Type 0 where
   pub is : letter.body ≡ NotHere seq
 
 -- a Witness of the request is chosen, and in the state at its place the request can't be served, for this cause: also not by the old map,
--- where it was told that the new one has nothing
+-- where it was told that the new one has nothing. It is a cause of the request's kind
 pub record HasWitness (setting : Setting) (w : World) (client seq : ℕ) (asked : Request) (cause : Answer) : Type 0 where
   pub place : ℕ
   pub turn : ℕ
@@ -36,6 +65,7 @@ pub record HasWitness (setting : Setting) (w : World) (client seq : ℕ) (asked 
   pub why : told ≡ true → WasTold w client seq
   pub is : slice_get (chosen_log setting w) place ≡ Some (Witness client seq turn)
   pub so : refusal (state_at setting w (place + 1)) told asked ≡ Some cause
+  pub fits : may_answer asked cause ≡ true
 
 -- the name that the request would give is taken in this state: it is that of a disk; or that of a snapshot of the request's disk, or of one
 -- that waits for its fence
@@ -64,7 +94,7 @@ has_made state _ = false
 
 -- the request's own command is chosen, and its verdict says this: in the state right after its first place or, where a snapshot is taken,
 -- after the entry with which its fence took effect; and no state before says anything. What is refused is so by the state before its first
--- place; and by that state a name that is given was free, and its disk known
+-- place; and by that state a name that is given was free, and its disk known. It is a verdict of the request's kind
 pub record HasVerdict (setting : Setting) (w : World) (client seq : ℕ) (asked : Request) (cause : Answer) : Type 0 where
   pub place : ℕ
   pub judged : ℕ
@@ -84,16 +114,23 @@ pub record HasVerdict (setting : Setting) (w : World) (client seq : ℕ) (asked 
   pub free : cause ≡ answer.Ok → is_name_taken (state_at setting w place) asked ≡ false
   pub known : cause ≡ answer.Ok → lacks_disk (state_at setting w place) asked ≡ false
   pub made : cause ≡ answer.Ok → has_made (state_at setting w (judged + 1)) asked ≡ true
+  pub fits : may_answer asked cause ≡ true
 
--- a request with a command of its own is answered by its verdict; another one that can't be served by its Witness
+-- a request with a command of its own is answered by its verdict; another one that can't be served by its Witness, and what else it is answered
+-- it may be
 abbrev pub CauseOf : Setting → World → (client seq : ℕ) → Request → Option Command → Answer → Type 0
 CauseOf setting w client seq asked (Some command) given = HasVerdict setting w client seq asked given
 CauseOf setting w client seq asked None answer.NoDisk = HasWitness setting w client seq asked answer.NoDisk
 CauseOf setting w client seq asked None answer.NoSnap = HasWitness setting w client seq asked answer.NoSnap
 CauseOf setting w client seq asked None answer.Unavailable = HasWitness setting w client seq asked answer.Unavailable
-CauseOf setting w client seq asked _ _ = Unit {0}
+CauseOf setting w client seq asked None answer.Ok = may_answer asked answer.Ok ≡ true
+CauseOf setting w client seq asked None (answer.Data bytes) = may_answer asked (answer.Data bytes) ≡ true
+CauseOf setting w client seq asked None answer.NoSpace = may_answer asked answer.NoSpace ≡ true
+CauseOf setting w client seq asked None answer.Exists = may_answer asked answer.Exists ≡ true
+CauseOf setting w client seq asked None answer.Moving = may_answer asked answer.Moving ≡ true
+CauseOf setting w client seq asked None answer.Failed = may_answer asked answer.Failed ≡ true
 
--- each answer has its cause. The lines of a client are its requests, counted from 1
+-- each answer has its cause, and so is one that its request may get. The lines of a client are its requests, counted from 1
 abbrev pub AreCaused : Setting → World → Type 0
 AreCaused setting w =
     (line : Line) (before : ℕ) (given : Answer) → slice_get (lines_of setting.lines line.client) before ≡ Some line → In (line.number, given) w.answers

@@ -6,6 +6,7 @@ use Rattle.petal_base.specs.Cells.{cell_of}
 use Rattle.petal_base.specs.declared.cell.Cell.{Cell}
 use Rattle.petal_base.specs.declared.cell.Key.{Key}
 use Rattle.petal_command.specs.declared.command.Command.{Command}
+use Rattle.petal_command.specs.declared.command.Command.TheVariants.{Drained}
 use Rattle.petal_paxos.specs.Kept.{known_at}
 use Rattle.petal_table.specs.Table.{at, put}
 use Rattle.global_tables.specs.Disk.{named}
@@ -26,16 +27,20 @@ use Rattle.petal_msg.specs.declared.operation.Pending.{Pending}
 use Rattle.script_lines.specs.declared.script.Script.{Script}
 use Rattle.petal_rules.specs.Clients.{Asked}
 use Rattle.petal_rules.specs.Lists.{In}
-use Rattle.petal_rules.specs.Progress.{has_proposed}
+use Rattle.petal_rules.specs.Draining.{draining}
+use Rattle.petal_rules.specs.Jobs.{here_of}
+use Rattle.petal_rules.specs.Progress.{copying_on, has_proposed}
 use Rattle.petal_state.specs.CellState.{cell_link, source}
 use Rattle.petal_state.specs.CellState.{noted as is_noted}
-use Rattle.petal_state.specs.Command.{is_alone}
+use Rattle.petal_state.specs.Command.{is_alone, state_after}
+use Rattle.petal_state.specs.Place.{places_from}
+use Rattle.petal_state.specs.State.{start as first_state}
 use Rattle.petal_state.specs.declared.answer.Hold.TheVariants.{No}
 use Rattle.petal_rules.specs.State.{State, authority, coming, first, second, is_in, is_lead, is_whole, lead, leads_link, leaving, live, held}
 use Rattle.petal_rules.specs.Store.{Chain, Store, cell_cmp, chain_in, version_of, is_marked}
 use Rattle.petal_rules.specs.Log.{rev_of}
 use Rattle.petal_rules.specs.World.{Setting, World, start, setting_of, server_state, devices, chosen_log, chosen_state, counted, kept}
-use Rattle.petal_rules.specs.Writes.{is_clients}
+use Rattle.petal_rules.specs.Writes.{is_clients, is_writes_held}
 use Rattle.petal_history.specs.Contents.{content_at, has_content_at}
 use Rattle.petal_history.specs.Events.{IsRunOf, events_of}
 use Rattle.petal_history.specs.Steps.{AreSteps, stepped, world_after}
@@ -210,8 +215,60 @@ pub record Moves (setting : Setting) (w : World) : Type 0 where
       → is_noted (chosen_state setting w) row.map (region_of cell.block) row.link ≡ true → authority (chosen_state setting w) cell ≡ Some n
       → is_some (at nat_cmp before epoch) ≡ true → is_some (at nat_cmp (chain_in (kept setting w n).chains cell) epoch) ≡ true
 
+-- ### Who is Out, and what was proposed
+
+-- this incarnation of the server has stopped: the server does not run, or runs as a later one
+abbrev pub HasStopped : World → (server inc : ℕ) → Type 0
+HasStopped w server inc = (((w.servers server).life.running ≡ false) × (inc ≤ (w.servers server).life.inc)) ⊎ (inc < (w.servers server).life.inc)
+
+-- an incarnation that the chosen log has put Out has stopped
+abbrev pub HaveStopped : Setting → World → Type 0
+HaveStopped setting w =
+    (n inc : ℕ) (front : List Command) → IsPrefix front (chosen_log setting w) → is_in (state_after setting.servers front) n inc ≡ true
+    → is_in (chosen_state setting w) n inc ≡ false → HasStopped w n inc
+
+-- a server that is at work by its own state, and has started a ballot for the Caught of a live cell's link, has nothing pending on the cell:
+-- no operation, and no copy
+abbrev pub AreCaughtUp : Setting → World → Type 0
+AreCaughtUp setting w =
+    (n : ℕ) (cell : Cell) → is_at_work (server_state setting w n) w n ≡ true → live (server_state setting w n) cell ≡ true
+    → has_proposed (server_state setting w n) (w.servers n).own cell ≡ true
+    → (at cell_cmp (w.servers n).own.pairs.pending cell ≡ None) × (copying_on (w.servers n).own cell ≡ None)
+
+-- the server is at work by its own state, by which it holds the cell's link alone, and has started a ballot for the link's Caught
+pub record IsCatching (setting : Setting) (w : World) (n : ℕ) (cell : Cell) (row : LinkRow) : Type 0 where
+  pub works : is_at_work (server_state setting w n) w n ≡ true
+  pub linked : cell_link (server_state setting w n) cell ≡ Some row
+  pub alone : is_alone n row.state ≡ true
+  pub started : has_proposed (server_state setting w n) (w.servers n).own cell ≡ true
+
+-- the two copies of the cell at the link's servers are equal, by the stores that count
+abbrev pub HasEqualCopies : Setting → World → (n : ℕ) → LinkRow → Cell → Type 0
+HasEqualCopies setting w n row cell =
+    chain_in ((counted setting w).servers n).own.store.chains cell ≡ chain_in ((counted setting w).servers (other_of n row)).own.store.chains cell
+
+-- the place of a link by these entries: how many of them have touched it
+abbrev pub place_in : (servers : ℕ) → List Command → LinkRow → ℕ
+place_in servers log row = places_from (first_state servers) log row
+
+-- by each state from these entries' to those', the writes of the cell are held
+abbrev pub AreHeldAlong : (servers : ℕ) → (front whole : List Command) → Cell → Type 0
+AreHeldAlong servers front whole cell =
+    (log : List Command) → IsPrefix front log → IsPrefix log whole → is_writes_held (held (state_after servers log) cell) ≡ true
+
+-- the server runs, and wants this report of its own to the active fence chosen: only then does it start a ballot for it
+pub record WantsReport (setting : Setting) (w : World) (n fence : ℕ) : Type 0 where
+  pub runs : (w.servers n).life.running ≡ true
+  pub wants : In (Drained n (w.servers n).life.inc fence) (draining (here_of (server_state setting w n) n (w.servers n)) (w.servers n).own)
+
+-- no client's write is pending at the server on a cell whose writes were held by each state from these entries' to the server's own
+abbrev pub WritesNothingSince : Setting → World → (n : ℕ) → (since : List Command) → Type 0
+WritesNothingSince setting w n since =
+    (cell : Cell) (op : Pending) → AreHeldAlong setting.servers since (w.servers n).log.applied cell
+    → at cell_cmp (w.servers n).own.pairs.pending cell ≡ Some op → is_clients op.kind ≡ true → ⊥
+
 -- what a world keeps: agreement, the rules of two copies for each cell, by the stores that count, that of empty stores, the rule of requests,
--- and those of moves
+-- and those of moves; who is Out has stopped, and who has started a ballot for a Caught has nothing under way
 pub record Stands (setting : Setting) (w : World) : Type 0 where
   pub agrees : Agrees setting w
   pub copies : (cell : Cell) → TwoCopies (chosen_state setting w) (counted setting w) cell
@@ -219,6 +276,8 @@ pub record Stands (setting : Setting) (w : World) : Type 0 where
   pub empty : AreEmpty w
   pub requests : Requests setting w
   pub moves : Moves setting w
+  pub stopped : HaveStopped setting w
+  pub caught : AreCaughtUp setting w
 
 -- the chosen log after a list of records is at the front of that after more of them
 abbrev pub Grows : Script → List Record → Type 0
@@ -242,9 +301,29 @@ SnapshotsStay script records =
     → IsStill (setting_of script) (world_after (setting_of script) (start (setting_of script)) front)
     (world_after (setting_of script) (start (setting_of script)) records)
 
+-- from where a server had started a ballot for a link's Caught, the two copies of each live cell of the link are equal while no entry that is chosen
+-- has touched the link since: also where the server has stopped
+abbrev pub CopiesStayEqual : Script → List Record → Type 0
+CopiesStayEqual script records =
+    (front back : List Record) (n : ℕ) (cell : Cell) (row : LinkRow) → records ≡ front ++ back
+    → IsCatching (setting_of script) (world_after (setting_of script) (start (setting_of script)) front) n cell row
+    → live (chosen_state (setting_of script) (world_after (setting_of script) (start (setting_of script)) records)) cell ≡ true
+    → place_in script.servers (chosen_log (setting_of script) (world_after (setting_of script) (start (setting_of script)) records)) row
+    ≡ place_in script.servers ((world_after (setting_of script) (start (setting_of script)) front).servers n).log.applied row
+    → HasEqualCopies (setting_of script) (world_after (setting_of script) (start (setting_of script)) records) n row cell
+
+-- from where a server wanted its report chosen it takes no client's write that the fence holds, until it has applied the entry at which the fence
+-- takes effect
+abbrev pub ReportsHold : Script → List Record → Type 0
+ReportsHold script records =
+    (front back : List Record) (n fence : ℕ) → records ≡ front ++ back
+    → WantsReport (setting_of script) (world_after (setting_of script) (start (setting_of script)) front) n fence
+    → WritesNothingSince (setting_of script) (world_after (setting_of script) (start (setting_of script)) records) n
+    ((world_after (setting_of script) (start (setting_of script)) front).servers n).log.applied
+
 -- what every legal history of a script keeps: the rules of its world at its end, that the chosen log has only grown, that
--- leads put only on marked blocks, that its events are a run of the plain machine, that the contents are the machine's, and that snapshots
--- never change
+-- leads put only on marked blocks, that its events are a run of the plain machine, that the contents are the machine's, that snapshots
+-- never change, that copies are equal once a ballot for their Caught was started, and that who wanted to report writes nothing that is held
 pub record Keeps (script : Script) (records : List Record) : Type 0 where
   pub world : Stands (setting_of script) (world_after (setting_of script) (start (setting_of script)) records)
   pub grows : Grows script records
@@ -252,6 +331,8 @@ pub record Keeps (script : Script) (records : List Record) : Type 0 where
   pub run : IsRunOf (events_of script records)
   pub holds : AreHeld (setting_of script) (world_after (setting_of script) (start (setting_of script)) records) (machine_after (events_of script records)).disks
   pub snapshots : SnapshotsStay script records
+  pub equal : CopiesStayEqual script records
+  pub reports : ReportsHold script records
 
 -- the whole law, of each sound script
 abbrev pub Law : Type 0

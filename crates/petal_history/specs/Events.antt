@@ -62,23 +62,32 @@ abbrev pub begins : Step → Actor → World → List Event
 begins (Call line) (actor.Client c) later = begun (open_write later c)
 begins _ _ later = []
 
-abbrev pub end_of : Answer → WriteEnd
-end_of answer.Ok = write_end.Ok
-end_of (answer.Data bytes) = write_end.Ok
-end_of answer.NoSpace = write_end.NoSpace
-end_of answer.Unavailable = write_end.Unavailable
-end_of answer.Failed = write_end.Unavailable
-end_of _ = write_end.NoDisk
+-- how a write ends that is answered so. What no write is answered is no end of one
+abbrev pub end_of : Answer → Option WriteEnd
+end_of answer.Ok = Some write_end.Ok
+end_of answer.NoSpace = Some write_end.NoSpace
+end_of answer.Unavailable = Some write_end.Unavailable
+end_of answer.NoDisk = Some write_end.NoDisk
+end_of (answer.Data bytes) = None
+end_of answer.NoSnap = None
+end_of answer.Exists = None
+end_of answer.Moving = None
+end_of answer.Failed = None
 
-abbrev pub ended : Option Write → Option (ℕ × Answer) → List Event
-ended None given = []
-ended (Some write) None = []
-ended (Some write) (Some given) = End write (end_of given.1) ∷ []
+abbrev pub end_by : Write → Option WriteEnd → Option (List Event)
+end_by write None = None
+end_by write (Some how) = Some (End write how ∷ [])
+
+-- the end of the client's open write, where it is answered; where that is no end of a write, the events are no run
+abbrev pub ended : Option Write → Option (ℕ × Answer) → Option (List Event)
+ended None given = Some []
+ended (Some write) None = Some []
+ended (Some write) (Some given) = end_by write (end_of given.1)
 
 -- the step in which a write is answered tells that it ends
-abbrev pub ends : Actor → World → Option (ℕ × Answer) → List Event
+abbrev pub ends : Actor → World → Option (ℕ × Answer) → Option (List Event)
 ends (actor.Client c) w given = ended (open_write w c) given
-ends (actor.Server n) w given = []
+ends (actor.Server n) w given = Some []
 
 -- ### Contents that change
 
@@ -304,16 +313,19 @@ looks setting w next own later = flat_map (λ letter. look_of setting w next own
 
 -- ### All steps
 
-abbrev pub told_with : List Event → Option (List Event) → List Event → Option (List Event)
-told_with before None following = None
-told_with before (Some taken_now) following = Some (before ++ taken_now ++ following)
+-- what is begun, taken and told, and ended: no run, where what is taken, or what is ended, is none
+abbrev pub told_with : List Event → Option (List Event) → List Event → Option (List Event) → Option (List Event)
+told_with before None following last = None
+told_with before (Some taken_now) following None = None
+told_with before (Some taken_now) following (Some last) = Some (before ++ taken_now ++ (following ++ last))
 
 -- the events of one step, in the order begin, take, make, freeze, look, end
 abbrev pub told : Setting → World → Record → List Record → Option (List Event)
 told setting w own later =
     let next = (stepped setting w own).world in
     let change = change_by setting w next in
-    told_with (begins own.step own.actor next) (takes change) (makes change ++ freezes change ++ looks setting w next own later ++ ends own.actor w own.answer)
+    told_with (begins own.step own.actor next) (takes change) (makes change ++ freezes change ++ looks setting w next own later)
+    (ends own.actor w own.answer)
 
 abbrev pub joined : Option (List Event) → Option (List Event) → Option (List Event)
 joined None events = None

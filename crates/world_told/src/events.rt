@@ -125,13 +125,14 @@ fn written_by(before: &[Record], letter: &Letter) -> Option<(ClientId, Seq)> {
     if told { None } else { Some((client, *seq)) }
 }
 
-/// How a write ends that is answered so.
-fn end_of(answer: &Answer) -> WriteEnd {
+/// How a write ends that is answered so; what no write is answered is no end of one.
+fn end_of(answer: &Answer) -> Option<WriteEnd> {
     match answer {
-        Answer::Ok | Answer::Data(_) => WriteEnd::Ok,
-        Answer::NoSpace => WriteEnd::NoSpace,
-        Answer::Unavailable | Answer::Failed => WriteEnd::Unavailable,
-        Answer::NoDisk | Answer::NoSnap | Answer::Exists | Answer::Moving => WriteEnd::NoDisk,
+        Answer::Ok => Some(WriteEnd::Ok),
+        Answer::NoSpace => Some(WriteEnd::NoSpace),
+        Answer::Unavailable => Some(WriteEnd::Unavailable),
+        Answer::NoDisk => Some(WriteEnd::NoDisk),
+        Answer::Data(_) | Answer::NoSnap | Answer::Exists | Answer::Moving | Answer::Failed => None,
     }
 }
 
@@ -338,7 +339,10 @@ impl<'a> Telling<'a> {
             return Ok(());
         };
         match self.writers.answer(client) {
-            Some(write) => self.tell(here.step, Some(Event::End(write, end_of(answer)))),
+            Some(write) => {
+                let end = end_of(answer).map(|how| Event::End(write, how));
+                self.tell(here.step, end)
+            }
             None => Ok(()),
         }
     }

@@ -1,5 +1,5 @@
 -- Nothing was voted for, so nothing is chosen, and there is no disk; nothing was stored, sent or called.
-use Rattle.std.proofs.Common.{◌≡◌, ℕ, zero, suc, ◌+◌, List, [], ◌∷◌, Some, None, inl, refl, sym, ap, subst, ◌∙◌}
+use Rattle.std.proofs.Common.{◌≡◌, ℕ, zero, suc, ◌+◌, ◌++◌, List, [], ◌∷◌, Some, None, inl, refl, sym, ap, subst, ◌∙◌}
 use Rattle.std.specs.List.{flat_map, range_with_len}
 use Rattle.std.specs.Prelude.{find, option_map}
 use Rattle.std.proofs.lemmas.List.{append-nil}
@@ -8,14 +8,15 @@ use Rattle.petal_paxos.specs.Chosen.{votes_for, wins, chosen_at, chosen_from, be
 use Rattle.petal_paxos.specs.declared.record.StateRecord.TheVariants.{Inc}
 use Rattle.petal_state.specs.Command.{state_after}
 use Rattle.petal_rules.proofs.Tests.{true_false}
+use Rattle.petal_command.specs.declared.command.Command.{Command}
 use Rattle.petal_rules.specs.Lists.{In}
 use Rattle.petal_base.specs.declared.cell.Cell.{Cell}
 use Rattle.std.specs.Prelude.{false}
-use Rattle.petal_rules.specs.State.{coming, leaving}
+use Rattle.petal_rules.specs.State.{State, coming, is_in, leaving}
 use Rattle.petal_rules.specs.Store.{cell_cmp}
 use Rattle.petal_rules.specs.World.{Setting, start, setting_of, devices, chosen_log, chosen_state}
 use Rattle.script_lines.specs.declared.script.Script.{Script}
-use Rattle.petal_history.specs.Claims.{Grows, MarksFirst, SnapshotsStay}
+use Rattle.petal_history.specs.Claims.{Grows, HaveStopped, MarksFirst, ReportsHold, SnapshotsStay}
 use Rattle.petal_history.proofs.laws.the_start_keeps_the_rules.Goals as goal
 
 none_some : {A B : Type 0} {x : A} → None ≡ Some x → B
@@ -63,6 +64,22 @@ snapshots : (script : Script) → SnapshotsStay script []
 snapshots script [] back e = λ row epoch block there. not_in row _ (no_disks (setting_of script)) there
 snapshots script (own ∷ front) back e = absurd cc
 
+-- what stands at the front of nothing is nothing
+front_of_nothing : (front later : List Command) → [] ≡ front ++ later → front ≡ []
+front_of_nothing [] later e = refl
+front_of_nothing (entry ∷ front) later e = absurd cc
+
+stopped : (setting : Setting) → HaveStopped setting (start setting)
+stopped setting n inc front prefix was out =
+    let none = front_of_nothing front prefix.later (sym (nothing_chosen setting) ∙ prefix.is) in
+    let same : state_after setting.servers front ≡ chosen_state setting (start setting) =
+    ap (state_after setting.servers) (none ∙ sym (nothing_chosen setting)) in
+    true_false was (ap (λ (s : State). is_in s n inc) same ∙ out)
+
+reports : (script : Script) → ReportsHold script []
+reports script [] back n fence e wants = λ cell op along is clients. none_some (sym (at-empty cell_cmp cell) ∙ is)
+reports script (own ∷ front) back n fence e wants = absurd cc
+
 pub returns : goal.returns
 unfolding In
 returns c script = record {
@@ -88,6 +105,8 @@ returns c script = record {
       sent = λ letter key bytes n before h. absurd h;
       noted = λ cell old row n epoch before comes is frozen linked noted counts there. true_false comes (none_comes (setting_of script) cell);
     };
+    stopped = stopped (setting_of script);
+    caught = λ n cell works lives started. (at-empty cell_cmp cell, at-empty cell_cmp cell);
   };
   grows = grows script;
   marks = marks script;
@@ -97,4 +116,6 @@ returns c script = record {
     unknown = λ name none. refl;
   };
   snapshots = snapshots script;
+  equal = λ front back n cell row e catching lives same. refl;
+  reports = reports script;
 }
