@@ -143,15 +143,16 @@ def pairs_of(tuple_):
 class World:
     """The disks by name, each with the pairs of the map that it has or moves away from, and of each later one that it may have in the phase;
     and how many maps it had before these; what each block may hold, their snapshots by name with what each block may hold there, which
-    servers have stopped, which of those that run were started and may not be taken in yet, and on each server the blocks that have a slot,
-    or may have one, each with the number of snapshots that its disk had when it was written, and of its map."""
+    servers have stopped, which of those that run were started and may not be taken in yet, which ones were ever stopped or blanked, and on
+    each server the blocks that have a slot, or may have one, each with the number of snapshots that its disk had when it was written, and
+    of its map."""
 
     def __init__(self, servers, slots):
         self.slots = slots
         self.disks, self.past = {}, {}
         self.contents = {}
         self.snaps = {}
-        self.stopped, self.returning = set(), set()
+        self.stopped, self.returning, self.struck = set(), set(), set()
         self.taken = {server: {} for server in range(servers)}
 
     def make(self, name, tuple_):
@@ -314,6 +315,7 @@ class Phase:
                 elif line.kind == "blank":
                     self.blank(line.server)
                 if line.kind in ("stop", "blank"):
+                    self.world.struck.add(line.server)
                     for server in self.blanked.keys() - {line.server}:
                         self.blanked[server].add(line.server)
         for pair in self.pairs():
@@ -488,8 +490,25 @@ class Phase:
             self.may_fail[use.number] = any(pair.lost or any(not self.is_firm(server) for server in pair.alone) for pair in pairs)
             if self.may_fail[use.number]:
                 self.allowed[use.number] |= {"unavailable"}
+            self.refuse_without_cause(use)
             if self.was_unavailable(use) and len(pairs) == 1 and not pairs[0].alone & (self.starting | self.world.returning):
                 known[use.client].add(pairs[0])
+
+    # When `unavailable` has a cause. It is right only where, of a pair at which the block can be, one server is out that holds the block
+    # alone, or the block is lost; the pairs at which it can be are that of its disk's map and, from a move on until it is over, those of the
+    # maps before. Somebody holds a block alone since the other one of the pair stopped or was blanked, or since the disk was made or moved
+    # there while the other one was out, or while both were; and it is lost where the one that held it alone was blanked. So there are two
+    # rules. The plain one asks of the operator's lines alone: each server of one of these pairs has been stopped or blanked, at the latest
+    # in the phase of the answer. The finer one (`may_fail`) goes by what may have come of these lines: who may hold the block alone doesn't
+    # run all the time of the phase, or is not surely taken in again, or the block may be lost. A settle that was answered `ok` ends the
+    # causes of those servers that run.
+    def refuse_without_cause(self, use):
+        if self.heard is None or self.answer_to(use) != "unavailable":
+            return
+        if not any(self.world.struck.issuperset(pair.servers) for pair in self.world.homes(use.spot)):
+            raise ValueError(f"line {use.number} is answered 'unavailable', where of no pair of its block both servers were ever out")
+        if not self.may_fail[use.number]:
+            raise ValueError(f"line {use.number} is answered 'unavailable', where somebody has its block and runs all the time")
 
     def ways_at(self, pair):
         """The servers that serve the pair's blocks together, in each way."""
