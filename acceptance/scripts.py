@@ -374,9 +374,9 @@ def amid(slots, stopped, delay, *nets):
     lines += [f"b write vol {block} fill {block}" for block in range(2, 22, 5)] + ["wait"]
     return joined(lines + [f"c read vol {block}" for block in range(2, 22, 5)])
 
-def most_disks():
+def most_disks(*nets):
     """As many disks as there may be, each over all of eight servers in an order of its own, written and read by all clients."""
-    lines = ["servers 8 slots 200"]
+    lines = ["servers 8 slots 200", *(net.replace("_", " ") for net in nets)]
     for disk in range(16):
         order = [(disk + (3 if disk < 8 else 5) * step) % 8 for step in range(8)]
         lines.append(f"{CLIENTS[disk % 8]} disk d{disk} on " + " ".join(map(str, order)))
