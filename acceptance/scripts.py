@@ -3,6 +3,8 @@ import random
 
 CLIENTS = "abcdefgh"
 
+FIVE = "servers_5_slots_16;a_disk_vol_on_0_1_2_3_4;wait;"
+
 def head(servers, slots, *nets):
     lines = [f"servers {servers} slots {slots}", *nets]
     return lines + ["a disk vol on " + " ".join(str(server) for server in range(servers)), "wait"]
@@ -233,12 +235,39 @@ def blanks(seed, *nets):
     """The same, where servers also come back with nothing."""
     return starts(seed, *nets, settles=True, blanks=True)
 
-def starts(seed, *nets, settles=False, blanks=False, snaps=(), moves=0):
+def faults(seed, *nets):
+    """The same, where most servers stop by a plan: at a call of their data device, or where one of their devices fails. Some plans are never
+    met, and some stand over many phases. In one of three, servers also come back with nothing, and in one, snapshots are taken and disks
+    move."""
+    moves = int(seed) % 3 == 1
+    return starts(seed, *nets, settles=True, blanks=int(seed) % 3 == 2, plans=True, snaps=("s0", "s1") if moves else (), moves=8 if moves else 0)
+
+def stop_amid(call):
+    """A server stops in this call of its data device, amid the write of a block that another client reads. Then it starts again."""
+    stop = f"a_write_vol_1_fill_1;wait;op_stop_1_at_{call};a_write_vol_1_fill_2;b_read_vol_1;wait;a_read_vol_1;wait;"
+    return text(FIVE + stop + "op_start_1;op_settle;wait;a_read_vol_1;")
+
+def fault_before(server, device, kind, call):
+    """A call of one of the server's devices is to fail, before server 2 stops, misses a write and returns, and server 1 stops."""
+    fault = f"op_fault_{server}_{device}_{kind}_{call};"
+    return text(FIVE + fault + "a_write_vol_1_fill_1;wait;op_stop_2;wait;a_write_vol_1_fill_2;wait;op_start_2;op_settle;op_stop_1;wait;a_read_vol_1;")
+
+def planned(draw, server):
+    """A line that plans that a server stops, soon or late."""
+    call = draw.choice((draw.randint(1, 6), draw.randint(1, 20), draw.randint(1, 80)))
+    if draw.randrange(2):
+        return f"op stop {server} at {call}"
+    return f"op fault {server} {draw.choice(('data', 'state'))} {draw.choice(('read', 'write', 'sync'))} {call}"
+
+def starts(seed, *nets, settles=False, blanks=False, snaps=(), moves=0, plans=False):
     """A mixed script of few disks in which servers stop and start again, so that a majority runs: mostly in phases of their own, and
     beside writes and reads. Some are stopped that have stopped, and started that run."""
     draw = random.Random(int(seed))
     servers = draw.choice((3, 3, 4, 5, 5, 6, 7, 8))
     stopped, left = [], [64]
+
+    def stop(server):
+        return planned(draw, server) if plans and draw.randrange(4) else f"op stop {server}"
 
     def order():
         if settles and draw.randrange(3) == 0:
@@ -253,8 +282,8 @@ def starts(seed, *nets, settles=False, blanks=False, snaps=(), moves=0):
             server = draw.randrange(servers)
             if server not in stopped:
                 stopped.append(server)
-            return f"op stop {server}"
-        return f"op stop {draw.choice(stopped)}"
+            return stop(server)
+        return stop(draw.choice(stopped))
 
     def orders_of():
         before = [order() for _ in range(draw.choice((0, 1, 1, 2, 4)))]
@@ -473,7 +502,8 @@ def many_copies(count, *nets):
     return joined(lines + [f"{CLIENTS[block % 8]} read vol {block}" for block in range(count)])
 
 MAKERS = {
-    "many_disks": many_disks, "mixed": mixed, "stops": stops, "starts": starts, "settles": settles, "blanks": blanks, "snaps": snaps, "moves": moves,
+    "many_disks": many_disks, "mixed": mixed, "stops": stops, "starts": starts, "settles": settles, "blanks": blanks,
+    "faults": faults, "stop_amid": stop_amid, "fault_before": fault_before, "snaps": snaps, "moves": moves,
     "frozen": frozen, "race": race, "thousand": thousand, "moved_thousand": moved_thousand, "on_the_move": on_the_move,
     "moved_and_stopped": moved_and_stopped, "renewal": renewal, "renewal_snaps": renewal_snaps, "rolling_snaps": rolling_snaps, "rolling": rolling,
     "upgrade": upgrade, "neighbours": neighbours, "amid": amid, "text": text, "bytes": bytes_of, "nothing": nothing, "work": work, "busy": busy,
