@@ -4,7 +4,8 @@ It knows nothing of servers' letters and of agreement: a disk is a map of blocks
 neighbouring servers of the disk's tuple, its pair, and one more for each snapshot behind which it is written; on the move it takes them under
 each of its disk's two maps. Where one of a pair stops, the other one holds the pair's blocks alone, and
 serves them while it runs; once both run it copies to the other what that one has missed, and then both hold them again. A server that
-is blanked has nothing left: what it held alone is lost, and of all else the other one has the blocks alone. Where a disk moves, a
+is blanked has nothing left: what it held alone is lost, and of all else the other one has the blocks alone. A server that has a
+plan, to stop at a call of a device or where a device fails, may stop at any time from then on, or never. Where a disk moves, a
 block is on its old pair or its new one, until a settle says that the move is over or another move of the disk begins. The model
 doesn't know when the others are told that a server has stopped, when a server that was started is taken in again and when it is
 up to date, but where a settle was answered: it goes by what was answered. Within a phase the clients and the operator run at once, so the model goes through a
@@ -83,10 +84,11 @@ class Moving:
         self.tuple = [int(word) for word in words[4:]]
 
 class Order:
-    """A line that stops, starts or blanks a server, or waits until all is settled."""
+    """A line that stops, starts or blanks a server, or plans that it stops, or waits until all is settled."""
 
     def __init__(self, number, words):
-        self.number, self.kind = number, words[1]
+        self.number = number
+        self.kind = "plan" if words[1] == "fault" or words[3:] else words[1]
         self.server = int(words[2]) if words[2:] else None
 
 class Pair:
@@ -143,15 +145,16 @@ def pairs_of(tuple_):
 class World:
     """The disks by name, each with the pairs of the map that it has or moves away from, and of each later one that it may have in the phase;
     and how many maps it had before these; what each block may hold, their snapshots by name with what each block may hold there, which
-    servers have stopped, which of those that run were started and may not be taken in yet, and on each server the blocks that have a slot,
-    or may have one, each with the number of snapshots that its disk had when it was written, and of its map."""
+    servers have stopped, which ones have a plan and may have stopped, which of those that run were started and may not be taken in yet,
+    which ones were ever stopped or blanked, or had a plan, and on each server the blocks that have a slot, or may have one, each with the
+    number of snapshots that its disk had when it was written, and of its map."""
 
     def __init__(self, servers, slots):
         self.slots = slots
         self.disks, self.past = {}, {}
         self.contents = {}
         self.snaps = {}
-        self.stopped, self.returning = set(), set()
+        self.stopped, self.planned, self.returning, self.struck = set(), set(), set(), set()
         self.taken = {server: {} for server in range(servers)}
 
     def make(self, name, tuple_):
@@ -232,9 +235,10 @@ class Phase:
         self.lines = lines
         self.old = set(world.disks)
         self.winners = {}
-        # Who stops in the phase, who starts, who was surely taken in again, and who has stopped at its end; who is blanked, each with
-        # those that stop afterwards.
-        self.stopping, self.starting, self.back, self.resting = set(), set(), set(), set(world.stopped)
+        # Who stops in the phase, or may stop, who starts, who was surely taken in again, and who has stopped at its end; who has a plan at
+        # its end; who is blanked, each with those that stop afterwards, or may stop.
+        self.stopping, self.starting, self.back, self.resting = set(world.planned), set(), set(), set(world.stopped)
+        self.planned = set(world.planned)
         self.blanked = {}
         # The pairs of which a server had stopped before.
         self.left = {pair for pair in self.pairs() if pair.gone}
@@ -267,7 +271,7 @@ class Phase:
                 if server in pair.servers and not later & set(pair.servers):
                     pair.lose(server)
         self.world.returning = (self.world.returning - self.back | self.starting) - self.resting
-        self.world.stopped = self.resting
+        self.world.stopped, self.world.planned = self.resting, self.planned
         self.settle()
         return self.allowed
 
@@ -281,7 +285,7 @@ class Phase:
             return
         self.world.returning = set()
         for pair in self.pairs():
-            if not self.resting & set(pair.servers):
+            if not (self.resting | self.planned) & set(pair.servers):
                 pair.join()
                 self.world.copy_slots(pair, True)
 
@@ -308,12 +312,18 @@ class Phase:
                 if line.kind == "stop" and line.server not in self.resting:
                     self.stopping.add(line.server)
                     self.resting.add(line.server)
-                elif line.kind == "start" and line.server in self.resting:
+                    self.planned.discard(line.server)
+                elif line.kind == "plan" and line.server not in self.resting:
+                    self.stopping.add(line.server)
+                    self.planned.add(line.server)
+                elif line.kind == "start" and line.server in self.resting | self.planned:
                     self.starting.add(line.server)
-                    self.resting.remove(line.server)
+                    self.resting.discard(line.server)
+                    self.planned.discard(line.server)
                 elif line.kind == "blank":
                     self.blank(line.server)
-                if line.kind in ("stop", "blank"):
+                if line.kind in ("stop", "plan", "blank"):
+                    self.world.struck.add(line.server)
                     for server in self.blanked.keys() - {line.server}:
                         self.blanked[server].add(line.server)
         for pair in self.pairs():
@@ -332,7 +342,8 @@ class Phase:
         self.stopping.add(server)
         self.starting.add(server)
         self.resting.discard(server)
-        self.blanked[server] = set()
+        self.planned.discard(server)
+        self.blanked[server] = set(self.planned)
 
     def may_run(self, server):
         """Whether it runs at some time of the phase."""
@@ -400,7 +411,7 @@ class Phase:
             self.world.end_moves(name, first)
         for name, maps in self.world.disks.items():
             servers = {server for pairs in maps for pair in pairs for server in pair.servers}
-            if is_settled and not servers & self.resting and not any(pair.lost for pairs in maps for pair in pairs):
+            if is_settled and not servers & (self.resting | self.planned) and not any(pair.lost for pairs in maps for pair in pairs):
                 self.world.come(name)
 
     def take_snapshots(self):
@@ -488,8 +499,25 @@ class Phase:
             self.may_fail[use.number] = any(pair.lost or any(not self.is_firm(server) for server in pair.alone) for pair in pairs)
             if self.may_fail[use.number]:
                 self.allowed[use.number] |= {"unavailable"}
+            self.refuse_without_cause(use)
             if self.was_unavailable(use) and len(pairs) == 1 and not pairs[0].alone & (self.starting | self.world.returning):
                 known[use.client].add(pairs[0])
+
+    # When `unavailable` has a cause. It is right only where, of a pair at which the block can be, one server is out that holds the block
+    # alone, or the block is lost; the pairs at which it can be are that of its disk's map and, from a move on until it is over, those of the
+    # maps before. Somebody holds a block alone since the other one of the pair stopped or was blanked, or since the disk was made or moved
+    # there while the other one was out, or while both were; and it is lost where the one that held it alone was blanked. So there are two
+    # rules. The plain one asks of the operator's lines alone: each server of one of these pairs has been stopped or blanked, or has had a
+    # plan, at the latest in the phase of the answer. The finer one (`may_fail`) goes by what may have come of these lines: who may hold the block alone doesn't
+    # run all the time of the phase, or is not surely taken in again, or the block may be lost. A settle that was answered `ok` ends the
+    # causes of those servers that run.
+    def refuse_without_cause(self, use):
+        if self.heard is None or self.answer_to(use) != "unavailable":
+            return
+        if not any(self.world.struck.issuperset(pair.servers) for pair in self.world.homes(use.spot)):
+            raise ValueError(f"line {use.number} is answered 'unavailable', where of no pair of its block both servers were ever out")
+        if not self.may_fail[use.number]:
+            raise ValueError(f"line {use.number} is answered 'unavailable', where somebody has its block and runs all the time")
 
     def ways_at(self, pair):
         """The servers that serve the pair's blocks together, in each way."""
@@ -636,7 +664,7 @@ def phases_of(text):
         elif words[0] in CLIENTS:
             kind = {"disk": Making, "snap": Snapping, "move": Moving}.get(words[1], Use)
             phases[-1].append(kind(number, words[0], words))
-        elif words[:2] in (["op", "stop"], ["op", "start"], ["op", "blank"], ["op", "settle"]):
+        elif words[0] == "op":
             phases[-1].append(Order(number, words))
     return world, phases
 

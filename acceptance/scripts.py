@@ -3,6 +3,8 @@ import random
 
 CLIENTS = "abcdefgh"
 
+FIVE = "servers_5_slots_16;a_disk_vol_on_0_1_2_3_4;wait;"
+
 def head(servers, slots, *nets):
     lines = [f"servers {servers} slots {slots}", *nets]
     return lines + ["a disk vol on " + " ".join(str(server) for server in range(servers)), "wait"]
@@ -233,12 +235,39 @@ def blanks(seed, *nets):
     """The same, where servers also come back with nothing."""
     return starts(seed, *nets, settles=True, blanks=True)
 
-def starts(seed, *nets, settles=False, blanks=False, snaps=(), moves=0):
+def faults(seed, *nets):
+    """The same, where most servers stop by a plan: at a call of their data device, or where one of their devices fails. Some plans are never
+    met, and some stand over many phases. In one of three, servers also come back with nothing, and in one, snapshots are taken and disks
+    move."""
+    moves = int(seed) % 3 == 1
+    return starts(seed, *nets, settles=True, blanks=int(seed) % 3 == 2, plans=True, snaps=("s0", "s1") if moves else (), moves=8 if moves else 0)
+
+def stop_amid(call):
+    """A server stops in this call of its data device, amid the write of a block that another client reads. Then it starts again."""
+    stop = f"a_write_vol_1_fill_1;wait;op_stop_1_at_{call};a_write_vol_1_fill_2;b_read_vol_1;wait;a_read_vol_1;wait;"
+    return text(FIVE + stop + "op_start_1;op_settle;wait;a_read_vol_1;")
+
+def fault_before(server, device, kind, call):
+    """A call of one of the server's devices is to fail, before server 2 stops, misses a write and returns, and server 1 stops."""
+    fault = f"op_fault_{server}_{device}_{kind}_{call};"
+    return text(FIVE + fault + "a_write_vol_1_fill_1;wait;op_stop_2;wait;a_write_vol_1_fill_2;wait;op_start_2;op_settle;op_stop_1;wait;a_read_vol_1;")
+
+def planned(draw, server):
+    """A line that plans that a server stops, soon or late."""
+    call = draw.choice((draw.randint(1, 6), draw.randint(1, 20), draw.randint(1, 80)))
+    if draw.randrange(2):
+        return f"op stop {server} at {call}"
+    return f"op fault {server} {draw.choice(('data', 'state'))} {draw.choice(('read', 'write', 'sync'))} {call}"
+
+def starts(seed, *nets, settles=False, blanks=False, snaps=(), moves=0, plans=False):
     """A mixed script of few disks in which servers stop and start again, so that a majority runs: mostly in phases of their own, and
     beside writes and reads. Some are stopped that have stopped, and started that run."""
     draw = random.Random(int(seed))
     servers = draw.choice((3, 3, 4, 5, 5, 6, 7, 8))
     stopped, left = [], [64]
+
+    def stop(server):
+        return planned(draw, server) if plans and draw.randrange(4) else f"op stop {server}"
 
     def order():
         if settles and draw.randrange(3) == 0:
@@ -253,8 +282,8 @@ def starts(seed, *nets, settles=False, blanks=False, snaps=(), moves=0):
             server = draw.randrange(servers)
             if server not in stopped:
                 stopped.append(server)
-            return f"op stop {server}"
-        return f"op stop {draw.choice(stopped)}"
+            return stop(server)
+        return stop(draw.choice(stopped))
 
     def orders_of():
         before = [order() for _ in range(draw.choice((0, 1, 1, 2, 4)))]
@@ -374,8 +403,115 @@ def amid(slots, stopped, delay, *nets):
     lines += [f"b write vol {block} fill {block}" for block in range(2, 22, 5)] + ["wait"]
     return joined(lines + [f"c read vol {block}" for block in range(2, 22, 5)])
 
-MAKERS = {"many_disks": many_disks, "mixed": mixed, "stops": stops, "starts": starts, "settles": settles, "blanks": blanks, "snaps": snaps, "moves": moves, "frozen": frozen, "race": race, "thousand": thousand, "moved_thousand": moved_thousand, "on_the_move": on_the_move, "moved_and_stopped": moved_and_stopped, "renewal": renewal, "renewal_snaps": renewal_snaps, "rolling_snaps": rolling_snaps, "rolling": rolling, "upgrade": upgrade, "neighbours": neighbours, "amid": amid, "text": text, "bytes": bytes_of, "nothing": nothing, "work": work, "busy": busy,
-          "all_servers": all_servers, "patterns": patterns, "sized": sized, "requests": requests, "phases": phases, "large": large}
+def most_disks(*nets):
+    """As many disks as there may be, each over all of eight servers in an order of its own, written and read by all clients."""
+    lines = ["servers 8 slots 200", *(net.replace("_", " ") for net in nets)]
+    for disk in range(16):
+        order = [(disk + (3 if disk < 8 else 5) * step) % 8 for step in range(8)]
+        lines.append(f"{CLIENTS[disk % 8]} disk d{disk} on " + " ".join(map(str, order)))
+    lines.append("wait")
+    for turn in range(24):
+        lines += [f"{CLIENTS[(disk + turn) % 8]} write d{disk} {turn} fill {disk + 16 * (turn % 16)}" for disk in range(16)]
+    lines.append("wait")
+    for turn in range(25):
+        lines += [f"{CLIENTS[(disk + turn + 3) % 8]} read d{disk} {turn}" for disk in range(16)]
+    return joined(lines)
+
+def most_moves(servers, *nets):
+    """A disk of as many snapshots as there may be moves as often as a disk may, over all servers and over few; each snapshot is read
+    afterwards, and the last one after each move."""
+    servers = int(servers)
+    lines = head(servers, 400, *(net.replace("_", " ") for net in nets))
+    for turn in range(64):
+        lines += [f"a write vol {(turn * 9) % 20} fill {turn + 1}", f"a snap vol s{turn}"]
+    lines.append("wait")
+    for turn in range(8):
+        some = [(turn + step) % servers for step in range(2 + turn % (servers - 1))]
+        lines += ["a move vol on " + " ".join(map(str, some)), f"a write vol {turn} fill {100 + turn}", "wait", "op settle", "wait"]
+        lines += [f"b read vol@s63 {turn}", f"c read vol {turn}", "wait"]
+    return joined(lines + [f"{CLIENTS[turn % 8]} read vol@s{turn} {block}" for turn in range(64) for block in range(0, 20, 4)])
+
+def most_boots(servers, *nets):
+    """One server after the other is blanked, or stops and starts, as often as there may be such lines; all is served at any time."""
+    servers = int(servers)
+    lines = head(servers, 100, *(net.replace("_", " ") for net in nets))
+    for turn in range(64):
+        server = turn % servers
+        down = [f"op blank {server}"] if turn // servers % 2 else [f"op stop {server}", "wait"]
+        up = [] if turn // servers % 2 else [f"op start {server}"]
+        lines += [f"a write vol {turn % 40} fill {turn}", *down, f"b write vol {40 + turn % 40} fill {turn + 100}", "wait", *up, "op settle", "wait"]
+    return joined(lines + [f"c read vol {block}" for block in range(80)])
+
+def full_server(slots):
+    """Two servers have a block in each of their slots, but for those that a script has no lines for. One of them gets a blank device and is
+    filled, the other one stops, and blocks are read from the first."""
+    slots, written = int(slots), min(int(slots), 1000)
+    lines = [f"servers 3 slots {slots}", "a disk vol on 0 1", "wait"]
+    lines += [f"a write vol {block} ramp {block % 251}" for block in range(written)]
+    lines += ["wait", "op blank 1", "op settle", "wait", "op stop 0", "wait"]
+    return joined(lines + [f"{CLIENTS[block % 8]} read vol {block}" for block in range(0, written, written // 16)])
+
+def ramps(seed):
+    """As many requests as there may be, all but the first in one phase: each client writes ramps to blocks of its own, and reads them."""
+    draw = random.Random(int(seed))
+    lines = head(8, 300)
+    for turn in range(1023):
+        client = draw.randrange(8)
+        block = 8 * draw.randrange(30) + client
+        lines.append(f"{CLIENTS[client]} " + (f"read vol {block}" if draw.randrange(2) else f"write vol {block} ramp {draw.randrange(256)}"))
+    return joined(lines)
+
+def empty_lines(count):
+    """So many empty lines, half of them before a request and half after it."""
+    half = b"\n" * (int(count) // 2)
+    return b"servers 3 slots 4\na disk vol on 0 1 2\n" + half + b"a write vol 1 fill 2\n" + half + b"a read vol 1\n"
+
+def empty_phases(count):
+    """So many phases without requests, between two that have one."""
+    return b"servers 3 slots 4\na disk vol on 0 1 2\n" + b"wait\n" * int(count) + b"a read vol 1\n"
+
+def snaps_at_once(*nets):
+    """Each of eight clients takes eight snapshots of two disks, all at once, so that many fences wait; then each snapshot is read."""
+    lines = ["servers 8 slots 300", *(net.replace("_", " ") for net in nets)]
+    lines += ["a disk v on 0 1 2 3 4 5 6 7", "a disk w on 7 5 3 1", "wait"]
+    lines += [f"{client} write {name} {block} fill {10 * block + at}" for block in range(4) for at, (client, name) in enumerate((("a", "v"), ("b", "w")))]
+    lines.append("wait")
+    lines += [f"{client} snap {'vw'[turn % 2]} {client}{turn}" for turn in range(8) for client in CLIENTS]
+    lines.append("wait")
+    lines += [f"a write {name} {block} fill {200 + block}" for name in "vw" for block in range(4)]
+    lines.append("wait")
+    return joined(lines + [f"h read {'vw'[turn % 2]}@{client}{turn} {block}" for client in CLIENTS for turn in range(8) for block in (0, 3)])
+
+def many_contents(*nets):
+    """A block with as many contents as it can have, one for each snapshot and its own, is copied to a blank server, read from it alone,
+    and moved."""
+    lines = ["servers 5 slots 140", *(net.replace("_", " ") for net in nets), "a disk vol on 0 1", "wait"]
+    for turn in range(64):
+        lines += [f"a write vol 5 fill {turn + 1}", f"a snap vol s{turn}"]
+    lines += ["a write vol 5 fill 65", "wait", "op blank 0", "op settle", "wait", "op stop 1", "wait"]
+    lines += [f"b read vol@s{turn} 5" for turn in range(0, 64, 9)] + ["b read vol 5", "wait", "op start 1", "op settle", "wait"]
+    lines += ["c move vol on 2 3 4", "wait", "op settle", "wait", "op stop 3", "wait"]
+    return joined(lines + [f"{CLIENTS[turn % 8]} read vol@s{turn} 5" for turn in range(64)] + ["b read vol 5"])
+
+def many_copies(count, *nets):
+    """A server that has stopped misses so many blocks, and is brought up to date by one other in its one life; it is read alone then."""
+    count = int(count)
+    lines = ["servers 3 slots 1024", *(net.replace("_", " ") for net in nets), "a disk vol on 0 1", "wait", "op stop 1", "wait"]
+    lines += [f"{CLIENTS[block % 8]} write vol {block} fill {block % 256}" for block in range(count)]
+    lines += ["wait", "op start 1", "op settle", "wait", "op stop 0", "wait"]
+    return joined(lines + [f"{CLIENTS[block % 8]} read vol {block}" for block in range(count)])
+
+MAKERS = {
+    "many_disks": many_disks, "mixed": mixed, "stops": stops, "starts": starts, "settles": settles, "blanks": blanks,
+    "faults": faults, "stop_amid": stop_amid, "fault_before": fault_before, "snaps": snaps, "moves": moves,
+    "frozen": frozen, "race": race, "thousand": thousand, "moved_thousand": moved_thousand, "on_the_move": on_the_move,
+    "moved_and_stopped": moved_and_stopped, "renewal": renewal, "renewal_snaps": renewal_snaps, "rolling_snaps": rolling_snaps, "rolling": rolling,
+    "upgrade": upgrade, "neighbours": neighbours, "amid": amid, "text": text, "bytes": bytes_of, "nothing": nothing, "work": work, "busy": busy,
+    "all_servers": all_servers, "patterns": patterns, "sized": sized, "requests": requests, "phases": phases, "large": large,
+    "most_disks": most_disks, "most_moves": most_moves, "most_boots": most_boots, "full_server": full_server, "ramps": ramps,
+    "empty_lines": empty_lines, "empty_phases": empty_phases, "snaps_at_once": snaps_at_once, "many_contents": many_contents,
+    "many_copies": many_copies,
+}
 
 def made(words):
     """The script that words such as `work,3,1,40,8,1,net_lose_2` name, split at commas."""
