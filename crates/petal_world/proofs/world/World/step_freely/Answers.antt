@@ -1,5 +1,5 @@
 -- A step that the rules allow is taken, and may be free.
-use Rattle.std.proofs.Common.{◌≡◌, subst}
+use Rattle.std.proofs.Common.{subst}
 use Rattle.petal_rules.specs.World.{MayStep, setting_of}
 use Rattle.petal_world.specs.Play.{Play, world_of}
 use Rattle.petal_world.proofs.Playing.{kept_free}
