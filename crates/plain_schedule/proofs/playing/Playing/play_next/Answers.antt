@@ -9,20 +9,24 @@ pub invariant_of-self : goal.invariant_of-self
 invariant_of-self g c =
     let i = c.self.inside in
     let strict = c.play_phase_lines-played.ensures.went_on.2 ∙ c.self.invariant.1 in
-    let legal = c.records-told.ensures.legal strict in
-    (kept_next i.rounds.world c.play_phase_lines-played.new.rounds.world i.told i.place i.phase c.self.invariant.0 c.play_phase_lines-played.ensures.went_on
-    legal (length c.records-told.result.now) c.lines_of_phase-count.result c.as_slice-lines.result.now c.in-Ok.answers
-    (ap length c.records-told.ensures.value) (subst (λ (p : Progress). p.phases < 4294967296) (sym c.self.view_is) c.requires.next)
-    (c.as_slice-lines.ensures ∙ ap (λ (s : Script). s.lines) c.script.ensures) c.lines_of_phase-count.ensures.run c.in-Ok.ensures.answers
-    c.in-Ok.ensures.exactly, strict)
+    let legal = c.records-told.ensures.legal strict in (
+      kept_next i.rounds.world c.play_phase_lines-played.new.rounds.world i.told i.place i.phase c.self.invariant.0 c.play_phase_lines-played.ensures.went_on
+          legal (length c.records-told.result.now) c.lines_of_phase-count.result c.as_slice-lines.result.now c.in-Ok.answers
+          (ap length c.records-told.ensures.value) (subst (λ (p : Progress). p.phases < 4294967296) (sym c.self.view_is) c.requires.next)
+          (c.as_slice-lines.ensures ∙ ap (λ (s : Script). s.lines) c.script.ensures) c.lines_of_phase-count.ensures.run c.in-Ok.ensures.answers
+          c.in-Ok.ensures.exactly,
+      strict,
+    )
 
 pub invariant_of-self-in-Err : goal.invariant_of-self-in-Err
 invariant_of-self-in-Err g c =
     let i = c.self.inside in
     let strict = c.play_phase_lines-played.ensures.went_on.2 ∙ c.self.invariant.1 in
-    let legal = c.records-told.ensures.legal strict in
-    (kept i.rounds.world c.play_phase_lines-played.new.rounds.world i.told i.place i.phase c.self.invariant.0 c.play_phase_lines-played.ensures.went_on
-    legal, strict)
+    let legal = c.records-told.ensures.legal strict in (
+      kept i.rounds.world c.play_phase_lines-played.new.rounds.world i.told i.place i.phase c.self.invariant.0 c.play_phase_lines-played.ensures.went_on
+          legal,
+      strict,
+    )
 
 pub returns-in-Ok-clause-plays_on : goal.returns-in-Ok-clause-plays_on
 returns-in-Ok-clause-plays_on g c =
