@@ -27,7 +27,7 @@ use petal_rules::Step;
 use script_lines::{Answer, Line, Script};
 use std::alloc::Global;
 use std::marker::Model;
-use world_actors::{Actors, Control, Stepped};
+use world_actors::{Actors, Blocks, Control, Stepped};
 use world_desks::Host;
 use world_desks::copies::{answer_again, step_taken};
 use world_desks::desks::Desks;
@@ -162,6 +162,7 @@ impl<H: Host> World<H> {
             sent: Sent::new(alloc),
             waiting: Waiting::start(alloc, script.lines.as_slice())?,
             control: Control::new(),
+            blocks: Blocks::new(alloc),
         };
         Ok(World {
             script,
