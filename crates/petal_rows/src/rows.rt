@@ -262,17 +262,27 @@ fn lines_that_are_refused(rt: HostRuntime) -> Result<(), Fail> {
     are_so(&rt, rt.alloc(), REFUSALS)
 }
 
-const NOT_BUILT: &[Row] = &[Row {
-    shows: "a device that fails is not built yet",
-    start: "servers 3 slots 4\n",
-    lines: "op fault 1 data write 2\n",
-    written: &["refused line 2: not built\n"],
-    ..REFUSED
-}];
+const ARMED: &[Row] = &[
+    Row {
+        shows: "a server stops in a call of its data device amid a write, which its neighbour ends",
+        lines: "a write vol 1 fill 1\nwait\nop stop 1 at 3\na write vol 1 fill 2\nb read vol 1\nwait\na read vol 1\nwait\nop start 1\nop settle\nwait\na read vol 1\n",
+        written: &[
+            "2: ok\n4: ok\n6: ok\n7: ok\n8: data 65536x1\n10: data 65536x2\n12: ok\n13: ok\n15: data 65536x2\n",
+            "2: ok\n4: ok\n6: ok\n7: ok\n8: data 65536x2\n10: data 65536x2\n12: ok\n13: ok\n15: data 65536x2\n",
+        ],
+        ..ON_DISK
+    },
+    Row {
+        shows: "a write of a data device fails, and its server stops; nothing is lost",
+        lines: "op fault 1 data write 2\nwait\na write vol 1 fill 6\na read vol 1\n",
+        written: &["2: ok\n4: ok\n6: ok\n7: data 65536x6\n"],
+        ..ON_DISK
+    },
+];
 
 #[test]
-fn lines_that_are_not_built_yet(rt: HostRuntime) -> Result<(), Fail> {
-    are_so(&rt, rt.alloc(), NOT_BUILT)
+fn devices_that_stop_a_server_or_fail(rt: HostRuntime) -> Result<(), Fail> {
+    are_so(&rt, rt.alloc(), ARMED)
 }
 
 const BLOCKS: &[Row] = &[
