@@ -8,6 +8,6 @@ use Rattle.petal_world.specs.Play.{Play}
 abbrev pub GoesOn : (old new : List Record) → Type 0
 GoesOn old new = (front : List Record) → IsFront front old → IsFront front new
 
--- the script is the same, and the records go on
+-- the script is the same, the records go on, and no step was free where none was before
 abbrev pub WentOn : (old new : Play) → Type 0
-WentOn old new = (new.script ≡ old.script) × GoesOn old.records new.records
+WentOn old new = (new.script ≡ old.script) × GoesOn old.records new.records × (new.free ≡ old.free)

@@ -1,6 +1,7 @@
 //! Rounds of all clients and servers.
 
-ghost use Rattle.std.specs.Prelude.{◌≡◌, [], map, IfOk};
+ghost use Rattle.std.specs.Prelude.{◌≡◌, [], All, false, map, IfOk};
+ghost use Rattle.petal_rules.specs.Plans.{unarmed};
 ghost use Rattle.actor_rounds.specs.Going.{WentOn};
 ghost use Rattle.world_desks.specs.Desks.{first_sites};
 ghost use Rattle.world_desks.specs.Playable.{AreNumbered, AreOrdered};
@@ -10,7 +11,7 @@ use client_core::Order;
 use petal_base::{CLIENTS, ClientId, NoMemory, OPERATOR, Sequence, ServerId};
 use petal_msg::{Actor, Body, Letter, SharedLetter};
 use petal_world::{Host, Step, Stepped, WorkEnd, World, WorldError};
-use script_lines::{Answer, Script};
+use script_lines::{Answer, Plan, Script, Which};
 use std::alloc::Global;
 use std::sync::Wait;
 
@@ -64,6 +65,8 @@ impl<H: Host> Rounds<H> {
         requires numbered { AreNumbered script.lines }
         requires ordered { AreOrdered script.lines }
         requires hosts { map H.seen hosts ≡ first_sites script }
+        requires unarmed { All (λ host. H.armed host ≡ unarmed) hosts }
+        ensures free { IfOk result (λ rounds. rounds.world.free ≡ false) }
         ensures script { IfOk result (λ rounds. rounds.world.script ≡ script) }
         ensures records { IfOk result (λ rounds. rounds.world.records ≡ []) }
     {
@@ -278,8 +281,9 @@ impl<H: Host> Rounds<H> {
     {
         match order {
             Order::Stop => self.stop(alloc, server)?,
-            Order::Start => self.boot(alloc, server)?,
+            Order::Start => self.start(alloc, server)?,
             Order::Blank => self.blank(alloc, server)?,
+            Order::Arm { which, plan } => self.arm(alloc, server, which, Some(plan))?,
         }
         let glance = Step::Glance { line, round: 0 };
         self.take(alloc, Actor::Server(server), &glance)?;
@@ -294,6 +298,29 @@ impl<H: Host> Rounds<H> {
         Ok(())
     }
 
+    // One of its devices has this plan from now on, or none.
+    fn arm(
+        &mut self,
+        alloc: Global,
+        server: ServerId,
+        which: Which,
+        plan: Option<Plan>,
+    ) -> Result<(), NoMemory>
+        ensures { WentOn self.old.world self.new.world }
+    {
+        self.take(alloc, Actor::Server(server), &Step::Arm { which, plan })?;
+        Ok(())
+    }
+
+    // Its devices lose their plans, and it boots, where it is stopped.
+    fn start(&mut self, alloc: Global, server: ServerId) -> Result<(), NoMemory>
+        ensures { WentOn self.old.world self.new.world }
+    {
+        self.arm(alloc, server, Which::Data, None)?;
+        self.arm(alloc, server, Which::State, None)?;
+        self.boot(alloc, server)
+    }
+
     // It boots, where it is stopped.
     fn boot(&mut self, alloc: Global, server: ServerId) -> Result<(), NoMemory>
         ensures { WentOn self.old.world self.new.world }
@@ -305,13 +332,13 @@ impl<H: Host> Rounds<H> {
         Ok(())
     }
 
-    // It stops, where it runs, and boots with a blank data device.
+    // It stops, where it runs, and starts with a blank data device.
     fn blank(&mut self, alloc: Global, server: ServerId) -> Result<(), NoMemory>
         ensures { WentOn self.old.world self.new.world }
     {
         self.stop(alloc, server)?;
         self.take(alloc, Actor::Server(server), &Step::Blank)?;
-        self.boot(alloc, server)
+        self.start(alloc, server)
     }
 
     // How many ticks are passed on at once to one of so many actors. After a loss they come to one after the other, for some rounds
@@ -427,8 +454,8 @@ impl<H: Host> Rounds<H> {
 
     /// Each client and then each server has its turn, by number. In it an actor gets the letters that were sent to it, ticks are
     /// passed on to it, a client with nothing open calls its next line of the phase, and a server works until its queue is
-    /// empty, before the ticks and after them. Where the operator calls a line that stops, starts or blanks a server, the server's
-    /// steps and its glance follow at once; while a settle is open, the operator's turn ends with a glance at each server. A tick is
+    /// empty, before the ticks and after them. Where the operator calls a line that names a server, the server's steps
+    /// and its glance follow at once; while a settle is open, the operator's turn ends with a glance at each server. A tick is
     /// passed on where the actor has waited for it long enough. In the round after a loss four to six are passed on at once to one
     /// client and one server, and each box is emptied from another letter on than in the round before, so that no loss of every K-th
     /// letter hits the same letters for ever. In the first round of a later phase a client calls nothing, and one that has a line to
@@ -453,6 +480,7 @@ impl<H: Host> Rounds<H> {
     pub fn begin(&mut self, phase: u32, lines: usize) -> Result<(), NoMemory>
         ensures script { self.new.world.script ≡ self.old.world.script }
         ensures records { self.new.world.records ≡ self.old.world.records }
+        ensures free { self.new.world.free ≡ self.old.world.free }
     {
         self.phase = phase;
         self.left = lines;

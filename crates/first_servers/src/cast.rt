@@ -5,7 +5,9 @@ ghost use Rattle.std.specs.List.{range_with_len};
 ghost use Rattle.world_desks.specs.Desks.{first_sites};
 ghost use Rattle.server_store.specs.Slots.{slot_start};
 ghost use Rattle.first_servers.specs.Members.{first_site};
+ghost use Rattle.memory_server.specs.Armed.{armed_of};
 ghost use Rattle.memory_server.specs.Server.{site_of};
+ghost use Rattle.petal_rules.specs.Plans.{unarmed};
 
 use memory_server::MemServer;
 use petal_base::{NoMemory, Sequence};
@@ -16,6 +18,7 @@ use std::alloc::Global;
 fn started(alloc: Global, servers: u8, slots: u32) -> Result<Sequence<MemServer>, NoMemory>
     ensures sites { IfOk result (λ members. map site_of members ≡ map (first_site servers slots) (range_with_len 0 servers)) }
     ensures devices { IfOk result (λ members. All (λ server. ⟦<Planned<MemDisk> as Disk>⟧.size server.store.disk ≡ slot_start slots) members) }
+    ensures unarmed { IfOk result (λ members. All (λ server. armed_of server ≡ unarmed) members) }
 {
     let mut members = Sequence::new(alloc);
     for me in 0..servers {
@@ -32,6 +35,7 @@ fn started(alloc: Global, servers: u8, slots: u32) -> Result<Sequence<MemServer>
 pub fn members(alloc: Global, script: &Script) -> Result<Sequence<MemServer>, NoMemory>
     ensures sites { IfOk result (λ members. map site_of members ≡ first_sites script.now) }
     ensures devices { IfOk result (λ members. All (λ server. ⟦<Planned<MemDisk> as Disk>⟧.size server.store.disk ≡ slot_start script.now.slots) members) }
+    ensures unarmed { IfOk result (λ members. All (λ server. armed_of server ≡ unarmed) members) }
 {
     let members = started(alloc, script.servers, script.slots)?;
     Ok(members)

@@ -15,12 +15,13 @@ use Rattle.script_lines.specs.declared.answer.Answer.{Answer}
 use Rattle.script_lines.specs.declared.script.Script.{Script}
 use Rattle.petal_script.specs.Script.{Refusal, script_of}
 use Rattle.petal_history.specs.Claims.{Keeps}
+use Rattle.petal_rules.specs.Plans.{unarmed}
+use Rattle.petal_history.specs.Legal.{IsLegal}
 use Rattle.petal_history.specs.Steps.{AreSteps}
 use Rattle.petal_history.specs.Text.{answers_of, text_of}
 use Rattle.petal_history.specs.declared.record.Record.{Record}
 use Rattle.plain_schedule.specs.Phases.{Progress, GoesByPhases, Ends, records_of}
-use Rattle.petal_run.specs.Asked.{Play, by_built, by_text}
-use Rattle.petal_run.specs.Built.{first_not_built}
+use Rattle.petal_run.specs.Asked.{Play, by_text}
 use Rattle.petal_run.specs.Said.{Done, DoneInPart, EndsWithPhase, WrittenByPhases, WrotePhases, WroteInPhase}
 use Rattle.petal_run.specs.Written.{Wrote, text_of_answers}
 
@@ -46,9 +47,9 @@ pub ended_text : (old new : Progress) (answers : Table ℕ Answer) → JoinsText
     → GoesByPhases old → GoesByPhases new → Ends old new answers → text_of new.ended ≡ text_of old.ended ++ text_of_answers answers
 ended_text old new answers joins rising same before after e =
     let whole : new.ended ++ new.since ≡ old.ended ++ e.phase = ap (λ r. new.ended ++ r) e.since ∙ append_nil new.ended ∙ e.ended in
-    let legal : AreSteps old.script (old.ended ++ e.phase) =
-    subst (λ (s : Script). AreSteps s (old.ended ++ e.phase)) same (subst (AreSteps new.script) whole after.legal) in
-    ap text_of e.ended ∙ joins old.ended e.phase rising legal before.first ∙ ap (λ rows. text_of old.ended ++ text_of_answers rows) (sym e.gave)
+    let legal : IsLegal old.script (old.ended ++ e.phase) =
+    subst (λ (s : Script). IsLegal s (old.ended ++ e.phase)) same (subst (IsLegal new.script) whole after.legal) in
+    ap text_of e.ended ∙ joins old.ended e.phase rising legal.steps before.first ∙ ap (λ rows. text_of old.ended ++ text_of_answers rows) (sym e.gave)
 
 pub written_on : (base front more whole old new : List ℕ) → whole ≡ front ++ more → old ≡ base ++ front → new ≡ old ++ more → new ≡ base ++ whole
 written_on base front more whole old new is stood added = added ∙ ap (λ t. t ++ more) stood ∙ append_assoc base front more ∙ ap (λ t. base ++ t) (sym is)
@@ -96,22 +97,22 @@ wrote_last old new answers same before after e base stood taken wrote adds =
 -- ### The whole run
 
 pub adds_phases : (script : Script) (history : List Record) (old new : List ℕ) → JoinsText script → AreRising script.lines → AreOrdered script.lines
-    → AreSteps script history → WrotePhases script history old new → Adds old (text_of history) new
+    → IsLegal script history → WrotePhases script history old new → Adds old (text_of history) new
 adds_phases script history old new joins rising ordered legal w =
     let first = come_first w.phases script.lines w.ended ordered w.exactly in
     let is : text_of history ≡ text_of w.ended ++ text_of w.front.following = ap text_of w.front.is
-    ∙ joins w.ended w.front.following rising (subst (AreSteps script) w.front.is legal) first in
+    ∙ joins w.ended w.front.following rising (subst (IsLegal script) w.front.is legal).steps first in
     record {
       count = length (text_of w.ended);
       new_is = w.text ∙ ap (λ t. old ++ t) (sym (take-append_seam (text_of w.ended) (text_of w.front.following)) ∙ ap (take (length (text_of w.ended))) (sym is));
     }
 
 pub adds_last : (script : Script) (history : List Record) (old new : List ℕ) → JoinsText script → AreRising script.lines → AreOrdered script.lines
-    → AreSteps script history → WroteInPhase script history old new → Adds old (text_of history) new
+    → IsLegal script history → WroteInPhase script history old new → Adds old (text_of history) new
 adds_last script history old new joins rising ordered legal w =
     let first = come_first w.phase script.lines w.ended ordered w.before in
     let is : text_of history ≡ text_of w.ended ++ text_of w.last = ap text_of w.history_is
-    ∙ joins w.ended w.last rising (subst (AreSteps script) w.history_is legal) first in
+    ∙ joins w.ended w.last rising (subst (IsLegal script) w.history_is legal).steps first in
     added_on old (text_of w.ended) (text_of w.last) (text_of history) (old ++ text_of w.ended) new is refl w.text
 
 pub adds_all : (old bytes new : List ℕ) → new ≡ old ++ bytes → Adds old bytes new
@@ -140,24 +141,19 @@ none_wrote script old = record {
 abbrev pub KeepsLaw : Type 0
 KeepsLaw = (text : List ℕ) (script : Script) (records : List Record) → script_of text ≡ Ok script → AreSteps script records → Keeps script records
 
-nothing_built : (script : Script) (o : Option ℕ) (old : List ℕ) → Keeps script [] → DoneInPart (by_built script o) [] old old
-nothing_built script (Some line) old keeps = (refl, none_added old _)
-nothing_built script None old keeps = (tt, keeps, none_added old _)
+nothing_legal : (script : Script) → IsLegal script []
+nothing_legal script = record { steps = tt; obey = tt; planned = λ n. (unarmed, refl) }
 
 nothing_of : (text : List ℕ) (r : Result Script Refusal) (old : List ℕ) → KeepsLaw → script_of text ≡ r → DoneInPart (by_text r) [] old old
 nothing_of text (Err refusal) old law is = (refl, none_added old _)
-nothing_of text (Ok script) old law is = nothing_built script (first_not_built script.lines) old (law text script [] is tt)
+nothing_of text (Ok script) old law is = (nothing_legal script, law text script [] is tt, none_added old _)
 
 pub nothing_done : KeepsLaw → (text old : List ℕ) → DoneInPart (by_text (script_of text)) [] old old
 nothing_done law text old = nothing_of text (script_of text) old law refl
 
-nothing_built_wrote : (script : Script) (o : Option ℕ) (old : List ℕ) → WrittenByPhases (by_built script o) [] old old
-nothing_built_wrote script (Some line) old = refl
-nothing_built_wrote script None old = none_wrote script old
-
 nothing_of_wrote : (r : Result Script Refusal) (old : List ℕ) → WrittenByPhases (by_text r) [] old old
 nothing_of_wrote (Err refusal) old = refl
-nothing_of_wrote (Ok script) old = nothing_built_wrote script (first_not_built script.lines) old
+nothing_of_wrote (Ok script) old = none_wrote script old
 
 pub nothing_wrote : (text old : List ℕ) → WrittenByPhases (by_text (script_of text)) [] old old
 nothing_wrote text old = nothing_of_wrote (script_of text) old
@@ -170,7 +166,7 @@ ended_all p history is none = is ∙ ap (λ r. p.ended ++ r) none ∙ append_nil
 
 pub done_play : (script : Script) (p : Progress) (history : List Record) (status : ℕ) (old new : List ℕ) → status ≡ 0 → p.script ≡ script
     → history ≡ p.ended → all_answered (answers_of p.ended) p.script.lines ≡ true
-    → AreSteps script history → Keeps script history → Wrote old p.ended new → Done (Play script) status history [] old new
+    → IsLegal script history → Keeps script history → Wrote old p.ended new → Done (Play script) status history [] old new
 done_play script p history status old new ended same is whole legal keeps wrote = (
   ended,
   refl,
@@ -184,8 +180,8 @@ done_play script p history status old new ended same is whole legal keeps wrote 
 )
 
 pub play_legal : (script : Script) (p : Progress) (history : List Record) → p.script ≡ script → history ≡ records_of p
-    → AreSteps p.script (records_of p) → AreSteps script history
-play_legal script p history same is legal = subst (AreSteps script) (sym is) (subst (λ (s : Script). AreSteps s (records_of p)) same legal)
+    → IsLegal p.script (records_of p) → IsLegal script history
+play_legal script p history same is legal = subst (IsLegal script) (sym is) (subst (λ (s : Script). IsLegal s (records_of p)) same legal)
 
 pub play_wrote : (script : Script) (p : Progress) (history : List Record) (old new : List ℕ) → p.script ≡ script → history ≡ records_of p
     → WrotePhases p.script (records_of p) old new → WrotePhases script history old new

@@ -1,10 +1,9 @@
 -- What the words and the text of a script ask the program to do.
-use Rattle.std.specs.Prelude.{ℕ, List, [], codes, Option, Some, None, Result, Ok, Err, if◌then◌else◌}
+use Rattle.std.specs.Prelude.{ℕ, List, [], codes, Result, Ok, Err, if◌then◌else◌}
 use Rattle.petal_script.specs.Script.{Refusal, script_of}
 use Rattle.script_lines.specs.Printed.{refusal_line}
 use Rattle.script_words.specs.Cause.{cause_text}
 use Rattle.script_lines.specs.declared.script.Script.{Script}
-use Rattle.petal_run.specs.Built.{first_not_built}
 use Rattle.petal_run.specs.Words.{is_run}
 
 -- to refuse, with a status and a line of text; or to play a script
@@ -12,15 +11,10 @@ pub data Asked : Type 0 where
   Refuse : (status : ℕ) (bytes : List ℕ) → Asked
   Play : Script → Asked
 
--- a script whose lines are all built is played
-abbrev pub by_built : Script → Option ℕ → Asked
-by_built script (Some line) = Refuse 2 (refusal_line line (codes "not built"))
-by_built script None = Play script
-
--- a text that is no script is refused at its first refused line
+-- a script is played, and a text that is none is refused at its first refused line
 abbrev pub by_text : Result Script Refusal → Asked
 by_text (Err refusal) = Refuse 2 (refusal_line refusal.line (cause_text refusal.cause))
-by_text (Ok script) = by_built script (first_not_built script.lines)
+by_text (Ok script) = Play script
 
 -- other words than `run` get a line that says how the program is used
 abbrev pub asked : List (List ℕ) → List ℕ → Asked

@@ -4,7 +4,7 @@ use Rattle.byte_streams.specs.Streams.{Adds}
 use Rattle.script_lines.specs.declared.script.Script.{Script}
 use Rattle.petal_history.specs.declared.record.Record.{Record}
 use Rattle.petal_history.specs.Claims.{Keeps}
-use Rattle.petal_history.specs.Steps.{AreSteps}
+use Rattle.petal_history.specs.Legal.{IsLegal}
 use Rattle.petal_history.specs.Text.{answers_of, text_of}
 use Rattle.petal_history.specs.Order.{AnswersPhases, IsFront, all_answered}
 use Rattle.petal_run.specs.Asked.{Asked, Refuse, Play}
@@ -12,7 +12,7 @@ use Rattle.petal_run.specs.Asked.{Asked, Refuse, Play}
 -- a whole run of a script: each record is a real step of its servers and clients, each line is answered, and what the plain
 -- machine is told of it is a run of that machine, whose contents are those of the disk
 pub record Plays (script : Script) (history : List Record) : Type 0 where
-  pub legal : AreSteps script history
+  pub legal : IsLegal script history
   pub whole : all_answered (answers_of history) script.lines ≡ true
   pub keeps : Keeps script history
 
@@ -26,7 +26,7 @@ Done (Play script) status history left old new = (status ≡ 0) × (left ≡ [])
 -- the history is written
 abbrev pub DoneInPart : Asked → List Record → (old new : List ℕ) → Type 0
 DoneInPart (Refuse of bytes) history old new = (history ≡ []) × Adds old bytes new
-DoneInPart (Play script) history old new = AreSteps script history × Keeps script history × Adds old (text_of history) new
+DoneInPart (Play script) history old new = IsLegal script history × Keeps script history × Adds old (text_of history) new
 
 -- the history of a script that was played answers the lines of the first so many phases, and no others
 abbrev pub EndsWithPhase : Asked → List Record → Type 0

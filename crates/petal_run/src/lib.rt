@@ -6,7 +6,6 @@
 #![tactic(auto)]
 
 mod buffer;
-mod built;
 mod laws;
 mod outcome;
 mod reading;
@@ -14,6 +13,5 @@ mod script;
 mod text;
 mod words;
 
-pub use built::not_built;
 pub use laws::{lines_rise, nothing_is_a_part, phases_rise};
 pub use outcome::{NO_MEMORY, Outcome, petal};

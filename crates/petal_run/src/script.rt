@@ -1,4 +1,4 @@
-//! A script that was read: refused at a line that is not built, or played, with the answers of each phase written at its end.
+//! A script that was read and is played, with the answers of each phase written at its end; a text that is no script is refused.
 
 ghost use Rattle.std.specs.Prelude.{◌≡◌, ◌≤◌, ◌<◌, ◌⊎◌, ◌++◌, ℕ, List, [], length, true, IfOk, OnOk, IsErrOf, IfSome, Some, None};
 ghost use Rattle.petal_history.specs.Order.{AreRising, all_answered};
@@ -8,14 +8,12 @@ ghost use Rattle.petal_script.specs.Script.{script_of};
 ghost use Rattle.petal_history.specs.Sound.{IsSound};
 ghost use Rattle.petal_history.specs.Text.{answers_of, text_of};
 ghost use Rattle.plain_schedule.specs.Phases.{GoesByPhases, records_of};
-ghost use Rattle.petal_run.specs.Asked.{Play, by_built, by_text};
-ghost use Rattle.petal_run.specs.Built.{first_not_built};
+ghost use Rattle.petal_run.specs.Asked.{Play, by_text};
 ghost use Rattle.world_desks.specs.Playable.{AreOrdered};
 ghost use Rattle.petal_run.specs.Said.{Done, DoneInPart, EndsWithPhase, WrittenByPhases, WrittenInPhase, WroteInPhase, WrotePhases};
 ghost use Rattle.petal_run.specs.Written.{Wrote, text_of_answers};
 ghost use Rattle.device_faults.specs.declared.failure.DeviceError.TheVariants as error;
 
-use crate::built::not_built;
 use crate::laws::{lines_rise, nothing_is_a_part, phases_rise};
 use crate::outcome::{ENDED, NO_MEMORY, Outcome, REFUSED, SINK_FAILED};
 use crate::text::{answers_text, refusal_text};
@@ -160,9 +158,8 @@ fn play_phases<R: Wait, W: Sink>(rt: &R, alloc: Global, playing: &mut Playing, s
     ended
 }
 
-/// Plays a script whose lines are all built.
+/// Plays a script.
 fn play<R: Wait, W: Sink>(rt: &R, alloc: Global, script: Script, sink: &mut W) -> Outcome
-    requires built { first_not_built script.lines ≡ None }
     requires sound { IsSound script }
     requires ordered { AreOrdered script.lines }
     requires rising { AreRising script.lines }
@@ -187,30 +184,6 @@ fn play<R: Wait, W: Sink>(rt: &R, alloc: Global, script: Script, sink: &mut W) -
             }
         }
         Err(NoMemory) => without_history(alloc, NO_MEMORY),
-    }
-}
-
-/// Refuses the first line that is not built, or plays all lines.
-fn run_script<R: Wait, W: Sink>(rt: &R, alloc: Global, script: Script, sink: &mut W) -> Outcome
-    requires sound { IsSound script }
-    requires ordered { AreOrdered script.lines }
-    requires rising { AreRising script.lines }
-    ensures known { (result.status ≡ 0) ⊎ (result.status ≡ 2) ⊎ (result.status ≡ 3) ⊎ (result.status ≡ 5) }
-    ensures done { W.told → result.status ≤ 2
-        → Done (by_built script (first_not_built script.lines)) result.status result.history.records [] (W.taken sink.old) (W.taken sink.new) }
-    ensures in_part { W.told → (result.status ≡ 3) ⊎ (result.status ≡ 5)
-        → DoneInPart (by_built script (first_not_built script.lines)) result.history.records (W.taken sink.old) (W.taken sink.new) }
-    ensures whole_phase { result.status ≡ 5 → EndsWithPhase (by_built script (first_not_built script.lines)) result.history.records }
-    ensures by_phases { W.told → result.status ≡ 3
-        → WrittenByPhases (by_built script (first_not_built script.lines)) result.history.records (W.taken sink.old) (W.taken sink.new) }
-    ensures last_phase { W.told → result.status ≡ 5
-        → WrittenInPhase (by_built script (first_not_built script.lines)) result.history.records (W.taken sink.old) (W.taken sink.new) }
-    ensures failed { result.status ≡ 5 → W.faults sink.old < W.faults sink.new }
-    ensures later { W.faults sink.old ≤ W.faults sink.new }
-{
-    match not_built(&script) {
-        Some(line) => refuse(alloc, sink, line, "not built"),
-        None => play(rt, alloc, script, sink),
     }
 }
 
@@ -241,7 +214,7 @@ pub(crate) fn run_text<R: Wait, W: Sink>(
     lines_rise();
     nothing_is_a_part();
     match read_script(alloc, text) {
-        Ok(script) => run_script(rt, alloc, script, sink),
+        Ok(script) => play(rt, alloc, script, sink),
         Err(ScriptError::Refused { line, cause }) => refuse(alloc, sink, line, cause.text()),
         Err(ScriptError::NoMemory) => without_history(alloc, NO_MEMORY),
     }

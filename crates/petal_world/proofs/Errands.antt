@@ -9,7 +9,7 @@ use Rattle.script_lines.specs.declared.request.Line.{Line}
 use Rattle.petal_rules.specs.Jobs.{operator}
 use Rattle.petal_rules.specs.World.{Setting, World, next_line}
 use Rattle.petal_rules.specs.declared.step.Step.{Step}
-use Rattle.petal_rules.specs.declared.step.Step.TheVariants.{Call, Work, StopIn, Boot}
+use Rattle.petal_rules.specs.declared.step.Step.TheVariants.{Call, Work, StopIn}
 use Rattle.petal_rules.proofs.Tests.{none_some, same_numbers}
 use Rattle.petal_history.specs.Controls.{Errand, Given, IsNext, Obeys, due, errand_after, errand_of, served}
 use Rattle.world_actors.specs.Steps.{rev_of}

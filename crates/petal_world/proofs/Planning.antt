@@ -1,10 +1,9 @@
 -- The plans that the records leave are at least those that the servers' devices have.
-use Rattle.std.proofs.Common.{◌≡◌, ◌≢◌, ℕ, Bool, true, false, List, [], ◌∷◌, ◌++◌, Option, Some, None, refl, sym, ap, ◌∙◌, subst}
-use Rattle.std.specs.Prelude.{◌==◌, slice_get}
+use Rattle.std.proofs.Common.{◌≡◌, Option, Some, None, refl, sym, ◌∙◌, subst}
 use Rattle.device_faults.specs.declared.plan.Plan.{Plan}
 use Rattle.device_faults.specs.declared.which.Which.{Which}
 use Rattle.device_faults.specs.declared.which.Which.TheVariants.{Data, State}
-use Rattle.petal_rules.specs.Plans.{Armed, AreLeftOf, IsLeftOf, LeavesPlans, Spends, SpendsOnStop, Uses, plan_of, with_plan}
+use Rattle.petal_rules.specs.Plans.{Armed, AreLeftOf, IsLeftOf, LeavesPlans, Spends, Uses, plan_of, with_plan}
 use Rattle.petal_rules.specs.declared.step.Step.{Step}
 use Rattle.petal_rules.specs.declared.step.Step.TheVariants.{Work, StopIn, Boot, Arm}
 use Rattle.petal_rules.specs.declared.step.WorkEnd.TheVariants as work_end

@@ -1,7 +1,7 @@
 -- A world keeps a legal history.
 use Rattle.std.proofs.Common.{◌≡◌, ℕ, ◌≤◌, ◌<◌, Bool, true, false, List, [], ◌∷◌, ◌++◌, length, Option, Some, None, refl}
-use Rattle.std.proofs.Common.{sym, ap, ◌∙◌, subst, arith, IfSome, IsTrue}
-use Rattle.std.specs.Prelude.{◌≢◌, ◌==◌, slice_get}
+use Rattle.std.proofs.Common.{sym, ap, ◌∙◌, subst, arith, IfSome}
+use Rattle.std.specs.Prelude.{◌==◌, slice_get}
 use Rattle.std.proofs.lemmas.List.{length-map}
 use Rattle.std.proofs.lemmas.List.FromFn.{length-map-range_with_len}
 use Rattle.petal_msg.specs.declared.letter.Actor.{Actor}
@@ -20,11 +20,10 @@ use Rattle.petal_history.specs.declared.record.Record.{Record}
 use Rattle.client_seats.specs.Core.{is_spent}
 use Rattle.client_seats.specs.declared.seat.Seat.{Seat}
 use Rattle.world_actors.specs.declared.stepped.Stepped.{Stepped}
-use Rattle.world_desks.specs.Desks.{Equipped, LeavesPlansAt, bare, desk_of, ended}
+use Rattle.world_desks.specs.Desks.{Equipped, LeavesPlansAt, desk_of, ended}
 use Rattle.world_desks.specs.declared.step_end.StepEnd.{StepEnd}
 use Rattle.petal_world.specs.Play.{ArePlanned, Play, IsKept, errand_in, world_of, record_of, played, told_by}
 use Rattle.world_actors.specs.Steps.{LeavesIn, Can, stamp_of, phase_of, phase_for}
-use Rattle.world_desks.specs.Playable.{AreOrdered}
 use Rattle.client_seats.specs.Seats.{CanTake, seat_of}
 use Rattle.world_actors.specs.Actors.{Actors, LeavesPlansBy, Shows}
 use Rattle.world_actors.proofs.Ending.{may_ended, stamp_ended, phase_ended}

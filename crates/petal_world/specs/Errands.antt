@@ -1,6 +1,6 @@
 -- The operator's last line on its way, as the code has it: which of its steps are left.
 use Rattle.std.specs.Prelude.{◌≡◌, ◌==◌, ℕ, Bool, List, [], ◌∷◌, Option, Some, None, if◌then◌else◌}
-use Rattle.device_faults.specs.declared.which.Which.TheVariants.{Data, State}
+use Rattle.device_faults.specs.declared.which.Which.TheVariants.{State}
 use Rattle.petal_msg.specs.declared.letter.Actor.{Actor}
 use Rattle.petal_msg.specs.declared.letter.Actor.TheVariants as actor
 use Rattle.script_lines.specs.declared.request.Line.{Line}

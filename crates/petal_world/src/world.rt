@@ -10,7 +10,7 @@ ghost use Rattle.petal_world.specs.Errands.{Runs};
 ghost use Rattle.client_seats.specs.Core.{settle_of};
 ghost use Rattle.petal_rules.specs.Jobs.{operator};
 ghost use Rattle.petal_rules.specs.World.{MayStep, greatest_u64, next_line, setting_of};
-ghost use Rattle.petal_world.specs.Play.{MayPlay, entered, errand_in, played, told_by, world_of};
+ghost use Rattle.petal_world.specs.Play.{MayPlay, above_all, entered, errand_in, played, told_by, world_of};
 ghost use Rattle.world_actors.specs.Actors.{LeavesPlansBy};
 ghost use Rattle.world_actors.specs.Steps.{Can, LeavesIn, rev_of};
 ghost use Rattle.world_desks.specs.Desks.{ended, first_sites};
@@ -27,7 +27,7 @@ use petal_rules::Step;
 use script_lines::{Answer, Line, Script};
 use std::alloc::Global;
 use std::marker::Model;
-use world_actors::{Actors, Control, Stepped};
+use world_actors::{Actors, Blocks, Control, Stepped};
 use world_desks::Host;
 use world_desks::copies::{answer_again, step_taken};
 use world_desks::desks::Desks;
@@ -162,6 +162,7 @@ impl<H: Host> World<H> {
             sent: Sent::new(alloc),
             waiting: Waiting::start(alloc, script.lines.as_slice())?,
             control: Control::new(),
+            blocks: Blocks::new(alloc),
         };
         Ok(World {
             script,
@@ -175,6 +176,13 @@ impl<H: Host> World<H> {
         })
     }
 
+    /// One more than the greatest of the clients' last stamps.
+    fn above_all(&self) -> Stamp
+        ensures { self.now.over ≡ false → result ≡ above_all (world_of self.now) }
+    {
+        after(self.actors.seats.greatest_clock())
+    }
+
     /// A phase begins: each client's clock is the greatest of all theirs. A world that ran out of memory says so again.
     pub fn enter(&mut self, phase: u32) -> Result<(), NoMemory>
         ensures ok { OnOk result (self.new ≡ entered self.old phase) }
@@ -183,7 +191,8 @@ impl<H: Host> World<H> {
         if self.over {
             return Err(NoMemory);
         }
-        self.floor = after(self.actors.seats.greatest_clock());
+        let floor = self.above_all();
+        self.floor = floor;
         self.phase = phase;
         Ok(())
     }
@@ -249,8 +258,15 @@ impl<H: Host> World<H> {
         let errand = self
             .errand
             .after(actor, self.runs(actor), step, self.next_order());
-        let (actors, records) = (&mut self.actors, &mut self.records);
-        match take(alloc, actors, records, actor, stamp, phase, step) {
+        match take(
+            alloc,
+            &mut self.actors,
+            &mut self.records,
+            actor,
+            stamp,
+            phase,
+            step,
+        ) {
             Ok(stepped) => {
                 self.errand = errand;
                 Ok(stepped)

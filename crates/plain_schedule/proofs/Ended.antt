@@ -15,7 +15,8 @@ use Rattle.script_lines.specs.declared.request.Line.{Line}
 use Rattle.script_lines.specs.declared.script.Script.{Script}
 use Rattle.petal_rules.specs.Lists.{In}
 use Rattle.petal_rules.proofs.ListLemmas.{in-append, in_later}
-use Rattle.petal_history.specs.Steps.{AreSteps}
+use Rattle.petal_rules.specs.Plans.{unarmed}
+use Rattle.petal_history.specs.Legal.{IsLegal}
 use Rattle.petal_history.specs.Text.{answers_of}
 use Rattle.petal_history.specs.declared.record.Record.{Record}
 use Rattle.petal_rules.proofs.Tests.{by_bool, same_numbers}
@@ -236,7 +237,7 @@ all_lines script records told place phases k le =
 pub goes_by_phases : (script : Script) (records : List Record) (told place phases : ℕ) → KeepsPlaces script records told place phases
     → GoesByPhases (progress_of script records told phases)
 goes_by_phases script records told place phases k = record {
-  legal = subst (AreSteps script) (sym (take-append-drop told records)) k.legal;
+  legal = subst (IsLegal script) (sym (take-append-drop told records)) k.legal;
   exactly = answers_phases script.lines (take told records) place phases k.rising k.answered k.played k.to_play;
   first = first_lines script.lines (take told records) place k.rising k.answered;
 }
@@ -245,7 +246,7 @@ pub start_places : (script after : Script) (records : List Record) → after ≡
     → JoinsAnswers script → KeepsPlaces after records 0 0 0
 unfolding In
 start_places script after records same none rising ordered joins = rw (same, none) (record {
-  legal = tt;
+  legal = record { steps = tt; obey = tt; planned = λ n. (unarmed, refl) };
   rising = rising;
   ordered = ordered;
   joins = joins;
@@ -259,7 +260,7 @@ start_places script after records same none rising ordered joins = rw (same, non
 
 -- records more change nothing of the phases that have ended
 places_still : (script : Script) (old new : List Record) (told place phases : ℕ) → KeepsPlaces script old told place phases → GoesOn old new
-    → AreSteps script new → KeepsPlaces script new told place phases
+    → IsLegal script new → KeepsPlaces script new told place phases
 places_still script old new told place phases k on legal =
     let s = still told old new k.told_is on in
     record {
@@ -283,7 +284,7 @@ grown script after old new told more n m on =
 
 -- the phase that ends answers the next lines
 places_more : (script : Script) (old new : List Record) (told place phases count : ℕ) → KeepsPlaces script old told place phases
-    → GoesOn old new → AreSteps script new
+    → GoesOn old new → IsLegal script new
     → phases < 4294967296 → count ≡ phase_run phases (drop place script.lines)
     → keys_of (answers_of (drop told new)) ≡ numbers (take count (drop place script.lines)) → KeepsPlaces script new (length new) (place + count) (phases + 1)
 places_more script old new told place phases count k on legal room run exactly =
@@ -293,7 +294,7 @@ places_more script old new told place phases count k on legal room run exactly =
     subst (PlaysNext script.lines place phases) (sym run) (plays_next script.lines place phases k.rising k.ordered k.played k.to_play) in
     let split : new ≡ take told new ++ drop told new = sym (take-append-drop told new) in
     let joined : answers_of new ≡ answers_of (take told new) ++ answers_of (drop told new) = ap answers_of split
-    ∙ now.joins (take told new) (drop told new) now.rising g.legal g.first in
+    ∙ now.joins (take told new) (drop told new) now.rising g.legal.steps g.first in
     record {
       legal = legal;
       rising = now.rising;
@@ -325,9 +326,9 @@ ends script after old new told phases answers le on gave =
 -- ### What a call on the rounds does
 
 module _ (old new : Play) (told place phases : ℕ) (k : KeepsPlaces old.script old.records told place phases) (w : WentOn old new)
-    (legal : AreSteps new.script new.records) where
-  still_legal : AreSteps old.script new.records
-  still_legal = subst (λ (s : Script). AreSteps s new.records) w.0 legal
+    (legal : IsLegal new.script new.records) where
+  still_legal : IsLegal old.script new.records
+  still_legal = subst (λ (s : Script). IsLegal s new.records) w.0 legal
 
   pub kept : KeepsPlaces new.script new.records told place phases
   kept = subst (λ (s : Script). KeepsPlaces s new.records told place phases) (sym w.0)

@@ -3,7 +3,7 @@ use Rattle.std.specs.Prelude.{◌≡◌, ℕ, ◌+◌, List, [], ◌++◌}
 use Rattle.petal_table.specs.Table.{Table}
 use Rattle.script_lines.specs.declared.answer.Answer.{Answer}
 use Rattle.script_lines.specs.declared.script.Script.{Script}
-use Rattle.petal_history.specs.Steps.{AreSteps}
+use Rattle.petal_history.specs.Legal.{IsLegal}
 use Rattle.petal_history.specs.Text.{answers_of}
 use Rattle.petal_history.specs.declared.record.Record.{Record}
 use Rattle.petal_history.specs.Order.{AnsweredComeFirst, AnswersPhases}
@@ -22,7 +22,7 @@ records_of p = p.ended ++ p.since
 -- the records are a legal history; those of the phases that have ended answer exactly the lines of these phases, which come
 -- before the other lines
 pub record GoesByPhases (p : Progress) : Type 0 where
-  pub legal : AreSteps p.script (records_of p)
+  pub legal : IsLegal p.script (records_of p)
   pub exactly : AnswersPhases p.phases p.script.lines p.ended
   pub first : AnsweredComeFirst p.script.lines p.ended
 

@@ -3,7 +3,7 @@ use Rattle.std.specs.Prelude.{◌≡◌, ◌≤◌, ◌<◌, ℕ, suc, ◌==◌,
 use Rattle.std.specs.Map.{keys_of}
 use Rattle.script_lines.specs.declared.request.Line.{Line}
 use Rattle.script_lines.specs.declared.script.Script.{Script}
-use Rattle.petal_history.specs.Steps.{AreSteps}
+use Rattle.petal_history.specs.Legal.{IsLegal}
 use Rattle.petal_history.specs.Text.{answers_of}
 use Rattle.petal_history.specs.declared.record.Record.{Record}
 use Rattle.petal_rules.specs.Lists.{In}
@@ -26,7 +26,7 @@ progress_of script records told phases = record { script = script; phases = phas
 -- the records are a legal history, of which the first so many answer exactly the first so many lines: those of the first so
 -- many phases
 pub record KeepsPlaces (script : Script) (records : List Record) (told place phases : ℕ) : Type 0 where
-  pub legal : AreSteps script records
+  pub legal : IsLegal script records
   pub rising : AreRising script.lines
   pub ordered : AreOrdered script.lines
   pub joins : JoinsAnswers script

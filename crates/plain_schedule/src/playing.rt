@@ -3,7 +3,7 @@
 ghost use Rattle.std.specs.Prelude.{◌≡◌, ◌+◌, ◌≤◌, ◌<◌, [], true, false, length, take, drop, IfOk, OnErr, IfSome, IfNone};
 ghost use Rattle.actor_rounds.specs.Going.{WentOn};
 ghost use Rattle.std.specs.Map.{keys_of};
-ghost use Rattle.petal_history.specs.Steps.{AreSteps};
+ghost use Rattle.petal_history.specs.Legal.{IsLegal};
 ghost use Rattle.petal_history.specs.Order.{AreRising, IsFront, JoinsAnswers, all_answered};
 ghost use Rattle.petal_history.specs.Sound.{IsSound};
 ghost use Rattle.petal_history.specs.Text.{answers_of};
@@ -35,6 +35,7 @@ pub struct Playing {
 }
 
 impl Model for Playing {
+    ghost use Rattle.std.specs.Prelude.{◌≡◌, false};
     ghost use Rattle.plain_schedule.specs.Phases.{Progress};
     ghost use Rattle.plain_schedule.specs.Places.{progress_of, KeepsPlaces};
 
@@ -42,7 +43,7 @@ impl Model for Playing {
 
     ghost view = { λ p. progress_of p.rounds.world.script p.rounds.world.records p.told p.phase };
 
-    ghost invariant = { λ p. KeepsPlaces p.rounds.world.script p.rounds.world.records p.told p.place p.phase };
+    ghost invariant = { λ p. KeepsPlaces p.rounds.world.script p.rounds.world.records p.told p.place p.phase × (p.rounds.world.free ≡ false) };
 }
 
 /// How many of the first of these lines are of the phase.
@@ -251,7 +252,7 @@ impl Playing {
     /// The history of all steps.
     pub fn into_history(self) -> History
         ensures value { result ≡ record { records = records_of self } }
-        ensures legal { AreSteps self.script (records_of self) }
+        ensures legal { IsLegal self.script (records_of self) }
     {
         self.rounds.world.into_history()
     }

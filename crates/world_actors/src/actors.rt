@@ -8,6 +8,7 @@ ghost use Rattle.client_seats.specs.Seats.{CanTake, reacted_at};
 ghost use Rattle.world_actors.specs.Actors.{IsServed, client_letters, server_letters, with_client};
 ghost use Rattle.client_seats.specs.declared.seat.Seat.{Seat};
 
+use crate::blocks::Blocks;
 use crate::control::Control;
 use crate::stepped::Stepped;
 use client_seats::Seats;
@@ -29,6 +30,7 @@ pub struct Actors<H: Host> {
     pub sent: Sent,
     pub waiting: Waiting,
     pub control: Control,
+    pub blocks: Blocks,
 }
 
 impl<H: Host> Model for Actors<H> {
@@ -85,7 +87,8 @@ impl<H: Host> Actors<H> {
         ensures plans { IfOk result (λ stepped. LeavesPlansAt server (ended step.now stepped.end) self.old.desks self.new.desks) }
     {
         let taken = self.desks.step(alloc, server, step, stamp)?;
-        let letters = stamped(alloc, taken.letters, stamp)?;
+        let own = self.blocks.share_all(alloc, taken.letters)?;
+        let letters = stamped(alloc, own, stamp)?;
         self.sent.add_all(letters.as_slice())?;
         self.control.note(server, step);
         Ok(Stepped {

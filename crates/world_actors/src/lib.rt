@@ -6,11 +6,13 @@
 #![tactic(auto)]
 
 mod actors;
+mod blocks;
 mod control;
 mod deciding;
 mod stepped;
 mod taking;
 
 pub use actors::Actors;
+pub use blocks::Blocks;
 pub use control::Control;
 pub use stepped::Stepped;

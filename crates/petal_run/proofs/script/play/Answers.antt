@@ -1,6 +1,6 @@
 use Rattle.std.proofs.Common.{◌≡◌, List, sym, ap, ◌∙◌, subst, inl, inr, arith}
 use Rattle.byte_streams.specs.Streams.{Adds}
-use Rattle.petal_history.specs.Steps.{AreSteps}
+use Rattle.petal_history.specs.Legal.{IsLegal}
 use Rattle.petal_history.specs.Text.{text_of}
 use Rattle.petal_history.specs.declared.record.Record.{Record}
 use Rattle.plain_schedule.specs.Phases.{Progress, records_of}
@@ -14,10 +14,10 @@ returns-in-Ok-clause-done g c = λ told ended.
     let history = c.into_history.result.records in
     let same : p.script ≡ c.args.script = c.play_phases-status.ensures.script ∙ ap (λ (q : Progress). q.script) c.in-Ok.ensures.start in
     let is : history ≡ records_of p = ap (λ h. h.records) c.into_history.ensures.value in
-    let legal : AreSteps c.args.script history = play_legal c.args.script p history same is c.into_history.ensures.legal in
+    let legal : IsLegal c.args.script history = play_legal c.args.script p history same is c.into_history.ensures.legal in
     done_play c.args.script p history c.play_phases-status.result (g.W.Sink.taken c.args.sink.now) (g.W.Sink.taken c.play_phases-status.new.sink)
     ended same (ended_all p history is (c.play_phases-status.ensures.since (λ three. absurd (omega arith)))) (c.play_phases-status.ensures.whole ended)
-    legal (c.every_history_keeps_the_law.ensures c.args.script history c.requires.sound legal) (c.play_phases-status.ensures.all told ended)
+    legal (c.every_history_keeps_the_law.ensures c.args.script history c.requires.sound legal.steps) (c.play_phases-status.ensures.all told ended)
 
 pub returns-in-Ok-clause-in_part : goal.returns-in-Ok-clause-in_part
 returns-in-Ok-clause-in_part g c = λ told which.
@@ -27,7 +27,7 @@ returns-in-Ok-clause-in_part g c = λ told which.
     let new = g.W.Sink.taken c.play_phases-status.new.sink in
     let same : p.script ≡ c.args.script = c.play_phases-status.ensures.script ∙ ap (λ (q : Progress). q.script) c.in-Ok.ensures.start in
     let is : history ≡ records_of p = ap (λ h. h.records) c.into_history.ensures.value in
-    let legal : AreSteps c.args.script history = play_legal c.args.script p history same is c.into_history.ensures.legal in
+    let legal : IsLegal c.args.script history = play_legal c.args.script p history same is c.into_history.ensures.legal in
     let part : Adds old (text_of history) new = elim which [
       | inl three ↦ adds_phases c.args.script history old new
           (c.phases_come_one_after_the_other.ensures.text c.args.script) c.requires.rising c.requires.ordered legal
@@ -36,7 +36,7 @@ returns-in-Ok-clause-in_part g c = λ told which.
           (c.phases_come_one_after_the_other.ensures.text c.args.script) c.requires.rising c.requires.ordered legal
           (play_last c.args.script p history old new same is (c.play_phases-status.ensures.last told five))
     ] in
-    (legal, c.every_history_keeps_the_law.ensures c.args.script history c.requires.sound legal, part)
+    (legal, c.every_history_keeps_the_law.ensures c.args.script history c.requires.sound legal.steps, part)
 
 pub returns-in-Ok-clause-last_phase : goal.returns-in-Ok-clause-last_phase
 returns-in-Ok-clause-last_phase g c = λ told five.

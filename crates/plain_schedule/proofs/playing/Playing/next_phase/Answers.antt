@@ -18,7 +18,7 @@ returns-in-Some-clause-some c =
     subst (λ (ls : List Line). slice_get ls i.place ≡ Some c.in-Some.line.now) lines
     (slice_get_read c.as_slice.result.now (length c.as_slice.result.now) i.place c.in-Some.line.now refl c.in-Some.ensures.lookup.3.0
     c.in-Some.ensures.lookup.1) in
-    let le = line_to_play i.rounds.world.script i.rounds.world.records i.told i.place i.phase c.self.invariant c.in-Some.line.now is in
+    let le = line_to_play i.rounds.world.script i.rounds.world.records i.told i.place i.phase c.self.invariant.0 c.in-Some.line.now is in
     subst (λ (p : Progress). (p.phases ≤ c.number_of.result) × (c.number_of.result < 4294967296)) c.self.view_is
     (omega (arith, le, c.number_of.ensures.value), c.number_of.ensures.small)
 
@@ -28,4 +28,4 @@ returns-in-None-clause-none c =
     let lines : c.as_slice.result.now ≡ i.rounds.world.script.lines = c.as_slice.ensures ∙ ap (λ (s : Script). s.lines) c.script.ensures in
     let through : length c.as_slice.result.now ≤ i.place = search rules in
     subst (λ (p : Progress). all_answered (answers_of p.ended) p.script.lines ≡ true) c.self.view_is
-    (all_lines i.rounds.world.script i.rounds.world.records i.told i.place i.phase c.self.invariant (omega (arith, through, ap length lines)))
+    (all_lines i.rounds.world.script i.rounds.world.records i.told i.place i.phase c.self.invariant.0 (omega (arith, through, ap length lines)))

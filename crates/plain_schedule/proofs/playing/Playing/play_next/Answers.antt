@@ -8,25 +8,35 @@ use Rattle.plain_schedule.proofs.playing.Playing.play_next.Goals as goal
 pub invariant_of-self : goal.invariant_of-self
 invariant_of-self g c =
     let i = c.self.inside in
-    kept_next i.rounds.world c.play_phase_lines-played.new.rounds.world i.told i.place i.phase c.self.invariant c.play_phase_lines-played.ensures.went_on
-    c.records-told.ensures.legal (length c.records-told.result.now) c.lines_of_phase-count.result c.as_slice-lines.result.now c.in-Ok.answers
-    (ap length c.records-told.ensures.value) (subst (λ (p : Progress). p.phases < 4294967296) (sym c.self.view_is) c.requires.next)
-    (c.as_slice-lines.ensures ∙ ap (λ (s : Script). s.lines) c.script.ensures) c.lines_of_phase-count.ensures.run c.in-Ok.ensures.answers
-    c.in-Ok.ensures.exactly
+    let strict = c.play_phase_lines-played.ensures.went_on.2 ∙ c.self.invariant.1 in
+    let legal = c.records-told.ensures.legal strict in (
+      kept_next i.rounds.world c.play_phase_lines-played.new.rounds.world i.told i.place i.phase c.self.invariant.0 c.play_phase_lines-played.ensures.went_on
+          legal (length c.records-told.result.now) c.lines_of_phase-count.result c.as_slice-lines.result.now c.in-Ok.answers
+          (ap length c.records-told.ensures.value) (subst (λ (p : Progress). p.phases < 4294967296) (sym c.self.view_is) c.requires.next)
+          (c.as_slice-lines.ensures ∙ ap (λ (s : Script). s.lines) c.script.ensures) c.lines_of_phase-count.ensures.run c.in-Ok.ensures.answers
+          c.in-Ok.ensures.exactly,
+      strict,
+    )
 
 pub invariant_of-self-in-Err : goal.invariant_of-self-in-Err
 invariant_of-self-in-Err g c =
     let i = c.self.inside in
-    kept i.rounds.world c.play_phase_lines-played.new.rounds.world i.told i.place i.phase c.self.invariant c.play_phase_lines-played.ensures.went_on
-    c.records-told.ensures.legal
+    let strict = c.play_phase_lines-played.ensures.went_on.2 ∙ c.self.invariant.1 in
+    let legal = c.records-told.ensures.legal strict in (
+      kept i.rounds.world c.play_phase_lines-played.new.rounds.world i.told i.place i.phase c.self.invariant.0 c.play_phase_lines-played.ensures.went_on
+          legal,
+      strict,
+    )
 
 pub returns-in-Ok-clause-plays_on : goal.returns-in-Ok-clause-plays_on
 returns-in-Ok-clause-plays_on g c =
     let i = c.self.inside in
-    plays_on i.rounds.world c.play_phase_lines-played.new.rounds.world i.told i.place i.phase c.self.invariant c.play_phase_lines-played.ensures.went_on
-    c.records-told.ensures.legal c.args.self.now c.self.view_is (length c.records-told.result.now) (i.place + c.lines_of_phase-count.result) (i.phase + 1)
-    (kept_next i.rounds.world c.play_phase_lines-played.new.rounds.world i.told i.place i.phase c.self.invariant c.play_phase_lines-played.ensures.went_on
-    c.records-told.ensures.legal (length c.records-told.result.now) c.lines_of_phase-count.result c.as_slice-lines.result.now c.in-Ok.answers
+    let strict = c.play_phase_lines-played.ensures.went_on.2 ∙ c.self.invariant.1 in
+    let legal = c.records-told.ensures.legal strict in
+    plays_on i.rounds.world c.play_phase_lines-played.new.rounds.world i.told i.place i.phase c.self.invariant.0 c.play_phase_lines-played.ensures.went_on
+    legal c.args.self.now c.self.view_is (length c.records-told.result.now) (i.place + c.lines_of_phase-count.result) (i.phase + 1)
+    (kept_next i.rounds.world c.play_phase_lines-played.new.rounds.world i.told i.place i.phase c.self.invariant.0 c.play_phase_lines-played.ensures.went_on
+    legal (length c.records-told.result.now) c.lines_of_phase-count.result c.as_slice-lines.result.now c.in-Ok.answers
     (ap length c.records-told.ensures.value) (subst (λ (p : Progress). p.phases < 4294967296) (sym c.self.view_is) c.requires.next)
     (c.as_slice-lines.ensures ∙ ap (λ (s : Script). s.lines) c.script.ensures) c.lines_of_phase-count.ensures.run c.in-Ok.ensures.answers
     c.in-Ok.ensures.exactly)
@@ -34,20 +44,26 @@ returns-in-Ok-clause-plays_on g c =
 pub returns-in-Ok-clause-ends : goal.returns-in-Ok-clause-ends
 returns-in-Ok-clause-ends g c =
     let i = c.self.inside in
-    ends_next i.rounds.world c.play_phase_lines-played.new.rounds.world i.told i.place i.phase c.self.invariant c.play_phase_lines-played.ensures.went_on
-    c.records-told.ensures.legal c.args.self.now c.self.view_is (length c.records-told.result.now) c.in-Ok.answers (ap length c.records-told.ensures.value)
+    let strict = c.play_phase_lines-played.ensures.went_on.2 ∙ c.self.invariant.1 in
+    let legal = c.records-told.ensures.legal strict in
+    ends_next i.rounds.world c.play_phase_lines-played.new.rounds.world i.told i.place i.phase c.self.invariant.0 c.play_phase_lines-played.ensures.went_on
+    legal c.args.self.now c.self.view_is (length c.records-told.result.now) c.in-Ok.answers (ap length c.records-told.ensures.value)
     c.in-Ok.ensures.answers
 
 pub returns-in-Err-clause-plays_on : goal.returns-in-Err-clause-plays_on
 returns-in-Err-clause-plays_on g c =
     let i = c.self.inside in
-    plays_on i.rounds.world c.play_phase_lines-played.new.rounds.world i.told i.place i.phase c.self.invariant c.play_phase_lines-played.ensures.went_on
-    c.records-told.ensures.legal c.args.self.now c.self.view_is i.told i.place i.phase
-    (kept i.rounds.world c.play_phase_lines-played.new.rounds.world i.told i.place i.phase c.self.invariant c.play_phase_lines-played.ensures.went_on
-    c.records-told.ensures.legal)
+    let strict = c.play_phase_lines-played.ensures.went_on.2 ∙ c.self.invariant.1 in
+    let legal = c.records-told.ensures.legal strict in
+    plays_on i.rounds.world c.play_phase_lines-played.new.rounds.world i.told i.place i.phase c.self.invariant.0 c.play_phase_lines-played.ensures.went_on
+    legal c.args.self.now c.self.view_is i.told i.place i.phase
+    (kept i.rounds.world c.play_phase_lines-played.new.rounds.world i.told i.place i.phase c.self.invariant.0 c.play_phase_lines-played.ensures.went_on
+    legal)
 
 pub returns-in-Err-clause-no_memory : goal.returns-in-Err-clause-no_memory
 returns-in-Err-clause-no_memory g c =
     let i = c.self.inside in
-    told_stays i.rounds.world c.play_phase_lines-played.new.rounds.world i.told i.place i.phase c.self.invariant c.play_phase_lines-played.ensures.went_on
-    c.records-told.ensures.legal c.args.self.now c.self.view_is
+    let strict = c.play_phase_lines-played.ensures.went_on.2 ∙ c.self.invariant.1 in
+    let legal = c.records-told.ensures.legal strict in
+    told_stays i.rounds.world c.play_phase_lines-played.new.rounds.world i.told i.place i.phase c.self.invariant.0 c.play_phase_lines-played.ensures.went_on
+    legal c.args.self.now c.self.view_is
