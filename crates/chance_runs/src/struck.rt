@@ -62,11 +62,7 @@ pub fn arm_any<H: Host>(
 }
 
 /// Both devices of a server lose their plans.
-pub fn disarm<H: Host>(
-    alloc: Global,
-    run: &mut Run<H>,
-    server: ServerId,
-) -> Result<(), NoMemory> {
+pub fn disarm<H: Host>(alloc: Global, run: &mut Run<H>, server: ServerId) -> Result<(), NoMemory> {
     run.arm(alloc, server, Which::Data, None)?;
     run.arm(alloc, server, Which::State, None)?;
     Ok(())

@@ -40,6 +40,9 @@ impl Tale {
 /// How many lines a script has after those that make its disks. The writes among them have fills of their own.
 const LINES: u8 = 240;
 
+/// No script has more moves.
+const MOVES: u32 = 8;
+
 fn client_word(client: usize) -> &'static str {
     match client {
         0 => "a",
@@ -296,8 +299,10 @@ fn any_map(chance: &mut Chance) -> &'static str {
 // Lines of three clients, by one of which in so many the disk is to move.
 fn add_all_lines(alloc: Global, chance: &mut Chance, text: &mut String) -> Result<(), AllocError> {
     let mut snaps = 1;
+    let mut moves = 1;
     for fill in 1..=LINES {
-        let line = if chance.below(16) == 0 {
+        let line = if chance.below(16) == 0 && moves < MOVES {
+            moves += 1;
             let client = client_word(chance.below(3));
             let map = any_map(chance);
             format!(in alloc; "{client} move vol on {map}\n")?
