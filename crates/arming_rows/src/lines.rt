@@ -13,7 +13,7 @@ const ARMS: &[Row] = &[
         steps: "by lines; a calls 2; agree; not 0 arms data any 16 stop; wait; not 0 arms data any 16 stop; op calls 4; not 0 shows 4;
             not 0 arms state any 16 stop; not 0 arms data any 15 stop; not 0 arms data sync 16 stop; not 0 arms data any 16;
             not 0 arms data any 16 late stop; not 0 disarms data; not 1 arms data any 16 stop; not 0 stops; 0 ticks;
-            0 arms data any 16 stop; not 0 arms data any 16 stop; not 0 ticks; 1 ticks; line 4 open; 0 shows 4; not 0 shows 4; 0 ticks;
+            0 arms data any 16 stop; not 0 arms data any 16 stop; not 0 ticks; line 4 open; 0 shows 4; not 0 shows 4;
             seen 0>op; line 4 ok; play out; stopped 1; failed 0; committed 0; line 6 ok; line 8 fill 7",
     },
     Row {
