@@ -50,6 +50,10 @@ pub struct Count {
     pub faults: usize,
     /// The jobs in which a plan stopped the server.
     pub stopped_in: usize,
+    /// How often a device got a plan.
+    pub plans: usize,
+    /// The waits that ended, since all was settled.
+    pub settled: usize,
     /// The jobs that had made their commit when a device failed in them.
     pub committed_jobs: usize,
     /// The boots that had made theirs.
@@ -79,6 +83,8 @@ impl Count {
             boots: 0,
             faults: 0,
             stopped_in: 0,
+            plans: 0,
+            settled: 0,
             committed_jobs: 0,
             committed_boots: 0,
             committed_stops: 0,
@@ -103,6 +109,8 @@ impl Count {
             boots: self.boots.saturating_add(more.boots),
             faults: self.faults.saturating_add(more.faults),
             stopped_in: self.stopped_in.saturating_add(more.stopped_in),
+            plans: self.plans.saturating_add(more.plans),
+            settled: self.settled.saturating_add(more.settled),
             committed_jobs: self.committed_jobs.saturating_add(more.committed_jobs),
             committed_boots: self.committed_boots.saturating_add(more.committed_boots),
             committed_stops: self.committed_stops.saturating_add(more.committed_stops),
@@ -125,6 +133,10 @@ impl Count {
             Request::Read { snap: Some(_), .. } => is_shown(answer),
             _ => false,
         };
+        let settled = match request {
+            Request::Settle => is(answer, &Answer::Ok),
+            _ => false,
+        };
         let more = Count {
             answered: usize::from(answer.is_some()),
             no_space: usize::from(is(answer, &Answer::NoSpace)),
@@ -132,6 +144,7 @@ impl Count {
             snapshots: usize::from(snapped),
             old_reads: usize::from(read),
             moves: usize::from(moved),
+            settled: usize::from(settled),
             ..Count::new()
         };
         *self = self.and(more);
@@ -154,6 +167,21 @@ fn steps<H: Host>(run: &Run<H>, wanted: &Step) -> usize {
     run.records()
         .iter()
         .filter(|record| is_alike(&record.step, wanted))
+        .count()
+}
+
+/// Whether a device gets a plan.
+fn is_plan(step: &Step) -> bool {
+    match step {
+        Step::Arm { plan: Some(_), .. } => true,
+        _ => false,
+    }
+}
+
+fn plans<H: Host>(run: &Run<H>) -> usize {
+    run.records()
+        .iter()
+        .filter(|record| is_plan(&record.step))
         .count()
 }
 
@@ -185,6 +213,7 @@ pub fn counted<H: Host>(run: &Run<H>) -> Count {
     count.boots = steps(run, &Step::Boot(WorkEnd::Done));
     count.faults = run.failed();
     count.stopped_in = run.stopped();
+    count.plans = plans(run);
     count.committed_jobs = steps(run, &Step::Work(WorkEnd::Fault(CommitEnd::After)));
     count.committed_boots = steps(run, &Step::Boot(WorkEnd::Fault(CommitEnd::After)));
     count.committed_stops = steps(run, &Step::StopIn(CommitEnd::After));

@@ -2,20 +2,24 @@
 
 use crate::count::{Count, counted};
 use crate::cuts::{boot_cut_off, stop_cut_off};
-use crate::struck::{arm_running, arm_stopped};
+use crate::struck::{arm_any, arm_running, arm_stopped, disarm};
 use chance_scripts::Chance;
 use petal_base::{NoMemory, OPERATOR, ServerId};
 use petal_disk::{Plan, Which};
 use petal_msg::{Actor, SharedLetter};
 use petal_world::Host;
+use script_lines::Script;
 use std::alloc::Global;
 use std::test::Fail;
-use world_runs::{Order, Run, begin};
+use world_runs::{Order, Run, begin, order_of};
 
 const STEPS: usize = 2_000;
 
 /// The steps of a long run.
 const LONG: usize = 8_000;
+
+/// The steps of a run that has them all.
+const MIXED: usize = 4_000;
 
 /// A run with so many choices is taken to hang.
 const CHOICES: usize = 80_000;
@@ -42,12 +46,15 @@ pub enum Habit {
     Brisk,
     /// The same, over 8,000 steps.
     Long,
+    /// As `Brisk`, over 4,000 steps; letters are lost too, the operator is busy, devices of the servers that it orders about get and lose
+    /// plans at any time, and a server boots with the plans that they have or without.
+    Mixed,
 }
 
 impl Habit {
     fn is_brisk(self) -> bool {
         match self {
-            Habit::Brisk | Habit::Long => true,
+            Habit::Brisk | Habit::Long | Habit::Mixed => true,
             Habit::Even | Habit::CutOff | Habit::Struck => false,
         }
     }
@@ -56,9 +63,18 @@ impl Habit {
     fn steps(self) -> usize {
         match self {
             Habit::Long => LONG,
+            Habit::Mixed => MIXED,
             Habit::Even | Habit::CutOff | Habit::Struck | Habit::Brisk => STEPS,
         }
     }
+}
+
+/// Whether a line of the script orders the server about.
+fn is_ordered(script: &Script, server: ServerId) -> bool {
+    script.lines.as_slice().iter().any(|line| match order_of(&line.request) {
+        Some((_order, of)) => of == server,
+        None => false,
+    })
 }
 
 /// What chooses the steps of a run: what it favours, the letters that were never handed over, how many letters were looked at for
@@ -139,6 +155,11 @@ impl Choice {
         }
     }
 
+    // Whether the letter that would be handed over is lost.
+    fn is_lost(&mut self) -> bool {
+        self.habit == Habit::Mixed && self.chance.below(16) == 0
+    }
+
     fn hand_over<H: Host>(&mut self, alloc: Global, run: &mut Run<H>) -> Result<bool, NoMemory> {
         let letter = if self.is_late() {
             self.any_letter(run)?
@@ -146,8 +167,8 @@ impl Choice {
             self.fresh_letter()
         };
         match letter {
-            Some(letter) => run.deliver(alloc, letter),
-            None => Ok(false),
+            Some(letter) if !self.is_lost() => run.deliver(alloc, letter),
+            _ => Ok(false),
         }
     }
 
@@ -197,7 +218,7 @@ impl Choice {
                 arm_stopped(alloc, &mut self.chance, run, server)?;
                 run.follow(alloc, order, server)
             }
-            Order::Stop | Order::Blank => run.follow(alloc, order, server),
+            Order::Stop | Order::Blank | Order::Arm { .. } => run.follow(alloc, order, server),
         }
     }
 
@@ -223,6 +244,12 @@ impl Choice {
                 Ok(cut)
             }
             (Habit::Struck, _) => self.strike(alloc, run, order, server),
+            (Habit::Mixed, Order::Start) => {
+                if self.chance.below(2) == 0 {
+                    disarm(alloc, run, server)?;
+                }
+                run.follow(alloc, order, server)
+            }
             _ => run.follow(alloc, order, server),
         }
     }
@@ -239,6 +266,15 @@ impl Choice {
             (Some((line, order, server)), 0) => self.follow(alloc, run, line, order, server),
             (Some((line, _order, server)), _) => run.show(alloc, server, line, 0),
         }
+    }
+
+    // A device of a server that the operator orders about gets any plan, or loses its own.
+    fn arm<H: Host>(&mut self, alloc: Global, run: &mut Run<H>) -> Result<bool, NoMemory> {
+        let server = self.server(run);
+        if !is_ordered(run.script(), server) {
+            return Ok(false);
+        }
+        arm_any(alloc, &mut self.chance, run, server)
     }
 
     // No letter waits: a server does a job or, where none has one, someone ticks or a client calls. Servers that tick while ballots
@@ -261,14 +297,15 @@ impl Choice {
         if self.habit.is_brisk() && self.fresh.is_empty() {
             return self.go_ahead(alloc, run);
         }
-        match self.chance.below(64) {
-            0 => self.tick(alloc, run),
-            1 => self.operate(alloc, run),
-            2..=8 => {
+        match (self.habit, self.chance.below(64)) {
+            (_, 0) => self.tick(alloc, run),
+            (_, 1) | (Habit::Mixed, 2..=5) => self.operate(alloc, run),
+            (Habit::Mixed, 6) => self.arm(alloc, run),
+            (_, 2..=8) => {
                 let client = self.client();
                 run.call(alloc, client)
             }
-            9..=32 => self.deliver(alloc, run),
+            (_, 9..=32) => self.deliver(alloc, run),
             _ => {
                 let server = self.server(run);
                 run.work(alloc, server)

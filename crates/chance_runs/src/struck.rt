@@ -16,6 +16,58 @@ const BOOTING: usize = 4;
 /// The first of these: a boot syncs its state device twice as it is read again.
 const FIRST: usize = 3;
 
+/// One of so many next calls is struck by any plan.
+const NEXT: usize = 24;
+
+fn any_device(chance: &mut Chance) -> Which {
+    if chance.below(2) == 0 {
+        Which::Data
+    } else {
+        Which::State
+    }
+}
+
+fn any_kind(chance: &mut Chance) -> CallKind {
+    match chance.below(4) {
+        0 => CallKind::Any,
+        1 => CallKind::Read,
+        2 => CallKind::Write,
+        _ => CallKind::Sync,
+    }
+}
+
+fn any_plan(chance: &mut Chance) -> Plan {
+    Plan {
+        kind: any_kind(chance),
+        at: chance.below(NEXT).saturating_add(1) as u32,
+        stop: chance.below(2) == 0,
+        late: chance.below(2) == 0,
+    }
+}
+
+/// One of the two devices of a server that runs or not gets any plan or, one time in four, loses the one that it has.
+pub fn arm_any<H: Host>(
+    alloc: Global,
+    chance: &mut Chance,
+    run: &mut Run<H>,
+    server: ServerId,
+) -> Result<bool, NoMemory> {
+    let which = any_device(chance);
+    let plan = if chance.below(4) == 0 {
+        None
+    } else {
+        Some(any_plan(chance))
+    };
+    run.arm(alloc, server, which, plan)
+}
+
+/// Both devices of a server lose their plans.
+pub fn disarm<H: Host>(alloc: Global, run: &mut Run<H>, server: ServerId) -> Result<(), NoMemory> {
+    run.arm(alloc, server, Which::Data, None)?;
+    run.arm(alloc, server, Which::State, None)?;
+    Ok(())
+}
+
 // The sync with this number fails late, and stops the server or does not.
 fn late_plan(chance: &mut Chance, at: u32) -> Plan {
     Plan {

@@ -22,6 +22,9 @@ pub enum Tale {
     Moves,
     /// So it does, and the operator again and again stops one of the servers and starts it.
     MovesAndStarts,
+    /// All of this, over five servers: two of them stop, at once or in a call of a device, start and are blanked, and the operator waits
+    /// until they are settled; a disk that has snapshots moves again and again.
+    All,
 }
 
 impl Tale {
@@ -36,6 +39,9 @@ impl Tale {
 
 /// How many lines a script has after those that make its disks. The writes among them have fills of their own.
 const LINES: u8 = 240;
+
+/// No script has more moves.
+const MOVES: u32 = 8;
 
 fn client_word(client: usize) -> &'static str {
     match client {
@@ -103,7 +109,9 @@ fn orders_by(alloc: Global, chance: &mut Chance, tale: Tale) -> Result<String, A
             orders.push_str(stops_twice(alloc, second)?.as_str())?;
             Ok(orders)
         }
-        Tale::Plain | Tale::Snaps | Tale::Moves | Tale::MovesAndStarts => Ok(String::new(alloc)),
+        Tale::Plain | Tale::Snaps | Tale::Moves | Tale::MovesAndStarts | Tale::All => {
+            Ok(String::new(alloc))
+        }
     }
 }
 
@@ -161,6 +169,25 @@ fn own_line(
     }
 }
 
+// A line of one of three clients, of which `a` takes snapshots and mostly reads them. There are so many snapshots before.
+fn snap_line(
+    alloc: Global,
+    chance: &mut Chance,
+    blocks: [u8; 3],
+    snaps: &mut usize,
+    fill: u8,
+) -> Result<String, AllocError> {
+    let client = chance.below(3);
+    match (client, chance.below(6)) {
+        (0, 0) => {
+            *snaps = snaps.saturating_add(1);
+            format!(in alloc; "a snap vol s{snaps}\n")
+        }
+        (0, 1..=3) | (_, 0) => old_read(alloc, chance, blocks, client_word(client), *snaps),
+        _ => own_line(alloc, chance, blocks, client_word(client), fill),
+    }
+}
+
 // Lines of three clients, of which `a` takes snapshots and mostly reads them. There are so many snapshots before.
 fn add_snap_lines(
     alloc: Global,
@@ -171,15 +198,7 @@ fn add_snap_lines(
 ) -> Result<(), AllocError> {
     let mut snaps = before;
     for fill in 1..=LINES {
-        let client = chance.below(3);
-        let line = match (client, chance.below(6)) {
-            (0, 0) => {
-                snaps = snaps.saturating_add(1);
-                format!(in alloc; "a snap vol s{snaps}\n")?
-            }
-            (0, 1..=3) | (_, 0) => old_read(alloc, chance, blocks, client_word(client), snaps)?,
-            _ => own_line(alloc, chance, blocks, client_word(client), fill)?,
-        };
+        let line = snap_line(alloc, chance, blocks, &mut snaps, fill)?;
         text.push_str(line.as_str())?;
     }
     Ok(())
@@ -202,11 +221,11 @@ fn new_map(chance: &mut Chance) -> &'static str {
     }
 }
 
-// The first phase of a disk of three servers, which is written in two epochs and is to move. Block 9 is of the second region.
-fn moving_head(alloc: Global, chance: &mut Chance) -> Result<String, AllocError> {
-    let mut text = String::new(alloc);
+// The first phase of a disk of three of so many servers, which is written in two epochs and is to move. Block 9 is of the second region.
+fn moving_head(alloc: Global, chance: &mut Chance, servers: u8) -> Result<String, AllocError> {
+    let mut text = format!(in alloc; "servers {servers} slots 64\n")?;
     text.push_str(
-        "servers 3 slots 64\na disk vol on 0 1 2\na write vol 0 fill 251\na write vol 1 fill 252\na write vol 9 fill 253\n",
+        "a disk vol on 0 1 2\na write vol 0 fill 251\na write vol 1 fill 252\na write vol 9 fill 253\n",
     )?;
     text.push_str("a snap vol s1\na write vol 0 fill 254\na write vol 9 fill 255\n")?;
     let line = format!(in alloc; "a move vol on {}\nwait\n", new_map(chance))?;
@@ -217,13 +236,89 @@ fn moving_head(alloc: Global, chance: &mut Chance) -> Result<String, AllocError>
 // The same, where the disk is written in the first phase and is to move from then on, and the operator so often stops one of the servers
 // and starts it.
 fn moving_script(alloc: Global, chance: &mut Chance, starts: u32) -> Result<String, AllocError> {
-    let mut text = moving_head(alloc, chance)?;
+    let mut text = moving_head(alloc, chance, 3)?;
     for _ in 0..starts {
         let server = chance.below(3);
         let orders = format!(in alloc; "op stop {server}\nop start {server}\n")?;
         text.push_str(orders.as_str())?;
     }
     add_snap_lines(alloc, chance, [0, 1, 9], 1, &mut text)?;
+    Ok(text)
+}
+
+fn kind_word(chance: &mut Chance) -> &'static str {
+    match chance.below(3) {
+        0 => "read",
+        1 => "write",
+        _ => "sync",
+    }
+}
+
+// What the operator orders of a server: mostly that it starts.
+fn any_order(alloc: Global, chance: &mut Chance, server: usize) -> Result<String, AllocError> {
+    let call = chance.below(24).saturating_add(1);
+    let kind = kind_word(chance);
+    match chance.below(8) {
+        0 => format!(in alloc; "op stop {server}\n"),
+        1 => format!(in alloc; "op stop {server} at {call}\n"),
+        2 => format!(in alloc; "op fault {server} data {kind} {call}\n"),
+        3 => format!(in alloc; "op fault {server} state {kind} {call}\n"),
+        4 => format!(in alloc; "op blank {server}\n"),
+        _ => format!(in alloc; "op start {server}\n"),
+    }
+}
+
+// So many orders of two of five servers, and again and again a wait until they are settled.
+fn add_orders(
+    alloc: Global,
+    chance: &mut Chance,
+    orders: u32,
+    text: &mut String,
+) -> Result<(), AllocError> {
+    let (first, second) = two_by(chance);
+    for at in 1..=orders {
+        let server = if chance.below(2) == 0 { first } else { second };
+        text.push_str(any_order(alloc, chance, server)?.as_str())?;
+        if at % 8 == 0 {
+            text.push_str("op settle\n")?;
+        }
+    }
+    Ok(())
+}
+
+fn any_map(chance: &mut Chance) -> &'static str {
+    match chance.below(5) {
+        0 => "0 1 2",
+        1 => "3 4 1",
+        2 => "4 0",
+        3 => "2 3",
+        _ => "4 3 2 1 0",
+    }
+}
+
+// Lines of three clients, by one of which in so many the disk is to move.
+fn add_all_lines(alloc: Global, chance: &mut Chance, text: &mut String) -> Result<(), AllocError> {
+    let mut snaps = 1;
+    let mut moves = 1;
+    for fill in 1..=LINES {
+        let line = if chance.below(16) == 0 && moves < MOVES {
+            moves += 1;
+            let client = client_word(chance.below(3));
+            let map = any_map(chance);
+            format!(in alloc; "{client} move vol on {map}\n")?
+        } else {
+            snap_line(alloc, chance, [0, 1, 9], &mut snaps, fill)?
+        };
+        text.push_str(line.as_str())?;
+    }
+    Ok(())
+}
+
+// A script of five servers that has each kind of line.
+fn whole_script(alloc: Global, chance: &mut Chance) -> Result<String, AllocError> {
+    let mut text = moving_head(alloc, chance, 5)?;
+    add_orders(alloc, chance, 40, &mut text)?;
+    add_all_lines(alloc, chance, &mut text)?;
     Ok(text)
 }
 
@@ -236,5 +331,6 @@ pub fn script_by(alloc: Global, chance: &mut Chance, tale: Tale) -> Result<Strin
         Tale::Snaps => snap_script(alloc, chance),
         Tale::Moves => moving_script(alloc, chance, 0),
         Tale::MovesAndStarts => moving_script(alloc, chance, 8),
+        Tale::All => whole_script(alloc, chance),
     }
 }

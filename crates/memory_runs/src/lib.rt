@@ -3,8 +3,10 @@
 //! To the layer above it promises no more than safety. It knows nothing of the order of steps.
 #![tactic(auto)]
 
-ghost use Rattle.std.specs.Prelude.{◌≡◌, map};
+ghost use Rattle.std.specs.Prelude.{◌≡◌, All, map};
 ghost use Rattle.first_servers.specs.Server.{site_of};
+ghost use Rattle.memory_server.specs.Armed.{armed_of};
+ghost use Rattle.petal_rules.specs.Plans.{unarmed};
 ghost use Rattle.petal_world.specs.Desks.{first_sites};
 
 use chance_runs::{Count, Habit, simulate};
@@ -37,7 +39,8 @@ fn world_of(
     script: Script,
     hosts: Sequence<MemServer>,
 ) -> Result<World<MemServer>, Fail>
-    requires { map site_of hosts ≡ first_sites script }
+    requires sites { map site_of hosts ≡ first_sites script }
+    requires plans { All (λ host. armed_of host ≡ unarmed) hosts }
 {
     if !are_in_order(script.lines.as_slice()) {
         return Err(Fail::new("the lines are in no order"));
@@ -87,8 +90,19 @@ fn simulate_seed(alloc: Global, tale: Tale, habit: Habit, seed: u32) -> Result<C
 
 /// Steps by chance, from each seed, a world whose script tells such a tale. Gives what was counted in all of them.
 pub fn simulate_all(alloc: Global, tale: Tale, habit: Habit) -> Result<Count, Fail> {
+    simulate_some(alloc, tale, habit, 1, SEEDS)
+}
+
+/// The same from these seeds alone.
+pub fn simulate_some(
+    alloc: Global,
+    tale: Tale,
+    habit: Habit,
+    first: u32,
+    last: u32,
+) -> Result<Count, Fail> {
     let mut all = Count::new();
-    for seed in 1..=SEEDS {
+    for seed in first..=last {
         all = all.and(simulate_seed(alloc, tale, habit, seed)?);
     }
     Ok(all)

@@ -61,6 +61,8 @@ pub enum Act<'a> {
     Renamed(Mail<'a>),
     Changed(Mail<'a>),
     Wait,
+    /// The world keeps to the operator's lines from now on.
+    ByLines,
     PlayOut,
     /// So many steps are taken, one after the other.
     GoOn(u32),
@@ -255,6 +257,7 @@ fn step_of<'a>(who: &str, words: &'a [&'a str]) -> Result<Act<'a>, usize> {
 fn two_words<'a>(verb: &'a str, word: &'a str) -> Result<Act<'a>, usize> {
     match verb {
         "play" if word == "out" => Ok(Act::PlayOut),
+        "by" if word == "lines" => Ok(Act::ByLines),
         "made" => Ok(Act::Made(number(word, 2)?)),
         "failed" => Ok(Act::Failed(number(word, 2)?)),
         "stopped" => Ok(Act::Stopped(number(word, 2)?)),

@@ -289,6 +289,11 @@ impl<H: Host> Player<H> {
         Ok(tells(&told, words))
     }
 
+    fn keep_to_lines(&mut self) -> bool {
+        self.run.keep_to_lines();
+        true
+    }
+
     /// Takes a step, or looks whether what is expected is so. Gives whether it was taken, or is so.
     pub fn take<C: FirstHosts<H>>(
         &mut self,
@@ -312,6 +317,7 @@ impl<H: Host> Player<H> {
             Act::Renamed(mail) => self.hand_renamed(alloc, mail),
             Act::Changed(mail) => self.hand_changed(alloc, mail),
             Act::Wait => self.run.go_on(),
+            Act::ByLines => Ok(self.keep_to_lines()),
             Act::PlayOut => play(alloc, &mut self.run),
             Act::GoOn(steps) => self.go_on(alloc, *steps),
             Act::Agree(without) => self.agree(alloc, *without),

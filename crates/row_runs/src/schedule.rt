@@ -16,6 +16,7 @@
 //! | `1 arms data write 3`, `1 arms state any 2 stop` | the third write of the server's data device from now on fails; the second call of its state device stops the server in it |
 //! | `1 arms data sync 3 late`, `1 arms state sync 1 late stop` | the same, but a write or a sync fails only after it has done all of its work |
 //! | `1 disarms data` | the device has no plan from now on |
+//! | `by lines` | from now on the world refuses each stop, blank, arming, boot and glance that the operator's open line does not give next; before it, devices are armed and disarmed at any time, and a server boots with the plans that they have |
 //! | `1 boots` | the stopped server boots: the operator's open line is its start, or has blanked it |
 //! | `1 shows 4` | the server is glanced at, for the operator's open line 4, which has given it each of its steps |
 //! | `1 shows 4 in 2` | the server is glanced at in the second round of the operator's open line 4, which is a settle |
@@ -24,7 +25,7 @@
 //! | `agree without 1`, `agree without b` | the same without this actor |
 //! | `go on 20` | so many steps, one after the other, in which the operator takes no part: the first server that has a job does it; or else the oldest letter on its way is handed over; or else the next in turn ticks |
 //! | `wait` | the next phase begins; each line before it is answered |
-//! | `play out` | rounds, until each line is answered: each letter is handed over twice, the last one first, servers work off their queues, clients and the operator call, servers stop, are blanked, boot and are glanced at as it says, and in every eighth round clients and a server tick |
+//! | `play out` | rounds, until each line is answered: each letter is handed over twice, the last one first, servers work off their queues, clients and the operator call, servers stop, are blanked, armed, boot and are glanced at as it says, and in every eighth round clients and a server tick |
 //! | `renamed write a>1` | the write that is next to be handed over comes with a later stamp |
 //! | `changed write a>1` | it comes with another content |
 //!

@@ -7,5 +7,6 @@
 mod rounds;
 mod run;
 
+pub use open_request::{Order, order_of};
 pub use rounds::{begin, play};
-pub use run::{Order, Run};
+pub use run::Run;

@@ -1,23 +1,25 @@
 //! A world in the middle of its run.
 
+use open_request::{Order, order_of};
 use petal_base::{ClientId, NoMemory, OPERATOR, ServerId};
 use petal_disk::{Plan, Which};
 use petal_machine::{Event, EventError, Machine};
 use petal_msg::{Actor, SharedLetter};
 use petal_world::{CommitEnd, Host, Record, Step, WorkEnd, World, WorldError};
-use script_lines::{Answer, Request, Script};
+use script_lines::{Answer, Script};
 use std::alloc::Global;
 use world_told::{Told, told_of};
 
 /// No line gives a server more steps than these, before its glance.
-const MOST_STEPS: u32 = 3;
+const MOST_STEPS: u32 = 5;
 
-/// A world, and all letters that were sent in it, in order.
+/// A world, and all letters that were sent in it, in order. It takes each step that the rules allow, until it is to keep to the lines.
 #[derive(Drop)]
 pub struct Run<H: Host> {
     world: World<H>,
     pub sent: Vec<SharedLetter>,
     phase: u32,
+    by_lines: bool,
 }
 
 impl<H: Host> Run<H> {
@@ -27,12 +29,23 @@ impl<H: Host> Run<H> {
             world,
             sent: Vec::new(alloc),
             phase: 0,
+            by_lines: false,
         }
+    }
+
+    /// From now on a server stops, is blanked, armed, booted and glanced at only as the operator's open line says.
+    pub fn keep_to_lines(&mut self) {
+        self.by_lines = true;
     }
 
     /// Takes a step. Gives whether it was one of the world's.
     fn take(&mut self, alloc: Global, actor: Actor, step: &Step) -> Result<bool, NoMemory> {
-        match self.world.step(alloc, actor, step) {
+        let taken = if self.by_lines {
+            self.world.step(alloc, actor, step)
+        } else {
+            self.world.step_freely(alloc, actor, step)
+        };
+        match taken {
             Ok(stepped) => {
                 for letter in stepped.letters.into_vec() {
                     self.sent.push(letter)?;
@@ -143,6 +156,36 @@ impl<H: Host> Run<H> {
         Some((line, order, server))
     }
 
+    // The device gets the plan that the operator's open line has for it, unless it has got it since that line was called.
+    fn arm_once(
+        &mut self,
+        alloc: Global,
+        server: ServerId,
+        which: Which,
+        plan: Plan,
+    ) -> Result<bool, NoMemory> {
+        if was_armed(self.records(), server, which, plan) {
+            return Ok(false);
+        }
+        self.arm(alloc, server, which, Some(plan))
+    }
+
+    // One of the server's devices loses its plan, where this is the next step of the operator's line.
+    fn disarm_by_line(&mut self, alloc: Global, server: ServerId) -> Result<bool, NoMemory> {
+        if !self.by_lines {
+            return Ok(false);
+        }
+        Ok(
+            self.arm(alloc, server, Which::Data, None)?
+                || self.arm(alloc, server, Which::State, None)?,
+        )
+    }
+
+    // The server boots: with the plans that its devices have, or, where it keeps to the lines, after both have lost theirs.
+    fn start(&mut self, alloc: Global, server: ServerId) -> Result<bool, NoMemory> {
+        Ok(self.disarm_by_line(alloc, server)? || self.boot(alloc, server)?)
+    }
+
     /// The server takes the next step that the order gives it, where there is one left. Gives whether there was.
     pub fn follow(
         &mut self,
@@ -152,14 +195,15 @@ impl<H: Host> Run<H> {
     ) -> Result<bool, NoMemory> {
         match order {
             Order::Stop => self.stop(alloc, server),
-            Order::Start => self.boot(alloc, server),
+            Order::Start => self.start(alloc, server),
             Order::Blank => {
                 Ok(
                     self.stop(alloc, server)?
                         || self.blank(alloc, server)?
-                        || self.boot(alloc, server)?,
+                        || self.start(alloc, server)?,
                 )
             }
+            Order::Arm { which, plan } => self.arm_once(alloc, server, which, plan),
         }
     }
 
@@ -379,24 +423,29 @@ fn last_call(records: &[Record], client: ClientId) -> Option<u32> {
     last
 }
 
-/// What a line of the operator asks a server for.
-#[derive(Clone, Copy, Debug, PartialEq, Eq)]
-pub enum Order {
-    Stop,
-    Start,
-    Blank,
+/// Whether the server's device has got this plan since the operator's last call.
+fn was_armed(records: &[Record], server: ServerId, device: Which, wanted: Plan) -> bool {
+    for record in records.iter().rev() {
+        match (record.actor, &record.step) {
+            (Actor::Client(client), Step::Call { line: _ }) if client == OPERATOR => return false,
+            (
+                Actor::Server(own),
+                Step::Arm {
+                    which,
+                    plan: Some(plan),
+                },
+            ) if own == server && *which == device && *plan == wanted => return true,
+            _ => {}
+        }
+    }
+    false
 }
 
 /// What the line asks for, and of which server.
 fn ordered_by(script: &Script, number: u32) -> Option<(Order, ServerId)> {
     for line in script.lines.as_slice() {
         if line.number == number {
-            return match &line.request {
-                Request::Stop { server } => Some((Order::Stop, *server)),
-                Request::Start { server } => Some((Order::Start, *server)),
-                Request::Blank { server } => Some((Order::Blank, *server)),
-                _ => None,
-            };
+            return order_of(&line.request);
         }
     }
     None
