@@ -1,5 +1,5 @@
 -- The run computes.
-use Rattle.std.proofs.Common.{◌≡◌, Some, inr, refl, sym, ◌∙◌}
+use Rattle.std.proofs.Common.{◌≡◌, Some, inl, inr, refl, sym, ◌∙◌}
 use Rattle.petal_rules.specs.Lists.{put_at}
 use Rattle.petal_rules.specs.Clients.{heard, refusal}
 use Rattle.petal_rules.specs.World.{Booted, IsOpenLine, MayAct, step}
@@ -43,7 +43,7 @@ returns c = record {
   told = refl;
   waits = waits;
   glance = record {
-    may = (one_of_three, record { asked = start_of 3 2; is = booted.is; line_is = refl; due = (refl, booted.first, (refl, inr refl)) });
+    may = (one_of_three, inl (record { asked = start_of 3 2; opened = record { is = booted.is; first = booted.first }; line_is = refl; once = refl; done = (refl, inr refl) }));
     clock = few 3 refl;
     receives = none_yet;
     goes_on = refl;

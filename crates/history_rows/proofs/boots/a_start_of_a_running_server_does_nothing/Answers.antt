@@ -27,7 +27,7 @@ unfolding put_at heard refusal step
 returns c = record {
   may_not = may_not;
   glance = record {
-    may = (one_of_three, record { asked = start_of 4 3; is = asked.is; line_is = refl; due = (refl, asked.first, (refl, inl runs)) });
+    may = (one_of_three, inl (record { asked = start_of 4 3; opened = record { is = asked.is; first = asked.first }; line_is = refl; once = refl; done = (refl, inl runs) }));
     clock = few 4 refl;
     receives = none_yet;
     goes_on = refl;

@@ -1,5 +1,5 @@
 -- The run computes.
-use Rattle.std.proofs.Common.{refl}
+use Rattle.std.proofs.Common.{inl, refl}
 use Rattle.petal_rules.proofs.Tests.{none_some}
 use Rattle.petal_rules.specs.Lists.{put_at}
 use Rattle.petal_rules.specs.Clients.{heard, refusal}
@@ -28,7 +28,7 @@ returns c = record {
   stopped = refl;
   told = refl;
   glance = record {
-    may = (one_of_three, record { asked = asked_for 3 1; is = stopped.is; line_is = refl; due = (refl, stopped.first, (refl, refl)) });
+    may = (one_of_three, inl (record { asked = asked_for 3 1; opened = record { is = stopped.is; first = stopped.first }; line_is = refl; once = refl; done = (refl, refl) }));
     clock = one_step;
     receives = none_yet;
     goes_on = refl;

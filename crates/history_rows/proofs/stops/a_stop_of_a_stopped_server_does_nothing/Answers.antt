@@ -1,5 +1,5 @@
 -- The run computes.
-use Rattle.std.proofs.Common.{◌≡◌, true, false, Some, refl, sym, ◌∙◌}
+use Rattle.std.proofs.Common.{◌≡◌, true, false, Some, inl, refl, sym, ◌∙◌}
 use Rattle.petal_rules.specs.Lists.{put_at}
 use Rattle.petal_rules.specs.Clients.{heard, refusal}
 use Rattle.petal_rules.specs.World.{IsOpenLine, MayStop, step}
@@ -27,7 +27,7 @@ unfolding put_at heard refusal step
 returns c = record {
   may_not = may_not;
   glance = record {
-    may = (one_of_three, record { asked = asked_for 4 2; is = asked.is; line_is = refl; due = (refl, asked.first, (refl, rests)) });
+    may = (one_of_three, inl (record { asked = asked_for 4 2; opened = record { is = asked.is; first = asked.first }; line_is = refl; once = refl; done = (refl, rests) }));
     clock = two_steps;
     receives = none_yet;
     goes_on = refl;
