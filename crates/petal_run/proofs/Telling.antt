@@ -1,6 +1,6 @@
 -- What is written at the end of a phase.
 use Rattle.std.proofs.Common.{◌≡◌, ◌≤◌, ℕ, ◌+◌, true, false, List, [], ◌∷◌, ◌++◌, length, take, is_some, refl, sym, ap, ◌∙◌, subst}
-use Rattle.std.proofs.Common.{append_assoc, arith, Option, Some, None, Result, Ok, Err}
+use Rattle.std.proofs.Common.{append_assoc, arith, Result, Ok, Err}
 use Rattle.std.proofs.lemmas.Bool.Decides.{nat_tests}
 use Rattle.std.specs.Prelude.{nat_lt}
 use Rattle.std.proofs.Math.Seq.{take-append_seam, take-append-add, take-length}
@@ -123,7 +123,7 @@ adds_all old bytes new is = record {
 
 -- ### Nothing is done
 
-none_added : (old bytes : List ℕ) → Adds old bytes old
+pub none_added : (old bytes : List ℕ) → Adds old bytes old
 none_added old bytes = record { count = 0; new_is = sym (append_nil old) }
 
 pub none_wrote : (script : Script) (old : List ℕ) → WrotePhases script [] old old
@@ -141,7 +141,7 @@ none_wrote script old = record {
 abbrev pub KeepsLaw : Type 0
 KeepsLaw = (text : List ℕ) (script : Script) (records : List Record) → script_of text ≡ Ok script → AreSteps script records → Keeps script records
 
-nothing_legal : (script : Script) → IsLegal script []
+pub nothing_legal : (script : Script) → IsLegal script []
 nothing_legal script = record { steps = tt; obey = tt; planned = λ n. (unarmed, refl) }
 
 nothing_of : (text : List ℕ) (r : Result Script Refusal) (old : List ℕ) → KeepsLaw → script_of text ≡ r → DoneInPart (by_text r) [] old old

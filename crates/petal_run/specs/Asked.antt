@@ -1,5 +1,5 @@
 -- What the words and the text of a script ask the program to do.
-use Rattle.std.specs.Prelude.{ℕ, List, [], codes, Result, Ok, Err, if◌then◌else◌}
+use Rattle.std.specs.Prelude.{ℕ, List, codes, Result, Ok, Err, if◌then◌else◌}
 use Rattle.petal_script.specs.Script.{Refusal, script_of}
 use Rattle.script_lines.specs.Printed.{refusal_line}
 use Rattle.script_words.specs.Cause.{cause_text}

@@ -1,11 +1,12 @@
-use Rattle.std.proofs.Common.{◌≡◌, List, sym, ap, ◌∙◌, subst, inl, inr, arith}
+use Rattle.std.proofs.Common.{◌≡◌, List, [], sym, ap, ◌∙◌, subst, inl, inr, arith}
 use Rattle.byte_streams.specs.Streams.{Adds}
+use Rattle.petal_history.specs.Claims.{Keeps}
 use Rattle.petal_history.specs.Legal.{IsLegal}
 use Rattle.petal_history.specs.Text.{text_of}
 use Rattle.petal_history.specs.declared.record.Record.{Record}
 use Rattle.plain_schedule.specs.Phases.{Progress, records_of}
 use Rattle.petal_run.specs.Said.{WrotePhases}
-use Rattle.petal_run.proofs.Telling.{ended_all, done_play, play_legal, play_wrote, play_last, play_ends, adds_phases, adds_last, none_wrote}
+use Rattle.petal_run.proofs.Telling.{ended_all, done_play, play_legal, play_wrote, play_last, play_ends, adds_phases, adds_last, none_added, none_wrote, nothing_legal}
 use Rattle.petal_run.proofs.script.play.Goals as goal
 
 pub returns-in-Ok-clause-done : goal.returns-in-Ok-clause-done
@@ -58,3 +59,9 @@ pub returns-in-Err-clause-by_phases : goal.returns-in-Err-clause-by_phases
 returns-in-Err-clause-by_phases g c = λ told three.
     let old = g.W.Sink.taken c.args.sink.now in
     subst (λ (r : List Record). WrotePhases c.args.script r old old) (sym c.without_history.ensures.history) (none_wrote c.args.script old)
+
+pub returns-in-Err-clause-in_part : goal.returns-in-Err-clause-in_part
+returns-in-Err-clause-in_part g c = λ told which.
+    let old = g.W.Sink.taken c.args.sink.now in
+    subst (λ (r : List Record). IsLegal c.args.script r × Keeps c.args.script r × Adds old (text_of r) old) (sym c.without_history.ensures.history)
+    (nothing_legal c.args.script, c.every_history_keeps_the_law.ensures c.args.script [] c.requires.sound tt, none_added old _)
