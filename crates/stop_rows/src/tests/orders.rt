@@ -197,9 +197,9 @@ const SETTLES: &[Row] = &[
     Row {
         shows: "each round shows each server; while the operator does not know that one of them is out, another round begins",
         script: "servers 3 slots 4\nop stop 2\nop settle\n",
-        steps: "op calls 2; 2 stops; 2 shows 2; seen 2>op; line 2 ok; op calls 3; not 0 shows 3; not 0 shows 3 in 2; not 0 shows 2 in 1;
+        steps: "op calls 2; 2 stops; 2 shows 2; seen 2>op; line 2 ok; op calls 3; not 0 shows 3; not 0 shows 2 in 1;
             0 shows 3 in 1; 1 shows 3 in 1; seen 1>op; seen 0>op; line 3 open; 0 shows 3 in 1; seen 0>op; line 3 open;
-            2 shows 3 in 1; seen 2>op; line 3 open; not 2 shows 3 in 1; 2 shows 3 in 2; again seen 0>op; line 3 open;
+            2 shows 3 in 1; seen 2>op; line 3 open; not 2 shows 3; 2 shows 3 in 2; again seen 0>op; line 3 open;
             play out; line 3 ok",
     },
     Row {
