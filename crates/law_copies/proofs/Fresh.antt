@@ -121,7 +121,7 @@ module _ (own : Own) (row : LinkRow) (cell : Cell) (fresh : IsFresh own row cell
         next = own.pairs.next;
         last = at cell_cmp second.pairs.last cell;
       })
-      (record { copies = ok.copies; below = (let lt = ok.below in omega arith); fresh = omega arith })
+      (record { copies = ok.copies; below = (let lt = ok.below in omega arith); fresh = omega arith; counted = one })
 
   -- and a letter tells then what it told
   pub fresh_first_known : (a : Store) (second : Own) (said : Body) → 1 ≤ own.pairs.next → at cell_cmp own.pairs.pending cell ≡ None

@@ -92,7 +92,7 @@ unfolding at
 new_twins stores visits place cell n m unseen same = record {
   pair = subst (λ o. PairOk (pair_of (half o (stores n)) (half (visits m place cell) (stores m)) cell)) (sym (unseen n))
       (subst (λ o. PairOk (pair_of (half None (stores n)) (half o (stores m)) cell)) (sym (unseen m))
-      (record { copies = same; below = omega arith; fresh = omega arith }));
+      (record { copies = same; below = omega arith; fresh = omega arith; counted = omega arith }));
   recalled = λ own op visited there. none_some (unseen n) visited;
   lacks = λ own op visited there fill le. none_some (unseen n) visited;
 }

@@ -48,6 +48,11 @@ ceiling_of (Some op) next = op.op + 1
 abbrev pub ceiling : Pair → ℕ
 ceiling pair = ceiling_of pair.pending pair.next
 
+-- the number of the operation that is pending, or of the next one
+abbrev pub number_of : Option Pending → ℕ → ℕ
+number_of None next = next
+number_of (Some op) next = op.op
+
 abbrev pub far : Pair → ℕ
 far pair = progress pair.last
 
@@ -77,6 +82,7 @@ pub record PairOk (pair : Pair) : Type 0 where
   pub copies : AreCopies pair.first pair.second (far pair) pair.pending
   pub below : far pair < ceiling pair + ceiling pair
   pub fresh : ceiling pair ≤ pair.next
+  pub counted : 1 ≤ number_of pair.pending pair.next
 
 -- this operation is pending, and the second server was asked to follow
 pub record IsPutting (pending : Option Pending) (number : ℕ) (key : Key) (bytes : List ℕ) : Type 0 where

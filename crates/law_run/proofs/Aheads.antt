@@ -1,10 +1,11 @@
 -- Where two copies of a cell differ, the first server is one put ahead of the second one.
-use Rattle.std.proofs.Common.{◌≡◌, ◌+◌, Bool, true, false, Some, None, refl, subst, ◌⊎◌, inl, inr, arith, ◌≤◌, Option}
+use Rattle.std.proofs.Common.{◌≡◌, ◌+◌, Bool, true, false, Some, None, refl, ap, subst, ◌⊎◌, inl, inr, arith, ◌≤◌, Option}
 use Rattle.std.proofs.lemmas.Bool.{cases_lt}
 use Rattle.petal_table.specs.Table.{put}
 use Rattle.petal_msg.specs.declared.operation.Pending.{Pending}
 use Rattle.petal_history.specs.Claims.{one_put_ahead}
-use Rattle.law_copies.specs.Pair.{AreCopies, IsAhead, Pair, PairOk, Working, far}
+use Rattle.law_steps.specs.Operations.{progress}
+use Rattle.law_copies.specs.Pair.{AreCopies, IsAhead, Pair, PairOk, Working, far, number_of}
 
 -- a pair's operation that is put at the first server
 pub put_ahead : (pair : Pair) (op : Pending) → PairOk pair → pair.pending ≡ Some op → op.stage.put ≡ true
@@ -33,4 +34,22 @@ copied_low pair ok = by pair.pending refl ok.copies
 
     by : (o : Option Pending) → pair.pending ≡ o → AreCopies pair.first pair.second (far pair) o → (pair.first ≡ pair.second) ⊎ IsAheadLow pair
     by None is same = inl same
+    by (Some op) is copies = working op is op.stage.put copies
+
+-- they are equal where the second server has nothing in mind of the place: it has set no slot apart
+pub unfollowed_equal : (pair : Pair) → PairOk pair → pair.last ≡ None → pair.first ≡ pair.second
+unfollowed_equal pair ok none = by pair.pending refl ok.copies
+  where
+    nowhere : far pair ≡ 0
+    nowhere = ap progress none
+
+    working : (op : Pending) → pair.pending ≡ Some op → (put : Bool) → Working pair.first pair.second (far pair) op put → pair.first ≡ pair.second
+    working op is false even = even.even
+    working op is true ahead =
+        let begun = ahead.begun in
+        let from_one = subst (λ o. 1 ≤ number_of o pair.next) is ok.counted in
+        absurd (omega (arith, nowhere))
+
+    by : (o : Option Pending) → pair.pending ≡ o → AreCopies pair.first pair.second (far pair) o → pair.first ≡ pair.second
+    by None is same = same
     by (Some op) is copies = working op is op.stage.put copies

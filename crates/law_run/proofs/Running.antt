@@ -49,7 +49,7 @@ use Rattle.law_run.proofs.ClientFrames.{ClientStep}
 use Rattle.law_run.proofs.ClientSteps.{begins_by, turn_told}
 use Rattle.law_run.proofs.LogSteps.{step_kind}
 use Rattle.law_run.proofs.Looks.{AreGrounded}
-use Rattle.law_run.proofs.Proposed.{caught_up_after, equal_after}
+use Rattle.law_run.proofs.Proposed.{caught_up_after, equal_after, waiting_after}
 use Rattle.law_run.proofs.Machine.{Obeys-append, replay-append}
 use Rattle.law_run.proofs.ServerSteps.{step_told}
 use Rattle.law_run.proofs.Blanks.{blank_follow, blank_told}
@@ -415,6 +415,7 @@ law_with requests script records sound legal = record {
   holds = held_after script records sound legal;
   snapshots = snapshots_after script records sound legal;
   equal = equal_after script records sound legal;
+  waiting = waiting_after script records sound legal;
   reports = reports_hold script records sound legal;
 }
 

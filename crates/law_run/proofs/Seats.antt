@@ -39,6 +39,7 @@ use Rattle.law_copies.specs.Pair.{AreCopies, Known, Pair, PairOk, far, owns_of, 
 use Rattle.law_copies.specs.Visits.{AliveIn, IsLast, IsLinked, half, place_by}
 use Rattle.law_copies.proofs.Later.{both_last, both_since, holds_since, reached_here}
 use Rattle.law_copies.proofs.Places.{alive_on, linked_alive, linked_between, one_row, place_of_later, place_touched, places_up, rows_later}
+use Rattle.law_run.proofs.Aheads.{unfollowed_equal}
 use Rattle.law_run.proofs.Joined.{more_joins}
 use Rattle.law_run.proofs.Scenes.{Grounded}
 
@@ -69,6 +70,15 @@ equal_pair one other a b cell ok none =
         → pair.first ≡ pair.second
     by pair None is same = same
     by pair (Some op) is copies = let t = op_there one a cell op is in none_some (none t.0 t.1) t.2
+
+-- nor are they other where the second server was not there
+pub unfollowed_halves : (one other : Option Own) (a b : Store) (cell : Cell) → PairOk (pair_of (half one a) (half other b) cell) → other ≡ None
+    → chain_in a.chains cell ≡ chain_in b.chains cell
+unfollowed_halves one other a b cell ok none =
+    ap (λ (s : Store). chain_in s.chains cell) (sym (half_store one a))
+    ∙ unfollowed_equal (pair_of (half one a) (half other b) cell) ok
+    (ap (λ o. at cell_cmp (half o b).pairs.last cell) none ∙ at-empty cell_cmp cell)
+    ∙ ap (λ (s : Store). chain_in s.chains cell) (half_store other b)
 
 -- at one place of a link none of its servers has joined with an empty store since
 place_joins : (setting : Setting) (whole : List Command) → IsPlainLog setting.servers whole → (front : List Command) (cell : Cell) (row now : LinkRow)

@@ -304,6 +304,45 @@ module _ (servers : ℕ) where
       ap (λ b. if b then places_from t rest row + 1 else places_from t rest row) off
       ∙ both_quiet rest t step.plain more cell row one other same both on ups.0 ups.1 first_on second_on
 
+  -- a link that one server holds alone, while both of its servers stay In: a Caught alone touches it, which puts it in Both
+  held_or_both : (entries : List Command) (s : State) → IsPlainState servers s → IsPlainLog servers entries → (cell : Cell) (row : LinkRow)
+      (one other : ℕ) → cell_link s cell ≡ Some row → is_up_as s row.primary one ≡ true → is_up_as s row.secondary other ≡ true
+      → is_up_as (fold after s entries) row.primary one ≡ true → is_up_as (fold after s entries) row.secondary other ≡ true
+      → (places_from s entries row ≡ 0) ⊎ (cell_link (fold after s entries) cell ≡ Some (record row { state = Both }))
+      ⊎ HasDied (fold after s entries) cell
+  unfolding In
+  held_or_both [] s p all cell row one other is first second first_on second_on = inl refl
+  held_or_both (entry ∷ rest) s p all cell row one other is first second first_on second_on =
+      let plain = all entry (inl refl) in
+      let more = λ (other : Command) (h : In other rest). all other (inr h) in
+      let t = after s entry in
+      let step = entering servers s entry p plain in
+      let ups = ups_between entry rest s p all row one other first second first_on second_on in
+      by_bool (touches s entry row)
+      (λ on. elim (touched servers s p cell row is ((plain_steady servers s p).linked cell row is).served entry plain on) [
+        | By_leave left at seats ↦ true_false
+            (both_up (is_up t) row left.server (in_up t row.primary one ups.0) (in_up t row.secondary other ups.1) left.one_of)
+            (out_by t left.server seats.here)
+        | By_join joined at apart seats ↦ true_false
+            (both_up (is_up s) row joined.server (in_up s row.primary one first) (in_up s row.secondary other second) joined.one_of)
+            (was_out servers s p joined.server joined.inc joined.blank joined.may)
+        | By_caught acts stays ↦ (
+            let now : LinkRow = record row { state = Both } in
+            let quiet = both_quiet rest t step.plain more cell now one other (map_of servers s p cell row is) refl (inl stays.same) ups.0 ups.1
+            first_on second_on in
+            elim (untouched servers rest t step.plain more cell now stays.same quiet) [
+              | inl so ↦ inr (inl so.same)
+              | inr gone ↦ inr (inr gone)
+            ])
+      ])
+      (λ off. elim (entry_stays servers s p cell row is entry plain off) [
+        | inl stays ↦ elim (held_or_both rest t step.plain more cell row one other stays.same ups.0 ups.1 first_on second_on) [
+          | inl none ↦ inl (ap (λ b. if b then places_from t rest row + 1 else places_from t rest row) off ∙ none)
+          | inr later ↦ inr later
+        ]
+        | inr gone ↦ inr (inr (still_dead servers t step.plain rest more cell gone))
+      ])
+
 -- ### Fronts of a log
 
 module _ (servers : ℕ) (front whole : List Command) (all : IsPlainLog servers whole) (prefix : IsPrefix front whole) where
@@ -407,3 +446,17 @@ module _ (servers : ℕ) (front whole : List Command) (all : IsPlainLog servers 
       (sym (ap (λ (t : State). is_up_as t row.secondary other) whole_is) ∙ second_on) in
       let e = places_of_both servers front whole row prefix in
       omega arith
+
+  pub log_held_or_both : (cell : Cell) (row : LinkRow) (one other : ℕ) → cell_link s cell ≡ Some row
+      → is_in s row.primary one ≡ true → is_in s row.secondary other ≡ true
+      → is_in (state_after servers whole) row.primary one ≡ true → is_in (state_after servers whole) row.secondary other ≡ true
+      → (places_from (start servers) whole row ≡ places_from (start servers) front row)
+      ⊎ (cell_link (state_after servers whole) cell ≡ Some (record row { state = Both })) ⊎ HasDied (state_after servers whole) cell
+  log_held_or_both cell row one other is first second first_on second_on =
+      elim (held_or_both servers prefix.later s plain more cell row one other is first second
+      (sym (ap (λ (t : State). is_up_as t row.primary one) whole_is) ∙ first_on)
+      (sym (ap (λ (t : State). is_up_as t row.secondary other) whole_is) ∙ second_on)) [
+        | inl quiet ↦ inl (let e = places_of_both servers front whole row prefix in omega arith)
+        | inr (inl both) ↦ inr (inl (ap (λ (t : State). cell_link t cell) whole_is ∙ both))
+        | inr (inr gone) ↦ inr (inr (subst (λ (t : State). HasDied t cell) (sym whole_is) gone))
+      ]

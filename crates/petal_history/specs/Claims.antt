@@ -312,6 +312,34 @@ CopiesStayEqual script records =
     ≡ place_in script.servers ((world_after (setting_of script) (start (setting_of script)) front).servers n).log.applied row
     → HasEqualCopies (setting_of script) (world_after (setting_of script) (start (setting_of script)) records) n row cell
 
+-- by what is chosen the two servers of the link are In as they were then by the server's own state
+pub record AreInAsThen (setting : Setting) (then w : World) (n : ℕ) (row : LinkRow) : Type 0 where
+  pub inc : is_in (chosen_state setting w) n (then.servers n).life.inc ≡ true
+  pub other_inc : ℕ
+  pub was : is_in (server_state setting then n) (other_of n row) other_inc ≡ true
+  pub is : is_in (chosen_state setting w) (other_of n row) other_inc ≡ true
+
+-- since these records the server, while it was this incarnation, has applied no entry that touches the link
+abbrev pub HasAppliedNone : Script → (front back : List Record) → (n : ℕ) → LinkRow → Type 0
+HasAppliedNone script front back n row =
+    (until rest : List Record) → back ≡ until ++ rest
+    → ((world_after (setting_of script) (start (setting_of script)) (front ++ until)).servers n).life.inc
+    ≡ ((world_after (setting_of script) (start (setting_of script)) front).servers n).life.inc
+    → place_in script.servers ((world_after (setting_of script) (start (setting_of script)) (front ++ until)).servers n).log.applied row
+    ≡ place_in script.servers ((world_after (setting_of script) (start (setting_of script)) front).servers n).log.applied row
+
+-- and while both servers are In as they were, they are equal until that incarnation has applied such an entry: also where the Caught is chosen
+-- already, and the link in Both again
+abbrev pub CopiesWaitEqual : Script → List Record → Type 0
+CopiesWaitEqual script records =
+    (front back : List Record) (n : ℕ) (cell : Cell) (row : LinkRow) → records ≡ front ++ back
+    → IsCatching (setting_of script) (world_after (setting_of script) (start (setting_of script)) front) n cell row
+    → live (chosen_state (setting_of script) (world_after (setting_of script) (start (setting_of script)) records)) cell ≡ true
+    → AreInAsThen (setting_of script) (world_after (setting_of script) (start (setting_of script)) front)
+    (world_after (setting_of script) (start (setting_of script)) records) n row
+    → HasAppliedNone script front back n row
+    → HasEqualCopies (setting_of script) (world_after (setting_of script) (start (setting_of script)) records) n row cell
+
 -- from where a server wanted its report chosen it takes no client's write that the fence holds, until it has applied the entry at which the fence
 -- takes effect
 abbrev pub ReportsHold : Script → List Record → Type 0
@@ -323,7 +351,8 @@ ReportsHold script records =
 
 -- what every legal history of a script keeps: the rules of its world at its end, that the chosen log has only grown, that
 -- leads put only on marked blocks, that its events are a run of the plain machine, that the contents are the machine's, that snapshots
--- never change, that copies are equal once a ballot for their Caught was started, and that who wanted to report writes nothing that is held
+-- never change, that copies are equal once a ballot for their Caught was started, and wait so for its server to apply it, and that who wanted to
+-- report writes nothing that is held
 pub record Keeps (script : Script) (records : List Record) : Type 0 where
   pub world : Stands (setting_of script) (world_after (setting_of script) (start (setting_of script)) records)
   pub grows : Grows script records
@@ -332,6 +361,7 @@ pub record Keeps (script : Script) (records : List Record) : Type 0 where
   pub holds : AreHeld (setting_of script) (world_after (setting_of script) (start (setting_of script)) records) (machine_after (events_of script records)).disks
   pub snapshots : SnapshotsStay script records
   pub equal : CopiesStayEqual script records
+  pub waiting : CopiesWaitEqual script records
   pub reports : ReportsHold script records
 
 -- the whole law, of each sound script

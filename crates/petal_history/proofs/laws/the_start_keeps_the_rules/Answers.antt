@@ -117,5 +117,6 @@ returns c script = record {
   };
   snapshots = snapshots script;
   equal = λ front back n cell row e catching lives same. refl;
+  waiting = λ front back n cell row e catching lives ins none. refl;
   reports = reports script;
 }
