@@ -10,7 +10,6 @@ use Rattle.petal_command.specs.declared.command.Command.{Command}
 use Rattle.petal_command.specs.declared.command.Command.TheVariants.{Witness}
 use Rattle.petal_msg.specs.declared.body.Body.{Body}
 use Rattle.petal_msg.specs.declared.body.Body.TheVariants as body
-use Rattle.petal_msg.specs.declared.letter.Actor.{Actor}
 use Rattle.petal_msg.specs.declared.letter.Actor.TheVariants as actor
 use Rattle.petal_msg.specs.declared.letter.Letter.{Letter}
 use Rattle.petal_msg.specs.declared.operation.Ending.{Ending}
@@ -25,16 +24,11 @@ use Rattle.petal_state.specs.State.{start as first_state, latest}
 use Rattle.petal_state.specs.Command.{state_after}
 use Rattle.petal_history.specs.Causes.{HasWitness, HasVerdict, CauseOf, AreCaused, WasTold, may_answer}
 use Rattle.petal_history.specs.Claims.{IsPrefix}
-use Rattle.petal_history.specs.Steps.{AreSteps, AreStepsFrom, stepped, world_after}
 use Rattle.petal_history.specs.Order.{AreRising}
-use Rattle.petal_history.specs.Sound.{IsSound}
-use Rattle.petal_history.specs.declared.record.Record.{Record}
-use Rattle.script_lines.specs.declared.script.Script.{Script}
 use Rattle.petal_rules.specs.Lists.{In}
 use Rattle.petal_rules.specs.State.{State, is_in}
 use Rattle.petal_rules.specs.Clients.{Client, Asked, Reaction, Sight, is_read, is_write, command_of, refusal, verdict_for, verdict_answer, is_witness}
-use Rattle.petal_rules.specs.World.{Setting, World, lines_of, chosen_log, chosen_state, state_at, with_answer, setting_of, start, step}
-use Rattle.petal_rules.specs.declared.step.Step.{Step}
+use Rattle.petal_rules.specs.World.{Setting, World, lines_of, chosen_log, chosen_state, state_at, with_answer, setting_of}
 use Rattle.petal_rules.proofs.Tests.{by_test, same_some, none_some, same_numbers, both_true, all_put, true_false}
 use Rattle.law_state.specs.Plain.{IsPlainLog}
 use Rattle.law_state.proofs.Places.{in_get}
@@ -45,12 +39,13 @@ use Rattle.law_state.proofs.Steady.{log_below, log_steady}
 use Rattle.law_steps.specs.Turned.{Turned, IsSame, StaysOpen, IsReason, By_verdict, By_witness, IsJudged, Goes_on, Is_told, Begins, Reads, Ends, Shown}
 use Rattle.law_steps.specs.Turned.{IsSeenAs, Stops_it, Stops_at, Fails_it, Starts_it, Blanks_it, Has_no_space, Is_settled, Judges, answer_of}
 use Rattle.law_steps.specs.Happens.{Happens, Heard, Blanks, Serves, Turns}
-use Rattle.petal_rules.proofs.ListLemmas.{in_later, put_same}
-use Rattle.law_steps.specs.Ready.{AreFirm, Rests}
+use Rattle.petal_rules.proofs.ListLemmas.{put_same}
 use Rattle.law_steps.proofs.Fronts.{front_itself, front_on, below_itself}
-use Rattle.law_steps.proofs.Histories.{rests_next, happens, firm_now, firm_after, start_rests}
+use Rattle.law_jobs.proofs.Runs.{Run, after, by_run, firm_in, grown_in, happened_in, longer, setting_in}
+use Rattle.law_jobs.proofs.Sent.{still_sent}
 use Rattle.law_causes.specs.Asked.{AreAsked, asker}
 use Rattle.law_answers.proofs.Places.{line_at, one_client, one_place}
+use Rattle.law_causes.proofs.Asked.{commands_are_asked}
 use Rattle.law_causes.proofs.Fits.{cause_fits, read_may, refusal_fits, verdict_fits, write_may}
 use Rattle.law_causes.proofs.Numbers.{judged_low}
 use Rattle.law_causes.proofs.Verdicts.{has_at, judged_at_once, judged_first, judged_made, placed_before, placed_first}
@@ -405,47 +400,29 @@ module _ (setting : Setting) (last : World) (plain : IsPlainLog setting.servers 
 
 -- ### Histories
 
-log_on : (setting : Setting) (w : World) (records : List Record) → AreFirm setting w records
-    → IsPrefix (chosen_log setting w) (chosen_log setting (world_after setting w records))
-log_on setting w [] firm = front_itself (chosen_log setting w)
-log_on setting w (own ∷ later) firm =
-    front_on (chosen_log setting w) (chosen_log setting (stepped setting w own).world) (chosen_log setting (world_after setting w (own ∷ later))) firm.1
-    (log_on setting (stepped setting w own).world later firm.2)
+-- in view of a world at which what the run has chosen stands at the front, and what it sent is sent
+abbrev KeptFor : Run → Type 0
+KeptFor run = (last : World) (plain : IsPlainLog run.script.servers (chosen_log (setting_in run) last))
+    (commands : AreAsked run.script.lines (chosen_log (setting_in run) last))
+    → IsPrefix (chosen_log (setting_in run) (after run)) (chosen_log (setting_in run) last)
+    → ((letter : Letter) → In letter (after run).sent → In letter last.sent) → Kept (setting_in run) last plain commands (after run)
 
-clients_on : (setting : Setting) (w : World) (records : List Record) → AreFirm setting w records → (c : ℕ)
-    → IsPrefix (w.clients c).applied (chosen_log setting (world_after setting w records))
-clients_on setting w records firm c =
-    front_on (w.clients c).applied (chosen_log setting w) (chosen_log setting (world_after setting w records)) ((firm_now setting w records firm).clients c)
-    (log_on setting w records firm)
-
--- a letter stays sent
-sent_next : (setting : Setting) (who : Actor) (what : Step) (w : World) (stamp : ℕ) (letter : Letter) → In letter w.sent
-    → In letter (step who what setting w stamp).world.sent
-unfolding step
-sent_next setting (actor.Server n) what w stamp letter h = in_later letter _ w.sent h
-sent_next setting (actor.Client c) what w stamp letter h = in_later letter _ w.sent h
-
-sent_on : (setting : Setting) (w : World) (records : List Record) (letter : Letter) → In letter w.sent → In letter (world_after setting w records).sent
-sent_on setting w [] letter h = h
-sent_on setting w (own ∷ later) letter h =
-    sent_on setting (stepped setting w own).world later letter (sent_next setting own.actor own.step w own.stamp letter h)
-
-kept_after : (setting : Setting) (last : World) (plain : IsPlainLog setting.servers (chosen_log setting last))
-    (commands : AreAsked setting.lines (chosen_log setting last))
-    (w : World) (records : List Record) → AreFirm setting w records → Rests setting w → AreStepsFrom setting w records
-    → IsPrefix (chosen_log setting (world_after setting w records)) (chosen_log setting last)
-    → ((letter : Letter) → In letter (world_after setting w records).sent → In letter last.sent) → Kept setting last plain commands w
-    → Kept setting last plain commands (world_after setting w records)
-kept_after setting last plain commands w [] firm rests legal upto sents kept = kept
-kept_after setting last plain commands w (own ∷ later) firm rests legal upto sents kept =
-    let v = (stepped setting w own).world in
-    let next = firm_now setting v later firm.2 in
-    let state = chosen_state setting v in
-    kept_after setting last plain commands v later firm.2 (rests_next setting w own rests firm.0 legal.0 next) legal.1 upto sents
-    (step_keeps setting last plain commands state w v kept (λ letter h. sents letter (sent_on setting w (own ∷ later) letter h))
-    (λ c. front_on (v.clients c).applied (chosen_log setting (world_after setting v later)) (chosen_log setting last)
-    (clients_on setting v later firm.2 c) upto)
-    (happens setting w own rests firm.0 legal.0 next state (below_itself state)))
+kept_in : (run : Run) → KeptFor run
+unfolding In
+kept_in =
+    by_run KeptFor
+    (λ script sound legal last plain commands upto sents. record {
+      answers = λ number told h. absurd h;
+      open_for = λ c asked e. none_some refl e;
+      told = λ c asked e. none_some refl e;
+    })
+    (λ it old last plain commands upto sents.
+    let setting = setting_in it.prior in
+    let state = chosen_state setting (after (longer it)) in
+    let before : (letter : Letter) → In letter (after it.prior).sent → In letter last.sent = λ letter i. sents letter (still_sent it letter i) in
+    step_keeps setting last plain commands state (after it.prior) (after (longer it))
+    (old last plain commands (front_on _ (chosen_log setting (after (longer it))) _ (grown_in it) upto) before) before
+    (λ c. front_on _ (chosen_log setting (after (longer it))) _ ((firm_in (longer it)).clients c) upto) (happened_in it state (below_itself state)))
 
 take_front : (log : List Command) (k : ℕ) → IsPrefix (take k log) log
 take_front [] zero = record { later = []; is = refl }
@@ -454,23 +431,23 @@ take_front (e ∷ log) zero = record { later = e ∷ log; is = refl }
 take_front (e ∷ log) (suc k) = let rest = take_front log k in record { later = rest.later; is = ap (λ xs. e ∷ xs) rest.is }
 
 -- in view of the log at a history's end
-module _ (script : Script) (records : List Record) (firm : AreFirm (setting_of script) (start (setting_of script)) records) (legal : AreSteps script records)
-    (commands : AreAsked script.lines (chosen_log (setting_of script) (world_after (setting_of script) (start (setting_of script)) records))) where
+module _ (run : Run) where
+  open run use {script, sound, records, legal}
+
   abbrev setting : Setting
   setting = setting_of script
 
   abbrev last : World
-  last = world_after setting (start setting) records
+  last = after run
 
   plain_end : IsPlainLog script.servers (chosen_log setting last)
-  plain_end = (firm_after setting (start setting) records firm).plain
+  plain_end = (firm_in run).plain
+
+  commands : AreAsked script.lines (chosen_log setting last)
+  commands = commands_are_asked script records sound legal
 
   kept_end : Kept setting last plain_end commands last
-  unfolding In
-  kept_end =
-      kept_after setting last plain_end commands (start setting) records firm (start_rests script) legal (front_itself (chosen_log setting last))
-      (λ letter h. h)
-      (record { answers = λ number told h. absurd h; open_for = λ c asked e. none_some refl e; told = λ c asked e. none_some refl e })
+  kept_end = kept_in run last plain_end commands (front_itself (chosen_log setting last)) (λ letter h. h)
 
   -- an open request is that of a line
   pub open_after : (c : ℕ) (asked : Asked) → (last.clients c).asked ≡ Some asked → IsOpenFor script.lines c asked
@@ -492,9 +469,9 @@ module _ (script : Script) (records : List Record) (firm : AreFirm (setting_of s
           (subst (λ (l : Line). CauseOf setting last h.client (h.before + 1) l.request (command_of h.client (h.before + 1) l.request) given) same h.cause))
 
   -- an answer is one that its line's request may get
-  pub fits_after : IsSound script → (line : Line) (given : Answer) → In line script.lines → In (line.number, given) last.answers
+  pub fits_after : (line : Line) (given : Answer) → In line script.lines → In (line.number, given) last.answers
       → may_answer line.request given ≡ true
-  fits_after sound line given there told =
+  fits_after line given there told =
       let h = kept_end.answers line.number given told in
       let same : h.line ≡ line = sound.numbered h.line line (line_at script.lines h.client h.before h.line h.is).0 there h.number_is in
       subst (λ (l : Line). may_answer l.request given ≡ true) same

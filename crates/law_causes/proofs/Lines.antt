@@ -11,17 +11,15 @@ use Rattle.petal_history.specs.Steps.{AreSteps, world_after}
 use Rattle.petal_history.specs.Sound.{IsSound}
 use Rattle.petal_history.specs.declared.record.Record.{Record}
 use Rattle.law_answers.proofs.Places.{line_at}
-use Rattle.law_steps.proofs.Firms.{always_firm}
+use Rattle.law_jobs.proofs.Runs.{run_of}
 use Rattle.law_causes.specs.Lines.{AsksToBoot, AsksToStop, IsLineOf}
 use Rattle.law_causes.proofs.Answered.{IsOpenFor, open_after}
-use Rattle.law_causes.proofs.Asked.{commands_are_asked}
 
 -- an open request is that of a line
 pub open_for : (script : Script) (records : List Record) → IsSound script → AreSteps script records → (c : ℕ) (asked : Asked)
     → ((world_after (setting_of script) (start (setting_of script)) records).clients c).asked ≡ Some asked
     → IsOpenFor script.lines c asked
-open_for script records sound legal =
-    open_after script records (always_firm script records sound legal) legal (commands_are_asked script records sound legal)
+open_for script records sound legal = open_after (run_of script sound records legal)
 
 pub line_of : (lines : List Line) (w : World) (asked : Asked) (o : IsOpenFor lines operator asked) → IsOpenLine w asked
     → IsLineOf lines w asked o.line

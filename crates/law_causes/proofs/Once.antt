@@ -14,13 +14,16 @@ use Rattle.petal_rules.specs.Server.{Server}
 use Rattle.petal_rules.specs.World.{MayActor, MayClient, MayGlance, MayServer, Setting, World, setting_of, start, step}
 use Rattle.petal_rules.specs.declared.step.Step.{Step}
 use Rattle.petal_rules.specs.declared.step.Step.TheVariants.{Glance}
-use Rattle.petal_rules.proofs.ListLemmas.{in-append, in_later}
+use Rattle.petal_rules.proofs.ListLemmas.{in-append}
 use Rattle.petal_rules.proofs.Tests.{by_test}
-use Rattle.petal_history.specs.Steps.{AreSteps, AreStepsFrom, stepped, world_after}
+use Rattle.petal_history.specs.Steps.{AreSteps, world_after}
 use Rattle.petal_history.specs.Order.{AreRising}
 use Rattle.petal_history.specs.Sound.{IsSound}
 use Rattle.petal_history.specs.declared.record.Record.{Record}
+use Rattle.law_state.specs.Moments.{IsMoment}
 use Rattle.law_steps.proofs.Histories.{front_legal}
+use Rattle.law_jobs.proofs.Runs.{Run, after, at_moment, follows_in, longer, run_of, setting_in, stepped_in}
+use Rattle.law_jobs.proofs.Sent.{stays_sent}
 use Rattle.law_causes.specs.Glances.{HasGlance}
 use Rattle.law_causes.proofs.Glances.{glanced_before, was_glanced}
 
@@ -65,23 +68,21 @@ module _ (setting : Setting) (number : ℕ) where
       (record { letter = _; round = round; running = s.0; inc = s.1; full = s.2; there = inl refl; is = s.3 })
   glance_says (actor.Client c) what round w stamp is may = absurd (subst (λ x. MayClient x setting w c) is may.1)
 
-  said_next : (who : Actor) (what : Step) (w : World) (stamp : ℕ) → IsSaid w number → IsSaid (step who what setting w stamp).world number
-  unfolding step
-  said_next (actor.Server n) what w stamp s =
-      record { letter = s.letter; round = s.round; running = s.running; inc = s.inc; full = s.full; there = in_later s.letter _ w.sent s.there; is = s.is }
-  said_next (actor.Client c) what w stamp s =
-      record { letter = s.letter; round = s.round; running = s.running; inc = s.inc; full = s.full; there = in_later s.letter _ w.sent s.there; is = s.is }
-
-  said_after : (w : World) (records : List Record) → IsSaid w number → IsSaid (world_after setting w records) number
-  said_after w [] s = s
-  said_after w (own ∷ later) s = said_after (stepped setting w own).world later (said_next own.actor own.step w own.stamp s)
-
-  -- after a glance of the line a server was shown for it
-  was_said : (w : World) (front : List Record) (own : Record) (later : List Record) (round : ℕ) → own.step ≡ Glance number round
-      → AreStepsFrom setting w (front ++ own ∷ later) → IsSaid (world_after setting w (front ++ own ∷ later)) number
-  was_said w [] own later round is legal =
-      said_after (stepped setting w own).world later (glance_says own.actor own.step round w own.stamp is legal.0.may.may)
-  was_said w (x ∷ front) own later round is legal = was_said (stepped setting w x).world front own later round is legal.1
+-- after a glance of the line a server was shown for it
+was_said : (run : Run) (number round : ℕ) (at : IsMoment run.records) → at.own.step ≡ Glance number round → IsSaid (after run) number
+was_said run number round at is =
+    let it = at_moment run at in
+    let s = glance_says (setting_in run) number it.own.actor it.own.step round (after it.prior) it.own.stamp is (follows_in it).may.may in
+    record {
+      letter = s.letter;
+      round = s.round;
+      running = s.running;
+      inc = s.inc;
+      full = s.full;
+      there = stays_sent run (longer it).records at.following (at.is ∙ sym (append_assoc at.front (at.own ∷ []) at.following)) s.letter
+          (subst (λ (v : World). In s.letter v.sent) (sym (stepped_in it)) s.there);
+      is = s.is;
+    }
 
 -- ### A history
 
@@ -97,7 +98,7 @@ module _ (script : Script) (sound : IsSound script) (rise : AreRising script.lin
       let done = front ++ own ∷ middle in
       let parts = front_legal setting (start setting) done (other ∷ following)
       (subst (AreSteps script) (sym (append_assoc front (own ∷ middle) (other ∷ following))) legal) in
-      let s = was_said setting line.number (start setting) front own middle round is parts.0 in
+      let s = was_said (run_of script sound done parts.0) line.number round (record { front = front; own = own; following = middle; is = refl }) is in
       let g = glances_at setting line.number other.actor other.step later
       (world_after setting (start setting) done) again parts.1.0.may.may in
       glanced_before script done sound rise parts.0 line m there named s.letter s.round s.running s.inc s.full s.there s.is g.0 later g.1

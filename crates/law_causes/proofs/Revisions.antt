@@ -1,5 +1,5 @@
 -- A client is told of another revision in one place alone: where its letter has one.
-use Rattle.std.proofs.Common.{◌≡◌, ◌⊎◌, inl, inr, ◌++◌, ℕ, List, [], ◌∷◌, refl, sym, ap, ◌∙◌, subst}
+use Rattle.std.proofs.Common.{◌≡◌, inl, ℕ, List, ◌∷◌, refl, sym, ap, ◌∙◌, subst}
 use Rattle.petal_msg.specs.declared.body.Body.TheVariants as body
 use Rattle.petal_msg.specs.declared.letter.Actor.{Actor}
 use Rattle.petal_msg.specs.declared.letter.Actor.TheVariants as actor
@@ -7,19 +7,17 @@ use Rattle.petal_msg.specs.declared.letter.Letter.{Letter}
 use Rattle.petal_rules.specs.Jobs.{here_of, shown}
 use Rattle.petal_rules.specs.Lists.{In}
 use Rattle.petal_rules.specs.Server.{Server}
-use Rattle.petal_rules.specs.World.{Setting, World, server_state, step, MayActor, setting_of, start}
+use Rattle.petal_rules.specs.World.{Setting, World, server_state, step, MayActor, start}
 use Rattle.petal_rules.specs.declared.job.Job.{Job}
 use Rattle.petal_rules.specs.declared.job.Job.TheVariants as job
 use Rattle.petal_rules.specs.declared.step.Step.{Step}
-use Rattle.petal_rules.proofs.ListLemmas.{in-append}
 use Rattle.petal_rules.proofs.Tests.{true_false, by_test}
-use Rattle.petal_history.specs.Steps.{Follows, AreSteps, AreStepsFrom, stepped, world_after}
+use Rattle.petal_history.specs.Steps.{Follows, stepped}
 use Rattle.petal_history.specs.declared.record.Record.{Record}
-use Rattle.script_lines.specs.declared.script.Script.{Script}
 use Rattle.law_state.proofs.Steady.{log_rev}
-use Rattle.law_state.proofs.Moments.{first_moment, moment_later}
-use Rattle.law_steps.specs.Ready.{AreFirm, Rests}
-use Rattle.law_steps.proofs.Histories.{rests_next, firm_now, start_rests}
+use Rattle.law_steps.specs.Ready.{Rests}
+use Rattle.law_jobs.proofs.Runs.{Run, after, at_moment, follows_in, rests_in, setting_in}
+use Rattle.law_jobs.proofs.Sent.{was_sent}
 use Rattle.law_causes.specs.Reasons.{IsOtherRev, HasReason}
 use Rattle.law_causes.proofs.Mute.{IsMute, is_mute}
 use Rattle.law_causes.proofs.Saying.{Mute, Rev, Sight, TellsRev, server_says, client_says}
@@ -86,43 +84,14 @@ step_tells setting w own rests follows letter seq h e = by own.actor refl follow
 
 -- ### Histories
 
-sent_more : (who : Actor) (what : Step) (setting : Setting) (w : World) (stamp : ℕ)
-    → (step who what setting w stamp).world.sent ≡ (step who what setting w stamp).letters ++ w.sent
-unfolding step
-sent_more (actor.Server n) what setting w stamp = refl
-sent_more (actor.Client c) what setting w stamp = refl
-
-later_reason : (setting : Setting) (w : World) (own : Record) (later : List Record) (letter : Letter) (seq : ℕ)
-    → HasReason setting (stepped setting w own).world later letter seq
-    → HasReason setting w (own ∷ later) letter seq
-later_reason setting w own later letter seq r = record { moment = moment_later own later r.moment; sent = r.sent; so = r.so }
-
-reasons_from : (setting : Setting) (w : World) (records : List Record) → AreFirm setting w records → Rests setting w → AreStepsFrom setting w records
-    → (letter : Letter) (seq : ℕ)
-    → In letter (world_after setting w records).sent → letter.body ≡ body.WrongRev seq → In letter w.sent ⊎ HasReason setting w records letter seq
-reasons_from setting w [] firm rests legal letter seq h e = inl h
-reasons_from setting w (own ∷ later) firm rests legal letter seq h e =
-    let v = (stepped setting w own).world in
-    let next = firm_now setting v later firm.2 in
-    elim (reasons_from setting v later firm.2 (rests_next setting w own rests firm.0 legal.0 next) legal.1 letter seq h e) [
-      | inr r ↦ inr (later_reason setting w own later letter seq r)
-      | inl now ↦ elim (in-append letter (stepped setting w own).letters w.sent (subst (In letter) (sent_more own.actor own.step setting w own.stamp) now)) [
-        | inr before ↦ inl before
-        | inl i ↦ inr (record {
-          moment = first_moment own later;
-          sent = subst (In letter) (sym legal.0.sent) i;
-          so = step_tells setting w own rests legal.0 letter seq i e;
-        })
-      ]
-    ]
-
-pub reason_after : (script : Script) (records : List Record) → AreFirm (setting_of script) (start (setting_of script)) records → AreSteps script records
-    → (letter : Letter) (seq : ℕ)
-    → In letter (world_after (setting_of script) (start (setting_of script)) records).sent → letter.body ≡ body.WrongRev seq
-    → HasReason (setting_of script) (start (setting_of script)) records letter seq
-unfolding In
-reason_after script records firm legal letter seq h e =
-    elim (reasons_from (setting_of script) (start (setting_of script)) records firm (start_rests script) legal letter seq h e) [
-      | inl none ↦ absurd none
-      | inr r ↦ r
-    ]
+pub reason_after : (run : Run) (letter : Letter) (seq : ℕ) → In letter (after run).sent → letter.body ≡ body.WrongRev seq
+    → HasReason (setting_in run) (start (setting_in run)) run.records letter seq
+reason_after run letter seq h e =
+    let was = was_sent run letter h in
+    let it = at_moment run was.moment in
+    let follows = follows_in it in
+    record {
+      moment = was.moment;
+      sent = was.sent;
+      so = step_tells (setting_in run) (after it.prior) it.own (rests_in it.prior) follows letter seq (subst (In letter) follows.sent was.sent) e;
+    }

@@ -1,8 +1,8 @@
 -- What a settle is answered by. What the operator has seen in a round, glances of that round showed.
 use Rattle.std.proofs.Common.{◌≡◌, ◌≤◌, ◌<◌, ◌⊎◌, inl, inr, ◌+◌, ◌++◌, ◌==◌, ◌&&◌, ℕ, zero, suc, Bool, true, false, not, List, [], ◌∷◌, Option}
-use Rattle.std.proofs.Common.{Some, None, length, refl, sym, ap, ◌∙◌, subst, arith, append_assoc}
+use Rattle.std.proofs.Common.{Some, None, length, refl, sym, ap, ◌∙◌, subst, arith}
 use Rattle.std.proofs.lemmas.Bool.Decides.{nat_tests}
-use Rattle.std.proofs.lemmas.List.{append-nil, length-append, length-map}
+use Rattle.std.proofs.lemmas.List.{length-append, length-map}
 use Rattle.std.specs.Cmp.{nat_cmp_total}
 use Rattle.std.specs.declared.cmp.Ordering.TheVariants.{Less}
 use Rattle.std.specs.Ordering.{nat_cmp}
@@ -44,7 +44,8 @@ use Rattle.law_steps.specs.Happens.{Heard}
 use Rattle.law_steps.specs.Ready.{IsRising}
 use Rattle.law_steps.specs.Turned.{Turned, Goes_on, Is_told, Begins, Reads, Ends, Shown, Judges}
 use Rattle.law_steps.proofs.Firms.{always_firm}
-use Rattle.law_steps.proofs.Histories.{firm_after, front_legal, world_more}
+use Rattle.law_steps.proofs.Histories.{firm_after}
+use Rattle.law_jobs.proofs.Runs.{Run, after, by_run, follows_in, longer, setting_in, stepped_in}
 use Rattle.law_steps.proofs.Tables.{at_row, put_rises}
 use Rattle.law_steps.proofs.Turning.{client_turns}
 use Rattle.law_causes.specs.Settles.{HasFoundFull, HasGlanceAt, HasSettled, HasShown, WasSettled, runs_as}
@@ -567,15 +568,6 @@ module _ (script : Script) (sound : IsSound script) where
 
   -- ### All records
 
-  kept_after : (done later : List Record) → AreSteps script (done ++ later) → Kept (W done) done → Kept (W (done ++ later)) (done ++ later)
-  kept_after done [] legal kept = subst (λ all. Kept (W all) all) (sym (append-nil done)) kept
-  kept_after done (own ∷ later) legal kept =
-      let parts = front_legal setting (start setting) done (own ∷ later) legal in
-      let next = record_keeps done own parts.0 kept own.actor own.step refl refl parts.1.0.may.may in
-      subst (λ all. Kept (W all) all) (append_assoc done (own ∷ []) later)
-      (kept_after (done ++ own ∷ []) later (subst (AreSteps script) (sym (append_assoc done (own ∷ []) later)) legal)
-      (subst (λ (v : World). Kept v (done ++ own ∷ [])) (sym (world_more setting (start setting) done own)) next))
-
   start_kept : Kept (start setting) []
   unfolding In
   start_kept = record {
@@ -585,16 +577,17 @@ module _ (script : Script) (sound : IsSound script) where
     answers = λ number given i. absurd i;
   }
 
-  -- a letter that shows a copy without a slot comes of such a glance
-  pub shown_full : (records : List Record) → AreSteps script records
-      → (letter : Letter) (line round : ℕ) (running : Bool) (inc : ℕ) (full : Bool)
-      → In letter (W records).sent → letter.body ≡ body.Seen line round running inc full → full ≡ true
-      → HasFoundFull setting (start setting) records line
-  shown_full records legal letter line round running inc full i e is =
-      ((kept_after [] records legal start_kept).shows letter line round running inc full i e).found_full is
+kept_in : (run : Run) → Kept run.script run.sound (after run) run.records
+kept_in =
+    by_run (λ run. Kept run.script run.sound (after run) run.records) (λ script sound legal. start_kept script sound) (λ it kept.
+    subst (λ (v : World). Kept it.prior.script it.prior.sound v (longer it).records) (sym (stepped_in it))
+    (record_keeps it.prior.script it.prior.sound it.prior.records it.own it.prior.legal kept it.own.actor it.own.step refl refl (follows_in it).may.may))
 
-  pub settled_by : (records : List Record) → AreSteps script records → (line : Line) (given : Answer) → In line lines
-      → line.request ≡ request.Settle
-      → In (line.number, given) (W records).answers → HasSettled setting (start setting) records line.number given
-  settled_by records legal line given there settle told =
-      (kept_after [] records legal start_kept).answers line.number given told line there refl settle
+-- a letter that shows a copy without a slot comes of such a glance
+pub shown_full : (run : Run) (letter : Letter) (line round : ℕ) (running : Bool) (inc : ℕ) (full : Bool) → In letter (after run).sent
+    → letter.body ≡ body.Seen line round running inc full → full ≡ true → HasFoundFull (setting_in run) (start (setting_in run)) run.records line
+shown_full run letter line round running inc full i e is = ((kept_in run).shows letter line round running inc full i e).found_full is
+
+pub settled_by : (run : Run) (line : Line) (given : Answer) → In line run.script.lines → line.request ≡ request.Settle
+    → In (line.number, given) (after run).answers → HasSettled (setting_in run) (start (setting_in run)) run.records line.number given
+settled_by run line given there settle told = (kept_in run).answers line.number given told line there refl settle

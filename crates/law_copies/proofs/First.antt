@@ -26,12 +26,13 @@ use Rattle.law_steps.specs.Happens.{Fails, By_job, By_ballot, By_entry, own_plac
 use Rattle.law_steps.specs.Ready.{Rests}
 use Rattle.law_steps.proofs.Firms.{always_firm}
 use Rattle.law_steps.proofs.Fronts.{below_itself}
-use Rattle.law_steps.proofs.Histories.{front_legal, last_happens, own_steady, rests_after, start_rests, world_more}
+use Rattle.law_steps.proofs.Histories.{last_happens, own_steady, rests_after, start_rests, world_more}
+use Rattle.law_jobs.proofs.Runs.{before_part}
 use Rattle.law_copies.specs.Good.{Good}
 use Rattle.law_copies.proofs.AtSeat.{AtSeat, IsAtWork}
 use Rattle.law_copies.proofs.AtWork.{at_work}
 use Rattle.law_copies.proofs.Ballots.{ballot_alike}
-use Rattle.law_copies.proofs.Histories.{before_last, good_after}
+use Rattle.law_copies.proofs.Histories.{good_after}
 use Rattle.law_copies.proofs.Marking.{job_marked}
 use Rattle.law_copies.proofs.Seated as seated
 use Rattle.law_copies.proofs.Seated.{idle_copies}
@@ -108,9 +109,8 @@ marks_first script records sound legal front back own e n cell =
     let w = world_after setting (start setting) front in
     let all = front ++ own ∷ [] in
     let v = world_after setting (start setting) all in
-    let legal_all : AreSteps script all =
-    (front_legal setting (start setting) all back (subst (AreSteps script) (e ∙ sym (append_assoc front (own ∷ []) back)) legal)).0 in
-    let legal_front = before_last script front own legal_all in
+    let legal_all = before_part script all back (subst (AreSteps script) (e ∙ sym (append_assoc front (own ∷ []) back)) legal) in
+    let legal_front = before_part script front (own ∷ []) legal_all in
     let firm = history_is_firm script front sound legal_front in
     let rests = rests_after setting (start setting) front (always_firm script front sound legal_front) (start_rests script) legal_front in
     let happens = last_happens script front own (always_firm script all sound legal_all) legal_all (chosen_state setting v)

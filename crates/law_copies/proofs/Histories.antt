@@ -1,7 +1,6 @@
 -- Each step that is allowed keeps what is kept of two copies, by the stores that count, and so does every legal history.
 use Rattle.std.proofs.Common.{◌≡◌, ◌≤◌, ◌++◌, ℕ, false, if◌then◌else◌, List, [], ◌∷◌, Option, Some, refl, sym}
-use Rattle.std.proofs.Common.{ap, ◌∙◌, subst, inl, inr, arith, append_assoc}
-use Rattle.std.proofs.lemmas.List.{append-nil}
+use Rattle.std.proofs.Common.{ap, ◌∙◌, subst, inl, inr, arith}
 use Rattle.petal_base.specs.declared.cell.Cell.{Cell}
 use Rattle.petal_msg.specs.Kinds.{subject_of}
 use Rattle.script_lines.specs.declared.script.Script.{Script}
@@ -26,9 +25,10 @@ use Rattle.law_steps.specs.Happens.{Happens, Serves, Blanks, Turns}
 use Rattle.law_steps.specs.Happens.{is_between}
 use Rattle.law_steps.proofs.Firms.{always_firm}
 use Rattle.law_steps.proofs.Fronts.{below_itself, front_itself, front_on}
-use Rattle.law_steps.proofs.Histories.{front_legal, last_happens}
+use Rattle.law_steps.proofs.Histories.{last_happens}
 use Rattle.law_steps.proofs.Records.{split_last}
 use Rattle.law_steps.proofs.Sending.{turned_asks}
+use Rattle.law_jobs.proofs.Runs.{before_part, by_run, run_of}
 use Rattle.law_stores.proofs.Histories.{join_empty, join_own}
 use Rattle.law_copies.specs.Good.{Good}
 use Rattle.law_copies.specs.Visits.{is_at}
@@ -146,10 +146,6 @@ pub record KeepsOn (setting : Setting) (records : List Record) (w v : World) (ol
   pub middle : Good setting (records ++ own ∷ []) (chosen_log setting w) (counted_by setting (chosen_log setting w) v)
   pub middle_visits : (n place : ℕ) (cell : Cell) → middle.visits n place cell ≡ good.visits n place cell
 
--- the part of a history before its last record
-pub before_last : (script : Script) (records : List Record) (own : Record) → AreSteps script (records ++ own ∷ []) → AreSteps script records
-before_last script records own legal = (front_legal (setting_of script) (start (setting_of script)) records (own ∷ []) legal).0
-
 module _ (script : Script) (records : List Record) (own : Record) (sound : IsSound script) (legal : AreSteps script (records ++ own ∷ [])) where
   abbrev setting : Setting
   setting = setting_of script
@@ -164,7 +160,7 @@ module _ (script : Script) (records : List Record) (own : Record) (sound : IsSou
   next = world_after setting (start setting) all
 
   legal_before : AreSteps script records
-  legal_before = before_last script records own legal
+  legal_before = before_part script records (own ∷ []) legal
 
   -- no server was beyond what was chosen before the last record
   following : ((n : ℕ) → IsPrefix (next.servers n).log.applied (chosen_log setting w)) → IsAfter setting all (chosen_log setting w) next
@@ -173,7 +169,7 @@ module _ (script : Script) (records : List Record) (own : Record) (sound : IsSou
     ever = λ before rest is n. elim (split_last records own before rest is) [
       | inl whole ↦ subst (λ rs. IsPrefix ((world_after setting (start setting) rs).servers n).log.applied (chosen_log setting w)) (sym whole) (now n)
       | inr more ↦ (
-          let legal_there = (front_legal setting (start setting) before more.0 (subst (AreSteps script) more.1 legal_before)).0 in
+          let legal_there = before_part script before more.0 (subst (AreSteps script) more.1 legal_before) in
           front_on _ (chosen_log setting (world_after setting (start setting) before)) (chosen_log setting w)
           ((history_is_firm script before sound legal_there).servers n)
           (history_grows script records sound legal_before before more.0 more.1))
@@ -233,14 +229,7 @@ KeptAfter script records =
     (counted (setting_of script) (world_after (setting_of script) (start (setting_of script)) records))
 
 -- after each legal history
-good_from : (script : Script) (done later : List Record) → IsSound script → AreSteps script (done ++ later) → KeptAfter script done
-    → KeptAfter script (done ++ later)
-good_from script done [] sound legal good = subst (KeptAfter script) (sym (append-nil done)) good
-good_from script done (own ∷ later) sound legal good =
-    let e = append_assoc done (own ∷ []) later in
-    let legal' : AreSteps script ((done ++ own ∷ []) ++ later) = subst (AreSteps script) (sym e) legal in
-    let part = (front_legal (setting_of script) (start (setting_of script)) (done ++ own ∷ []) later legal').0 in
-    subst (KeptAfter script) e (good_from script (done ++ own ∷ []) later sound legal' (step_goes script done own sound part good).good)
-
 pub good_after : (script : Script) (records : List Record) → IsSound script → AreSteps script records → KeptAfter script records
-good_after script records sound legal = good_from script [] records sound legal (start_good (setting_of script))
+good_after script records sound legal =
+    by_run (λ run. KeptAfter run.script run.records) (λ script sound legal. start_good (setting_of script))
+    (λ it good. (step_goes it.prior.script it.prior.records it.own it.prior.sound it.legal good).good) (run_of script sound records legal)

@@ -42,7 +42,7 @@ use Rattle.law_steps.proofs.Fronts.{below_itself, front_on}
 use Rattle.law_steps.proofs.Histories.{last_happens, own_plain}
 use Rattle.law_steps.proofs.Letters.{said}
 use Rattle.law_steps.proofs.Sending.{turned_asks}
-use Rattle.law_stores.proofs.Ways.{At, along}
+use Rattle.law_jobs.proofs.Runs.{At, by_run, run_of}
 use Rattle.law_copies.proofs.Sent.{none_in}
 use Rattle.law_epochs.specs.Early.{AreEarly, HaveEarlyEntries}
 use Rattle.law_epochs.proofs.Keys.{at_key}
@@ -54,7 +54,7 @@ use Rattle.law_epochs.proofs.Within.{AreWithin, IsWithin, OfKey, asked_none, is_
 pub use Rattle.law_epochs.proofs.KnownEntries.{IsKnownBy, kept_by}
 use Rattle.law_epochs.proofs.KnownEntries.{AllEarly, IsKnown, before_within, fills_within, known_more, known_on, now_within, pending_within}
 use Rattle.law_epochs.proofs.KnownEntries.{start_early, stores_within, told_within}
-use Rattle.law_epochs.proofs.Scenes.{OneMore, ends_of, one_more}
+use Rattle.law_epochs.proofs.Scenes.{OneMore, ends_of}
 
 posted_so : (P : Body → Type 0) (who : Sender) (stamp : ℕ) (posts : List Post) → ((post : Post) → In post posts → P post.body)
     → (letter : Letter) → In letter (stamped stamp (letters_of who 0 posts)) → P letter.body
@@ -186,8 +186,8 @@ module _ (it : OneMore) (old : AllEarly (ends_of it).setting (ends_of it).w) whe
 
 pub all_early : (script : Script) (records : List Record) → IsSound script → AreSteps script records → AllEarly (setting_of script) (At script records)
 all_early script records sound legal =
-    along script (AllEarly (setting_of script)) (λ front own part. early_next (one_more script sound front own part)) [] records legal
-    (start_early (setting_of script))
+    by_run (λ run. AllEarly (setting_of run.script) (At run.script run.records)) (λ script sound legal. start_early (setting_of script)) early_next
+    (run_of script sound records legal)
 
 -- ### As it is told above
 

@@ -18,7 +18,7 @@ use Rattle.petal_history.specs.Steps.{AreSteps}
 use Rattle.petal_history.specs.Sound.{IsSound}
 use Rattle.petal_history.specs.declared.record.Record.{Record}
 use Rattle.law_copies.specs.Visits.{IsLinked, WasThere, place_by}
-use Rattle.law_stores.proofs.Ways.{At}
+use Rattle.law_jobs.proofs.Runs.{At}
 use Rattle.law_epochs.specs.Early.{HaveEarlyEntries}
 use Rattle.law_epochs.specs.Timely.{IsTimely}
 use Rattle.law_epochs.proofs.Present.{present, present_now}

@@ -27,7 +27,7 @@ use Rattle.law_log.proofs.Histories.{history_is_firm, report_was_made}
 use Rattle.law_steps.proofs.Fronts.{front_itself, front_long, front_more, front_on, one_front}
 use Rattle.law_steps.proofs.Coming.{stage_facts}
 use Rattle.law_steps.proofs.Histories.{runs_now}
-use Rattle.law_stores.proofs.Ways.{At}
+use Rattle.law_jobs.proofs.Runs.{At}
 use Rattle.law_requests.proofs.Running.{chosen_front}
 use Rattle.law_epochs.specs.Timely.{IsTimely}
 use Rattle.law_epochs.proofs.Reports.{asking, resting}

@@ -19,7 +19,7 @@ use Rattle.petal_history.specs.declared.record.Record.{Record}
 use Rattle.law_steps.specs.Ready.{Rests}
 use Rattle.law_steps.proofs.Firms.{always_firm}
 use Rattle.law_steps.proofs.Histories.{rests_after, start_rests}
-use Rattle.law_stores.proofs.Ways.{At}
+use Rattle.law_jobs.proofs.Runs.{At}
 use Rattle.law_requests.proofs.Drained.{held_write}
 use Rattle.law_requests.proofs.Histories.{AskingAlong, asking_along}
 

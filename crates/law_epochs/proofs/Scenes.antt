@@ -7,18 +7,11 @@ use Rattle.petal_rules.specs.State.{State}
 use Rattle.petal_rules.specs.World.{Setting, World, chosen_log, setting_of}
 use Rattle.petal_history.specs.Claims.{IsPrefix}
 use Rattle.petal_history.specs.Steps.{AreSteps}
-use Rattle.petal_history.specs.Sound.{IsSound}
 use Rattle.petal_history.specs.declared.record.Record.{Record}
 use Rattle.law_state.specs.Plain.{IsPlainLog}
 use Rattle.law_log.proofs.Histories.{history_grows, history_is_firm}
-use Rattle.law_stores.proofs.Ways.{At, before_part}
-
--- a legal history of a sound script
-pub record History : Type 0 where
-  pub script : Script
-  pub sound : IsSound script
-  pub records : List Record
-  pub legal : AreSteps script records
+pub use Rattle.law_jobs.proofs.Runs.{OneMore, Run}
+use Rattle.law_jobs.proofs.Runs.{At, before_part}
 
 -- where it has led
 pub record End : Type 0 where
@@ -27,7 +20,7 @@ pub record End : Type 0 where
   pub chosen : List Command
   pub By : List Command → State
 
-abbrev pub end_of : History → End
+abbrev pub end_of : Run → End
 end_of h = record {
   setting = setting_of h.script;
   w = At h.script h.records;
@@ -36,7 +29,7 @@ end_of h = record {
 }
 
 -- a front of it
-abbrev pub cut : (h : History) (front later : List Record) → h.records ≡ front ++ later → History
+abbrev pub cut : (h : Run) (front later : List Record) → h.records ≡ front ++ later → Run
 cut h front later is = record {
   script = h.script;
   sound = h.sound;
@@ -44,24 +37,11 @@ cut h front later is = record {
   legal = before_part h.script front later (subst (AreSteps h.script) is h.legal);
 }
 
--- a legal history with one record more
-pub record OneMore : Type 0 where
-  pub prior : History
-  pub own : Record
-  pub legal : AreSteps prior.script (prior.records ++ own ∷ [])
-
-abbrev pub one_more : (script : Script) → IsSound script → (front : List Record) (own : Record) → AreSteps script (front ++ own ∷ []) → OneMore
-one_more script sound front own legal = record {
-  prior = record { script = script; sound = sound; records = front; legal = before_part script front (own ∷ []) legal };
-  own = own;
-  legal = legal;
-}
-
 -- where it had led before the last record, and where it leads with it
 pub record Ends (script : Script) : Type 0 where
   pub setting : Setting
   pub records : List Record
-  pub present : History
+  pub present : Run
   pub w : World
   pub v : World
   pub top : List Command

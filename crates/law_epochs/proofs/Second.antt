@@ -28,7 +28,7 @@ use Rattle.law_log.proofs.Histories.{report_was_made}
 use Rattle.law_steps.proofs.Fronts.{front_itself, front_long, front_more, front_on, front_within}
 use Rattle.law_steps.proofs.Histories.{runs_at, runs_now}
 use Rattle.law_stores.proofs.Counts.{stands_in}
-use Rattle.law_stores.proofs.Ways.{At}
+use Rattle.law_jobs.proofs.Runs.{At}
 use Rattle.law_copies.specs.Visits.{IsLinked, place_by}
 use Rattle.law_copies.proofs.Places.{at_most_or_above, place_of_later, place_touched}
 use Rattle.law_epochs.specs.Timely.{IsTimely}
@@ -37,7 +37,7 @@ use Rattle.law_epochs.proofs.Present.{chosen_plain, firm}
 use Rattle.law_epochs.proofs.Reports.{grows}
 use Rattle.law_epochs.proofs.There.{HadWrite, timely_known}
 use Rattle.law_epochs.proofs.Timely.{on_time}
-use Rattle.law_epochs.proofs.Scenes.{History, end_of}
+use Rattle.law_epochs.proofs.Scenes.{Run, end_of}
 
 -- the server, and a front at the place that is no shorter than the operation's revision
 pub record IsToPut (setting : Setting) (records : List Record) (w : World) (m : ℕ) : Type 0 where
@@ -55,7 +55,7 @@ pub record IsToPut (setting : Setting) (records : List Record) (w : World) (m : 
   pub at_place : place_by setting front now ≡ place_by setting (w.servers m).log.applied row
   pub le : had.op.rev ≤ length front
 
-module _ (it : History) (m : ℕ) where
+module _ (it : Run) (m : ℕ) where
   open it use {script, sound, records, legal}
   open end_of it use {setting, w, chosen, By}
 

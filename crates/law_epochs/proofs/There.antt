@@ -26,7 +26,7 @@ use Rattle.law_state.proofs.Touching.{places_grow, same_place}
 use Rattle.law_log.specs.Requested.{WasDraining}
 use Rattle.law_log.proofs.Histories.{history_grows}
 use Rattle.law_steps.proofs.Fronts.{front_long, front_on, front_within}
-use Rattle.law_stores.proofs.Ways.{At, before_part}
+use Rattle.law_jobs.proofs.Runs.{At, before_part}
 use Rattle.law_copies.specs.Visits.{AliveIn, IsLinked, WasThere, is_at, place_by}
 use Rattle.law_copies.proofs.Places.{at_most_or_above, place_of_later}
 use Rattle.law_copies.proofs.Visited.{IsAt, at_by, is_at_so}
@@ -39,7 +39,7 @@ use Rattle.law_epochs.proofs.Present.{IsOpened, IsReported, chosen_plain, firm, 
 use Rattle.law_epochs.proofs.Reports.{grows, not_held}
 use Rattle.law_epochs.proofs.Seats.{led_has}
 use Rattle.law_epochs.proofs.Timely.{was_leaving}
-use Rattle.law_epochs.proofs.Scenes.{History, cut, end_of}
+use Rattle.law_epochs.proofs.Scenes.{Run, cut, end_of}
 
 -- the write, and the place
 pub record HadWrite (setting : Setting) (records : List Record) : Type 0 where
@@ -52,7 +52,7 @@ pub record HadWrite (setting : Setting) (records : List Record) : Type 0 where
   pub is : at cell_cmp pairs.pending cell ≡ Some op
   pub clients : is_clients op.kind ≡ true
 
-module _ (it : History) (had : HadWrite (end_of it).setting it.records) where
+module _ (it : Run) (had : HadWrite (end_of it).setting it.records) where
   open it use {script, sound, records, legal}
   open end_of it use {setting, chosen}
   open had use {n, place, cell, op, was, is, clients}

@@ -20,8 +20,11 @@ use Rattle.petal_history.specs.Order.{AreRising}
 use Rattle.petal_history.specs.Sound.{IsSound}
 use Rattle.petal_history.specs.declared.record.Record.{Record}
 use Rattle.law_answers.proofs.Once.{ahead_after, ahead_start, answered_more, stepped_is}
+use Rattle.law_state.specs.Moments.{IsMoment}
 use Rattle.law_steps.specs.Turned.{line_by}
-use Rattle.law_looks.proofs.History.{asked_at, follows_on, front_is_legal, named_at, sent_after}
+use Rattle.law_jobs.proofs.Runs.{Run, after, at_moment, before_part, longer, run_of, since}
+use Rattle.law_jobs.proofs.Sent.{answers_in}
+use Rattle.law_looks.proofs.History.{asked_at, follows_on, named_at, sent_after}
 use Rattle.law_looks.proofs.Lists.{AreOrdered, AreSame, Are_one, Is_former, Is_latter, ordered}
 use Rattle.law_looks.proofs.Searching.{accepted_in}
 use Rattle.law_looks.proofs.Steps.{own_answers}
@@ -56,23 +59,20 @@ who_answers setting w (actor.Server n) what stamp may number bytes e = none_some
 who_answers setting w (actor.Client c) what stamp may number bytes e =
     record { client = c; who_is = refl; may = may.1; so = own_answers setting w c what may.1 number bytes e }
 
-answers_more : (setting : Setting) (w : World) (who : Actor) (what : Step) (stamp : ℕ)
-    → (step who what setting w stamp).world.answers ≡ with_answer (step who what setting w stamp).answer w.answers
-unfolding step
-answers_more setting w (actor.Server n) what stamp = refl
-answers_more setting w (actor.Client c) what stamp = refl
-
-answered_on : (setting : Setting) (w : World) (records : List Record) (number : ℕ) → IsAnswered w.answers number
-    → IsAnswered (world_after setting w records).answers number
-answered_on setting w [] number a = a
-answered_on setting w (own ∷ later) number a =
-    answered_on setting (stepped setting w own).world later number
-    (subst (λ given. IsAnswered given number) (sym (answers_more setting w own.actor own.step own.stamp))
-    (answered_more (stepped setting w own).answer w.answers number a))
-
 answered_first : (number : ℕ) (given : Answer) (before : List (ℕ × Answer)) → IsAnswered (with_answer (Some (number, given)) before) number
 unfolding In
 answered_first number given before = record { answer = given; is = inl refl }
+
+-- what a record answers stays answered
+answered_since : (run : Run) (m : IsMoment run.records) (number : ℕ) (given : Answer) → m.own.answer ≡ Some (number, given)
+    → IsAnswered (after run).answers number
+answered_since run m number given e =
+    let it = at_moment run m in
+    since (λ run. IsAnswered (after run).answers number) (λ it old.
+    subst (λ given. IsAnswered given number) (sym (answers_in it)) (answered_more it.own.answer (after it.prior).answers number old))
+    run (longer it).records m.following (m.is ∙ sym (append_assoc m.front (m.own ∷ []) m.following)) (λ legal.
+    subst (λ given. IsAnswered given number) (sym (answers_in it))
+    (subst (λ o. IsAnswered (with_answer o (after it.prior).answers) number) (sym e) (answered_first number given (after it.prior).answers)))
 
 -- the world after a record and others
 pub world_split : (setting : Setting) (w : World) (front : List Record) (own : Record) (later : List Record)
@@ -102,7 +102,7 @@ module _ (script : Script) (sound : IsSound script) where
       let follows = follows_on script sound front own following legal in
       let k = who_answers setting (At front) own.actor own.step own.stamp follows.may.may number bytes (sym follows.answer ∙ e) in
       let a = k.so in
-      let asks = asked_at script sound front (front_is_legal script sound front (own ∷ following) legal) k.client a.asked a.is in
+      let asks = asked_at script sound front (before_part script front (own ∷ following) legal) k.client a.asked a.is in
       let comes : MayDeliver (At front) (actor.Client k.client) a.told.letter =
       subst (λ x. MayClient x setting (At front) k.client) a.told.is k.may in
       record {
@@ -129,18 +129,11 @@ module _ (script : Script) (sound : IsSound script) where
         let done = front ++ own ∷ between in
         let joined : AreSteps script (done ++ other ∷ following) =
         subst (AreSteps script) (sym (append_assoc front (own ∷ between) (other ∷ following))) legal in
-        let follows = follows_on script sound front own (between ++ other ∷ following) legal in
-        let v = (stepped setting (At front) own).world in
-        let now : IsAnswered v.answers number =
-        subst (λ given. IsAnswered given number) (sym (answers_more setting (At front) own.actor own.step own.stamp))
-        (subst (λ o. IsAnswered (with_answer o (At front).answers) number) (sym first ∙ follows.answer)
-        (answered_first number one (At front).answers)) in
-        let then : IsAnswered (At done).answers number =
-        subst (λ (u : World). IsAnswered u.answers number) (sym (world_split setting (start setting) front own between))
-        (answered_on setting v between number now) in
+        let fine = before_part script done (other ∷ following) joined in
+        let then = answered_since (run_of script sound done fine) (record { front = front; own = own; following = between; is = refl }) number one first in
         let later = follows_on script sound done other following joined in
         let fresh = stepped_is setting rise (At done) other
-        (ahead_after setting rise (start setting) done (ahead_start setting rise) (front_is_legal script sound done (other ∷ following) joined)) later in
+        (ahead_after setting rise (start setting) done (ahead_start setting rise) fine) later in
         (fresh.new (number, two) (sym later.answer ∙ again)).new then
 
     module _ (records : List Record) (legal : AreSteps script records) where
@@ -182,9 +175,9 @@ module _ (script : Script) (sound : IsSound script) where
           let now = legal_as is in
           let a = answers_at done k.own k.following now number k.so.bytes k.so.answers in
           let other_is : k.so.other ≡ a.letter = deliver_is k.so.other a.letter (sym k.so.what ∙ a.what) in
-          let there = sent_after script sound front own following (legal_as e) letter i done k.front refl in
+          let fine = before_part script done (k.own ∷ k.following) now in
           let letter_is : letter ≡ a.letter =
-          (named_at script sound done (front_is_legal script sound done (k.own ∷ k.following) now)).unique letter a.letter there a.sent
+          (named_at script sound done fine).unique letter a.letter (sent_after script sound front own k.front fine letter i) a.sent
           (subst (λ l. same_name letter l ≡ true) other_is k.so.same) in
           record {
             between = k.front;

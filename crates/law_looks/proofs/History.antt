@@ -1,5 +1,5 @@
 -- The records of a legal history: what each follows on, and where a letter was sent.
-use Rattle.std.proofs.Common.{◌≡◌, ◌++◌, ℕ, List, [], ◌∷◌, true, Some, refl, sym, ap, ◌∙◌, subst, ◌⊎◌, inl, inr, arith, append_assoc}
+use Rattle.std.proofs.Common.{◌≡◌, ◌++◌, ℕ, List, [], ◌∷◌, true, Some, refl, sym, ap, ◌∙◌, subst, arith, append_assoc}
 use Rattle.petal_msg.specs.declared.letter.Actor.{Actor}
 use Rattle.petal_msg.specs.declared.letter.Actor.TheVariants as actor
 use Rattle.petal_msg.specs.declared.letter.Letter.{Letter}
@@ -10,9 +10,8 @@ use Rattle.petal_rules.specs.Lists.{In}
 use Rattle.petal_rules.specs.World.{MayActor, MayClient, Setting, World, acts, clock_of, reacts, server_state, server_step, setting_of, start, step}
 use Rattle.petal_rules.specs.declared.step.Step.{Step}
 use Rattle.petal_rules.specs.declared.step.Step.TheVariants.{Blank}
-use Rattle.petal_rules.proofs.ListLemmas.{in-append, in_former, in_later}
 use Rattle.petal_rules.proofs.Tests.{true_false}
-use Rattle.petal_history.specs.Steps.{Follows, AreSteps, AreStepsFrom, stepped, world_after}
+use Rattle.petal_history.specs.Steps.{Follows, AreSteps, stepped}
 use Rattle.petal_history.specs.Sound.{IsSound}
 use Rattle.petal_history.specs.declared.record.Record.{Record}
 use Rattle.law_state.specs.Firm.{Firm}
@@ -22,6 +21,8 @@ use Rattle.law_run.specs.Follow.{Named}
 use Rattle.law_run.proofs.Scenes.{Grounded}
 use Rattle.law_steps.proofs.Histories.{front_legal, own_steady, world_more}
 use Rattle.law_steps.proofs.Serving.{server_serves}
+use Rattle.law_jobs.proofs.Runs.{At, before_part, run_of}
+use Rattle.law_jobs.proofs.Sent.{sent_since}
 use Rattle.law_looks.proofs.Replies.{IsReply, Is_apart, IsSentBy, Replies, is_of_read, sends}
 use Rattle.law_looks.proofs.Standing.{Stands, stands_after}
 use Rattle.law_looks.proofs.Steps.{reacted_to}
@@ -33,40 +34,6 @@ pub data IsSentFrom (setting : Setting) (w : World) (own : Record) (letter : Let
       → In letter (reacts w c own.stamp (reacted_to setting w c own.step)).letters → IsSentFrom setting w own letter
 
 module _ (setting : Setting) where
-  -- ### Letters stay sent
-
-  sent_more : (who : Actor) (what : Step) (w : World) (stamp : ℕ)
-      → (step who what setting w stamp).world.sent ≡ (step who what setting w stamp).letters ++ w.sent
-  unfolding step
-  sent_more (actor.Server n) what w stamp = refl
-  sent_more (actor.Client c) what w stamp = refl
-
-  sent_next : (w : World) (own : Record) (letter : Letter) → In letter w.sent → In letter (stepped setting w own).world.sent
-  sent_next w own letter i = subst (In letter) (sym (sent_more own.actor own.step w own.stamp)) (in_later letter (stepped setting w own).letters w.sent i)
-
-  sent_on : (w : World) (records : List Record) (letter : Letter) → In letter w.sent → In letter (world_after setting w records).sent
-  sent_on w [] letter i = i
-  sent_on w (own ∷ later) letter i = sent_on (stepped setting w own).world later letter (sent_next w own letter i)
-
-  -- one of the records sent the letter
-  pub record WasSent (records : List Record) (letter : Letter) : Type 0 where
-    pub front : List Record
-    pub own : Record
-    pub following : List Record
-    pub is : records ≡ front ++ own ∷ following
-    pub there : In letter own.sent
-
-  sent_from : (w : World) (records : List Record) → AreStepsFrom setting w records → (letter : Letter) → In letter (world_after setting w records).sent
-      → In letter w.sent ⊎ WasSent records letter
-  sent_from w [] legal letter i = inl i
-  sent_from w (own ∷ later) legal letter i = elim (sent_from (stepped setting w own).world later legal.1 letter i) [
-    | inr s ↦ inr (record { front = own ∷ s.front; own = s.own; following = s.following; is = ap (λ rs. own ∷ rs) s.is; there = s.there })
-    | inl now ↦ elim (in-append letter (stepped setting w own).letters w.sent (subst (In letter) (sent_more own.actor own.step w own.stamp) now)) [
-      | inr before ↦ inl before
-      | inl j ↦ inr (record { front = []; own = own; following = later; is = refl; there = subst (In letter) (sym legal.0.sent) j })
-    ]
-  ]
-
   -- ### What a step sends for reads
 
   step_sends : (w : World) → Stands setting w → (who : Actor) (what : Step) (stamp : ℕ) → MayActor who what setting w
@@ -97,61 +64,40 @@ module _ (script : Script) (sound : IsSound script) where
   abbrev setting_now : Setting
   setting_now = setting_of script
 
-  -- the world after these records
-  abbrev pub at_end : List Record → World
-  at_end records = world_after setting_now (start setting_now) records
-
-  pub front_is_legal : (front later : List Record) → AreSteps script (front ++ later) → AreSteps script front
-  front_is_legal front later legal = (front_legal setting_now (start setting_now) front later legal).0
-
   pub follows_on : (front : List Record) (own : Record) (following : List Record) → AreSteps script (front ++ own ∷ following)
-      → Follows setting_now (at_end front) own
+      → Follows setting_now (At script front) own
   follows_on front own following legal = (front_legal setting_now (start setting_now) front (own ∷ following) legal).1.0
 
   pub legal_upto : (front : List Record) (own : Record) (following : List Record) → AreSteps script (front ++ own ∷ following)
       → AreSteps script (front ++ own ∷ [])
   legal_upto front own following legal =
-      front_is_legal (front ++ own ∷ []) following (subst (AreSteps script) (sym (append_assoc front (own ∷ []) following)) legal)
+      before_part script (front ++ own ∷ []) following (subst (AreSteps script) (sym (append_assoc front (own ∷ []) following)) legal)
 
   -- the world after one more
-  pub next_is : (front : List Record) (own : Record) → at_end (front ++ own ∷ []) ≡ (stepped setting_now (at_end front) own).world
+  pub next_is : (front : List Record) (own : Record) → At script (front ++ own ∷ []) ≡ (stepped setting_now (At script front) own).world
   next_is front own = world_more setting_now (start setting_now) front own
 
-  pub asked_at : (records : List Record) → AreSteps script records → (c : ℕ) (asked : Asked) → ((at_end records).clients c).asked ≡ Some asked
-      → IsAsked script.lines c ((at_end records).clients c) asked
+  pub asked_at : (records : List Record) → AreSteps script records → (c : ℕ) (asked : Asked) → ((At script records).clients c).asked ≡ Some asked
+      → IsAsked script.lines c ((At script records).clients c) asked
   asked_at records legal = (asking_after script records sound legal).known.asked
 
-  pub named_at : (records : List Record) → AreSteps script records → Named (at_end records)
+  pub named_at : (records : List Record) → AreSteps script records → Named (At script records)
   named_at records legal = (stands_after script records sound legal).ground.named
 
-  pub was_sent : (records : List Record) → AreSteps script records → (letter : Letter) → In letter (at_end records).sent
-      → WasSent setting_now records letter
-  unfolding In
-  was_sent records legal letter i = elim (sent_from setting_now (start setting_now) records legal letter i) [ inl none ↦ absurd none | inr s ↦ s ]
-
   -- what a record sent stays sent
-  pub sent_after : (front : List Record) (own : Record) (following : List Record) → AreSteps script (front ++ own ∷ following) → (letter : Letter)
-      → In letter own.sent → (later between : List Record) → later ≡ front ++ own ∷ between → In letter (at_end later).sent
-  sent_after front own following legal letter i later between e =
-      let follows = follows_on front own following legal in
-      let now : In letter (stepped setting_now (at_end front) own).world.sent =
-      subst (In letter) (sym (sent_more setting_now own.actor own.step (at_end front) own.stamp))
-      (in_former letter _ (at_end front).sent (subst (In letter) follows.sent i)) in
-      subst (λ rs. In letter (at_end rs).sent) (sym e) (along (start setting_now) front now)
-    where
-      along : (w : World) (rs : List Record) → In letter (stepped setting_now (world_after setting_now w rs) own).world.sent
-          → In letter (world_after setting_now w (rs ++ own ∷ between)).sent
-      along w [] now = sent_on setting_now (stepped setting_now w own).world between letter now
-      along w (r ∷ rs) now = along (stepped setting_now w r).world rs now
+  pub sent_after : (front : List Record) (own : Record) (between : List Record) → AreSteps script (front ++ own ∷ between) → (letter : Letter)
+      → In letter own.sent → In letter (At script (front ++ own ∷ between)).sent
+  sent_after front own between legal letter i =
+      sent_since (run_of script sound (front ++ own ∷ between) legal) (record { front = front; own = own; following = between; is = refl }) letter i
 
   pub sent_by : (front : List Record) (own : Record) (following : List Record) → AreSteps script (front ++ own ∷ following) → (letter : Letter)
-      → In letter own.sent → is_of_read letter.body ≡ true → IsSentFrom setting_now (at_end front) own letter
+      → In letter own.sent → is_of_read letter.body ≡ true → IsSentFrom setting_now (At script front) own letter
   sent_by front own following legal letter i of_read =
       let follows = follows_on front own following legal in
-      let firm : Firm setting_now (stepped setting_now (at_end front) own).world =
+      let firm : Firm setting_now (stepped setting_now (At script front) own).world =
       subst (Firm setting_now) (next_is front own)
       (stands_after script (front ++ own ∷ []) sound (legal_upto front own following legal)).ground.ready.firm in
-      step_sends setting_now (at_end front) (stands_after script front sound (front_is_legal front (own ∷ following) legal)) own.actor own.step own.stamp
+      step_sends setting_now (At script front) (stands_after script front sound (before_part script front (own ∷ following) legal)) own.actor own.step own.stamp
       follows.may.may firm own refl refl refl follows.sent letter (subst (In letter) follows.sent i) of_read
 
   -- no reply is sent twice
@@ -162,8 +108,8 @@ module _ (script : Script) (sound : IsSound script) where
       let done = front ++ own ∷ between in
       let joined : AreSteps script (done ++ other ∷ following) =
       subst (AreSteps script) (sym (append_assoc front (own ∷ between) (other ∷ following))) legal in
-      let there = sent_after front own (between ++ other ∷ following) legal letter i done between refl in
-      let early = (named_at done (front_is_legal done (other ∷ following) joined)).early letter there in
+      let fine = before_part script done (other ∷ following) joined in
+      let early = (named_at done fine).early letter (sent_after front own between fine letter i) in
       let later = (follows_on done other following joined).stamp in
-      let clock : clock_of (at_end done) letter.«from» ≡ clock_of (at_end done) other.actor = ap (clock_of (at_end done)) (from_is ∙ sym who) in
+      let clock : clock_of (At script done) letter.«from» ≡ clock_of (At script done) other.actor = ap (clock_of (At script done)) (from_is ∙ sym who) in
       omega arith

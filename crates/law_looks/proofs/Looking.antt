@@ -36,7 +36,9 @@ use Rattle.law_looks.specs.Looks.{HasItsLook, IsCalledIn, IsLookedAtOnce, beside
 use Rattle.law_looks.proofs.Answering.{Answers, accepted_by, client_is, data_seq, deliver_is, same_line, the_answer, the_one}
 use Rattle.law_looks.proofs.Answering.{world_split}
 use Rattle.law_looks.proofs.Found.{By_data, By_turning, IsToldBy, TellsIt, beside_one, line_looks, none_of_line, told_by}
-use Rattle.law_looks.proofs.History.{From_client, From_server, IsSentFrom, WasSent, follows_on, front_is_legal, sent_after, sent_by, sent_once, was_sent}
+use Rattle.law_jobs.proofs.Runs.{before_part, run_of}
+use Rattle.law_jobs.proofs.Sent.{WasSent, was_sent}
+use Rattle.law_looks.proofs.History.{From_client, From_server, IsSentFrom, follows_on, sent_after, sent_by, sent_once}
 use Rattle.law_looks.proofs.Lists.{AreOrdered, AreSame, Are_one, Is_former, Is_latter, ordered}
 use Rattle.law_looks.proofs.Replies.{IsReply, answers_read, is_of_read}
 use Rattle.law_looks.proofs.Searching.{HasData, HasTurn, finds, found, is_accepted}
@@ -135,7 +137,7 @@ module _ (script : Script) (sound : IsSound script) (rise : AreRising script.lin
   reply_called front own following e letter r client seq to is line by_line mine =
       let c = client_is r.reply.client client (sym r.reply.to ∙ to) in
       let k = same_some (sym r.reply.is ∙ is) in
-      let called = read_called script sound front (front_is_legal script sound front (own ∷ following) (legal_so e)) r.server r.reply.client r.reply.seq
+      let called = read_called script sound front (before_part script front (own ∷ following) (legal_so e)) r.server r.reply.client r.reply.seq
       r.reply.cell r.reply.epoch r.reply.readable.asked line ((λ j. line_by script.lines (c j) (k j)) ∙ by_line) in
       record { call = called.call; there = called.there; who = called.who ∙ ap actor.Client (c ∙ sym mine); what = called.what }
 
@@ -149,14 +151,14 @@ module _ (script : Script) (sound : IsSound script) (rise : AreRising script.lin
     n = a.line.number
 
     front_fine : AreSteps script m.front
-    front_fine = front_is_legal script sound m.front (m.own ∷ m.following) (legal_so m.is)
+    front_fine = before_part script m.front (m.own ∷ m.following) (legal_so m.is)
 
     abbrev reply_is : answers_read a.letter.body ≡ Some a.seq
     reply_is = ap answers_read a.says
 
     -- where its data were sent
-    abbrev s : WasSent setting m.front a.letter
-    s = was_sent script sound m.front front_fine a.letter a.sent
+    abbrev s : WasSent m.front a.letter
+    s = was_sent (run_of script sound m.front front_fine) a.letter a.sent
 
     abbrev after_s : List Record
     after_s = s.following ++ m.own ∷ m.following
@@ -165,7 +167,7 @@ module _ (script : Script) (sound : IsSound script) (rise : AreRising script.lin
     s_is = m.is ∙ ap (λ rs. rs ++ m.own ∷ m.following) s.is ∙ append_assoc s.front (s.own ∷ s.following) (m.own ∷ m.following)
 
     s_reply : IsReplied s.front s.own a.letter
-    s_reply = replied s.front s.own after_s s_is a.letter s.there a.seq reply_is
+    s_reply = replied s.front s.own after_s s_is a.letter s.sent a.seq reply_is
 
     -- a letter with data for the read is accepted for its line alone
     line_of : (front : List Record) (own : Record) (following : List Record) → records ≡ front ++ own ∷ following → (letter : Letter) → In letter own.sent
@@ -184,7 +186,7 @@ module _ (script : Script) (sound : IsSound script) (rise : AreRising script.lin
     accepted_here : accepted after_s a.letter ≡ Some n
     accepted_here =
         let k = is_accepted s.following m.own m.following a.letter number bytes a.what answered in
-        k.1 ∙ ap Some (line_of s.front s.own after_s s_is a.letter s.there bytes a.says a.to k.0 k.1 ∙ sym a.number_is)
+        k.1 ∙ ap Some (line_of s.front s.own after_s s_is a.letter s.sent bytes a.says a.to k.0 k.1 ∙ sym a.number_is)
 
     in_lines : In a.line script.lines × (a.line.client ≡ a.client)
     in_lines = line_at script.lines a.client (a.seq - 1) a.line a.is
@@ -206,7 +208,7 @@ module _ (script : Script) (sound : IsSound script) (rise : AreRising script.lin
         → accepted following letter ≡ Some number → AreSame front own following s.front s.own after_s
     sent_here front own following e letter i acc =
         one_sender a.letter a.seq reply_is front own following e (subst (λ l. In l own.sent) (letter_of front own following e letter i acc) i)
-        s.front s.own after_s s_is s.there
+        s.front s.own after_s s_is s.sent
 
     abbrev is_old : Bool
     is_old = reads_old setting (At s.front) s.own.actor
@@ -257,7 +259,7 @@ module _ (script : Script) (sound : IsSound script) (rise : AreRising script.lin
               turning = t.own;
               between = t.following;
               is = is;
-              legal_then = subst (AreSteps script) is (front_is_legal script sound s.front (s.own ∷ after_s) (legal_so s_is));
+              legal_then = subst (AreSteps script) is (before_part script s.front (s.own ∷ after_s) (legal_so s_is));
               so = subst (λ u. turns letter u t.own (stepped setting u t.own).world ≡ true) (sym (world_split setting (start setting) front own t.front)) t.so;
               to = to;
               rev = rev;
@@ -308,7 +310,7 @@ module _ (script : Script) (sound : IsSound script) (rise : AreRising script.lin
     turned : is_old ≡ true → WasTurned setting s.front a.client a.seq a.letter.rev
     turned on =
         let r = s_reply.reply in
-        let fine = front_is_legal script sound s.front (s.own ∷ after_s) (legal_so s_is) in
+        let fine = before_part script s.front (s.own ∷ after_s) (legal_so s_is) in
         let leaves = sym (reads_old_is (grounded_at s.front fine) s_reply.server r.client r.seq r.cell r.epoch r.readable.asked)
         ∙ ap (reads_old setting (At s.front)) (sym s_reply.who) ∙ on in
         let t = read_turned script sound s.front fine s_reply.server r.client r.seq r.cell r.epoch r.readable.asked leaves in
@@ -327,21 +329,21 @@ module _ (script : Script) (sound : IsSound script) (rise : AreRising script.lin
       not_here = t.letter
 
       s_fine : AreSteps script s.front
-      s_fine = front_is_legal script sound s.front (s.own ∷ after_s) (legal_so s_is)
+      s_fine = before_part script s.front (s.own ∷ after_s) (legal_so s_is)
 
       t_legal : AreSteps script (t.front ++ t.own ∷ t.following)
       t_legal = subst (AreSteps script) t.is s_fine
 
       t_fine : AreSteps script t.front
-      t_fine = front_is_legal script sound t.front (t.own ∷ t.following) t_legal
+      t_fine = before_part script t.front (t.own ∷ t.following) t_legal
 
       comes : MayDeliver (At t.front) (actor.Client a.client) not_here
       comes = subst (λ x. MayClient x setting (At t.front) a.client) t.turn.what
           (subst (λ x. MayActor x t.own.step setting (At t.front)) t.turn.who (follows_on script sound t.front t.own t.following t_legal).may.may).1
 
       -- where the letter was sent that made it turn
-      abbrev o : WasSent setting t.front not_here
-      o = was_sent script sound t.front t_fine not_here comes.sent
+      abbrev o : WasSent t.front not_here
+      o = was_sent (run_of script sound t.front t_fine) not_here comes.sent
 
       abbrev between_o : List Record
       between_o = o.following ++ t.own ∷ t.following
@@ -359,7 +361,7 @@ module _ (script : Script) (sound : IsSound script) (rise : AreRising script.lin
       reply_n = ap answers_read t.turn.said
 
       o_reply : IsReplied o.front o.own not_here
-      o_reply = replied o.front o.own after_o o_is not_here o.there a.seq reply_n
+      o_reply = replied o.front o.own after_o o_is not_here o.sent a.seq reply_n
 
       abbrev next : World
       next = (stepped setting (At o.front) o.own).world
@@ -389,7 +391,7 @@ module _ (script : Script) (sound : IsSound script) (rise : AreRising script.lin
       -- the search finds these data, and no others
       some : (given : ℕ × List ℕ) × (old_data setting next after_o told false ≡ Some given)
       some = finds setting next between_o s.own after_s false told a.letter (n, bytes)
-          (ap (λ u. reads_old setting u s.own.actor) world_s ∙ on) s.there has (inr turns_there)
+          (ap (λ u. reads_old setting u s.own.actor) world_s ∙ on) s.sent has (inr turns_there)
 
       given_is : (given : ℕ × List ℕ) → old_data setting next after_o told false ≡ Some given → (given.0 ≡ n) × (given.1 ≡ bytes)
       given_is given is =
@@ -418,11 +420,11 @@ module _ (script : Script) (sound : IsSound script) (rise : AreRising script.lin
           turned_front = other.front ++ other.own ∷ f.turned
 
           fine : AreSteps script turned_front
-          fine = front_is_legal script sound turned_front (f.turning ∷ f.between) f.legal_then
+          fine = before_part script turned_front (f.turning ∷ f.between) f.legal_then
 
           k : IsTurnOf script sound (At turned_front) f.turning letter seq
           k = turn_of script sound turned_front f.turning fine (follows_on script sound turned_front f.turning f.between f.legal_then) letter seq
-              (sent_after script sound other.front other.own other.following (legal_so other.is) letter there turned_front f.turned refl) said f.so
+              (sent_after script sound other.front other.own f.turned fine letter there) said f.so
 
           turn_too : IsTurn setting (At turned_front) f.turning letter a.client a.seq a.letter.rev
           turn_too =
@@ -435,7 +437,7 @@ module _ (script : Script) (sound : IsSound script) (rise : AreRising script.lin
               let letter_is : letter ≡ not_here =
               deliver_is letter not_here (sym turn_too.what ∙ ap (λ (r : Record). r.step) (sym own_is) ∙ t.turn.what) in
               (one_sender not_here a.seq reply_n other.front other.own other.following other.is (subst (λ l. In l other.own.sent) letter_is there)
-              o.front o.own after_o o_is o.there).front_is
+              o.front o.own after_o o_is o.sent).front_is
           by (Is_former between same rest) = absurd (turns_once script sound t.front t.own between f.turning (subst (AreSteps script) same fine) not_here letter
               a.client a.seq a.letter.rev t.turn (subst (λ rs. IsTurn setting (At rs) f.turning letter a.client a.seq a.letter.rev) same turn_too))
           by (Is_latter between same rest) = absurd (turns_once script sound turned_front f.turning between t.own (subst (AreSteps script) same t_fine) letter
@@ -493,7 +495,7 @@ module _ (script : Script) (sound : IsSound script) (rise : AreRising script.lin
           between = s.following;
           answered = s.is;
           letter = a.letter;
-          sent = s.there;
+          sent = s.sent;
           says = a.says ∙ ap (λ q. body.Data q bytes) (sym k);
           accepted = a.what;
           server = s_reply.server;
@@ -508,6 +510,6 @@ module _ (script : Script) (sound : IsSound script) (rise : AreRising script.lin
           number_is = a.number_is;
           called = reply_called s.front s.own after_s s_is a.letter s_reply a.client a.seq a.to reply_is a.line a.is in_lines.1;
           bytes_are = r.shown a.seq bytes a.says;
-          link = unlost (grounded_at s.front (front_is_legal script sound s.front (s.own ∷ after_s) (legal_so s_is))) s_reply.server r.cell r.runs
+          link = unlost (grounded_at s.front (before_part script s.front (s.own ∷ after_s) (legal_so s_is))) s_reply.server r.cell r.runs
               r.readable.seated r.readable.readable;
         }

@@ -34,7 +34,9 @@ use Rattle.law_steps.specs.Turned.{line_by}
 use Rattle.law_steps.proofs.Coming.{stage_facts}
 use Rattle.law_steps.proofs.Fronts.{front_on, one_front}
 use Rattle.law_looks.proofs.Clients.{Asks}
-use Rattle.law_looks.proofs.History.{From_client, From_server, IsSentFrom, asked_at, legal_upto, next_is, sent_by, was_sent}
+use Rattle.law_jobs.proofs.Runs.{run_of}
+use Rattle.law_jobs.proofs.Sent.{was_sent}
+use Rattle.law_looks.proofs.History.{From_client, From_server, IsSentFrom, asked_at, legal_upto, next_is, sent_by}
 use Rattle.law_looks.proofs.Replies.{answers_read, is_of_read}
 use Rattle.law_looks.proofs.Standing.{stands_after}
 use Rattle.law_looks.proofs.Steps.{own_asks, reacted_to}
@@ -100,10 +102,10 @@ module _ (script : Script) (sound : IsSound script) where
   source : (records : List Record) → AreSteps script records → (letter : Letter) → In letter (At records).sent → (client seq : ℕ) (cell : Cell)
       (epoch : ℕ) → letter.body ≡ body.Read client seq cell epoch → IsSource records client seq cell letter.rev
   source records legal letter i client seq cell epoch says =
-      let s = was_sent script sound records legal letter i in
+      let s = was_sent (run_of script sound records legal) letter i in
       let there : AreSteps script (s.front ++ s.own ∷ s.following) = subst (AreSteps script) s.is legal in
       let of_read : is_of_read letter.body ≡ true = ap is_of_read says in
-      let so = by s.front s.own (sent_by script sound s.front s.own s.following there letter s.there of_read) in
+      let so = by s.front s.own (sent_by script sound s.front s.own s.following there letter s.sent of_read) in
       record {
         front = s.front;
         own = s.own;
@@ -128,7 +130,7 @@ module _ (script : Script) (sound : IsSound script) where
   read_called records legal n client seq cell epoch h line is =
       let s = source records legal h.letter h.sent client seq cell epoch h.is in
       let asks = s.so.asks in
-      let k = was_called script sound (s.front ++ s.own ∷ []) s.legal client asks.asked asks.is in
+      let k = was_called (run_of script sound (s.front ++ s.own ∷ []) s.legal) client asks.asked asks.is in
       let of = asked_at script sound (s.front ++ s.own ∷ []) s.legal client asks.asked asks.is in
       let line_is : of.line ≡ line = same_some (sym of.is ∙ ap (line_by script.lines client) asks.seq_is ∙ is) in
       record {
@@ -179,7 +181,7 @@ module _ (script : Script) (sound : IsSound script) where
       ap (λ log. leaving (state_after script.servers log) cell) log_is ∙ leaves in
       let plain = front_plain script.servers mine (chosen_log setting (At done)) firm.plain (firm.clients client) in
       let way = old_way_of mine plain cell asks.name asks.disk asks.block asks.asked.old_way asks.found asks.cell_is leaves_then in
-      let t = was_turned script sound done s.legal client asks.asked asks.is way in
+      let t = was_turned (run_of script sound done s.legal) client asks.asked asks.is way in
       let rev_is : asks.asked.rev ≡ rev_of ((At records).servers n).log = asks.rev_is ∙ log_rev script.servers mine ∙ ap length log_is in
       let here : WasTurned setting done client seq (rev_of ((At records).servers n).log) =
       subst (WasTurned setting done client seq) rev_is (subst (λ k. WasTurned setting done client k asks.asked.rev) asks.seq_is t) in

@@ -1,6 +1,5 @@
 -- How reads come to ask the old map: by one delivery alone for each revision; and what is open was called.
 use Rattle.std.proofs.Common.{◌≡◌, ◌≤◌, ◌<◌, ◌++◌, ◌&&◌, ℕ, List, [], ◌∷◌, Bool, true, false, not, Option, Some, None, refl, sym, ap, ◌∙◌, subst, ◌⊎◌, inl, inr, arith, append_assoc}
-use Rattle.std.proofs.lemmas.List.{append-nil}
 use Rattle.petal_msg.specs.declared.body.Body.TheVariants as body
 use Rattle.petal_msg.specs.declared.letter.Actor.{Actor}
 use Rattle.petal_msg.specs.declared.letter.Actor.TheVariants as actor
@@ -21,8 +20,9 @@ use Rattle.petal_history.specs.declared.record.Record.{Record}
 use Rattle.law_state.specs.Moments.{IsMoment}
 use Rattle.law_state.proofs.Moments.{last_moment, moment_more}
 use Rattle.law_steps.proofs.Turning.{is_call}
+use Rattle.law_jobs.proofs.Runs.{At, OneMore, Run, after, before_part, by_run, follows_in, longer, run_of, setting_in, since, stepped_in}
 use Rattle.law_looks.proofs.Clients.{As_before, HasWay, Is_called, Later, OnWay, Turns, Was_open}
-use Rattle.law_looks.proofs.History.{asked_at, follows_on, front_is_legal, named_at, next_is}
+use Rattle.law_looks.proofs.History.{asked_at, named_at, next_is}
 use Rattle.law_looks.proofs.Searching.{name_itself}
 use Rattle.law_looks.proofs.Steps.{By_its_step, Delivers, Is_still, StepWay, step_seq, step_way}
 
@@ -67,9 +67,6 @@ module _ (script : Script) (sound : IsSound script) where
   abbrev setting : Setting
   setting = setting_of script
 
-  abbrev At : List Record → World
-  At records = world_after setting (start setting) records
-
   -- what is open was called, and where it asks the old map, a delivery made it do so
   record Kept (records : List Record) (w : World) : Type 0 where
     turned : (c : ℕ) (asked : Asked) → (w.clients c).asked ≡ Some asked → asked.old_way ≡ true → WasTurned setting records c asked.seq asked.rev
@@ -77,15 +74,16 @@ module _ (script : Script) (sound : IsSound script) where
 
   -- ### One step
 
-  module _ (done : List Record) (own : Record) (legal : AreSteps script done) (follows : Follows setting (At done) own) (kept : Kept done (At done)) where
+  module _ (done : List Record) (own : Record) (legal : AreSteps script done) (follows : Follows setting (At script done) own)
+      (kept : Kept done (At script done)) where
     abbrev v : World
-    v = (stepped setting (At done) own).world
+    v = (stepped setting (At script done) own).world
 
     abbrev more : List Record
     more = done ++ own ∷ []
 
-    ways : (c : ℕ) (new : Asked) → (v.clients c).asked ≡ Some new → StepWay setting (At done) own.actor own.step c new
-    ways = step_way setting (At done) (asked_at script sound done legal) own.actor own.step own.stamp follows.may.may
+    ways : (c : ℕ) (new : Asked) → (v.clients c).asked ≡ Some new → StepWay setting (At script done) own.actor own.step c new
+    ways = step_way setting (At script done) (asked_at script sound done legal) own.actor own.step own.stamp follows.may.may
 
     turned_on : (c seq rev : ℕ) → WasTurned setting done c seq rev → WasTurned setting more c seq rev
     turned_on c seq rev t = record { moment = moment_more done own t.moment; letter = t.letter; turn = t.turn }
@@ -94,7 +92,7 @@ module _ (script : Script) (sound : IsSound script) where
     called_on c number k = record { call = k.call; there = in_former k.call done (own ∷ []) k.there; who = k.who; what = k.what }
 
     turned_now : (c : ℕ) (new : Asked) → (v.clients c).asked ≡ Some new → new.old_way ≡ true → own.actor ≡ actor.Client c → (in_call : Bool)
-        → HasWay (Delivers own.step) setting.lines c ((At done).clients c) new in_call → WasTurned setting more c new.seq new.rev
+        → HasWay (Delivers own.step) setting.lines c ((At script done).clients c) new in_call → WasTurned setting more c new.seq new.rev
     turned_now c new is way who _ (Is_called line next free number seq new_way) = true_false way new_way
     turned_now c new is way who _ (Was_open old was seq line on) = by on
       where
@@ -116,14 +114,15 @@ module _ (script : Script) (sound : IsSound script) where
           };
         }
 
-    called_now : (c : ℕ) (new : Asked) → own.actor ≡ actor.Client c → MayClient own.step setting (At done) c → (in_call : Bool) → in_call ≡ is_call own.step
-        → HasWay (Delivers own.step) setting.lines c ((At done).clients c) new in_call → WasCalled more c new.line
+    called_now : (c : ℕ) (new : Asked) → own.actor ≡ actor.Client c → MayClient own.step setting (At script done) c → (in_call : Bool)
+        → in_call ≡ is_call own.step
+        → HasWay (Delivers own.step) setting.lines c ((At script done).clients c) new in_call → WasCalled more c new.line
     unfolding In
     called_now c new who may _ e (Is_called line next free number seq new_way) = record {
       call = own;
       there = in_later own done (own ∷ []) (inl refl);
       who = who;
-      what = called_as setting (At done) c own.step e may line next ∙ ap Call (sym number);
+      what = called_as setting (At script done) c own.step e may line next ∙ ap Call (sym number);
     }
     called_now c new who may _ e (Was_open old was seq line on) =
         called_on c new.line (subst (WasCalled done c) (sym line) (kept.called c old was))
@@ -134,55 +133,54 @@ module _ (script : Script) (sound : IsSound script) where
       called = λ c new is. by_call c new (ways c new is);
     }
       where
-        by_turn : (c : ℕ) (new : Asked) → (v.clients c).asked ≡ Some new → new.old_way ≡ true → StepWay setting (At done) own.actor own.step c new
+        by_turn : (c : ℕ) (new : Asked) → (v.clients c).asked ≡ Some new → new.old_way ≡ true → StepWay setting (At script done) own.actor own.step c new
             → WasTurned setting more c new.seq new.rev
         by_turn c new is way (Is_still was) = turned_on c new.seq new.rev (kept.turned c new was way)
         by_turn c new is way (By_its_step who may has) = turned_now c new is way who (is_call own.step) has
 
-        by_call : (c : ℕ) (new : Asked) → StepWay setting (At done) own.actor own.step c new → WasCalled more c new.line
+        by_call : (c : ℕ) (new : Asked) → StepWay setting (At script done) own.actor own.step c new → WasCalled more c new.line
         by_call c new (Is_still was) = called_on c new.line (kept.called c new was)
         by_call c new (By_its_step who may has) = called_now c new who may (is_call own.step) refl has
 
-  -- ### A history
+-- ### A history
 
-  kept_from : (done later : List Record) → AreSteps script (done ++ later) → Kept done (At done) → Kept (done ++ later) (At (done ++ later))
-  kept_from done [] legal kept = subst (λ rs. Kept rs (At rs)) (sym (append-nil done)) kept
-  kept_from done (own ∷ later) legal kept =
-      let e = append_assoc done (own ∷ []) later in
-      let follows = follows_on script sound done own later legal in
-      let now : Kept (done ++ own ∷ []) (At (done ++ own ∷ [])) =
-      subst (Kept (done ++ own ∷ [])) (sym (next_is script sound done own))
-      (kept_more done own (front_is_legal script sound done (own ∷ later) legal) follows kept) in
-      subst (λ rs. Kept rs (At rs)) e (kept_from (done ++ own ∷ []) later (subst (AreSteps script) (sym e) legal) now)
+kept_in : (run : Run) → Kept run.script run.sound run.records (after run)
+kept_in =
+    by_run (λ run. Kept run.script run.sound run.records (after run))
+    (λ script sound legal. record { turned = λ c asked e. none_some refl e; called = λ c asked e. none_some refl e })
+    (λ it kept. subst (Kept it.prior.script it.prior.sound (longer it).records) (sym (stepped_in it))
+    (kept_more it.prior.script it.prior.sound it.prior.records it.own it.prior.legal (follows_in it) kept))
 
-  kept_after : (records : List Record) → AreSteps script records → Kept records (At records)
-  kept_after records legal = kept_from [] records legal (record { turned = λ c asked e. none_some refl e; called = λ c asked e. none_some refl e })
+-- a read that asks the old map was turned to it at the revision of its latest send
+pub was_turned : (run : Run) (c : ℕ) (asked : Asked) → ((after run).clients c).asked ≡ Some asked → asked.old_way ≡ true
+    → WasTurned (setting_in run) run.records c asked.seq asked.rev
+was_turned run = (kept_in run).turned
 
-  -- a read that asks the old map was turned to it at the revision of its latest send
-  pub was_turned : (records : List Record) → AreSteps script records → (c : ℕ) (asked : Asked) → ((At records).clients c).asked ≡ Some asked
-      → asked.old_way ≡ true → WasTurned setting records c asked.seq asked.rev
-  was_turned records legal = (kept_after records legal).turned
+-- an open request was called
+pub was_called : (run : Run) (c : ℕ) (asked : Asked) → ((after run).clients c).asked ≡ Some asked → WasCalled run.records c asked.line
+was_called run = (kept_in run).called
 
-  -- an open request was called
-  pub was_called : (records : List Record) → AreSteps script records → (c : ℕ) (asked : Asked) → ((At records).clients c).asked ≡ Some asked
-      → WasCalled records c asked.line
-  was_called records legal = (kept_after records legal).called
+-- ### One turn for each revision
 
-  -- ### One turn for each revision
+-- the client is past the turn of this request at this revision
+record IsPast (w : World) (c seq rev : ℕ) : Type 0 where
+  low : seq ≤ (w.clients c).seq
+  past : (asked : Asked) → (w.clients c).asked ≡ Some asked → asked.seq ≡ seq → (rev < asked.rev) ⊎ ((asked.rev ≡ rev) × (asked.old_way ≡ true))
 
-  -- the client is past the turn of this request at this revision
-  record IsPast (w : World) (c seq rev : ℕ) : Type 0 where
-    low : seq ≤ (w.clients c).seq
-    past : (asked : Asked) → (w.clients c).asked ≡ Some asked → asked.seq ≡ seq → (rev < asked.rev) ⊎ ((asked.rev ≡ rev) × (asked.old_way ≡ true))
+module _ (it : OneMore) where
+  open it use {prior.{script, sound, records as done, legal}, own}
 
-  past_next : (done : List Record) (own : Record) → AreSteps script done → Follows setting (At done) own → (c seq rev : ℕ) → IsPast (At done) c seq rev
-      → IsPast (stepped setting (At done) own).world c seq rev
-  past_next done own legal follows c seq rev p = record {
-    low = let up = step_seq setting (At done) own.actor own.step own.stamp follows.may.may c in let low = p.low in omega arith;
-    past = λ new is at. by new at (step_way setting (At done) (asked_at script sound done legal) own.actor own.step own.stamp follows.may.may c new is);
+  abbrev before : World
+  before = after it.prior
+
+  past_next : (c seq rev : ℕ) → IsPast before c seq rev → IsPast (stepped (setting_in it.prior) before own).world c seq rev
+  past_next c seq rev p = record {
+    low = let up = step_seq (setting_in it.prior) before own.actor own.step own.stamp (follows_in it).may.may c in let low = p.low in omega arith;
+    past = λ new is at. by new at
+        (step_way (setting_in it.prior) before (asked_at script sound done legal) own.actor own.step own.stamp (follows_in it).may.may c new is);
   }
     where
-      on_way : (new old : Asked) → new.seq ≡ seq → ((At done).clients c).asked ≡ Some old → new.seq ≡ old.seq → OnWay (Delivers own.step) old new
+      on_way : (new old : Asked) → new.seq ≡ seq → (before.clients c).asked ≡ Some old → new.seq ≡ old.seq → OnWay (Delivers own.step) old new
           → (rev < new.rev) ⊎ ((new.rev ≡ rev) × (new.old_way ≡ true))
       on_way new old at was same on = elim (p.past old was (sym same ∙ at)) [
         | inl lt ↦ further lt on
@@ -199,45 +197,44 @@ module _ (script : Script) (sound : IsSound script) where
           from_here e t (Later up way) = inl (omega arith)
           from_here e t (Turns told off at' way) = true_false t off
 
-      has : (new : Asked) → new.seq ≡ seq → (in_call : Bool) → HasWay (Delivers own.step) setting.lines c ((At done).clients c) new in_call
+      has : (new : Asked) → new.seq ≡ seq → (in_call : Bool) → HasWay (Delivers own.step) script.lines c (before.clients c) new in_call
           → (rev < new.rev) ⊎ ((new.rev ≡ rev) × (new.old_way ≡ true))
       has new at _ (Is_called line next free number above new_way) = let low = p.low in absurd (omega arith)
       has new at _ (Was_open old was same line on) = on_way new old at was same on
 
-      by : (new : Asked) → new.seq ≡ seq → StepWay setting (At done) own.actor own.step c new
+      by : (new : Asked) → new.seq ≡ seq → StepWay (setting_in it.prior) before own.actor own.step c new
           → (rev < new.rev) ⊎ ((new.rev ≡ rev) × (new.old_way ≡ true))
       by new at (Is_still was) = p.past new was at
       by new at (By_its_step who may way) = has new at (is_call own.step) way
 
-  past_along : (done later : List Record) → AreSteps script (done ++ later) → (c seq rev : ℕ) → IsPast (At done) c seq rev
-      → IsPast (At (done ++ later)) c seq rev
-  past_along done [] legal c seq rev p = subst (λ rs. IsPast (At rs) c seq rev) (sym (append-nil done)) p
-  past_along done (own ∷ later) legal c seq rev p =
-      let e = append_assoc done (own ∷ []) later in
-      let now : IsPast (At (done ++ own ∷ [])) c seq rev =
-      subst (λ u. IsPast u c seq rev) (sym (next_is script sound done own))
-      (past_next done own (front_is_legal script sound done (own ∷ later) legal) (follows_on script sound done own later legal) c seq rev p) in
-      subst (λ rs. IsPast (At rs) c seq rev) e (past_along (done ++ own ∷ []) later (subst (AreSteps script) (sym e) legal) c seq rev now)
+past_since : (run : Run) (front later : List Record) → run.records ≡ front ++ later → (c seq rev : ℕ) → IsPast (At run.script front) c seq rev
+    → IsPast (after run) c seq rev
+past_since run front later is c seq rev p =
+    since (λ run. IsPast (after run) c seq rev) (λ it old. subst (λ u. IsPast u c seq rev) (sym (stepped_in it))
+    (past_next it c seq rev old)) run front later is (λ legal. p)
+
+module _ (script : Script) (sound : IsSound script) where
+  abbrev of_script : Setting
+  of_script = setting_of script
 
   -- a read does not turn to the old map a second time at one revision
   pub turns_once : (front : List Record) (own : Record) (between : List Record) (other : Record) → AreSteps script (front ++ own ∷ between)
       → (letter again : Letter) (c seq rev : ℕ)
-      → IsTurn setting (At front) own letter c seq rev → IsTurn setting (At (front ++ own ∷ between)) other again c seq rev → ⊥
+      → IsTurn of_script (At script front) own letter c seq rev → IsTurn of_script (At script (front ++ own ∷ between)) other again c seq rev → ⊥
   turns_once front own between other legal letter again c seq rev one two =
       let e = append_assoc front (own ∷ []) between in
       let joined : AreSteps script ((front ++ own ∷ []) ++ between) = subst (AreSteps script) (sym e) legal in
       let next = next_is script sound front own in
-      let after : IsAskedSo (At (front ++ own ∷ [])) c seq rev true = subst (λ u. IsAskedSo u c seq rev true) (sym next) one.after in
-      let last = (asked_at script sound (front ++ own ∷ []) (front_is_legal script sound (front ++ own ∷ []) between joined) c after.asked after.is).last in
+      let after : IsAskedSo (At script (front ++ own ∷ [])) c seq rev true = subst (λ u. IsAskedSo u c seq rev true) (sym next) one.after in
+      let last = (asked_at script sound (front ++ own ∷ []) (before_part script (front ++ own ∷ []) between joined) c after.asked after.is).last in
       let at = after.seq_is in
-      let start_past : IsPast (At (front ++ own ∷ [])) c seq rev = record {
+      let start_past : IsPast (At script (front ++ own ∷ [])) c seq rev = record {
         low = omega arith;
         past = λ asked is same.
             let it : after.asked ≡ asked = same_some (sym after.is ∙ is) in
             inr (ap (λ (a : Asked). a.rev) (sym it) ∙ after.rev_is, ap (λ (a : Asked). a.old_way) (sym it) ∙ after.way_is);
       } in
-      let end : IsPast (At (front ++ own ∷ between)) c seq rev =
-      subst (λ rs. IsPast (At rs) c seq rev) e (past_along (front ++ own ∷ []) between joined c seq rev start_past) in
+      let end = past_since (run_of script sound (front ++ own ∷ between) legal) (front ++ own ∷ []) between (sym e) c seq rev start_past in
       elim (end.past two.before.asked two.before.is two.before.seq_is) [
         | inl lt ↦ (let r = two.before.rev_is in absurd (omega arith))
         | inr here ↦ true_false here.1 two.before.way_is
@@ -253,15 +250,15 @@ module _ (script : Script) (sound : IsSound script) where
   pub record IsTurnOf (w : World) (own : Record) (letter : Letter) (seq : ℕ) : Type 0 where
     pub client : ℕ
     pub to : letter.to ≡ actor.Client client
-    pub turn : IsTurn setting w own letter client seq letter.rev
+    pub turn : IsTurn of_script w own letter client seq letter.rev
 
-  module _ (front : List Record) (own : Record) (legal : AreSteps script front) (follows : Follows setting (At front) own) (letter : Letter) (seq : ℕ)
-      (sent : In letter (At front).sent) (said : letter.body ≡ body.NotHere seq) where
+  module _ (front : List Record) (own : Record) (legal : AreSteps script front) (follows : Follows of_script (At script front) own) (letter : Letter) (seq : ℕ)
+      (sent : In letter (At script front).sent) (said : letter.body ≡ body.NotHere seq) where
     abbrev w : World
-    w = At front
+    w = At script front
 
     abbrev next : World
-    next = (stepped setting (At front) own).world
+    next = (stepped of_script (At script front) own).world
 
     abbrev R : Type 0
     R = IsTurnOf w own letter seq
@@ -271,11 +268,11 @@ module _ (script : Script) (sound : IsSound script) where
       still_off : (old : Asked) → (w.clients c).asked ≡ Some old → old.old_way ≡ true → R
       still_off old was t = true_false t (sym (ap is_old_way was) ∙ off)
 
-      on_way : (old : Asked) → (w.clients c).asked ≡ Some old → new.seq ≡ old.seq → MayClient own.step setting w c → OnWay (Delivers own.step) old new → R
+      on_way : (old : Asked) → (w.clients c).asked ≡ Some old → new.seq ≡ old.seq → MayClient own.step of_script w c → OnWay (Delivers own.step) old new → R
       on_way old was same may (As_before at way') = still_off old was (sym way' ∙ way)
       on_way old was same may (Later lt way') = true_false way way'
       on_way old was same may (Turns told off' at way') =
-          let comes : MayDeliver w (actor.Client c) told.letter = subst (λ x. MayClient x setting w c) told.is may in
+          let comes : MayDeliver w (actor.Client c) told.letter = subst (λ x. MayClient x of_script w c) told.is may in
           let names : same_name letter told.letter ≡ true = sym (ap (delivers letter) told.is) ∙ d in
           let one : letter ≡ told.letter = (named_at script sound front legal).unique letter told.letter sent comes.sent names in
           let both : body.NotHere old.seq ≡ body.NotHere seq = sym told.said ∙ ap (λ (l : Letter). l.body) (sym one) ∙ said in
@@ -294,11 +291,11 @@ module _ (script : Script) (sound : IsSound script) where
             };
           }
 
-      has : MayClient own.step setting w c → (in_call : Bool) → HasWay (Delivers own.step) setting.lines c (w.clients c) new in_call → R
+      has : MayClient own.step of_script w c → (in_call : Bool) → HasWay (Delivers own.step) of_script.lines c (w.clients c) new in_call → R
       has may _ (Is_called line next' free number above new_way) = true_false way new_way
       has may _ (Was_open old was same line on) = on_way old was same may on
 
-      by_way : StepWay setting w own.actor own.step c new → R
+      by_way : StepWay of_script w own.actor own.step c new → R
       by_way (Is_still was) = still_off new was way
       by_way (By_its_step who' may way') = has may (is_call own.step) way'
 
@@ -307,22 +304,22 @@ module _ (script : Script) (sound : IsSound script) where
     by_who (actor.Client c) who d off on =
         let o = open_old (next.clients c).asked on in
         by_way c who d off o.0 o.1 o.2
-        (step_way setting w (asked_at script sound front legal) own.actor own.step own.stamp follows.may.may c o.0 o.1)
+        (step_way of_script w (asked_at script sound front legal) own.actor own.step own.stamp follows.may.may c o.0 o.1)
 
-    pub turn_of : turns letter (At front) own (stepped setting (At front) own).world ≡ true → R
+    pub turn_of : turns letter (At script front) own (stepped of_script (At script front) own).world ≡ true → R
     turn_of e =
         let outer = both_true (delivers letter own.step && not (goes_old w own.actor)) (goes_old next own.actor) e in
         let inner = both_true (delivers letter own.step) (not (goes_old w own.actor)) outer.0 in
         by_who own.actor refl inner.0 (not_true (goes_old w own.actor) inner.1) outer.1
 
   -- and such a record is seen as one
-  pub turn_is_seen : (w : World) (own : Record) (letter : Letter) (c seq rev : ℕ) → IsTurn setting w own letter c seq rev
-      → turns letter w own (stepped setting w own).world ≡ true
+  pub turn_is_seen : (w : World) (own : Record) (letter : Letter) (c seq rev : ℕ) → IsTurn of_script w own letter c seq rev
+      → turns letter w own (stepped of_script w own).world ≡ true
   turn_is_seen w own letter c seq rev t =
-      three (delivers letter own.step) (goes_old w own.actor) (goes_old (stepped setting w own).world own.actor)
+      three (delivers letter own.step) (goes_old w own.actor) (goes_old (stepped of_script w own).world own.actor)
       (ap (delivers letter) t.what ∙ name_itself letter)
       (ap (goes_old w) t.who ∙ ap is_old_way t.before.is ∙ t.before.way_is)
-      (ap (goes_old (stepped setting w own).world) t.who ∙ ap is_old_way t.after.is ∙ t.after.way_is)
+      (ap (goes_old (stepped of_script w own).world) t.who ∙ ap is_old_way t.after.is ∙ t.after.way_is)
     where
       three : (a b d : Bool) → a ≡ true → b ≡ false → d ≡ true → (a && not b && d) ≡ true
       three true false true e f g = refl

@@ -20,7 +20,7 @@ use Rattle.law_state.specs.Homes.{stage_at}
 use Rattle.law_state.proofs.Steady.{log_below}
 use Rattle.law_log.proofs.Histories.{history_grows, history_is_firm}
 use Rattle.law_steps.proofs.Fronts.{front_on}
-use Rattle.law_stores.proofs.Ways.{At}
+use Rattle.law_jobs.proofs.Runs.{At}
 use Rattle.law_copies.specs.Visits.{IsLinked, WasThere, place_by}
 use Rattle.law_copies.proofs.Places.{at_most_or_above}
 use Rattle.law_moves.specs.Fills.{HaveComeOver, IsFrozen}
@@ -32,10 +32,10 @@ use Rattle.law_moves.proofs.Rule.{rule_kept}
 use Rattle.law_moves.proofs.EqualCopies.{frozen_on}
 use Rattle.law_moves.proofs.There.{told_already}
 use Rattle.law_moves.proofs.Worlds.{rests}
-use Rattle.law_epochs.proofs.Scenes.{History, cut, end_of}
+use Rattle.law_epochs.proofs.Scenes.{Run, cut, end_of}
 
 module _ (script : Script) (records : List Record) (sound : IsSound script) (legal : AreSteps script records) where
-  abbrev h : History
+  abbrev h : Run
   h = record { script = script; sound = sound; records = records; legal = legal }
 
   open end_of h use {setting, w, chosen}
@@ -73,7 +73,7 @@ module _ (script : Script) (records : List Record) (sound : IsSound script) (leg
     whole : AreSteps script (there.before ++ there.later)
     whole = subst (AreSteps script) there.is legal
 
-    abbrev then : History
+    abbrev then : Run
     then = cut h there.before there.later there.is
 
     -- it is a frozen one

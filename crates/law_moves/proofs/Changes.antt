@@ -52,7 +52,7 @@ use Rattle.law_epochs.proofs.Histories.{running_timely}
 use Rattle.law_moves.proofs.Chains.{A_copy, An_asked, An_own, CopiesSo, Is_dropped, Is_dropped_first, Is_put, NeverDead, Nothing_new}
 use Rattle.law_moves.proofs.Chains.{Of_the_dead, StoresSo, copied_apart, did_stores}
 use Rattle.law_moves.proofs.Worlds.{firm, good, own_counts, rests, steady_at, up}
-use Rattle.law_epochs.proofs.Scenes.{History, end_of}
+use Rattle.law_epochs.proofs.Scenes.{Run, end_of}
 
 -- no fill is pending at a server that runs but while its cell comes
 abbrev pub AreOpenedComing : Setting → World → Type 0
@@ -68,7 +68,7 @@ pub put_on : (chains : Table Cell Chain) (key : Key) (entry : Stored) (cell : Ce
 put_on chains key entry cell e =
     subst (λ (q : Cell). chain_in (chains_with chains key entry) q ≡ put nat_cmp (chain_in chains q) key.epoch entry) e (chain_put chains (cell_of key) _)
 
-module _ (it : History) (opened : AreOpenedComing (end_of it).setting (end_of it).w) (n : ℕ) (runs : ((end_of it).w.servers n).life.running ≡ true) where
+module _ (it : Run) (opened : AreOpenedComing (end_of it).setting (end_of it).w) (n : ℕ) (runs : ((end_of it).w.servers n).life.running ≡ true) where
   open it use {script, sound, records, legal}
   open end_of it use {setting, w, chosen}
 

@@ -25,7 +25,8 @@ use Rattle.law_state.specs.Homes.{stage_at}
 use Rattle.law_state.proofs.Roles.{secondary_is_one}
 use Rattle.law_steps.proofs.Fronts.{front_itself, front_long, front_on}
 use Rattle.law_steps.proofs.Records.{split_last}
-use Rattle.law_stores.proofs.Ways.{At, before_last}
+use Rattle.law_jobs.proofs.Runs.{At}
+use Rattle.law_stores.proofs.Ways.{before_last}
 use Rattle.law_copies.specs.Good.{AreTwins, pair_at}
 use Rattle.law_copies.specs.Pair.{AreCopies, Working, far}
 use Rattle.law_copies.specs.Visits.{IsLinked, WasThere, half, place_by}
@@ -40,7 +41,7 @@ use Rattle.law_moves.proofs.Opened.{opened_within}
 use Rattle.law_moves.proofs.Over.{AllMoved}
 use Rattle.law_moves.proofs.There.{told_already}
 use Rattle.law_moves.proofs.Worlds.{chosen_twins, good, rests, row_serving}
-use Rattle.law_epochs.proofs.Scenes.{History, OneMore, cut, ends_of}
+use Rattle.law_epochs.proofs.Scenes.{Run, OneMore, cut, ends_of}
 use Rattle.law_moves.proofs.Scenes.{FillsSo}
 
 -- what is known of an entry that moves stays so
@@ -105,7 +106,7 @@ module _ (it : OneMore) (all : WereKnown it) where
         pending_then : at cell_cmp ((At script was.before).servers row.primary).own.pairs.pending cell ≡ Some op
         pending_then = ap (λ (p : Pairs). at cell_cmp p.pending cell) was.had ∙ pending
 
-        abbrev then : History
+        abbrev then : Run
         then = cut present was.before was.later was.is
 
         -- no client's write is

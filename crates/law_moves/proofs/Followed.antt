@@ -28,7 +28,7 @@ use Rattle.law_steps.proofs.Fronts.{front_on}
 use Rattle.law_steps.proofs.Leading.{live_stage}
 use Rattle.law_steps.proofs.Records.{split_last}
 use Rattle.law_stores.proofs.Histories.{in_counts}
-use Rattle.law_stores.proofs.Ways.{At}
+use Rattle.law_jobs.proofs.Runs.{At}
 use Rattle.law_copies.specs.Good.{Good, pair_at}
 use Rattle.law_copies.specs.Pair.{AreCopies, Known as Tells, Working}
 use Rattle.law_copies.specs.Visits.{WasThere, half, place_by, store_by}
@@ -44,7 +44,7 @@ use Rattle.law_moves.proofs.There.{told_already}
 use Rattle.law_moves.proofs.Worlds.{good, own_counts, rests, row_serving}
 use Rattle.law_moves.proofs.SecondPlaces.{IsThereNow, last, one_of, second_place, there_so, twins}
 use Rattle.law_moves.proofs.StillFollowed.{past_so}
-use Rattle.law_epochs.proofs.Scenes.{History, OneMore, cut, ends_of}
+use Rattle.law_epochs.proofs.Scenes.{Run, OneMore, cut, ends_of}
 use Rattle.law_moves.proofs.Scenes.{AsksToPut, FillsSo, IsSecondAt}
 
 -- an operation is pending there only where the server was there
@@ -98,7 +98,7 @@ module _ (it : OneMore) (all : WereKnown it) where
         pending_then : at cell_cmp ((At script was.before).servers row.primary).own.pairs.pending cell ≡ Some op
         pending_then = ap (λ (p : Pairs). at cell_cmp p.pending cell) was.had ∙ pending
 
-        abbrev then : History
+        abbrev then : Run
         then = cut present was.before was.later was.is
 
         -- an entry that moves is here, and is not

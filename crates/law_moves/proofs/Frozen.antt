@@ -20,9 +20,9 @@ use Rattle.law_steps.proofs.Coming.{stage_facts}
 use Rattle.law_steps.proofs.Firms.{always_firm}
 use Rattle.law_steps.proofs.Fronts.{below_itself}
 use Rattle.law_steps.proofs.Histories.{last_happens}
-use Rattle.law_stores.proofs.Ways.{At, along, before_part}
+use Rattle.law_jobs.proofs.Runs.{At, before_part, after, by_run, run_of, setting_in, since}
 use Rattle.law_copies.proofs.Places.{at_most_or_above}
-use Rattle.law_epochs.proofs.Scenes.{OneMore, ends_of, one_more}
+use Rattle.law_epochs.proofs.Scenes.{OneMore, ends_of}
 
 -- ### One step
 
@@ -112,17 +112,16 @@ NoneEarly script w = (cell : Cell) → stage_at (chosen_state (setting_of script
 -- nothing is frozen of a cell that has not begun to leave
 pub none_early : (script : Script) (records : List Record) → IsSound script → AreSteps script records → NoneEarly script (At script records)
 none_early script records sound legal =
-    along script (NoneEarly script) (λ front own part old cell low.
-    let up = stage_grows (one_more script sound front own part) cell in
-    frozen_same (one_more script sound front own part) cell (inr (λ three. omega arith)) ∙ old cell (omega arith)) [] records legal (λ cell low. refl)
+    by_run (λ run. NoneEarly run.script (At run.script run.records)) (λ script sound legal cell low. refl)
+    (λ it old cell low. let up = stage_grows it cell in frozen_same it cell (inr (λ three. omega arith)) ∙ old cell (omega arith))
+    (run_of script sound records legal)
 
 -- so what is frozen stays so
 pub frozen_stays : (script : Script) (front back : List Record) (cell : Cell) (before : Chain) → IsSound script → AreSteps script (front ++ back)
     → (At script front).frozen cell ≡ Some before → (At script (front ++ back)).frozen cell ≡ Some before
 frozen_stays script front back cell before sound legal is =
-    along script (λ w. w.frozen cell ≡ Some before) (λ moment own part old.
-    let early = none_early script moment sound (before_part script moment (own ∷ []) part) cell in
-    elim (at_most_or_above (stage_at (chosen_state (setting_of script) (At script moment)) cell) 2) [
-      | inl low ↦ none_some (early low) old
-      | inr high ↦ frozen_same (one_more script sound moment own part) cell (inl high) ∙ old
-    ]) front back legal is
+    since (λ run. (after run).frozen cell ≡ Some before) (λ it old.
+    elim (at_most_or_above (stage_at (chosen_state (setting_in it.prior) (after it.prior)) cell) 2) [
+      | inl low ↦ none_some (none_early it.prior.script it.prior.records it.prior.sound it.prior.legal cell low) old
+      | inr high ↦ frozen_same it cell (inl high) ∙ old
+    ]) (run_of script sound (front ++ back) legal) front back refl (λ part. is)

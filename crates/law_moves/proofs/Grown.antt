@@ -39,7 +39,7 @@ use Rattle.law_state.proofs.Touching.{log_touched}
 use Rattle.law_steps.proofs.Fronts.{front_itself, front_long, front_more, front_on, one_front}
 use Rattle.law_steps.proofs.Records.{split_last}
 use Rattle.law_stores.proofs.Counts.{joined_where, stands_in}
-use Rattle.law_stores.proofs.Ways.{At, before_part}
+use Rattle.law_jobs.proofs.Runs.{At, before_part}
 use Rattle.law_copies.specs.Good.{Good}
 use Rattle.law_copies.specs.Visits.{AliveIn, IsLast, IsLinked, place_by}
 use Rattle.law_copies.proofs.Later.{holder_is_one, other_than, same_only, serves_alone, serves_its}

@@ -26,6 +26,7 @@ use Rattle.petal_rules.specs.Writes.{is_clients}
 use Rattle.petal_rules.proofs.Tests.{none_some}
 use Rattle.law_state.specs.Homes.{stage_at}
 use Rattle.law_steps.proofs.Records.{none_before_none, split_last}
+use Rattle.law_jobs.proofs.Runs.{by_run, run_of}
 use Rattle.law_moves.specs.Fills.{AreFilled, IsFrozen, IsThere, WasFilled}
 use Rattle.law_moves.specs.Still.{AreStill}
 use Rattle.law_moves.proofs.Followed.{followed_next}
@@ -42,8 +43,8 @@ use Rattle.law_moves.proofs.Telling.{asked_next, sent_next}
 use Rattle.law_moves.proofs.Then.{frozen_early}
 use Rattle.law_moves.proofs.There.{born_next, filled_next}
 use Rattle.law_moves.proofs.Visits.{unsaid_at}
-use Rattle.law_epochs.proofs.Scenes.{OneMore, ends_of, one_more}
-use Rattle.law_moves.proofs.Scenes.{FillsSo, kept_along}
+use Rattle.law_epochs.proofs.Scenes.{OneMore, ends_of}
+use Rattle.law_moves.proofs.Scenes.{FillsSo}
 
 module _ (it : OneMore) (all : WereKnown it) where
   open it use {prior.{script, sound, records as front}, legal}
@@ -164,16 +165,15 @@ start_known setting = record {
 start_all : (script : Script) → AllKnown script []
 start_all script past later e = subst (Known script) (sym (none_before_none past later e)) (start_known (setting_of script))
 
-all_next : (script : Script) → IsSound script → (front : List Record) (own : Record) → AreSteps script (front ++ own ∷ []) → AllKnown script front
-    → AllKnown script (front ++ own ∷ [])
-all_next script sound front own legal all past later e = elim (split_last front own past later e) [
-  | inl whole ↦ subst (Known script) (sym whole) (known_next (one_more script sound front own legal) all)
+all_next : (it : OneMore) → AllKnown it.prior.script it.prior.records → AllKnown it.prior.script (it.prior.records ++ it.own ∷ [])
+all_next it all past later e = elim (split_last it.prior.records it.own past later e) [
+  | inl whole ↦ subst (Known it.prior.script) (sym whole) (known_next it all)
   | inr part ↦ all past part.0 part.1
 ]
 
 pub all_known : (script : Script) → IsSound script → (records : List Record) → AreSteps script records → AllKnown script records
 all_known script sound records legal =
-    kept_along script (AllKnown script) (λ front own part. all_next script sound front own part) [] records legal (start_all script)
+    by_run (λ run. AllKnown run.script run.records) (λ script sound legal. start_all script) all_next (run_of script sound records legal)
 
 pub known_after : (script : Script) → IsSound script → (records : List Record) → AreSteps script records → Known script records
 known_after script sound records legal = all_known script sound records legal records [] (sym (append-nil records))

@@ -18,7 +18,7 @@ use Rattle.petal_rules.specs.Writes.{is_clients}
 use Rattle.petal_state.specs.Command.{state_after}
 use Rattle.law_state.specs.Homes.{epoch_at, stage_at}
 use Rattle.law_steps.specs.Operations.{progress}
-use Rattle.law_stores.proofs.Ways.{At}
+use Rattle.law_jobs.proofs.Runs.{At}
 use Rattle.law_copies.specs.Visits.{WasThere, place_by}
 use Rattle.law_moves.specs.Fills.{AreFilled, Has, WasFilled}
 use Rattle.law_moves.specs.Still.{AreStill}

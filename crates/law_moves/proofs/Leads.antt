@@ -40,7 +40,7 @@ use Rattle.law_copies.proofs.Later.{both_since, same_only, serves_alone, serves_
 use Rattle.law_copies.proofs.Places.{at_most_or_above, one_row, places_up, rows_later}
 use Rattle.law_moves.specs.Fills.{Has}
 use Rattle.law_moves.proofs.Worlds.{chosen_twins, facts_at, firm, good, own_counts, rests, steady_at, up}
-use Rattle.law_epochs.proofs.Scenes.{History, end_of}
+use Rattle.law_epochs.proofs.Scenes.{Run, end_of}
 use Rattle.law_moves.proofs.Scenes.{LeadsAt, TwoLeads}
 
 -- ### Two copies
@@ -111,7 +111,7 @@ module _ (one other : Option Own) (a b : Store) (cell : Cell) (ok : PairOk (pair
 
 -- ### A lead
 
-module _ (it : History) (cell : Cell) (k : ℕ) (lead : LeadsAt (end_of it).setting (end_of it).w cell k) where
+module _ (it : Run) (cell : Cell) (k : ℕ) (lead : LeadsAt (end_of it).setting (end_of it).w cell k) where
   open it use {records}
   open end_of it use {setting, w, chosen}
   open lead use {runs, seat, leads}
@@ -308,7 +308,7 @@ module _ (it : History) (cell : Cell) (k : ℕ) (lead : LeadsAt (end_of it).sett
 -- ### Two leads
 
 -- a server has a fill pending, and another one leads the cell by its own state: that one has nothing pending, and nothing of the fill's epoch
-module _ (it : History) (two : TwoLeads (end_of it).setting (end_of it).w) where
+module _ (it : Run) (two : TwoLeads (end_of it).setting (end_of it).w) where
   open end_of it use {setting as this, w as u, chosen as by_all}
   open two use {m, k, apart, cell, one, one_born, op, is, other, other_born, one.{low}}
 

@@ -22,7 +22,7 @@ use Rattle.petal_rules.specs.Lists.{In}
 use Rattle.petal_rules.specs.Server.{Own}
 use Rattle.petal_rules.specs.State.{State, is_in, link_named}
 use Rattle.petal_rules.specs.Store.{Chain, chain_in}
-use Rattle.petal_rules.specs.World.{Setting, World, chosen_log, chosen_state, setting_of}
+use Rattle.petal_rules.specs.World.{Setting, World, chosen_log, chosen_state}
 use Rattle.petal_rules.proofs.ListLemmas.{in_later}
 use Rattle.petal_rules.proofs.Tests.{by_test, is_the_one, none_some, number_itself, same_some}
 use Rattle.petal_history.specs.Claims.{IsPrefix}
@@ -37,11 +37,9 @@ use Rattle.law_state.proofs.Touching.{map_of}
 use Rattle.law_log.specs.Requested.{WasMoving}
 use Rattle.law_log.proofs.Histories.{history_is_firm, moved_was_wanted}
 use Rattle.law_steps.specs.Happens.{Happens, Serves, Blanks, Turns}
-use Rattle.law_steps.proofs.Firms.{always_firm}
 use Rattle.law_steps.proofs.Fronts.{below_itself, front_itself}
-use Rattle.law_steps.proofs.Histories.{last_happens}
 use Rattle.law_steps.proofs.Resting.{row_named}
-use Rattle.law_stores.proofs.Ways.{At, along, before_part}
+use Rattle.law_jobs.proofs.Runs.{At, before_part, after, happened_in, longer, run_of, setting_in, since}
 use Rattle.law_moves.specs.Fills.{AllFilled, IsOnWay, WasFilled}
 use Rattle.law_moves.specs.Left.{IsKept, IsKnown, IsOurs}
 use Rattle.law_moves.proofs.Frozen.{frozen_stays}
@@ -49,7 +47,7 @@ use Rattle.law_moves.proofs.Knows.{Known}
 use Rattle.law_moves.proofs.NextFill.{none_left, nothing_left}
 use Rattle.law_moves.proofs.Over.{AllMoved, plain, until_lies}
 use Rattle.law_moves.proofs.Serving.{link_lead_serves}
-use Rattle.law_epochs.proofs.Scenes.{History, end_of}
+use Rattle.law_epochs.proofs.Scenes.{Run, end_of}
 
 -- ### Letters stay
 
@@ -61,10 +59,10 @@ still_sent setting state w _ (Turns c stamp in_call reacted lt within turned onw
 pub sent_stays : (script : Script) (front back : List Record) → IsSound script → AreSteps script (front ++ back) → (letter : Letter)
     → In letter (At script front).sent → In letter (At script (front ++ back)).sent
 sent_stays script front back sound legal letter i =
-    along script (λ w. In letter w.sent) (λ moment own part old.
-    let state = chosen_state (setting_of script) (At script (moment ++ own ∷ [])) in
-    still_sent (setting_of script) state (At script moment) (At script (moment ++ own ∷ []))
-    (last_happens script moment own (always_firm script (moment ++ own ∷ []) sound part) part state (below_itself state)) letter old) front back legal i
+    since (λ run. In letter (after run).sent) (λ it old.
+    let state = chosen_state (setting_in it.prior) (after (longer it)) in
+    still_sent (setting_in it.prior) state (after it.prior) (after (longer it)) (happened_in it state (below_itself state)) letter old)
+    (run_of script sound (front ++ back) legal) front back refl (λ part. i)
 
 pub filled_stays : (script : Script) (front back : List Record) → IsSound script → AreSteps script (front ++ back) → (key : Key)
     → WasFilled (At script front) key → WasFilled (At script (front ++ back)) key
@@ -78,7 +76,7 @@ mover_leads state me region row =
     by_test (λ (o : Option ℕ). o ≡ Some region → is_the (row_lead state row) me ≡ true) (is_the (row_lead state row) me)
     (not_noted state row (region_leaving state row.map)) None (λ leads e. leads) (λ other e. none_some refl e)
 
-module _ (it : History)
+module _ (it : Run)
     (known : (before : List Record) (own : Record) (later : List Record) → it.records ≡ before ++ own ∷ later → Known it.script before) where
   open it use {script, sound, records, legal}
   open end_of it use {setting, w, By}

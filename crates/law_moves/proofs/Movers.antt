@@ -25,10 +25,10 @@ use Rattle.law_moves.specs.Left.{IsKept, IsKnown, IsOurs}
 use Rattle.law_moves.proofs.Knows.{Known}
 use Rattle.law_moves.proofs.Moved.{mover_leads}
 use Rattle.law_moves.proofs.Serving.{link_lead_serves}
-use Rattle.law_epochs.proofs.Scenes.{History, end_of}
+use Rattle.law_epochs.proofs.Scenes.{Run, end_of}
 use Rattle.law_moves.proofs.Scenes.{IsMover}
 
-module _ (it : History) (known : Known it.script it.records) (y : ℕ) (mover : IsMover (end_of it).setting (end_of it).w y) where
+module _ (it : Run) (known : Known it.script it.records) (y : ℕ) (mover : IsMover (end_of it).setting (end_of it).w y) where
   open it use {script, sound, records, legal}
   open end_of it use {setting, w}
   open mover use {runs, seat, row, there, region, moves}

@@ -22,9 +22,9 @@ use Rattle.law_moves.specs.Fills.{Has, IsFrozen, IsThere, WasFilled}
 use Rattle.law_moves.proofs.Newness.{AllNewest, IsNewest}
 use Rattle.law_moves.proofs.Over.{facts, plain}
 use Rattle.law_moves.proofs.Then.{entry_of}
-use Rattle.law_epochs.proofs.Scenes.{History, end_of}
+use Rattle.law_epochs.proofs.Scenes.{Run, end_of}
 
-module _ (it : History) where
+module _ (it : Run) where
   open it use {script}
   open end_of it use {setting, w, chosen, By}
 

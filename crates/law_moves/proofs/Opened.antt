@@ -7,9 +7,9 @@ use Rattle.petal_rules.specs.Store.{cell_cmp}
 use Rattle.petal_rules.specs.Writes.{is_clients}
 use Rattle.law_steps.proofs.Fronts.{front_long}
 use Rattle.law_epochs.proofs.Present.{opened_by, was_opened}
-use Rattle.law_epochs.proofs.Scenes.{History, end_of}
+use Rattle.law_epochs.proofs.Scenes.{Run, end_of}
 
-module _ (h : History) (n : ℕ) (cell : Cell) (op : Pending) where
+module _ (h : Run) (n : ℕ) (cell : Cell) (op : Pending) where
   open h use {script, sound, records, legal}
   open end_of h use {w, chosen}
 

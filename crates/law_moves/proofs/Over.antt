@@ -34,7 +34,7 @@ use Rattle.law_steps.proofs.Coming.{stage_facts}
 use Rattle.law_steps.proofs.Fronts.{front_more, front_on}
 use Rattle.law_copies.proofs.Places.{fronts_meet}
 use Rattle.law_moves.specs.Fills.{AllFilled, AreFilled, Has, HaveComeOver, IsOnWay, WasFilled}
-use Rattle.law_epochs.proofs.Scenes.{History, end_of}
+use Rattle.law_epochs.proofs.Scenes.{Run, end_of}
 
 -- at each Moved of a link that is chosen, while a cell of the link was leaving, the new map was told to have each entry of the cell
 abbrev pub AllMoved : Setting → World → Type 0
@@ -42,7 +42,7 @@ AllMoved setting w = (front : List Command) (region : ℕ) (old new : Cell) (row
     → IsPrefix (front ++ Moved old.map region row.link ∷ []) (chosen_log setting w) → IsOnWay setting.servers front old new row
     → region_of old.block ≡ region → AllFilled w old new (λ epoch. Unit {0})
 
-module _ (it : History) where
+module _ (it : Run) where
   open it use {script, sound, records, legal}
   open end_of it use {setting, w, chosen, By}
 

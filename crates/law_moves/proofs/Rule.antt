@@ -25,9 +25,9 @@ use Rattle.law_moves.specs.Fills.{AreFilled, Has, IsFrozen, WasFilled}
 use Rattle.law_moves.specs.Still.{AreStill}
 use Rattle.law_moves.proofs.Over.{all_plain, facts, link_slot, moved_filled, on_own_link}
 use Rattle.law_moves.proofs.Serving.{authority_serves, first_serves, matters_serves, second_serves}
-use Rattle.law_epochs.proofs.Scenes.{History, end_of}
+use Rattle.law_epochs.proofs.Scenes.{Run, end_of}
 
-module _ (it : History) (still : AreStill (end_of it).setting (end_of it).w) (filled : AreFilled (end_of it).setting (end_of it).w) where
+module _ (it : Run) (still : AreStill (end_of it).setting (end_of it).w) (filled : AreFilled (end_of it).setting (end_of it).w) where
   open it use {script, sound, records, legal}
   open end_of it use {setting, w, chosen}
 

@@ -1,10 +1,5 @@
 -- Of whom in a history the lemmas of moves are told.
-use Rattle.law_stores.proofs.Ways.{before_part}
-use Rattle.script_lines.specs.declared.script.Script.{Script}
-use Rattle.petal_history.specs.declared.record.Record.{Record}
-use Rattle.petal_history.specs.Steps.{AreSteps}
-use Rattle.std.proofs.lemmas.List.{append-nil}
-use Rattle.std.proofs.Common.{◌≡◌, ◌≢◌, ◌≤◌, ℕ, true, false, List, Some, length, [], ◌∷◌, ◌++◌, subst, sym, append_assoc}
+use Rattle.std.proofs.Common.{◌≡◌, ◌≢◌, ◌≤◌, ℕ, true, false, List, Some, length}
 use Rattle.global_tables.specs.declared.link.LinkRow.{LinkRow}
 use Rattle.global_tables.specs.declared.link.LinkState.TheVariants.{Both}
 use Rattle.petal_base.specs.Cells.{cell_of}
@@ -26,16 +21,6 @@ use Rattle.petal_history.specs.Claims.{IsPrefix}
 use Rattle.law_state.specs.Homes.{stage_at}
 use Rattle.law_copies.specs.Visits.{IsLinked, place_by}
 use Rattle.law_moves.specs.Fills.{IsFrozen, IsThere, WasFilled}
-
--- what each record keeps holds along a history
-pub kept_along : (script : Script) (P : List Record → Type 0)
-    → ((front : List Record) (own : Record) → AreSteps script (front ++ own ∷ []) → P front → P (front ++ own ∷ []))
-    → (done later : List Record) → AreSteps script (done ++ later) → P done → P (done ++ later)
-kept_along script P step done [] legal kept = subst P (sym (append-nil done)) kept
-kept_along script P step done (own ∷ later) legal kept =
-    let e = append_assoc done (own ∷ []) later in
-    let whole : AreSteps script ((done ++ own ∷ []) ++ later) = subst (AreSteps script) (sym e) legal in
-    subst P e (kept_along script P step (done ++ own ∷ []) later whole (step done own (before_part script (done ++ own ∷ []) later whole) kept))
 
 -- ### Servers
 

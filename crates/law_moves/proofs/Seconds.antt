@@ -28,7 +28,7 @@ use Rattle.law_state.proofs.Roles.{secondary_is_one}
 use Rattle.law_steps.specs.Operations.{progress}
 use Rattle.law_steps.proofs.Fronts.{front_itself}
 use Rattle.law_stores.proofs.Histories.{in_counts}
-use Rattle.law_stores.proofs.Ways.{At}
+use Rattle.law_jobs.proofs.Runs.{At}
 use Rattle.law_copies.specs.Good.{AreTwins, Good, pair_at}
 use Rattle.law_copies.specs.Pair.{far}
 use Rattle.law_copies.specs.Visits.{IsHere, IsLinked, WasThere, half, place_by, store_by}
@@ -39,7 +39,7 @@ use Rattle.law_moves.proofs.Afterwards.{born_after, filling_after, keyed}
 use Rattle.law_moves.proofs.Histories.{known_after}
 use Rattle.law_moves.proofs.There.{told_already}
 use Rattle.law_moves.proofs.Worlds.{firm, good, own_counts, row_serving, serving_on, up, was_seen}
-use Rattle.law_epochs.proofs.Scenes.{History, end_of}
+use Rattle.law_epochs.proofs.Scenes.{Run, end_of}
 
 -- a server that runs, and by its own entries is In and the second one of a link in Both, where the first one had a fill pending that it has not followed
 record IsToFill (setting : Setting) (records : List Record) (w : World) : Type 0 where
@@ -61,7 +61,7 @@ record IsToFill (setting : Setting) (records : List Record) (w : World) : Type 0
   following : progress (at cell_cmp (w.servers m).own.pairs.last cell) ≤ op.op + op.op
   alive : stage_at (chosen_state setting w) cell ≤ 3
 
-module _ (it : History) (s : IsToFill (end_of it).setting it.records (end_of it).w) where
+module _ (it : Run) (s : IsToFill (end_of it).setting it.records (end_of it).w) where
   open it use {script, sound, records, legal}
   open end_of it use {setting, w, chosen, By}
   open s use {n, m, cell, pairs, op, row, runs, seat, linked, both, first, second, there, is, fills, alive}

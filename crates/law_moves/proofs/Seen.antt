@@ -14,14 +14,13 @@ use Rattle.petal_rules.proofs.Tests.{by_bool, none_some, some_or_none, true_fals
 use Rattle.law_state.proofs.Entries.{start_plain}
 use Rattle.law_state.proofs.Rows.{past_link}
 use Rattle.law_steps.proofs.Records.{none_before_none, split_last}
-use Rattle.law_stores.proofs.Ways.{At}
+use Rattle.law_jobs.proofs.Runs.{by_run, run_of, At}
 use Rattle.law_copies.specs.Good.{Good}
 use Rattle.law_copies.specs.Visits.{WasThere, is_at}
 use Rattle.law_copies.proofs.Histories.{start_good, step_goes}
 use Rattle.law_copies.proofs.Visited.{at_by}
-use Rattle.law_epochs.proofs.Scenes.{OneMore, ends_of, one_more}
+use Rattle.law_epochs.proofs.Scenes.{OneMore, ends_of}
 use Rattle.law_epochs.proofs.Parts.{one_in_other}
-use Rattle.law_moves.proofs.Scenes.{kept_along}
 
 abbrev GoodAt : Script → List Record → Type 0
 GoodAt script records =
@@ -66,8 +65,8 @@ module _ (it : OneMore) (old : IsSeen it.prior.script it.prior.records) where
 
 pub seen_after : (script : Script) → IsSound script → (records : List Record) → AreSteps script records → IsSeen script records
 seen_after script sound records legal =
-    kept_along script (IsSeen script) (λ front own part. next (one_more script sound front own part)) [] records legal
-    (record { good = start_good (setting_of script); seen_all = start_seen script })
+    by_run (λ run. IsSeen run.script run.records)
+    (λ script sound legal. record { good = start_good (setting_of script); seen_all = start_seen script }) next (run_of script sound records legal)
 
 -- ### What a server was at a place
 

@@ -42,11 +42,12 @@ use Rattle.law_steps.proofs.Fronts.{below_itself, front_itself, front_more, fron
 use Rattle.law_steps.proofs.Histories.{last_happens}
 use Rattle.law_steps.proofs.Letters.{said}
 use Rattle.law_steps.proofs.Sending.{turned_asks}
-use Rattle.law_stores.proofs.Ways.{At, along, before_last}
+use Rattle.law_jobs.proofs.Runs.{At, after, longer, run_of, since}
+use Rattle.law_stores.proofs.Ways.{before_last}
 use Rattle.law_copies.specs.Good.{Good}
 use Rattle.law_copies.proofs.Histories.{good_after, step_goes}
 use Rattle.law_epochs.proofs.Within.{asked_none, is_of_entries, logged_none}
-use Rattle.law_epochs.proofs.Scenes.{OneMore, ends_of, one_more}
+use Rattle.law_epochs.proofs.Scenes.{OneMore, ends_of}
 
 module _ (it : OneMore) where
   open it use {prior, prior.{script, sound, records as front}, own, legal}
@@ -289,18 +290,18 @@ module _ (it : OneMore) where
 -- they only rise
 incs_up : (script : Script) → IsSound script → (n inc : ℕ) (before later : List Record) → AreSteps script (before ++ later)
     → inc ≤ ((At script before).servers n).life.inc → inc ≤ ((At script (before ++ later)).servers n).life.inc
-incs_up script sound n inc = along script (λ u. inc ≤ (u.servers n).life.inc) (λ front own legal le.
-    by script sound front own legal ((At script (front ++ own ∷ [])).servers n) (gone (one_more script sound front own legal) n) le)
+incs_up script sound n inc before later legal le =
+    since (λ run. inc ≤ ((after run).servers n).life.inc) (λ it le. by it ((after (longer it)).servers n) (gone it n) le)
+    (run_of script sound (before ++ later) legal) before later refl (λ part. le)
   where
-    by : (script : Script) (sound : IsSound script) (front : List Record) (own : Record) (legal : AreSteps script (front ++ own ∷ [])) (to : Server)
-        → HasGone (one_more script sound front own legal) n to → inc ≤ ((At script front).servers n).life.inc → inc ≤ to.life.inc
-    by script sound front own legal to (Rests same) le = subst (λ (s : Server). inc ≤ s.life.inc) (sym same) le
-    by script sound front own legal to (Works job) le = let e = job.inc_is in omega arith
-    by script sound front own legal to (Starts_ballot ballot) le = let e = ballot.inc_is in omega arith
-    by script sound front own legal to (Enters entry) le = let e = entry.inc_is in omega arith
-    by script sound front own legal to (Awakes asleep same) le = subst (λ (s : Server). inc ≤ s.life.inc) (sym same) (omega arith)
-    by script sound front own legal to (Raises asleep same) le = subst (λ (s : Server). inc ≤ s.life.inc) (sym same) (omega arith)
-    by script sound front own legal to (Is_blanked asleep same) le = subst (λ (s : Server). inc ≤ s.life.inc) (sym same) le
+    by : (it : OneMore) (to : Server) → HasGone it n to → inc ≤ ((after it.prior).servers n).life.inc → inc ≤ to.life.inc
+    by it to (Rests same) le = subst (λ (s : Server). inc ≤ s.life.inc) (sym same) le
+    by it to (Works job) le = let e = job.inc_is in omega arith
+    by it to (Starts_ballot ballot) le = let e = ballot.inc_is in omega arith
+    by it to (Enters entry) le = let e = entry.inc_is in omega arith
+    by it to (Awakes asleep same) le = subst (λ (s : Server). inc ≤ s.life.inc) (sym same) (omega arith)
+    by it to (Raises asleep same) le = subst (λ (s : Server). inc ≤ s.life.inc) (sym same) (omega arith)
+    by it to (Is_blanked asleep same) le = subst (λ (s : Server). inc ≤ s.life.inc) (sym same) le
 
 module _ (it : OneMore) where
   open it use {prior, prior.{script, sound, records as front}, own, legal}

@@ -24,7 +24,8 @@ use Rattle.law_state.proofs.Leaves.{either_true}
 use Rattle.law_state.proofs.Stages.{stage_most}
 use Rattle.law_steps.proofs.Fronts.{front_itself, front_on}
 use Rattle.law_stores.proofs.Histories.{in_counts}
-use Rattle.law_stores.proofs.Ways.{At, before_last, before_part}
+use Rattle.law_jobs.proofs.Runs.{At, before_part}
+use Rattle.law_stores.proofs.Ways.{before_last}
 use Rattle.law_copies.proofs.Later.{serves_alone}
 use Rattle.law_copies.proofs.Places.{at_most_or_above, fronts_meet}
 use Rattle.law_moves.specs.Still.{AreStill}

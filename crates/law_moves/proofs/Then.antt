@@ -19,14 +19,14 @@ use Rattle.law_state.specs.Homes.{epoch_at, stage_at}
 use Rattle.law_state.proofs.Steady.{front_plain, log_below}
 use Rattle.law_log.proofs.Histories.{history_grows, history_is_firm}
 use Rattle.law_steps.proofs.Fronts.{front_itself}
-use Rattle.law_stores.proofs.Ways.{At, along}
+use Rattle.law_jobs.proofs.Runs.{At, by_run, run_of}
 use Rattle.law_copies.proofs.Places.{at_most_or_above, fronts_meet}
 use Rattle.law_epochs.proofs.Early.{IsKnownBy, all_early, before_then, kept_by, now_then}
 use Rattle.law_epochs.proofs.Within.{AreWithin}
 use Rattle.law_moves.specs.Fills.{Has}
 use Rattle.law_moves.proofs.Frozen.{frozen_at, frozen_same, none_early}
 use Rattle.law_moves.proofs.Knows.{AreFrozenEarly}
-use Rattle.law_epochs.proofs.Scenes.{OneMore, ends_of, one_more}
+use Rattle.law_epochs.proofs.Scenes.{OneMore, ends_of}
 
 pub entry_of : (chain : Chain) (epoch : ℕ) → Has chain epoch → (entry : Stored) × (at nat_cmp chain epoch ≡ Some entry)
 entry_of chain epoch has = elim (some_or_none (at nat_cmp chain epoch)) [ inl h ↦ h | inr none ↦ true_false has (ap is_some none) ]
@@ -101,8 +101,8 @@ module _ (it : OneMore) (known : AreFrozenThen it.prior.script (At it.prior.scri
 
 pub frozen_then : (script : Script) (records : List Record) → IsSound script → AreSteps script records → AreFrozenThen script (At script records)
 frozen_then script records sound legal =
-    along script (AreFrozenThen script) (λ front own part. then_next (one_more script sound front own part)) [] records legal
-    (λ old before epoch f frozen has lies three. none_some refl frozen)
+    by_run (λ run. AreFrozenThen run.script (At run.script run.records))
+    (λ script sound legal old before epoch f frozen has lies three. none_some refl frozen) then_next (run_of script sound records legal)
 
 pub frozen_early : (script : Script) (records : List Record) → IsSound script → AreSteps script records → AreFrozenEarly (setting_of script) (At script records)
 frozen_early script records sound legal cell before epoch frozen has =

@@ -40,11 +40,11 @@ use Rattle.law_moves.proofs.Over.{AllMoved, over_told}
 use Rattle.law_moves.proofs.Saying.{Asks_copy, Is_done, Is_done_alone, Is_neither, Is_there, Says, did_says, is_filled}
 use Rattle.law_moves.proofs.Steps.{Before, Goes_on, HasStore, IsPosted, Is_bare, Other, Posted, here, sent, stored, mine_top}
 use Rattle.law_moves.proofs.Worlds.{facts_at, own_counts, rests, runs_on, serving_on, steady_at, up}
-use Rattle.law_epochs.proofs.Scenes.{History, OneMore, end_of, ends_of}
+use Rattle.law_epochs.proofs.Scenes.{Run, OneMore, end_of, ends_of}
 use Rattle.law_moves.proofs.Scenes.{LeadsAt}
 
 -- a frozen entry of a region that has gone on was told to be there
-pub told_already : (h : History) → AllMoved (end_of h).setting (end_of h).w → (rev : ℕ) (key : Key) (bytes : List ℕ)
+pub told_already : (h : Run) → AllMoved (end_of h).setting (end_of h).w → (rev : ℕ) (key : Key) (bytes : List ℕ)
     → IsFrozen (end_of h).setting (end_of h).w rev key bytes → 2 ≤ stage_at (chosen_state (end_of h).setting (end_of h).w) (cell_of key)
     → WasFilled (end_of h).w key
 told_already h moved rev key bytes f two =

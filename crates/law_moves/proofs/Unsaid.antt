@@ -33,7 +33,7 @@ use Rattle.law_steps.specs.Operations.{IsStaged, progress}
 use Rattle.law_steps.proofs.Fronts.{front_itself, front_on}
 use Rattle.law_steps.proofs.Leading.{stage_live}
 use Rattle.law_steps.proofs.Taking.{taking}
-use Rattle.law_stores.proofs.Ways.{At}
+use Rattle.law_jobs.proofs.Runs.{At}
 use Rattle.law_copies.specs.Good.{pair_at}
 use Rattle.law_copies.specs.Pair.{far}
 use Rattle.law_copies.specs.Visits.{IsLinked, WasThere, half, is_at, place_by}
@@ -51,7 +51,7 @@ use Rattle.law_moves.proofs.Steps.{mine_top, mine_whole}
 use Rattle.law_moves.proofs.EqualCopies.{frozen_on}
 use Rattle.law_moves.proofs.There.{filled_key, told_already}
 use Rattle.law_moves.proofs.Worlds.{chosen_twins, facts_at, good, own_counts, rests, steady_at, up, was_seen}
-use Rattle.law_epochs.proofs.Scenes.{History, OneMore, cut, ends_of}
+use Rattle.law_epochs.proofs.Scenes.{Run, OneMore, cut, ends_of}
 use Rattle.law_moves.proofs.Scenes.{FillAtPlace, LeadsAt}
 
 module _ (it : OneMore) (all : WereKnown it) where
@@ -73,7 +73,7 @@ module _ (it : OneMore) (all : WereKnown it) where
       abbrev past : World
       past = At script was.before
 
-      abbrev then : History
+      abbrev then : Run
       then = cut prior was.before was.later was.is
 
       abbrev log : List Command

@@ -21,7 +21,7 @@ use Rattle.law_steps.specs.Happens.{Handled, own_place}
 use Rattle.law_steps.proofs.Filling.{Fills, Stood, Writes, did_come}
 use Rattle.law_steps.proofs.Histories.{proposed_pairs}
 use Rattle.law_steps.proofs.Records.{split_last}
-use Rattle.law_stores.proofs.Ways.{At}
+use Rattle.law_jobs.proofs.Runs.{At}
 use Rattle.law_copies.specs.Visits.{WasThere, is_at}
 use Rattle.law_copies.proofs.Visited.{at_by}
 use Rattle.law_moves.specs.Fills.{WasFilled}

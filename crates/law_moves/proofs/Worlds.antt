@@ -39,7 +39,7 @@ use Rattle.law_copies.specs.Good.{AreTwins, Good}
 use Rattle.law_copies.specs.Visits.{AliveIn, IsLast, IsLinked, WasThere, place_by}
 use Rattle.law_copies.proofs.Places.{places_up}
 use Rattle.law_moves.proofs.Seen.{seen_after, were}
-use Rattle.law_epochs.proofs.Scenes.{History, end_of}
+use Rattle.law_epochs.proofs.Scenes.{Run, end_of}
 
 -- who serves a link is told by its row
 pub serving_row : (state : State) (n : ℕ) (cell : Cell) (row : LinkRow) → cell_link state cell ≡ Some row → IsServing state n cell
@@ -57,7 +57,7 @@ own_by joins None apart store = refl
 own_by joins (Some b) apart store = by_test (λ s. s ≡ store) (b.joins == joins) b.store store
     (λ same. absurd (apart b refl (same_numbers b.joins joins same))) (λ other. refl)
 
-module _ (it : History) where
+module _ (it : Run) where
   open it use {script, sound, records, legal}
   open end_of it use {setting, w, chosen, By}
 

@@ -9,7 +9,7 @@ use Rattle.petal_base.specs.Cells.{cell_of}
 use Rattle.petal_base.specs.declared.cell.Key.{Key}
 use Rattle.petal_command.specs.declared.command.Command.{Command}
 use Rattle.petal_command.specs.declared.command.Command.TheVariants.{Caught}
-use Rattle.petal_msg.specs.Kinds.{Copied, Filling, Paired, Refused, Subject, subject_of}
+use Rattle.petal_msg.specs.Kinds.{Copied, Filling, Paired, Refused, subject_of}
 use Rattle.petal_msg.specs.declared.body.Body.{Body}
 use Rattle.petal_msg.specs.declared.body.Body.TheVariants as body
 use Rattle.petal_msg.specs.declared.copying.Copying.{Copying}
@@ -18,7 +18,6 @@ use Rattle.petal_msg.specs.declared.copying.Progress.{Progress}
 use Rattle.petal_msg.specs.declared.letter.Actor.{Actor}
 use Rattle.petal_msg.specs.declared.letter.Actor.TheVariants as actor
 use Rattle.petal_msg.specs.declared.letter.Letter.{Letter}
-use Rattle.script_lines.specs.declared.script.Script.{Script}
 use Rattle.petal_rules.specs.Copies.{page_wanted, with_copied, with_page}
 use Rattle.petal_rules.specs.Crossing.{crossed}
 use Rattle.petal_rules.specs.Jobs.{Acted}
@@ -28,14 +27,12 @@ use Rattle.petal_rules.specs.Returns.{holds_link, proposed}
 use Rattle.petal_rules.specs.Server.{Own, Copies, Here, Post, Done, Server, post_to}
 use Rattle.petal_rules.specs.State.{State, link_named}
 use Rattle.petal_rules.specs.Store.{chain_in}
-use Rattle.petal_rules.specs.World.{Setting, World, server_state, setting_of, start, step, MayActor}
+use Rattle.petal_rules.specs.World.{Setting, World, server_state, step, MayActor}
 use Rattle.petal_rules.specs.declared.step.Step.{Step}
 use Rattle.petal_rules.specs.declared.step.Step.TheVariants.{Blank, Work}
 use Rattle.petal_rules.specs.declared.step.WorkEnd.TheVariants as work_end
-use Rattle.petal_rules.proofs.ListLemmas.{in-append}
 use Rattle.petal_rules.proofs.Settled.{settling}
 use Rattle.petal_rules.proofs.Tests.{all_put, by_test, true_false}
-use Rattle.petal_history.specs.Steps.{Follows, AreSteps, stepped, world_after}
 use Rattle.petal_history.specs.declared.record.Record.{Record}
 use Rattle.law_state.specs.Firm.{Firm}
 use Rattle.law_state.proofs.Moments.{last_moment, moment_more}
@@ -46,17 +43,17 @@ use Rattle.law_steps.specs.DidHolder.{Asks_page, Turns_page, Begins_copy, Goes_o
 use Rattle.law_steps.specs.DidOther.{OtherReply, Replies, DidOther, TrimStep, Is_trimmed, Drops_entry, Is_copied_to}
 use Rattle.law_steps.specs.DidOther.{Goes_on_trimming, Puts_entry, Has_no_slot}
 use Rattle.law_steps.specs.Happens.{Handled, By_job, By_ballot, By_entry, Serving, Goes, Ends, Stays, Wakes, Fails, own_place}
-use Rattle.law_steps.specs.Ready.{AreFirm, Rests}
-use Rattle.law_steps.proofs.Histories.{own_steady, rests_next, start_rests, world_more}
+use Rattle.law_steps.specs.Ready.{Rests}
+use Rattle.law_steps.proofs.Histories.{own_steady}
 use Rattle.law_steps.proofs.Letters.{one_post, posted}
 use Rattle.law_steps.proofs.Serving.{server_serves}
 use Rattle.law_steps.proofs.Subjects.{of_filler, of_lead, of_read, of_second, of_sweep}
-use Rattle.law_refusals.specs.Full.{By_copy, By_fill, HasEndedFull, HasFilledFull, HasFoundNone, HasJob, LacksRoom, WasDeclined, WasTold}
-use Rattle.law_refusals.proofs.Along.{IsNext, along}
+use Rattle.law_jobs.proofs.Runs.{At, OneMore, Run, after, at_moment, by_run, firm_in, firm_then, follows_in, longer, rests_in, setting_in, stepped_in}
+use Rattle.law_jobs.proofs.Sent.{was_sent}
+use Rattle.law_refusals.specs.Full.{By_copy, By_fill, HadNoRoom, HasFoundNone, HasJob, LacksRoom, WasTold}
 use Rattle.law_refusals.proofs.Leads.{asks_quiet, is_no_leads, lead_quiet}
-use Rattle.law_refusals.proofs.Refused.{fill_now}
-use Rattle.law_refusals.proofs.Seconds.{AreTold, start_told, told_next}
-use Rattle.law_refusals.proofs.Sent.{is_aside, step_sent}
+use Rattle.law_refusals.proofs.Refused.{was_declined}
+use Rattle.law_refusals.proofs.Sent.{is_aside, sent_by}
 
 -- ### What is remembered
 
@@ -283,202 +280,104 @@ module _ (setting : Setting) (w : World) where
 
 -- ### Histories
 
-aside_not_copied : (subject : Subject) → subject ≡ Copied → is_aside subject ≡ false
-aside_not_copied subject e = ap is_aside e
-
 one_server : {i j : ℕ} → actor.Server i ≡ actor.Server j → i ≡ j
 one_server e = cc
 
+-- who told a holder that its copy finds no slot
+record TellsNow (setting : Setting) (w : World) (who : Actor) (what : Step) (letter : Letter) (number : ℕ) (cell : Cell) : Type 0 where
+  holder : ℕ
+  to : letter.to ≡ actor.Server holder
+  reason : HadNoRoom setting w who what holder number cell
+
+tells_now : (it : OneMore) (letter : Letter) (number : ℕ) (cell : Cell) → In letter it.own.sent → letter.body ≡ body.SyncFull number cell
+    → TellsNow (setting_in it.prior) (after it.prior) it.own.actor it.own.step letter number cell
+tells_now it letter number cell i says =
+    let here = own_place (setting_in it.prior) (after it.prior) in
+    let servers = (after it.prior).servers in
+    elim (sent_by it letter i) [
+      | inr aside ↦ true_false aside (ap (λ b. is_aside (subject_of b)) says)
+      | inl s ↦ elim s.works [
+        | inr idle ↦ true_false (ap is_no_leads (sym s.body ∙ says)) (asks_quiet (here s.server) (servers s.server).own s.post (idle.asks s.post s.there))
+        | inl works ↦ (
+            let d = did_decline (Handled (after it.prior) s.server) (here s.server) (servers s.server).own s.done s.did s.post s.there number cell
+            (sym s.body ∙ says) in
+            record { holder = d.holder; to = s.to ∙ d.to; reason = record { server = s.server; is = s.is; works = works; lacks = d.lacks } })
+      ]
+    ]
+
+-- so was the one told that handled the letter
+was_told : (run : Run) (n number : ℕ) (cell : Cell) (heard : Handled (after run) n (body.SyncFull number cell))
+    → WasTold (setting_in run) run.records heard.letter n number cell
+was_told run n number cell heard =
+    let was = was_sent run heard.letter heard.sent in
+    let t = tells_now (at_moment run was.moment) heard.letter number cell was.sent heard.is in
+    record {
+      moment = was.moment;
+      sent = was.sent;
+      reason = subst (λ k. HadNoRoom (setting_in run) (At run.script was.front) was.own.actor was.own.step k number cell)
+          (one_server (sym t.to ∙ heard.own)) t.reason;
+    }
+
 module _ (setting : Setting) where
-  abbrev W : List Record → World
-  W records = world_after setting (start setting) records
-
-  step_letters : (who : Actor) (what : Step) (w : World) (stamp : ℕ)
-      → (step who what setting w stamp).world.sent ≡ (step who what setting w stamp).letters ++ w.sent
-  unfolding step
-  step_letters (actor.Server n) what w stamp = refl
-  step_letters (actor.Client c) what w stamp = refl
-
-  -- who told whom
-  record Tells (records : List Record) (letter : Letter) (number : ℕ) (cell : Cell) : Type 0 where
-    holder : ℕ
-    to : letter.to ≡ actor.Server holder
-    told : WasTold setting records letter holder number cell
-
-  -- a running server that remembers so has heard it, and who said so had no slot
-  record Kept (records : List Record) : Type 0 where
-    rests : Rests setting (W records)
-    ended : (n : ℕ) → ((W records).servers n).life.running ≡ true → full_of ((W records).servers n).own ≡ true
-        → HasFoundNone setting records n ((W records).servers n).life.inc
-    letters : (letter : Letter) (number : ℕ) (cell : Cell) → In letter (W records).sent → letter.body ≡ body.SyncFull number cell
-        → Tells records letter number cell
-    fills : (letter : Letter) (key : Key) → In letter (W records).sent → letter.body ≡ body.FillFull key → WasDeclined setting records letter key
-    seconds : AreTold setting records
-
   abbrev job_more : (records : List Record) (next : Record) (n inc : ℕ) → HasJob setting records n inc → HasJob setting (records ++ next ∷ []) n inc
   job_more records next n inc h =
       record { moment = moment_more records next h.moment; who = h.who; works = h.works; runs = h.runs; lives = h.lives }
 
-  ended_more : (records : List Record) (next : Record) (n inc : ℕ) → HasEndedFull setting records n inc → HasEndedFull setting (records ++ next ∷ []) n inc
-  ended_more records next n inc h = record {
-    job = job_more records next n inc h.job;
-    full = h.full;
-  }
-
-  filled_more : (records : List Record) (next : Record) (n inc : ℕ) → HasFilledFull setting records n inc
-      → HasFilledFull setting (records ++ next ∷ []) n inc
-  filled_more records next n inc h = record {
-    job = job_more records next n inc h.job;
-    key = h.key;
-    row = h.row;
-    next = h.next;
-    heard = h.heard;
-    told = h.told;
-  }
-
   none_more : (records : List Record) (next : Record) (n inc : ℕ) → HasFoundNone setting records n inc → HasFoundNone setting (records ++ next ∷ []) n inc
-  none_more records next n inc (By_copy h) = By_copy (ended_more records next n inc h)
-  none_more records next n inc (By_fill h) = By_fill (filled_more records next n inc h)
+  none_more records next n inc (By_copy h) = By_copy (record { job = job_more records next n inc h.job; full = h.full })
+  none_more records next n inc (By_fill h) =
+      By_fill (record { job = job_more records next n inc h.job; key = h.key; row = h.row; next = h.next; heard = h.heard; told = h.told })
 
-  declined_more : (records : List Record) (next : Record) (letter : Letter) (key : Key) → WasDeclined setting records letter key
-      → WasDeclined setting (records ++ next ∷ []) letter key
-  declined_more records next letter key h = record { moment = moment_more records next h.moment; sent = h.sent; reason = h.reason }
+-- what a server that runs and remembers so has found
+abbrev FoundNone : Run → World → List Record → Type 0
+FoundNone run w records = (n : ℕ) → (w.servers n).life.running ≡ true → (w.servers n).own.copies.full ≡ true
+    → HasFoundNone (setting_in run) records n (w.servers n).life.inc
 
-  tells_more : (records : List Record) (next : Record) (letter : Letter) (number : ℕ) (cell : Cell) → Tells records letter number cell
-      → Tells (records ++ next ∷ []) letter number cell
-  tells_more records next letter number cell t = record {
-    holder = t.holder;
-    to = t.to;
-    told = record { moment = moment_more records next t.told.moment; sent = t.told.sent; reason = t.told.reason };
-  }
+module _ (it : OneMore) where
+  open it use {own}
 
-  module _ (done : List Record) (own : Record) (kept : Kept done) (on : IsNext setting done own) where
-    abbrev w : World
-    w = W done
+  abbrev setting : Setting
+  setting = setting_in it.prior
 
-    abbrev follows : Follows setting w own
-    follows = on.follows
+  abbrev w : World
+  w = after it.prior
 
-    abbrev job_now : (n inc : ℕ) → IsTold setting w own.actor own.step n inc → HasJob setting (done ++ own ∷ []) n inc
-    job_now n inc t =
-        record { moment = last_moment done own; who = t.is; works = t.works; runs = t.runs; lives = t.lives }
+  abbrev all : List Record
+  all = (longer it).records
 
-    copy_now : (n inc : ℕ) → IsTold setting w own.actor own.step n inc → HearsFull (Handled w n) (w.servers n).own
-        → HasEndedFull setting (done ++ own ∷ []) n inc
-    copy_now n inc t h =
-        let tells = kept.letters h.said.letter h.copy.op h.cell h.said.sent h.said.is in
-        record {
-          job = job_now n inc t;
-          full = record {
-            cell = h.cell;
-            copy = h.copy;
-            copying = h.copying;
-            trimmed = h.trimmed;
-            left = h.left;
-            heard = h.said;
-            told = subst (λ k. WasTold setting done h.said.letter k h.copy.op h.cell) (one_server (sym tells.to ∙ h.said.own)) tells.told;
-          };
-        }
+  abbrev job_now : (n inc : ℕ) → IsTold setting w own.actor own.step n inc → HasJob setting all n inc
+  job_now n inc t = record { moment = last_moment it.prior.records own; who = t.is; works = t.works; runs = t.runs; lives = t.lives }
 
-    fill_heard : (n inc : ℕ) → IsTold setting w own.actor own.step n inc → HearsFillFull (Handled w n) (own_place setting w n) (w.servers n).own
-        → HasFilledFull setting (done ++ own ∷ []) n inc
-    fill_heard n inc t h = record {
+  heard_now : (n inc : ℕ) → IsTold setting w own.actor own.step n inc → HasFoundNone setting all n inc
+  heard_now n inc t = elim t.told [
+    | inl h ↦ By_copy (record {
+      job = job_now n inc t;
+      full = record {
+        cell = h.cell;
+        copy = h.copy;
+        copying = h.copying;
+        trimmed = h.trimmed;
+        left = h.left;
+        heard = h.said;
+        told = was_told it.prior n h.copy.op h.cell h.said;
+      };
+    })
+    | inr h ↦ By_fill (record {
       job = job_now n inc t;
       key = h.key;
       row = h.row;
       next = h.next;
       heard = h.said;
-      told = kept.fills h.said.letter h.key h.said.sent h.said.is;
-    }
+      told = was_declined it.prior h.said.letter h.key h.said.sent h.said.is;
+    })
+  ]
 
-    heard_now : (n inc : ℕ) → IsTold setting w own.actor own.step n inc → HasFoundNone setting (done ++ own ∷ []) n inc
-    heard_now n inc t = elim t.told [
-      | inl h ↦ By_copy (copy_now n inc t h)
-      | inr h ↦ By_fill (fill_heard n inc t h)
-    ]
+  found_next : FoundNone it.prior w it.prior.records → FoundNone it.prior (after (longer it)) all
+  found_next old = subst (λ v. FoundNone it.prior v all) (sym (stepped_in it)) (λ n runs full.
+      elim (step_cause setting w (firm_in it.prior) (rests_in it.prior) own.actor own.step own.stamp (follows_in it).may.may (firm_then it) n runs full) [
+        | inl was ↦ subst (HasFoundNone setting all n) was.lives (none_more setting it.prior.records own n (w.servers n).life.inc (old n was.runs was.full))
+        | inr told ↦ heard_now n _ told
+      ])
 
-    ended_next : (n : ℕ) → ((stepped setting w own).world.servers n).life.running ≡ true → full_of ((stepped setting w own).world.servers n).own ≡ true
-        → HasFoundNone setting (done ++ own ∷ []) n ((stepped setting w own).world.servers n).life.inc
-    ended_next n runs full =
-        elim (step_cause setting w on.firm kept.rests own.actor own.step own.stamp follows.may.may on.later n runs full) [
-          | inl was ↦ subst (HasFoundNone setting (done ++ own ∷ []) n) was.lives
-              (none_more done own n (w.servers n).life.inc (kept.ended n was.runs was.full))
-          | inr told ↦ heard_now n _ told
-        ]
-
-    sent_now : (letter : Letter) (number : ℕ) (cell : Cell) → In letter (stepped setting w own).letters → letter.body ≡ body.SyncFull number cell
-        → Tells (done ++ own ∷ []) letter number cell
-    sent_now letter number cell h says =
-        elim (step_sent setting w on.firm kept.rests own.actor own.step own.stamp follows.may.may on.later letter h) [
-          | inr aside ↦ true_false aside (aside_not_copied (subject_of letter.body) (ap subject_of says))
-          | inl s ↦ elim s.works [
-            | inr idle ↦ true_false (ap is_no_leads (sym s.body ∙ says))
-                (asks_quiet (own_place setting w s.server) (w.servers s.server).own s.post (idle.asks s.post s.there))
-            | inl works ↦ (
-                let d = did_decline (Handled w s.server) (own_place setting w s.server) (w.servers s.server).own s.done s.did s.post s.there number
-                cell (sym s.body ∙ says) in
-                record {
-                  holder = d.holder;
-                  to = s.to ∙ d.to;
-                  told = record {
-                    moment = last_moment done own;
-                    sent = subst (In letter) (sym follows.sent) h;
-                    reason = record { server = s.server; is = s.is; works = works; lacks = d.lacks };
-                  };
-                })
-          ]
-        ]
-
-    fill_sent : (letter : Letter) (key : Key) → In letter (stepped setting w own).letters → letter.body ≡ body.FillFull key
-        → WasDeclined setting (done ++ own ∷ []) letter key
-    fill_sent letter key h says =
-        elim (step_sent setting w on.firm kept.rests own.actor own.step own.stamp follows.may.may on.later letter h) [
-          | inr aside ↦ true_false aside (ap (λ b. is_aside (subject_of b)) says)
-          | inl s ↦ record {
-            moment = last_moment done own;
-            sent = subst (In letter) (sym follows.sent) h;
-            reason = fill_now setting done kept.seconds own.actor own.step letter s key says;
-          }
-        ]
-
-    kept_next : Kept (done ++ own ∷ [])
-    kept_next =
-        let e = sym (world_more setting (start setting) done own) in
-        record {
-          rests = subst (Rests setting) e (rests_next setting w own kept.rests on.firm follows on.later);
-          ended = subst
-              (λ (v : World). (n : ℕ) → (v.servers n).life.running ≡ true → full_of (v.servers n).own ≡ true
-              → HasFoundNone setting (done ++ own ∷ []) n (v.servers n).life.inc) e ended_next;
-          letters = subst
-              (λ (v : World). (letter : Letter) (number : ℕ) (cell : Cell) → In letter v.sent → letter.body ≡ body.SyncFull number cell
-              → Tells (done ++ own ∷ []) letter number cell) e
-              (λ letter number cell h says.
-              elim (in-append letter _ w.sent (subst (In letter) (step_letters own.actor own.step w own.stamp) h)) [
-                | inl new ↦ sent_now letter number cell new says
-                | inr old ↦ tells_more done own letter number cell (kept.letters letter number cell old says)
-              ]);
-          fills = subst
-              (λ (v : World). (letter : Letter) (key : Key) → In letter v.sent → letter.body ≡ body.FillFull key
-              → WasDeclined setting (done ++ own ∷ []) letter key) e
-              (λ letter key h says.
-              elim (in-append letter _ w.sent (subst (In letter) (step_letters own.actor own.step w own.stamp) h)) [
-                | inl new ↦ fill_sent letter key new says
-                | inr old ↦ declined_more done own letter key (kept.fills letter key old says)
-              ]);
-          seconds = told_next setting done own kept.seconds on;
-        }
-
-pub ended_full : (script : Script) (records : List Record) → AreFirm (setting_of script) (start (setting_of script)) records → AreSteps script records
-    → (n : ℕ) → ((world_after (setting_of script) (start (setting_of script)) records).servers n).life.running ≡ true
-    → ((world_after (setting_of script) (start (setting_of script)) records).servers n).own.copies.full ≡ true
-    → HasFoundNone (setting_of script) records n ((world_after (setting_of script) (start (setting_of script)) records).servers n).life.inc
-unfolding In
-ended_full script records firm legal =
-    let setting = setting_of script in
-    (along setting (Kept setting) (kept_next setting) (record {
-      rests = start_rests script;
-      ended = λ n runs full. true_false full refl;
-      letters = λ letter number cell h says. absurd h;
-      fills = λ letter key h says. absurd h;
-      seconds = start_told script;
-    }) records firm legal).ended
+pub found_none : (run : Run) → FoundNone run (after run) run.records
+found_none = by_run (λ run. FoundNone run (after run) run.records) (λ script sound legal n runs full. true_false full refl) found_next

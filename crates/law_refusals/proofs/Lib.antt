@@ -1,7 +1,6 @@
 pub mod Frames
 pub mod Slots
 pub mod Jobs
-pub mod Along
 pub mod Leads
 pub mod Sent
 pub mod Seconds

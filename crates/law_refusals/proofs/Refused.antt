@@ -1,6 +1,6 @@
 -- A server refuses a request in the step that found the reason: another operation pending on the block, or a copy under way; or a fence,
 -- or a ballot of its own for the link's Caught, that holds the request back; or that the new map has nothing of what a read asked for.
-use Rattle.std.proofs.Common.{◌≡◌, ℕ, Bool, List, [], ◌∷◌, ◌++◌, true, false, Some, refl, sym, ap, ◌∙◌, subst, ◌⊎◌, inl, inr}
+use Rattle.std.proofs.Common.{◌≡◌, ℕ, Bool, true, false, Some, refl, sym, ap, ◌∙◌, subst, inl, inr}
 use Rattle.petal_base.specs.Cells.{cell_of}
 use Rattle.petal_base.specs.declared.cell.Cell.{Cell}
 use Rattle.petal_base.specs.declared.cell.Key.{Key}
@@ -12,32 +12,29 @@ use Rattle.petal_msg.specs.declared.body.Body.TheVariants as body
 use Rattle.petal_msg.specs.declared.letter.Actor.{Actor}
 use Rattle.petal_msg.specs.declared.letter.Actor.TheVariants as actor
 use Rattle.petal_msg.specs.declared.letter.Letter.{Letter}
-use Rattle.script_lines.specs.declared.script.Script.{Script}
 use Rattle.petal_rules.specs.Lists.{In}
 use Rattle.petal_rules.specs.Server.{Own, Here, Post, Done}
 use Rattle.petal_rules.specs.Store.{cell_cmp}
-use Rattle.petal_rules.specs.World.{Setting, World, setting_of, start}
+use Rattle.petal_rules.specs.World.{Setting, World}
 use Rattle.petal_rules.specs.declared.step.Step.{Step}
 use Rattle.petal_rules.specs.declared.step.Step.TheVariants.{Work}
 use Rattle.petal_rules.specs.declared.step.WorkEnd.TheVariants as work_end
 use Rattle.petal_rules.proofs.Tests.{true_false}
-use Rattle.petal_history.specs.Steps.{AreSteps, world_after}
-use Rattle.petal_history.specs.declared.record.Record.{Record}
 use Rattle.law_steps.specs.Did.{Did, Ignores, Refuses, IsBusy, IsHeldBack, By_read, By_lead, By_second, By_holder, By_other, By_filler, By_sweep, is_not_here}
 use Rattle.law_steps.specs.DidRead.{DidRead, Shows, Not_here}
 use Rattle.law_steps.specs.Happens.{Handled, own_place}
-use Rattle.law_steps.specs.Ready.{AreFirm, Rests}
 use Rattle.law_steps.proofs.CopyFrames.{of_holder, of_other}
-use Rattle.law_steps.proofs.Histories.{firm_now, front_firm, front_legal, rests_after, start_rests}
 use Rattle.law_steps.proofs.Letters.{one_post}
 use Rattle.law_steps.proofs.Operating.{is_fill_full}
 use Rattle.law_steps.proofs.Subjects.{of_filler, of_second, of_sweep}
-use Rattle.law_refusals.specs.Full.{HadNoFill, At_the_lead, At_the_second, world_at}
+use Rattle.law_jobs.proofs.Runs.{OneMore, Run, after, at_moment, rests_in, setting_in}
+use Rattle.law_jobs.proofs.Sent.{was_sent}
+use Rattle.law_refusals.specs.Full.{HadNoFill, At_the_lead, At_the_second, WasDeclined}
 use Rattle.law_refusals.specs.Reasons.{FoundBusy, FoundHeld, FoundNothing, HasNothingOf}
 use Rattle.law_refusals.proofs.Filled.{SaysNone, Has_none, Is_declined, asks_unfilled, did_none}
 use Rattle.law_refusals.proofs.Leads.{lead_quiet, refused_no_leads}
-use Rattle.law_refusals.proofs.Seconds.{AreTold, seconds_told, told_lead}
-use Rattle.law_refusals.proofs.Sent.{SentBy, is_aside, step_sent}
+use Rattle.law_refusals.proofs.Seconds.{told_lead}
+use Rattle.law_refusals.proofs.Sent.{SentBy, is_aside, sent_by}
 
 abbrev is_refusal : Body → Bool
 is_refusal said = is_refused (subject_of said)
@@ -90,58 +87,47 @@ record FoundGround (setting : Setting) (w : World) (who to : Actor) (said : Body
   is : who ≡ actor.Server server
   ground : HasGround (Handled w server) (own_place setting w server) (w.servers server).own to said
 
-module _ (setting : Setting) (records : List Record) (told : AreTold setting records) where
+module _ (run : Run) where
   abbrev reached : World
-  reached = world_at setting records
+  reached = after run
+
+  abbrev here : ℕ → Here
+  here n = own_place (setting_in run) reached n
 
   -- the job that says that an entry found no slot
-  pub fill_now : (who : Actor) (what : Step) (letter : Letter) → SentBy setting reached who what letter → (key : Key) → letter.body ≡ body.FillFull key
-      → HadNoFill setting records who what key
+  fill_now : (who : Actor) (what : Step) (letter : Letter) → SentBy (setting_in run) reached who what letter → (key : Key)
+      → letter.body ≡ body.FillFull key → HadNoFill (setting_in run) run.records who what key
   fill_now who what letter s key says = elim s.works [
     | inr idle ↦ true_false (ap is_fill_full (sym s.body ∙ says))
-        (asks_unfilled (own_place setting reached s.server) (reached.servers s.server).own s.post (idle.asks s.post s.there))
-    | inl works ↦ by works (did_none (Handled reached s.server) (own_place setting reached s.server) (reached.servers s.server).own keyed s.done s.did s.post
+        (asks_unfilled (here s.server) (reached.servers s.server).own s.post (idle.asks s.post s.there))
+    | inl works ↦ by works (did_none (Handled reached s.server) (here s.server) (reached.servers s.server).own keyed s.done s.did s.post
         s.there key (sym s.body ∙ says))
   ]
     where
       keyed : (cell : Cell) (op : Pending) → at cell_cmp (reached.servers s.server).own.pairs.pending cell ≡ Some op → cell_of op.key ≡ cell
-      keyed cell op is = ((told.rests.pending s.server).staged cell op is).keyed
+      keyed cell op is = (((rests_in run).pending s.server).staged cell op is).keyed
 
-      by : what ≡ Work work_end.Done → SaysNone (Handled reached s.server) (own_place setting reached s.server) (reached.servers s.server).own keyed key
-          → HadNoFill setting records who what key
+      by : what ≡ Work work_end.Done → SaysNone (Handled reached s.server) (here s.server) (reached.servers s.server).own keyed key
+          → HadNoFill (setting_in run) run.records who what key
       by works (Has_none moving is new full) = At_the_lead s.server moving s.is works is new full
       by works (Is_declined op is fill of h) =
-          At_the_second s.server op s.is works is fill of h (told_lead setting records told s.server op.op (cell_of key) h)
+          At_the_second s.server op s.is works is fill of h (told_lead run s.server op.op (cell_of key) h)
 
 aside_quiet : (subject : Subject) → is_refused subject ≡ true → is_aside subject ≡ false
 aside_quiet Refused e = refl
 aside_quiet _ e = true_false e refl
 
-module _ (script : Script) (front : List Record) (own : Record) (firm : AreFirm (setting_of script) (start (setting_of script)) (front ++ own ∷ []))
-    (legal : AreSteps script (front ++ own ∷ [])) (letter : Letter) where
+module _ (it : OneMore) (letter : Letter) where
+  open it use {own}
+
   abbrev setting : Setting
-  setting = setting_of script
+  setting = setting_in it.prior
 
   abbrev w : World
-  w = world_after setting (start setting) front
-
-  -- what the step sent
-  rests : Rests setting w
-  rests =
-      let parts = front_legal setting (start setting) front (own ∷ []) legal in
-      let firms = front_firm setting (start setting) front (own ∷ []) firm in
-      rests_after setting (start setting) front firms.0 (start_rests script) parts.0
-
-  sent_by : In letter own.sent → SentBy setting w own.actor own.step letter ⊎ (is_aside (subject_of letter.body) ≡ true)
-  sent_by h =
-      let parts = front_legal setting (start setting) front (own ∷ []) legal in
-      let firms = front_firm setting (start setting) front (own ∷ []) firm in
-      let follows = parts.1.0 in
-      step_sent setting w (firm_now setting w (own ∷ []) firms.1) rests own.actor own.step own.stamp follows.may.may firms.1.2 letter
-      (subst (In letter) follows.sent h)
+  w = after it.prior
 
   found : In letter own.sent → is_refusal letter.body ≡ true → FoundGround setting w own.actor letter.to letter.body
-  found h e = elim (sent_by h) [
+  found h e = elim (sent_by it letter h) [
     | inl s ↦
         let ground = did_refuse (Handled w s.server) (own_place setting w s.server) (w.servers s.server).own s.done s.did s.post s.there
         (sym (ap is_refusal s.body) ∙ e) in
@@ -164,14 +150,10 @@ module _ (script : Script) (front : List Record) (own : Record) (firm : AreFirm 
         nothing = g;
       }
 
-  told_before : AreTold setting front
-  told_before = seconds_told script front (front_firm setting (start setting) front (own ∷ []) firm).0
-      (front_legal setting (start setting) front (own ∷ []) legal).0
-
-  pub fill_reason : (key : Key) → In letter own.sent → letter.body ≡ body.FillFull key → HadNoFill setting front own.actor own.step key
-  fill_reason key h says = elim (sent_by h) [
+  pub fill_reason : (key : Key) → In letter own.sent → letter.body ≡ body.FillFull key → HadNoFill setting it.prior.records own.actor own.step key
+  fill_reason key h says = elim (sent_by it letter h) [
     | inr aside ↦ true_false aside (ap (λ b. is_aside (subject_of b)) says)
-    | inl s ↦ fill_now setting front told_before own.actor own.step letter s key says
+    | inl s ↦ fill_now it.prior own.actor own.step letter s key says
   ]
 
   pub busy_reason : (seq : ℕ) → In letter own.sent → letter.body ≡ body.BlockBusy seq → FoundBusy setting w own.actor seq
@@ -183,3 +165,10 @@ module _ (script : Script) (front : List Record) (own : Record) (firm : AreFirm 
   held_reason seq h says =
       let f = found h (ap is_refusal says) in
       record { server = f.server; is = f.is; held = f.ground.held seq says }
+
+-- so it is of each such letter that was sent
+pub was_declined : (run : Run) (letter : Letter) (key : Key) → In letter (after run).sent → letter.body ≡ body.FillFull key
+    → WasDeclined (setting_in run) run.records letter key
+was_declined run letter key i says =
+    let was = was_sent run letter i in
+    record { moment = was.moment; sent = was.sent; reason = fill_reason (at_moment run was.moment) letter key was.sent says }

@@ -33,21 +33,18 @@ use Rattle.petal_rules.specs.World.{Setting, World, step, start, setting_of, cli
 use Rattle.petal_rules.specs.World.{next_line, MayActor}
 use Rattle.petal_rules.specs.declared.step.Step.{Step}
 use Rattle.petal_rules.proofs.Tests.{same_some, none_some, by_test}
-use Rattle.petal_history.specs.Steps.{AreSteps, AreStepsFrom, world_after}
-use Rattle.petal_history.specs.Sound.{IsSound}
+use Rattle.petal_history.specs.Steps.{world_after}
 use Rattle.petal_history.specs.declared.record.Record.{Record}
 use Rattle.law_state.proofs.Moments.{last_moment, moment_more}
 use Rattle.law_steps.specs.Happens.{Heard}
-use Rattle.law_steps.specs.Ready.{AreFirm, Rests}
 use Rattle.law_steps.specs.Turned.{Turned, Goes_on, Is_told, Begins, Reads, Ends, Shown, Judges, IsReason, By_verdict, By_witness, IsSeenAs}
 use Rattle.law_steps.specs.Turned.{Stops_it, Stops_at, Fails_it, Starts_it, Blanks_it, Has_no_space, Is_settled}
-use Rattle.law_steps.proofs.Histories.{front_firm, front_legal, rests_next, start_rests, world_more}
 use Rattle.law_steps.proofs.Turning.{client_turns, is_call}
+use Rattle.law_jobs.proofs.Runs.{OneMore, Run, after, at_moment, by_run, firm_in, firm_then, follows_in, grown_then, longer, rests_in, setting_in, stepped_in}
 use Rattle.law_causes.proofs.Settled.{shown_full}
 use Rattle.law_refusals.specs.Reasons.{HadNoSlot, WasRefused, HasReason, Refusals}
-use Rattle.law_refusals.proofs.Along.{IsNext, along}
 use Rattle.law_refusals.specs.Full.{HasFullServer}
-use Rattle.law_refusals.proofs.Copies.{ended_full}
+use Rattle.law_refusals.proofs.Copies.{found_none}
 use Rattle.law_refusals.proofs.StepRefusals.{step_kept}
 
 module _ (setting : Setting) where
@@ -62,23 +59,6 @@ module _ (setting : Setting) where
   refused_now : (done : List Record) (own : Record) (c seq : ℕ) → HadNoSlot setting (W done) own.actor own.step c seq
       → WasRefused setting (done ++ own ∷ []) c seq
   refused_now done own c seq h = record { moment = last_moment done own; reason = h }
-
-  pub record Kept (done : List Record) : Type 0 where
-    pub rests : Rests setting (W done)
-    pub refusals : Refusals (WasRefused setting done) setting (W done)
-
-  kept_more : (done : List Record) (own : Record) → Kept done → IsNext setting done own → Kept (done ++ own ∷ [])
-  kept_more done own kept on =
-      let w = W done in
-      let e = sym (world_more setting (start setting) done own) in
-      record {
-        rests = subst (Rests setting) e (rests_next setting w own kept.rests on.firm on.follows on.later);
-        refusals = subst (Refusals (WasRefused setting (done ++ own ∷ [])) setting) e
-            (step_kept setting (WasRefused setting done)
-            (WasRefused setting (done ++ own ∷ [])) w on.firm kept.rests own.actor own.step own.stamp on.follows.may.may on.later
-            on.grows (refused_more done own)
-            (refused_now done own) kept.refusals);
-      }
 
   -- ### A refused write
 
@@ -198,34 +178,6 @@ module _ (setting : Setting) where
       one_client : {i j : ℕ} → actor.Client i ≡ actor.Client j → i ≡ j
       one_client e = cc
 
-  -- what a letter that shows a want of slots comes of
-  abbrev pub ShowsFull : List Record → Type 0
-  ShowsFull records =
-      (letter : Letter) (line round : ℕ) (running : Bool) (inc : ℕ) (full : Bool) → In letter (W records).sent
-      → letter.body ≡ body.Seen line round running inc full → full ≡ true → HasFullServer setting records line
-
-  pub no_space : Kept [] → (front : List Record) (own : Record) → ShowsFull front → AreFirm setting (start setting) (front ++ own ∷ [])
-      → AreStepsFrom setting (start setting) (front ++ own ∷ []) → (c number : ℕ)
-      → own.actor ≡ actor.Client c → own.answer ≡ Some (number, answer.NoSpace) → HasReason setting front c number
-  no_space begun front own shows firm legal c number who given =
-      let parts = front_legal setting (start setting) front (own ∷ []) legal in
-      let firms = front_firm setting (start setting) front (own ∷ []) firm in
-      let kept = along setting Kept kept_more begun front firms.0 parts.0 in
-      let follows = parts.1.0 in
-      let h = answer_heard (W front) own.actor own.step own.stamp c number who follows.may.may (sym follows.answer ∙ given) in
-      record {
-        opened = record { asked = h.asked; is = h.is; number = h.line };
-        refused = elim h.heard [
-          | inl full ↦ inl (kept.refusals.letters full.letter c h.asked.seq full.sent full.own full.is)
-          | inr seen ↦ inr (
-            seen.settles,
-            subst (HasFullServer setting front) h.line
-                (shows seen.heard.letter h.asked.line seen.sight.round seen.sight.running seen.sight.inc seen.sight.full seen.heard.sent
-                seen.heard.is seen.full),
-          )
-        ];
-      }
-
 -- ### From the start
 
 start_refusals : (R : ℕ → ℕ → Type 0) (script : Script) → Refusals R (setting_of script) (start (setting_of script))
@@ -238,31 +190,46 @@ start_refusals R script = record {
   declined = λ letter number cell h says. absurd h;
 }
 
-start_kept : (script : Script) → Kept (setting_of script) []
-start_kept script = record {
-  rests = start_rests script;
-  refusals = start_refusals (WasRefused (setting_of script) []) script;
-}
+-- what is kept of refusals, where each was made by one of the run's records
+abbrev AreRefused : Run → Type 0
+AreRefused run = Refusals (WasRefused (setting_in run) run.records) (setting_in run) (after run)
+
+refused_next : (it : OneMore) → AreRefused it.prior → AreRefused (longer it)
+refused_next it old =
+    let setting = setting_in it.prior in
+    let w = after it.prior in
+    let done = it.prior.records in
+    let e = stepped_in it in
+    subst (Refusals (WasRefused setting (longer it).records) setting) (sym e)
+    (step_kept setting (WasRefused setting done) (WasRefused setting (longer it).records) w (firm_in it.prior) (rests_in it.prior) it.own.actor it.own.step
+    it.own.stamp (follows_in it).may.may (firm_then it) (grown_then it)
+    (refused_more setting done it.own) (refused_now setting done it.own) old)
+
+are_refused : (run : Run) → AreRefused run
+are_refused = by_run AreRefused (λ script sound legal. start_refusals (WasRefused (setting_of script) []) script) refused_next
 
 -- a glance that showed a want of slots, and what was so before it
-full_copy : (script : Script) (records : List Record) → AreFirm (setting_of script) (start (setting_of script)) records → IsSound script
-    → AreSteps script records → ShowsFull (setting_of script) records
-full_copy script records firm sound legal letter line round running inc full h says so =
-    let setting = setting_of script in
-    let found = shown_full script sound records legal letter line round running inc full h says so in
-    let at = found.at in
-    record {
-      found = found;
-      full = ended_full script at.front
-          (front_firm setting (start setting) at.front (at.own ∷ at.following) (subst (AreFirm setting (start setting)) at.is firm)).0
-          (front_legal setting (start setting) at.front (at.own ∷ at.following) (subst (AreSteps script) at.is legal)).0
-          found.server found.runs found.full;
-    }
+full_copy : (run : Run) (letter : Letter) (line round : ℕ) (running : Bool) (inc : ℕ) (full : Bool) → In letter (after run).sent
+    → letter.body ≡ body.Seen line round running inc full → full ≡ true → HasFullServer (setting_in run) run.records line
+full_copy run letter line round running inc full h says so =
+    let found = shown_full run letter line round running inc full h says so in
+    record { found = found; full = found_none (at_moment run found.at.moment).prior found.server found.runs found.full }
 
-pub no_space_reason : (script : Script) (front : List Record) (own : Record) → IsSound script
-    → AreFirm (setting_of script) (start (setting_of script)) (front ++ own ∷ []) → AreSteps script (front ++ own ∷ []) → (client line : ℕ)
-    → own.actor ≡ actor.Client client → own.answer ≡ Some (line, answer.NoSpace) → HasReason (setting_of script) front client line
-no_space_reason script front own sound firm legal =
-    no_space (setting_of script) (start_kept script) front own
-    (full_copy script front (front_firm (setting_of script) (start (setting_of script)) front (own ∷ []) firm).0 sound
-    (front_legal (setting_of script) (start (setting_of script)) front (own ∷ []) legal).0) firm legal
+pub no_space_reason : (it : OneMore) (client line : ℕ) → it.own.actor ≡ actor.Client client → it.own.answer ≡ Some (line, answer.NoSpace)
+    → HasReason (setting_in it.prior) it.prior.records client line
+no_space_reason it client line who given =
+    let setting = setting_in it.prior in
+    let follows = follows_in it in
+    let h = answer_heard setting (after it.prior) it.own.actor it.own.step it.own.stamp client line who follows.may.may (sym follows.answer ∙ given) in
+    record {
+      opened = record { asked = h.asked; is = h.is; number = h.line };
+      refused = elim h.heard [
+        | inl full ↦ inl ((are_refused it.prior).letters full.letter client h.asked.seq full.sent full.own full.is)
+        | inr seen ↦ inr (
+          seen.settles,
+          subst (HasFullServer setting it.prior.records) h.line
+              (full_copy it.prior seen.heard.letter h.asked.line seen.sight.round seen.sight.running seen.sight.inc seen.sight.full seen.heard.sent
+              seen.heard.is seen.full),
+        )
+      ];
+    }

@@ -1,5 +1,5 @@
 -- What a step sends: the letters of a job that a server did; and else what is of the agreed log, shows a glance, or asks for a read or a write.
-use Rattle.std.proofs.Common.{◌≡◌, ℕ, Bool, List, [], ◌∷◌, true, false, refl, ap, ◌∙◌, ◌⊎◌, inl, inr}
+use Rattle.std.proofs.Common.{◌≡◌, ℕ, Bool, List, [], ◌∷◌, true, false, refl, ap, ◌∙◌, subst, ◌⊎◌, inl, inr}
 use Rattle.std.specs.Prelude.{◌||◌, map}
 use Rattle.petal_msg.specs.Kinds.{Subject, Glanced, Logged, Read_asked, Write_asked, is_asked, is_logged, subject_of}
 use Rattle.petal_msg.specs.declared.body.Body.TheVariants as body
@@ -26,6 +26,7 @@ use Rattle.law_steps.proofs.Letters.{Said, said}
 use Rattle.law_steps.proofs.Sending.{is_ask, turned_asks}
 use Rattle.law_steps.proofs.Serving.{server_serves}
 use Rattle.law_steps.proofs.Turning.{client_turns, is_call}
+use Rattle.law_jobs.proofs.Runs.{OneMore, after, firm_in, firm_then, follows_in, rests_in, setting_in}
 
 -- of the agreed log, of a glance, or a client's request
 abbrev pub is_aside : Subject → Bool
@@ -97,7 +98,7 @@ module _ (setting : Setting) (w : World) (n stamp : ℕ) (what : Step) where
   serves_sent _ (Fails booted asleep) letter h = absurd h
   serves_sent _ (Stays who posts from shown) letter h = aside who posts (λ post i. ap is_aside (shown post i)) letter h
 
-pub step_sent : (setting : Setting) (w : World) → Firm setting w → Rests setting w → (who : Actor) (what : Step) (stamp : ℕ)
+step_sent : (setting : Setting) (w : World) → Firm setting w → Rests setting w → (who : Actor) (what : Step) (stamp : ℕ)
     → MayActor who what setting w → Firm setting (step who what setting w stamp).world → (letter : Letter)
     → In letter (step who what setting w stamp).letters → SentBy setting w who what letter ⊎ (is_aside (subject_of letter.body) ≡ true)
 unfolding step In
@@ -110,3 +111,11 @@ step_sent setting w firm rests (actor.Client c) what stamp may later letter h =
     inr (asked_aside (subject_of letter.body)
     (ap is_ask s.body ∙ turned_asks _ setting.servers setting.lines c (w.clients c) (is_call what) reacted
     (client_turns setting w c what may.1).turned s.post s.there))
+
+-- the letter of a record is one of these
+pub sent_by : (it : OneMore) (letter : Letter) → In letter it.own.sent
+    → SentBy (setting_in it.prior) (after it.prior) it.own.actor it.own.step letter ⊎ (is_aside (subject_of letter.body) ≡ true)
+sent_by it letter i =
+    let follows = follows_in it in
+    step_sent (setting_in it.prior) (after it.prior) (firm_in it.prior) (rests_in it.prior) it.own.actor it.own.step it.own.stamp follows.may.may
+    (firm_then it) letter (subst (In letter) follows.sent i)

@@ -1,7 +1,6 @@
 -- What is known of requests holds after every legal history, and the rule of requests follows.
 use Rattle.std.proofs.Common.{◌≡◌, ◌≢◌, ◌≤◌, ◌<◌, ◌++◌, ℕ, List, [], ◌∷◌, Option, Some, None, true, false, length, refl, ap, sym}
-use Rattle.std.proofs.Common.{◌∙◌, subst, ◌⊎◌, inl, inr, arith, append_assoc}
-use Rattle.std.proofs.lemmas.List.{append-nil}
+use Rattle.std.proofs.Common.{◌∙◌, subst, ◌⊎◌, inl, inr, arith}
 use Rattle.std.specs.Ordering.{nat_cmp}
 use Rattle.petal_base.specs.declared.cell.Cell.{Cell}
 use Rattle.petal_table.specs.Table.{at}
@@ -33,15 +32,15 @@ use Rattle.law_state.specs.Firm.{Firm}
 use Rattle.law_state.proofs.Incarnations.{who_is_in}
 use Rattle.law_state.proofs.Steady.{front_plain}
 use Rattle.law_log.specs.Requested.{WasDraining}
-use Rattle.law_log.proofs.Histories.{chosen_caught_was, history_grows, history_is_firm, join_was_wanted, report_was_made}
+use Rattle.law_log.proofs.Histories.{chosen_caught_was, history_is_firm, join_was_wanted, report_was_made}
 use Rattle.law_steps.specs.Happens.{Happens}
 use Rattle.law_steps.specs.Operations.{done_to}
-use Rattle.law_steps.specs.Ready.{AreFirm, Ready, Rests}
-use Rattle.law_steps.proofs.Firms.{always_firm}
+use Rattle.law_steps.specs.Ready.{Ready, Rests}
 use Rattle.law_steps.proofs.Fronts.{below_itself, front_itself, front_long, front_on, front_same, one_front}
-use Rattle.law_steps.proofs.Histories.{chosen_below, firm_after, front_legal, last_happens, ready_after, rests_after, start_rests}
+use Rattle.law_steps.proofs.Histories.{chosen_below}
 use Rattle.law_steps.proofs.Records.{none_before_none, split_last, split_one}
 use Rattle.law_steps.proofs.Waking.{may_wake}
+use Rattle.law_jobs.proofs.Runs.{At, OneMore, after, by_run, firm_in, grown_in, happened_in, longer, more_of, ready_in, rests_in, run_of, setting_in}
 use Rattle.law_requests.specs.Asked.{IsOpen}
 use Rattle.law_requests.specs.Known.{Lives, LedBy, lives_after, seen, done_by, WriteKnown, Known, IsUsed, Has_pending}
 use Rattle.law_requests.specs.Known.{Has_finished, asked_for, AskingBy, Asking, KnowsReports}
@@ -124,18 +123,16 @@ module _ (script : Script) (sound : IsSound script) where
   abbrev setting : Setting
   setting = setting_of script
 
-  abbrev At : List Record → World
-  At records = world_after setting (start setting) records
-
   abbrev KnownAfter : List Record → Type 0
-  KnownAfter records = AskingAlong setting records (At records)
+  KnownAfter records = AskingAlong setting records (At script records)
 
   -- of the reports that are chosen
-  pub reports_known : (records : List Record) → AreSteps script records → (k : KnownAfter records) → KnowsReports setting (At records) k.asks.lives
+  pub reports_known : (records : List Record) → AreSteps script records → (k : KnownAfter records)
+      → KnowsReports setting (At script records) k.asks.lives
   reports_known records legal k = record {
     reached = λ n fence until stands.
         let was = report_was_made script records sound legal until n (k.asks.lives.ran n) fence stands in
-        subst (λ log. IsPrefix log ((At records).servers n).log.applied) was.at (k.since was.before (was.own ∷ was.later) was.is n).grows;
+        subst (λ log. IsPrefix log ((At script records).servers n).log.applied) was.at (k.since was.before (was.own ∷ was.later) was.is n).grows;
     later = λ n fence until stands cell op is clients holds.
         k.drained n (k.asks.lives.ran n) until (report_was_made script records sound legal until n (k.asks.lives.ran n) fence stands) cell op is clients holds;
   }
@@ -147,39 +144,36 @@ module _ (script : Script) (sound : IsSound script) where
     all = records ++ own ∷ []
 
     abbrev w : World
-    w = At records
+    w = At script records
 
     abbrev v : World
-    v = At all
+    v = At script all
 
     abbrev chosen_now : State
     chosen_now = chosen_state setting v
 
-    legal_before : AreSteps script records
-    legal_before = (front_legal setting (start setting) records (own ∷ []) legal).0
+    abbrev it : OneMore
+    it = more_of script sound records own legal
 
     grows : IsPrefix (chosen_log setting w) (chosen_log setting v)
-    grows = history_grows script all sound legal records (own ∷ []) refl
-
-    firm_all : AreFirm setting (start setting) all
-    firm_all = always_firm script all sound legal
+    grows = grown_in it
 
     firm_now : Firm setting v
-    firm_now = firm_after setting (start setting) all firm_all
+    firm_now = firm_in (longer it)
 
     ready : Ready setting chosen_now w
-    ready = ready_after script records (always_firm script records sound legal_before) legal_before chosen_now (chosen_below setting w v firm_now grows)
+    ready = ready_in it.prior chosen_now (chosen_below setting w v firm_now grows)
 
     happened : Happens setting chosen_now w v
-    happened = last_happens script records own firm_all legal chosen_now (below_itself chosen_now)
+    happened = happened_in it chosen_now (below_itself chosen_now)
 
     goes : GoesOn setting w v k.asks.lives
-    goes = happens_later setting chosen_now w v k.asks.lives ready (may_wake script records sound legal_before) k.asks.known
-        (reports_known records legal_before k) happened
+    goes = happens_later setting chosen_now w v k.asks.lives ready (may_wake script records sound it.prior.legal) k.asks.known
+        (reports_known records it.prior.legal k) happened
 
     asking_now : AskingBy setting v (lives_after k.asks.lives v)
-    asking_now = happens_asking setting chosen_now w v k.asks.lives ready (may_wake script records sound legal_before) k.asks.known
-        (reports_known records legal_before k) happened
+    asking_now = happens_asking setting chosen_now w v k.asks.lives ready (may_wake script records sound it.prior.legal) k.asks.known
+        (reports_known records it.prior.legal k) happened
 
     -- what is pending on a cell was not opened by entries by which a fence held its writes
     not_then : (n : ℕ) (cell : Cell) (op : Pending) → at cell_cmp (v.servers n).own.pairs.pending cell ≡ Some op → is_clients op.kind ≡ true
@@ -229,8 +223,9 @@ module _ (script : Script) (sound : IsSound script) where
         → at cell_cmp (v.servers n).own.pairs.pending cell ≡ Some op → is_clients op.kind ≡ true
         → is_writes_held (held (state_after setting.servers until) cell) ≡ true → length until < op.rev
     drained_now n inc until was cell op is clients holds = elim (split_one records own was.before was.own was.later was.is) [
-      | inl last ↦ drained_last n until (subst (λ rs. ((At rs).servers n).log.applied ≡ until) (sym last) was.at)
-          (subst (λ rs. has_held_write (state_after setting.servers until) ((At rs).servers n).own ≡ false) (sym last) was.drained) cell op is clients holds
+      | inl last ↦ drained_last n until (subst (λ rs. ((At script rs).servers n).log.applied ≡ until) (sym last) was.at)
+          (subst (λ rs. has_held_write (state_after setting.servers until) ((At script rs).servers n).own ≡ false) (sym last) was.drained) cell op is clients
+          holds
       | inr more ↦ drained_before n inc until (record {
         ran = record { before = was.before; own = was.own; later = more.0; is = more.1; lives = was.lives; runs = was.runs };
         at = was.at;
@@ -245,11 +240,11 @@ module _ (script : Script) (sound : IsSound script) where
           asks = record { lives = lives_after k.asks.lives v; known = asking_now };
           first = λ n. let one = k.first n in let more = no_earlier k.asks.lives w v lived goes.steps n in omega arith;
           since = λ before later is n. elim (split_last records own before later is) [
-            | inl whole ↦ subst (λ rs. IsSince ((At rs).servers n) (v.servers n) ((lives_after k.asks.lives v).ran n)) (sym whole)
+            | inl whole ↦ subst (λ rs. IsSince ((At script rs).servers n) (v.servers n) ((lives_after k.asks.lives v).ran n)) (sym whole)
                 (since_itself (v.servers n) ((lives_after k.asks.lives v).ran n)
                 (λ runs. let now = ran_now k.asks.lives w v lived goes.steps n runs in omega arith))
             | inr more ↦
-                since_on k.asks.lives w v lived goes.steps n ((At before).servers n) (k.since before more.0 more.1 n) (goes.later.logs n)
+                since_on k.asks.lives w v lived goes.steps n ((At script before).servers n) (k.since before more.0 more.1 n) (goes.later.logs n)
           ];
           drained = drained_now;
         }
@@ -259,29 +254,17 @@ module _ (script : Script) (sound : IsSound script) where
     unfolding one_more
     more_lives = refl
 
-  known_from : (done later : List Record) → AreSteps script (done ++ later) → KnownAfter done → KnownAfter (done ++ later)
-  known_from done [] legal known = subst KnownAfter (sym (append-nil done)) known
-  known_from done (own ∷ later) legal known =
-      let e = append_assoc done (own ∷ []) later in
-      let whole : AreSteps script ((done ++ own ∷ []) ++ later) = subst (AreSteps script) (sym e) legal in
-      let part = (front_legal setting (start setting) (done ++ own ∷ []) later whole).0 in
-      subst KnownAfter e (known_from (done ++ own ∷ []) later whole (one_more done own part known))
-
-  -- after each legal history
-  pub asking_along : (records : List Record) → AreSteps script records → AskingAlong setting records (At records)
-  asking_along records legal = known_from [] records legal (start_along script)
-
   -- ### What is known of incarnations
 
-  module _ (records : List Record) (legal : AreSteps script records) (along : AskingAlong setting records (At records)) where
+  module _ (records : List Record) (legal : AreSteps script records) (along : AskingAlong setting records (At script records)) where
     -- whoever is In by a front of what is chosen is so with an incarnation that ran
-    pub have_run : HaveRun setting (At records) along.asks.lives
+    pub have_run : HaveRun setting (At script records) along.asks.lives
     have_run front n inc lies is =
         let plain = front_plain setting.servers front _ (history_is_firm script records sound legal).plain lies in
         elim (who_is_in setting.servers front n inc plain is) [
           | inl one ↦ let first = along.first n in omega arith
           | inr joined ↦ (
-              let there : In (Join n inc joined.0) (chosen_log setting (At records)) =
+              let there : In (Join n inc joined.0) (chosen_log setting (At script records)) =
               subst (In (Join n inc joined.0)) (sym lies.is) (in_former (Join n inc joined.0) front lies.later joined.1) in
               let was = join_was_wanted script records sound legal n inc joined.0 there in
               let low = (along.since was.before (was.own ∷ was.later) was.is n).ran was.runs in
@@ -290,13 +273,20 @@ module _ (script : Script) (sound : IsSound script) where
         ]
 
     -- the incarnation that ran last remembers each ballot that it started for a Caught, also when it has stopped
-    pub remembers : (n : ℕ) → RemembersCaughts setting (At records) n (along.asks.lives.ran n)
+    pub remembers : (n : ℕ) → RemembersCaughts setting (At script records) n (along.asks.lives.ran n)
     remembers n front row other other_inc more stands =
-        let own = ((At records).servers n).log.applied in
+        let own = ((At script records).servers n).log.applied in
         let was = chosen_caught_was script records sound legal front row.map row.link n (along.asks.lives.ran n) other other_inc stands in
         let since = along.since was.before was.later was.is n in
         let same : front ≡ own = one_log front own (subst (λ l. IsPrefix l own) was.at since.grows) more in
         since.flags was.lives (was.at ∙ same) row was.minded
+
+-- after each legal history
+pub asking_along : (script : Script) → IsSound script → (records : List Record) → AreSteps script records
+    → AskingAlong (setting_of script) records (At script records)
+asking_along script sound records legal =
+    by_run (λ run. AskingAlong (setting_in run) run.records (after run)) (λ script sound legal. start_along script)
+    (λ it known. one_more it.prior.script it.prior.sound it.prior.records it.own it.legal known) (run_of script sound records legal)
 
 pub asking_after : (script : Script) (records : List Record) → IsSound script → AreSteps script records
     → Asking (setting_of script) (world_after (setting_of script) (start (setting_of script)) records)
@@ -399,21 +389,16 @@ module _ (setting : Setting) (w : World) (firm : Firm setting w) (rests : Rests 
       had n cell op is clients =
           record { want = asked_for cell op; rev = op.rev; p = here n cell op is clients; remembers = remembers n }
 
-pub requests_after : (script : Script) (records : List Record) → IsSound script → AreFirm (setting_of script) (start (setting_of script)) records
-    → AreSteps script records
-    → Requests (setting_of script) (world_after (setting_of script) (start (setting_of script)) records)
-requests_after script records sound firm legal =
-    let setting = setting_of script in
-    rule setting _ (firm_after setting (start setting) records firm)
-    (rests_after setting (start setting) records firm (start_rests script) legal) (asking_along script sound records legal).asks
-    (reports_known script sound records legal (asking_along script sound records legal))
-
-pub open_after : (script : Script) (records : List Record) → IsSound script → AreFirm (setting_of script) (start (setting_of script)) records
-    → AreSteps script records
-    → AreOpen (setting_of script) (world_after (setting_of script) (start (setting_of script)) records)
-open_after script records sound firm legal =
-    let setting = setting_of script in
+pub requests_after : (script : Script) (records : List Record) → IsSound script → AreSteps script records
+    → Requests (setting_of script) (At script records)
+requests_after script records sound legal =
+    let run = run_of script sound records legal in
     let along = asking_along script sound records legal in
-    are_open setting _ (firm_after setting (start setting) records firm)
-    (rests_after setting (start setting) records firm (start_rests script) legal) along.asks (reports_known script sound records legal along)
+    rule (setting_in run) (after run) (firm_in run) (rests_in run) along.asks (reports_known script sound records legal along)
+
+pub open_after : (script : Script) (records : List Record) → IsSound script → AreSteps script records → AreOpen (setting_of script) (At script records)
+open_after script records sound legal =
+    let run = run_of script sound records legal in
+    let along = asking_along script sound records legal in
+    are_open (setting_in run) (after run) (firm_in run) (rests_in run) along.asks (reports_known script sound records legal along)
     (have_run script sound records legal along) (remembers script sound records legal along)

@@ -36,7 +36,9 @@ use Rattle.law_copies.proofs.Histories.{KeepsOn, start_good, start_visits, step_
 use Rattle.law_copies.proofs.Later.{AllStarted}
 use Rattle.law_copies.proofs.Visited.{at_by, seen}
 use Rattle.law_requests.specs.Known.{KnowsReports, lives_after}
-use Rattle.law_stores.proofs.Ways.{At}
+use Rattle.law_steps.proofs.Fronts.{front_on}
+use Rattle.law_steps.proofs.Waking.{may_wake}
+use Rattle.law_jobs.proofs.Runs.{At, OneMore, Run, after, by_run, firm_in, firm_then, follows_in, grown_in, grown_then, longer, rests_in, run_of, setting_in, stepped_in}
 use Rattle.law_requests.proofs.Histories.{AskingAlong, first_lives, more_lives, one_more, reports_known, start_along, start_asking, start_lives}
 use Rattle.law_requests.proofs.Stepping.{happens_asking, happens_later}
 use Rattle.law_log.proofs.Histories.{chosen_caught_was}
@@ -261,3 +263,54 @@ first_ground state script sound ready wake = record {
   known = start_along script;
   lives_are = sym (start_lives script);
 }
+
+-- ### Of a run
+
+-- the footing of a world, after the run's records
+pub record IsFooted (run : Run) (whole : List Command) (all : IsPlainLog run.script.servers whole) (w : World) : Type 0 where
+  pub footing : Footing run.script run.sound whole all w
+  pub records_are : footing.ground.records ≡ run.records
+
+-- in view of a log, of which what is chosen is a front
+abbrev FootedBelow : Run → Type 0
+FootedBelow run = (whole : List Command) (all : IsPlainLog run.script.servers whole) → IsPrefix (chosen_log (setting_in run) (after run)) whole
+    → IsFooted run whole all (after run)
+
+footed_first : (script : Script) (sound : IsSound script) (legal : AreSteps script []) → FootedBelow (run_of script sound [] legal)
+footed_first script sound legal whole all front =
+    let run = run_of script sound [] legal in
+    let along = along_at script sound whole all (after run) (firm_in run) front in
+    let first = first_ground (state_after script.servers whole) script sound (record { rests = rests_in run; firm = along.firm; below = along.below })
+    (may_wake script [] sound legal) in
+    record { footing = record { ground = first.now; known = first.known; lives_are = first.lives_are }; records_are = first.records_are }
+
+-- one record on
+pub record IsOn (it : OneMore) (whole : List Command) (all : IsPlainLog it.prior.script.servers whole) (v : World) : Type 0 where
+  pub footing : Footing it.prior.script it.prior.sound whole all v
+  pub records_are : footing.ground.records ≡ (longer it).records
+  pub middle : IsMiddle (setting_in it.prior) (after it.prior) v footing.ground.records footing.ground.good.visits
+
+pub footed_on : (it : OneMore) (whole : List Command) (all : IsPlainLog it.prior.script.servers whole)
+    → IsPrefix (chosen_log (setting_in it.prior) (after (longer it))) whole → FootedBelow it.prior
+    → IsOn it whole all (stepped (setting_in it.prior) (after it.prior) it.own).world
+footed_on it whole all front old =
+    let script = it.prior.script in
+    let sound = it.prior.sound in
+    let setting = setting_in it.prior in
+    let w = after it.prior in
+    let v = (stepped setting w it.own).world in
+    let before = front_on _ _ whole (grown_in it) front in
+    let f = old whole all before in
+    let next = next_ground script sound whole all w it.own f.footing (subst (λ rs. AreSteps script (rs ++ it.own ∷ [])) (sym f.records_are) it.legal)
+    (along_at script sound whole all w (firm_in it.prior) before)
+    (along_at script sound whole all v (firm_then it) (subst (λ u. IsPrefix (chosen_log setting u) whole) (stepped_in it) front)) (grown_then it)
+    (subst (AllMayWake setting) (stepped_in it) (may_wake script (longer it).records sound it.legal)) (follows_in it) in
+    record { footing = next.now; records_are = next.records_are ∙ ap (λ rs. rs ++ it.own ∷ []) f.records_are; middle = next.middle }
+
+footed_next : (it : OneMore) → FootedBelow it.prior → FootedBelow (longer it)
+footed_next it old whole all front =
+    let on = footed_on it whole all front old in
+    subst (IsFooted (longer it) whole all) (sym (stepped_in it)) (record { footing = on.footing; records_are = on.records_are })
+
+pub footing_after : (run : Run) → FootedBelow run
+footing_after = by_run FootedBelow footed_first footed_next

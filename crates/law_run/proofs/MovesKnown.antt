@@ -32,7 +32,7 @@ use Rattle.law_state.proofs.Reports.{log_unread}
 use Rattle.law_steps.proofs.Firms.{always_firm}
 use Rattle.law_steps.proofs.Fronts.{front_long, one_front, front_itself}
 use Rattle.law_steps.proofs.Histories.{front_legal, rests_after, runs_now, start_rests, world_more}
-use Rattle.law_stores.proofs.Ways.{At, along}
+use Rattle.law_jobs.proofs.Runs.{At, after, by_run, run_of, setting_in}
 use Rattle.law_copies.specs.Visits.{WasThere}
 use Rattle.law_copies.proofs.Histories.{good_after}
 use Rattle.law_requests.proofs.Histories.{asking_along, reports_known}
@@ -71,20 +71,20 @@ AreRising w = (cell : Cell) (before : Chain) → w.frozen cell ≡ Some before �
 
 rising_after : (script : Script) (records : List Record) → IsSound script → AreSteps script records → AreRising (At script records)
 rising_after script records sound legal =
-    along script AreRising (λ front own part old cell before is.
-    let setting = setting_of script in
-    let w = At script front in
-    let now : (stepped setting w own).world.frozen cell ≡ Some before =
-    subst (λ v. v.frozen cell ≡ Some before) (world_more setting (start setting) front own) is in
-    elim (frozen_or_counts setting w own.actor own.step own.stamp cell before now) [
+    by_run (λ run. AreRising (after run)) (λ script sound legal cell before is. none_some refl is) (λ it old cell before is.
+    let setting = setting_in it.prior in
+    let w = after it.prior in
+    let own = it.own in
+    let v = (stepped setting w own).world in
+    let e = world_more setting (start setting) it.prior.records own in
+    elim (frozen_or_counts setting w own.actor own.step own.stamp cell before (subst (λ u. u.frozen cell ≡ Some before) e is)) [
       | inl was ↦ old cell before was
       | inr counts ↦
-          let v = (stepped setting w own).world in
           let k = counted_one (λ n. chain_in (kept setting v n).chains cell) (authority (chosen_state setting v) cell) before counts in
           subst (IsRising nat_cmp) k.1
-          (subst (λ u. IsRising nat_cmp (chain_in (kept setting u k.0).chains cell)) (world_more setting (start setting) front own)
-          ((good_after script (front ++ own ∷ []) sound part).rising k.0 cell))
-    ]) [] records legal (λ cell before is. none_some refl is)
+          (subst (λ u. IsRising nat_cmp (chain_in (kept setting u k.0).chains cell)) e
+          ((good_after it.prior.script (it.prior.records ++ own ∷ []) it.prior.sound it.legal).rising k.0 cell))
+    ]) (run_of script sound records legal)
 
 module _ (script : Script) (records : List Record) (sound : IsSound script) (legal : AreSteps script records) where
   abbrev setting : Setting

@@ -1,5 +1,6 @@
 -- Every legal history is a run of the plain machine.
 use Rattle.std.proofs.Common.{◌≡◌, ℕ, List, [], ◌∷◌, ◌++◌, Option, Some, refl, sym, ap, ◌∙◌, subst, append_assoc}
+use Rattle.std.proofs.lemmas.List.{append-nil}
 use Rattle.std.specs.List.{flat_map}
 use Rattle.std.specs.Ordering.{nat_cmp}
 use Rattle.petal_table.proofs.Rows.{at-empty}
@@ -20,27 +21,24 @@ use Rattle.petal_rules.specs.World.{server_state, client_state, chosen_log, MayA
 use Rattle.petal_rules.specs.declared.step.Step.{Step}
 use Rattle.petal_rules.specs.declared.step.Step.TheVariants.{Blank, Call}
 use Rattle.petal_rules.proofs.Tests.{none_some}
-use Rattle.petal_history.specs.Claims.{AreHeld, IsPrefix, IsStill, Law, Requests, SnapshotsStay, machine_after}
+use Rattle.petal_history.specs.Claims.{AreHeld, IsPrefix, Law, SnapshotsStay, machine_after}
 use Rattle.petal_history.specs.Events.{begins, ended, ends, open_write, change_by, freezes, takes, makes, told, told_from}
 use Rattle.petal_history.specs.Events.{told_with, joined, events_of, IsRunOf, look_of}
-use Rattle.petal_history.specs.Steps.{Follows, AreSteps, AreStepsFrom, stepped, world_after}
+use Rattle.petal_history.specs.Steps.{Follows, AreSteps, AreStepsFrom, stepped}
 use Rattle.petal_history.specs.Sound.{IsSound}
 use Rattle.petal_history.specs.declared.record.Record.{Record}
-use Rattle.law_state.specs.Firm.{Firm}
+use Rattle.law_state.specs.Moments.{IsMoment}
 use Rattle.law_state.specs.Plain.{IsPlainLog}
-use Rattle.law_steps.specs.Ready.{AreFirm}
-use Rattle.law_steps.proofs.Fronts.{front_itself, front_on}
-use Rattle.law_steps.proofs.Histories.{own_steady, firm_now, firm_after, firm_way, front_legal, start_rests}
+use Rattle.law_steps.proofs.Histories.{own_steady, front_legal}
 use Rattle.law_steps.proofs.Serving.{server_serves}
 use Rattle.law_steps.proofs.Turning.{is_call, client_turns}
-use Rattle.law_steps.specs.Waking.{AllMayWake, WakeAlong}
+use Rattle.law_jobs.proofs.Runs.{At, Run, after, at_moment, before_part, firm_in, firm_then, follows_in, grown_then, longer, run_of, setting_in, stepped_in}
 use Rattle.law_stores.proofs.Histories.{always_empty}
 use Rattle.law_copies.proofs.First.{marks_first}
 use Rattle.law_copies.proofs.Rules.{copies_after, covered_after}
-use Rattle.law_steps.proofs.Waking.{wake_along}
 use Rattle.law_requests.proofs.Histories.{requests_after}
 use Rattle.law_reports.proofs.Reports.{reports_hold}
-use Rattle.law_log.proofs.Histories.{history_agrees, history_is_firm, history_grows, out_has_stopped}
+use Rattle.law_log.proofs.Histories.{history_agrees, history_grows, out_has_stopped}
 use Rattle.law_run.specs.Follow.{Follow, Ground}
 use Rattle.law_moves.proofs.Afterwards.{rule_after}
 use Rattle.petal_msg.specs.declared.letter.Letter.{Letter}
@@ -55,7 +53,7 @@ use Rattle.law_run.proofs.ServerSteps.{step_told}
 use Rattle.law_run.proofs.Blanks.{blank_follow, blank_told}
 use Rattle.law_run.proofs.Steps.{IsMiddle, ServesAt}
 use Rattle.law_run.proofs.Still.{contents_still}
-use Rattle.law_run.proofs.Footings.{along_at, grown_at, Footing, next_ground, none_chosen, FirstGround, first_ground}
+use Rattle.law_run.proofs.Footings.{along_at, footed_on, footing_after, grown_at, none_chosen}
 use Rattle.law_run.proofs.Scenes.{Followed}
 
 -- ### Steps, where the chosen logs are fronts of one
@@ -66,47 +64,6 @@ module _ (script : Script) (sound : IsSound script) (whole : List Command) (all 
 
   abbrev state : State
   state = state_after setting.servers whole
-
-  -- what is chosen on the way is at the front of what is chosen at the end
-  reaches : (w : World) (records : List Record) → AreFirm setting w records → IsPrefix (chosen_log setting (world_after setting w records)) whole
-      → IsPrefix (chosen_log setting w) whole
-  reaches w [] firm end = end
-  reaches w (own ∷ later) firm end = front_on _ _ _ firm.1 (reaches (stepped setting w own).world later firm.2 end)
-
-  -- the world at the beginning of these may wake
-  wake_now : (w : World) (records : List Record) → WakeAlong setting w records → AllMayWake setting w
-  wake_now w [] wakes = wakes
-  wake_now w (own ∷ later) wakes = wakes.0
-
-  -- the records so far and one more
-  first_legal : (done later : List Record) (own : Record) → AreSteps script (done ++ own ∷ later) → AreSteps script (done ++ own ∷ [])
-  first_legal done later own legal =
-      (front_legal setting (start setting) (done ++ own ∷ []) later
-      (subst (AreSteps script) (sym (append_assoc done (own ∷ []) later)) legal)).0
-
-  legal_on : (done now later : List Record) (own : Record) → now ≡ done ++ own ∷ [] → AreSteps script (done ++ own ∷ later)
-      → AreSteps script (now ++ later)
-  legal_on done now later own e legal =
-      subst (λ ds. AreSteps script (ds ++ later)) (sym e) (subst (AreSteps script) (sym (append_assoc done (own ∷ []) later)) legal)
-
-  grounded : (w : World) (records : List Record) → AreFirm setting w records → WakeAlong setting w records
-      → IsPrefix (chosen_log setting (world_after setting w records)) whole → (footing : Footing script sound whole all w)
-      → AreSteps script (footing.ground.records ++ records)
-      → AreStepsFrom setting w records
-      → AreGrounded setting state w records
-  grounded w [] firm wakes end footing all_legal legal = footing.ground
-  grounded w (own ∷ later) firm wakes end footing all_legal legal =
-      let v = (stepped setting w own).world in
-      let then = firm_now setting v later firm.2 in
-      let front = reaches v later firm.2 end in
-      let next = next_ground script sound whole all w own footing (first_legal footing.ground.records later own all_legal)
-      (along_at script sound whole all w firm.0 (front_on _ _ _ firm.1 front)) (along_at script sound whole all v then front) firm.1
-      (wake_now v later wakes.1) legal.0 in (
-        footing.ground,
-        firm.1,
-        grounded v later firm.2 wakes.1 end next.now
-            (legal_on footing.ground.records next.now.ground.records later own next.records_are all_legal) legal.1,
-      )
 
   -- what is told is allowed, and keeps the machine tied to the world
   pub record Tells (m : Plain) (next : World) (told_now : Option (List Event)) : Type 0 where
@@ -225,70 +182,6 @@ module _ (script : Script) (sound : IsSound script) (whole : List Command) (all 
         follows = t.follows;
       }
 
-  -- after the first of these records
-  record IsStepped (w : World) (m : Plain) (own : Record) (later : List Record) : Type 0 where
-    footing : Footing script sound whole all (stepped setting w own).world
-    legal : AreSteps script (footing.ground.records ++ later)
-    tells : Tells m (stepped setting w own).world (told setting w own later)
-
-  first_step : (w : World) (m : Plain) (own : Record) (later : List Record) → AreFirm setting w (own ∷ later) → WakeAlong setting w (own ∷ later)
-      → IsPrefix (chosen_log setting (world_after setting w (own ∷ later))) whole → (footing : Footing script sound whole all w)
-      → AreSteps script (footing.ground.records ++ own ∷ later)
-      → Follow setting (rows_in setting w) w m → AreStepsFrom setting w (own ∷ later) → IsStepped w m own later
-  first_step w m own later firm wakes end footing all_legal follow legal =
-      let v = (stepped setting w own).world in
-      let then = firm_now setting v later firm.2 in
-      let front = reaches v later firm.2 end in
-      let along = along_at script sound whole all w firm.0 (front_on _ _ _ firm.1 front) in
-      let next = next_ground script sound whole all w own footing (first_legal footing.ground.records later own all_legal) along
-      (along_at script sound whole all v then front) firm.1
-      (wake_now v later wakes.1) legal.0 in
-      let on = legal_on footing.ground.records next.now.ground.records later own next.records_are all_legal in
-      record {
-        footing = next.now;
-        legal = on;
-        tells = record_tells w m along footing.ground follow own later legal.0 (along_at script sound whole all v then front)
-            firm.1 next.now.ground next.middle (grounded v later firm.2 wakes.1 end next.now on legal.1) legal.1;
-      }
-
-  pub history_tells : (w : World) (m : Plain) (records : List Record) → AreFirm setting w records → WakeAlong setting w records
-      → IsPrefix (chosen_log setting (world_after setting w records)) whole → (footing : Footing script sound whole all w)
-      → AreSteps script (footing.ground.records ++ records)
-      → Follow setting (rows_in setting w) w m → AreStepsFrom setting w records
-      → Tells m (world_after setting w records) (told_from setting w records)
-  history_tells w m [] firm wakes end footing all_legal follow legal = record { es = []; is = refl; may = tt; follows = follow }
-  history_tells w m (own ∷ later) firm wakes end footing all_legal follow legal =
-      let v = (stepped setting w own).world in
-      let first = first_step w m own later firm wakes end footing all_legal follow legal in
-      let now = first.tells in
-      let rest = history_tells v (replay m now.es) later firm.2 wakes.1 end first.footing first.legal now.follows legal.1 in
-      record {
-        es = now.es ++ rest.es;
-        is = (λ i. joined (now.is i) (rest.is i));
-        may = Obeys-append m now.es rest.es now.may rest.may;
-        follows = subst (λ k. Follow setting (rows_in setting (world_after setting v later)) (world_after setting v later) k)
-            (sym (replay-append m now.es rest.es)) rest.follows;
-      }
-
-  -- the machine on the way, and that it goes on from there by events alone
-  pub record IsOnTheWay (middle last : World) : Type 0 where
-    pub m : Plain
-    pub then : Follow setting (rows_in setting middle) middle m
-    pub es : List Event
-    pub now : Follow setting (rows_in setting last) last (replay m es)
-
-  pub on_the_way : (w : World) (m : Plain) (front back : List Record) → AreFirm setting w (front ++ back) → WakeAlong setting w (front ++ back)
-      → IsPrefix (chosen_log setting (world_after setting w (front ++ back))) whole → (footing : Footing script sound whole all w)
-      → AreSteps script (footing.ground.records ++ (front ++ back))
-      → Follow setting (rows_in setting w) w m → AreStepsFrom setting w (front ++ back)
-      → IsOnTheWay (world_after setting w front) (world_after setting w (front ++ back))
-  on_the_way w m [] back firm wakes end footing all_legal follow legal =
-      let t = history_tells w m back firm wakes end footing all_legal follow legal in record { m = m; then = follow; es = t.es; now = t.follows }
-  on_the_way w m (own ∷ front) back firm wakes end footing all_legal follow legal =
-      let first = first_step w m own (front ++ back) firm wakes end footing all_legal follow legal in
-      on_the_way (stepped setting w own).world (replay m first.tells.es) front back firm.2 wakes.1 end first.footing first.legal
-      first.tells.follows legal.1
-
 start_follow : (script : Script) → Follow (setting_of script) (rows_in (setting_of script) (start (setting_of script)))
     (start (setting_of script)) blank
 unfolding In
@@ -303,123 +196,144 @@ start_follow script =
       finished = λ n c last on is how still. none_some (at-empty nat_cmp c) is;
     })
 
+-- ### Of a run
+
+-- the machine on the way, and that it goes on from there by events alone
+pub record IsOnTheWay (setting : Setting) (middle last : World) : Type 0 where
+  pub m : Plain
+  pub then : Follow setting (rows_in setting middle) middle m
+  pub es : List Event
+  pub now : Follow setting (rows_in setting last) last (replay m es)
+
+module _ (run : Run) where
+  open run use {script, sound, records}
+
+  abbrev of_run : Setting
+  of_run = setting_in run
+
+  abbrev whole_log : List Command
+  whole_log = chosen_log of_run (after run)
+
+  pub plain : IsPlainLog script.servers whole_log
+  plain = (firm_in run).plain
+
+  -- what is chosen on the way is at the front of what is chosen at the end
+  reaches : (front later : List Record) → records ≡ front ++ later → IsPrefix (chosen_log of_run (At script front)) whole_log
+  reaches = history_grows script records sound run.legal
+
+  -- the ground holds on the way
+  grounds : (front later : List Record) → records ≡ front ++ later → AreGrounded of_run (state_after script.servers whole_log) (At script front) later
+  grounds front [] is =
+      (footing_after (run_of script sound front (before_part script front [] (subst (AreSteps script) is run.legal))) whole_log plain
+      (reaches front [] is)).footing.ground
+  grounds front (own ∷ later) is =
+      let it = at_moment run (record { front = front; own = own; following = later; is = is }) in (
+        (footing_after it.prior whole_log plain (reaches front (own ∷ later) is)).footing.ground,
+        grown_then it,
+        subst (λ v. AreGrounded of_run (state_after script.servers whole_log) v later) (stepped_in it)
+            (grounds (front ++ own ∷ []) later (is ∙ sym (append_assoc front (own ∷ []) later))),
+      )
+
+  abbrev T : Plain → World → Option (List Event) → Type 0
+  T = Tells script sound whole_log plain
+
+  abbrev F : World → Plain → Type 0
+  F w m = Follow of_run (rows_in of_run w) w m
+
+  -- what one of the records tells
+  tells_at : (at : IsMoment records) (m : Plain) → F (At script at.front) m
+      → T m (stepped of_run (At script at.front) at.own).world (told of_run (At script at.front) at.own at.following)
+  tells_at at m follow =
+      let it = at_moment run at in
+      let w = after it.prior in
+      let v = (stepped of_run w at.own).world in
+      let before = reaches at.front (at.own ∷ at.following) at.is in
+      let is = at.is ∙ sym (append_assoc at.front (at.own ∷ []) at.following) in
+      let then = reaches (longer it).records at.following is in
+      let on = footed_on it whole_log plain then (footing_after it.prior) in
+      record_tells script sound whole_log plain w m (along_at script sound whole_log plain w (firm_in it.prior) before)
+      (footing_after it.prior whole_log plain before).footing.ground follow at.own at.following (follows_in it)
+      (along_at script sound whole_log plain v (firm_then it) (subst (λ u. IsPrefix (chosen_log of_run u) whole_log) (stepped_in it) then)) (grown_then it)
+      on.footing.ground on.middle
+      (subst (λ u. AreGrounded of_run (state_after script.servers whole_log) u at.following) (stepped_in it) (grounds (longer it).records at.following is))
+      (front_legal of_run (start of_run) at.front (at.own ∷ at.following) (subst (AreSteps script) at.is run.legal)).1.1
+
+  -- and all that follow these
+  tells_from : (front later : List Record) → records ≡ front ++ later → (m : Plain) → F (At script front) m
+      → T m (after run) (told_from of_run (At script front) later)
+  tells_from front [] is m follow =
+      record { es = []; is = refl; may = tt; follows = subst (λ rs. F (At script rs) m) (sym (is ∙ append-nil front)) follow }
+  tells_from front (own ∷ later) is m follow =
+      let at : IsMoment records = record { front = front; own = own; following = later; is = is } in
+      let e = stepped_in (at_moment run at) in
+      let now = tells_at at m follow in
+      let rest = tells_from (front ++ own ∷ []) later (is ∙ sym (append_assoc front (own ∷ []) later)) (replay m now.es)
+      (subst (λ v. F v (replay m now.es)) (sym e) now.follows) in
+      let rest_is = subst (λ v. told_from of_run v later ≡ Some rest.es) e rest.is in
+      record {
+        es = now.es ++ rest.es;
+        is = (λ i. joined (now.is i) (rest_is i));
+        may = Obeys-append m now.es rest.es now.may rest.may;
+        follows = subst (F (after run)) (sym (replay-append m now.es rest.es)) rest.follows;
+      }
+
+pub history_tells : (run : Run)
+    → Tells run.script run.sound (whole_log run) (plain run) blank (after run) (events_of run.script run.records)
+history_tells run = tells_from run [] run.records refl blank (start_follow run.script)
+
+on_the_way : (run : Run) (front later : List Record) → run.records ≡ front ++ later → IsOnTheWay (setting_in run) (At run.script front) (after run)
+on_the_way run front later is =
+    let first = history_tells (run_of run.script run.sound front (before_part run.script front later (subst (AreSteps run.script) is run.legal))) in
+    let rest = tells_from run front later is (replay blank first.es) first.follows in
+    record { m = replay blank first.es; then = first.follows; es = rest.es; now = rest.follows }
+
 -- ### The law
 
-module _ (script : Script) (records : List Record) (sound : IsSound script) (legal : AreSteps script records) where
-  abbrev of_script : Setting
-  of_script = setting_of script
+pub run_after : (run : Run) → IsRunOf (events_of run.script run.records)
+run_after run = let tells = history_tells run in subst IsRunOf (sym tells.is) tells.may
 
-  abbrev begun : World
-  begun = start of_script
-
-  abbrev last_world : World
-  last_world = world_after of_script begun records
-
-  -- each world on the way knows its log
-  firm : AreFirm of_script begun records
-  firm = firm_way script (λ done. history_is_firm script done sound) (λ done. history_grows script done sound) records legal
-
-  wakes : WakeAlong of_script begun records
-  wakes = wake_along script records sound legal
-
-  last_firm : Firm of_script last_world
-  last_firm = firm_after of_script begun records firm
-
-  abbrev whole : List Command
-  whole = chosen_log of_script last_world
-
-  front : IsPrefix (chosen_log of_script begun) whole
-  front = reaches script sound whole last_firm.plain begun records firm (front_itself whole)
-
-  first : FirstGround (state_after script.servers whole) script
-  first =
-      let first_along = along_at script sound whole last_firm.plain begun (firm_now of_script begun records firm) front in
-      first_ground (state_after script.servers whole) script sound
-      (record { rests = start_rests script; firm = first_along.firm; below = first_along.below })
-      (wake_now script sound whole last_firm.plain begun records wakes)
-
-  abbrev footing : Footing script sound whole last_firm.plain begun
-  footing = record { ground = first.now; known = first.known; lives_are = first.lives_are }
-
-  begun_legal : AreSteps script (footing.ground.records ++ records)
-  begun_legal = subst (λ done. AreSteps script (done ++ records)) (sym first.records_are) legal
-
-  abbrev T : Type 0
-  T = Tells script sound whole last_firm.plain blank last_world (events_of script records)
-
-  tells : T
-  tells = history_tells script sound whole last_firm.plain begun blank records firm wakes (front_itself whole) footing begun_legal
-      (start_follow script) legal
-
-  pub run_after : IsRunOf (events_of script records)
-  run_after = subst IsRunOf (sym tells.is) tells.may
-
-  pub held_after : AreHeld of_script last_world (machine_after (events_of script records)).disks
-  held_after =
-      let stores = tells.follows.stores in
-      subst (λ o. AreHeld of_script last_world (machine_after o).disks) (sym tells.is) (record { known = stores.known; unknown = stores.unknown })
+pub held_after : (run : Run) → AreHeld (setting_in run) (after run) (machine_after (events_of run.script run.records)).disks
+held_after run =
+    let tells = history_tells run in
+    let stores = tells.follows.stores in
+    subst (λ o. AreHeld (setting_in run) (after run) (machine_after o).disks) (sym tells.is) (record { known = stores.known; unknown = stores.unknown })
 
 -- snapshots never change on the way
-still_after : (script : Script) (front back : List Record) → IsSound script → AreSteps script (front ++ back)
-    → IsStill (setting_of script) (world_after (setting_of script) (start (setting_of script)) front)
-    (world_after (setting_of script) (start (setting_of script)) (front ++ back))
-still_after script front back sound legal =
-    let setting = setting_of script in
-    let records = front ++ back in
-    let begun = start setting in
-    let middle = world_after setting begun front in
-    let last = last_firm script records sound legal in
-    let log = whole script records sound legal in
-    let way = on_the_way script sound log last.plain begun blank front back (firm script records sound legal) (wakes script records sound legal)
-    (front_itself log) (footing script records sound legal) (begun_legal script records sound legal) (start_follow script) legal in
+snapshots_after : (script : Script) (records : List Record) → IsSound script → AreSteps script records → SnapshotsStay script records
+snapshots_after script records sound legal front back is =
+    let run = run_of script sound records legal in
+    let way = on_the_way run front back is in
     contents_still (record {
-      setting = setting;
-      w = middle;
-      v = world_after setting begun records;
-      one = (history_is_firm script front sound (front_legal setting begun front back legal).0);
-      two = last;
-      grows = (history_grows script records sound legal front back refl);
+      setting = setting_of script;
+      w = At script front;
+      v = after run;
+      one = firm_in (run_of script sound front (before_part script front back (subst (AreSteps script) is legal)));
+      two = firm_in run;
+      grows = history_grows script records sound legal front back is;
       m = way.m;
       es = way.es;
       was = way.then.stores;
       now = way.now.stores;
     })
 
-snapshots_after : (script : Script) (records : List Record) → IsSound script → AreSteps script records → SnapshotsStay script records
-snapshots_after script records sound legal front back e =
-    subst (λ rs. IsStill (setting_of script) (world_after (setting_of script) (start (setting_of script)) front)
-    (world_after (setting_of script) (start (setting_of script)) rs)) (sym e)
-    (still_after script front back sound (subst (AreSteps script) e legal))
-
--- the rule of requests, after each legal history
-abbrev pub KeepsRequests : Type 0
-KeepsRequests = (script : Script) (records : List Record) → IsSound script → AreSteps script records
-    → Requests (setting_of script) (world_after (setting_of script) (start (setting_of script)) records)
-
--- all the rest of the law
-pub law_with : KeepsRequests → Law
-law_with requests script records sound legal = record {
+pub law : Law
+law script records sound legal = record {
   world = record {
     agrees = history_agrees script records sound legal;
     copies = copies_after script records sound legal;
     covered = covered_after script records sound legal;
     empty = λ n fresh. let e = always_empty script records sound legal n fresh in (e.chains, e.marks);
-    requests = requests script records sound legal;
+    requests = requests_after script records sound legal;
     moves = rule_after script records sound legal;
     stopped = out_has_stopped script records sound legal;
     caught = caught_up_after script records sound legal;
   };
   grows = history_grows script records sound legal;
   marks = marks_first script records sound legal;
-  run = run_after script records sound legal;
-  holds = held_after script records sound legal;
+  run = run_after (run_of script sound records legal);
+  holds = held_after (run_of script sound records legal);
   snapshots = snapshots_after script records sound legal;
   equal = equal_after script records sound legal;
   waiting = waiting_after script records sound legal;
   reports = reports_hold script records sound legal;
 }
-
-pub law : Law
-law = law_with (λ script records sound legal.
-    let firm = firm_way script (λ done. history_is_firm script done sound) (λ done. history_grows script done sound) records legal in
-    requests_after script records sound firm legal)

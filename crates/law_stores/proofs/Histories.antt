@@ -28,7 +28,8 @@ use Rattle.law_steps.proofs.Fronts.{front_more, front_on}
 use Rattle.law_stores.specs.Waiting.{AreEmpty, IsEmpty, IsOwn}
 use Rattle.law_stores.proofs.Counts.{joined_where, stands_in}
 use Rattle.law_stores.proofs.Kept.{Kept, kept_blanked, kept_more, kept_moves}
-use Rattle.law_stores.proofs.Ways.{At, along, before_part, before_last, stays_filled, step_moves, waits_moves, waits_since}
+use Rattle.law_jobs.proofs.Runs.{At, OneMore, after, before_part, by_run, firm_in, grown_in, longer, more_of, run_of, setting_in}
+use Rattle.law_stores.proofs.Ways.{before_last, stays_filled, step_moves, waits_moves, waits_since}
 
 -- what is kept of all servers' stores
 abbrev AllKept : Setting → World → Type 0
@@ -37,30 +38,28 @@ AllKept setting w = (n : ℕ) → Kept setting.servers (chosen_log setting w) n 
 start_kept : (setting : Setting) → AllKept setting (start setting)
 start_kept setting n = record { empty = λ waits. true_false waits refl; filled = λ up seat. refl; blanked = λ b is. none_some refl is }
 
-step_kept : (script : Script) → IsSound script → (front : List Record) (own : Record) → AreSteps script (front ++ own ∷ [])
-    → AllKept (setting_of script) (At script front) → AllKept (setting_of script) (At script (front ++ own ∷ []))
-step_kept script sound front own legal all n =
-    let setting = setting_of script in
-    let w = At script front in
-    let v = At script (front ++ own ∷ []) in
-    let part = before_part script front (own ∷ []) legal in
-    kept_more script.servers (chosen_log setting w) (chosen_log setting v) n (v.servers n) (v.before_blank n)
-    (history_grows script (front ++ own ∷ []) sound legal front (own ∷ []) refl)
-    (elim (step_moves script sound front own legal n) [
-      | inl moved ↦ subst (Kept script.servers (chosen_log setting w) n (v.servers n)) (sym moved.before)
-          (kept_moves script.servers (chosen_log setting w) n (w.servers n) (w.before_blank n) (all n) (history_is_firm script front sound part).plain
-          (λ runs i. stays_filled script sound front part n (w.servers n).life.inc
-          (join_was_wanted script front sound part n (w.servers n).life.inc false i) runs refl)
-          (λ log inc blank stands. chosen_join_acts script front sound part log n inc blank stands) (v.servers n) moved.moves)
-      | inr blank ↦ subst (λ (x : Server × Option BeforeBlank). Kept script.servers (chosen_log setting w) n x.0 x.1)
+step_kept : (it : OneMore) → AllKept (setting_in it.prior) (after it.prior) → AllKept (setting_in it.prior) (after (longer it))
+step_kept it all n =
+    let setting = setting_in it.prior in
+    let w = after it.prior in
+    let v = after (longer it) in
+    let old = it.prior in
+    kept_more old.script.servers (chosen_log setting w) (chosen_log setting v) n (v.servers n) (v.before_blank n) (grown_in it)
+    (elim (step_moves it n) [
+      | inl moved ↦ subst (Kept old.script.servers (chosen_log setting w) n (v.servers n)) (sym moved.before)
+          (kept_moves old.script.servers (chosen_log setting w) n (w.servers n) (w.before_blank n) (all n) (firm_in old).plain
+          (λ runs i. stays_filled old.script old.sound old.records old.legal n (w.servers n).life.inc
+          (join_was_wanted old.script old.records old.sound old.legal n (w.servers n).life.inc false i) runs refl)
+          (λ log inc blank stands. chosen_join_acts old.script old.records old.sound old.legal log n inc blank stands) (v.servers n) moved.moves)
+      | inr blank ↦ subst (λ (x : Server × Option BeforeBlank). Kept old.script.servers (chosen_log setting w) n x.0 x.1)
           (λ i. (sym blank.now i, sym blank.before i))
-          (kept_blanked script.servers (chosen_log setting w) n (w.servers n) blank.rests
-          (λ inc bare i. join_has_begun script front sound part n inc bare i) _ refl)
+          (kept_blanked old.script.servers (chosen_log setting w) n (w.servers n) blank.rests
+          (λ inc bare i. join_has_begun old.script old.records old.sound old.legal n inc bare i) _ refl)
     ])
 
 pub kept_after : (script : Script) (records : List Record) → IsSound script → AreSteps script records → AllKept (setting_of script) (At script records)
 kept_after script records sound legal =
-    along script (AllKept (setting_of script)) (step_kept script sound) [] records legal (start_kept (setting_of script))
+    by_run (λ run. AllKept (setting_in run) (after run)) (λ first quiet begun. start_kept (setting_of first)) step_kept (run_of script sound records legal)
 
 pub always_empty : (script : Script) (records : List Record) → IsSound script → AreSteps script records → AreEmpty (At script records)
 always_empty script records sound legal n = (kept_after script records sound legal n).empty
@@ -161,9 +160,9 @@ module _ (script : Script) (front : List Record) (own : Record) (n : ℕ) (sound
         let was = join_was_wanted script (front ++ own ∷ []) sound legal n found.0 true
         (stands_in found.1.until (chosen_log setting v) (Join n found.0 true) found.1.stands) in
         let before = before_last front own was.before was.own was.later was.is in
-        let since = waits_since script sound n found.0 front part was.before before.0 before.1 was.lives was.waits in
+        let since = waits_since n found.0 (run_of script sound front part) was.before before.0 before.1 was.lives was.waits in
         elim since.1 [
-          | inl waits ↦ elim (step_moves script sound front own legal n) [
+          | inl waits ↦ elim (step_moves (more_of script sound front own legal) n) [
             | inl moved ↦ elim (waits_moves script.servers (chosen_log setting w) n (w.servers n) (v.servers n) moved.moves waits) [
               | inl still ↦ still
               | inr joined ↦ absurd (is_later found.0 (w.servers n).life.inc found.1 joined since.0)
@@ -180,7 +179,7 @@ module _ (script : Script) (front : List Record) (own : Record) (n : ℕ) (sound
     pub join_own : IsOwn setting v n
     join_own =
         let fewer = joined_counts script.servers (chosen_log setting w) (chosen_log setting v) n found.0 found.1 in
-        own_by _ (v.before_blank n) (λ b is same. elim (step_moves script sound front own legal n) [
+        own_by _ (v.before_blank n) (λ b is same. elim (step_moves (more_of script sound front own legal) n) [
           | inl moved ↦
               let old = (kept_after script front sound part n).blanked b (sym moved.before ∙ is) in
               let le = joins_grow script.servers old.front (chosen_log setting w) n old.stands in

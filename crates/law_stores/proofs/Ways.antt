@@ -1,47 +1,26 @@
 -- Along the records of a history: a server's store does not begin to wait while the server runs on, and what waits does so until the
 -- server applies a Join of its own.
 use Rattle.std.proofs.Common.{◌≡◌, ◌≤◌, ◌<◌, ◌++◌, ◌⊎◌, inl, inr, ℕ, true, false, List, [], ◌∷◌, length, length-append}
-use Rattle.std.proofs.Common.{refl, sym, ap, ◌∙◌, subst, append_assoc, arith}
-use Rattle.std.proofs.lemmas.List.{append-nil}
+use Rattle.std.proofs.Common.{refl, sym, ap, ◌∙◌, subst, arith}
 use Rattle.script_lines.specs.declared.script.Script.{Script}
 use Rattle.petal_command.specs.declared.command.Command.{Command}
 use Rattle.petal_command.specs.declared.command.Command.TheVariants.{Join}
-use Rattle.petal_history.specs.Steps.{AreSteps, world_after}
+use Rattle.petal_history.specs.Steps.{AreSteps}
 use Rattle.petal_history.specs.Sound.{IsSound}
 use Rattle.petal_history.specs.declared.record.Record.{Record}
 use Rattle.petal_rules.specs.Boots.{blanked}
 use Rattle.petal_rules.specs.Lists.{In}
 use Rattle.petal_rules.specs.Server.{Server}
-use Rattle.petal_rules.specs.World.{World, chosen_log, chosen_state, setting_of, start}
+use Rattle.petal_rules.specs.World.{chosen_log, chosen_state, setting_of}
 use Rattle.petal_rules.proofs.ListLemmas.{in_former}
 use Rattle.petal_rules.proofs.Tests.{by_bool, true_false}
 use Rattle.law_steps.specs.Requested.{WasReturning}
-use Rattle.law_steps.proofs.LogHistories.{history_grows}
-use Rattle.law_steps.proofs.Firms.{always_firm}
 use Rattle.law_steps.proofs.Fronts.{below_itself}
-use Rattle.law_steps.proofs.Histories.{front_legal, last_happens}
 use Rattle.law_steps.proofs.Records.{split_last}
 use Rattle.law_steps.proofs.Waking.{may_wake}
+use Rattle.law_jobs.proofs.Runs.{At, OneMore, Run, after, grown_in, happened_in, longer, run_of, setting_in, since}
 use Rattle.law_stores.proofs.Counts.{stands_in}
 use Rattle.law_stores.proofs.Moves.{IsBlanked, IsMoved, Moves, Rests, Works, Enters, Settles, Raises, happened}
-
-abbrev pub At : Script → List Record → World
-At script records = world_after (setting_of script) (start (setting_of script)) records
-
--- the part of a history before some of its records
-pub before_part : (script : Script) (front following : List Record) → AreSteps script (front ++ following) → AreSteps script front
-before_part script front following legal = (front_legal (setting_of script) (start (setting_of script)) front following legal).0
-
--- what each step keeps
-pub along : (script : Script) (P : World → Type 0)
-    → ((front : List Record) (own : Record) → AreSteps script (front ++ own ∷ []) → P (At script front) → P (At script (front ++ own ∷ [])))
-    → (done later : List Record) → AreSteps script (done ++ later) → P (At script done) → P (At script (done ++ later))
-along script P step done [] legal p = subst (λ rs. P (At script rs)) (sym (append-nil done)) p
-along script P step done (own ∷ later) legal p =
-    let e = append_assoc done (own ∷ []) later in
-    let whole : AreSteps script ((done ++ own ∷ []) ++ later) = subst (AreSteps script) (sym e) legal in
-    subst (λ rs. P (At script rs)) e
-    (along script P step (done ++ own ∷ []) later whole (step done own (before_part script (done ++ own ∷ []) later whole) p))
 
 -- what stands before a record of a history stands before its last one
 pub before_last : (front : List Record) (last : Record) (before : List Record) (own : Record) (later : List Record)
@@ -51,14 +30,12 @@ before_last front last before own later e = elim (split_last front last before (
   | inr part ↦ part
 ]
 
-pub step_moves : (script : Script) → IsSound script → (front : List Record) (own : Record) → AreSteps script (front ++ own ∷ []) → (n : ℕ)
-    → IsMoved (setting_of script) (At script front) (At script (front ++ own ∷ [])) n
-    ⊎ IsBlanked (setting_of script) (At script front) (At script (front ++ own ∷ [])) n
-step_moves script sound front own legal n =
-    let setting = setting_of script in
-    let state = chosen_state setting (At script (front ++ own ∷ [])) in
-    happened setting state (At script front) (may_wake script front sound (before_part script front (own ∷ []) legal)) (At script (front ++ own ∷ []))
-    (last_happens script front own (always_firm script (front ++ own ∷ []) sound legal) legal state (below_itself state)) n
+pub step_moves : (it : OneMore) (n : ℕ) → IsMoved (setting_in it.prior) (after it.prior) (after (longer it)) n
+    ⊎ IsBlanked (setting_in it.prior) (after it.prior) (after (longer it)) n
+step_moves it n =
+    let state = chosen_state (setting_in it.prior) (after (longer it)) in
+    happened (setting_in it.prior) state (after it.prior) (may_wake it.prior.script it.prior.records it.prior.sound it.prior.legal) (after (longer it))
+    (happened_in it state (below_itself state)) n
 
 -- ### A store that waits for nobody
 
@@ -96,20 +73,18 @@ pub stays_filled : (script : Script) → IsSound script → (records : List Reco
     → WasReturning (setting_of script) records n inc false → ((At script records).servers n).life.running ≡ true
     → ((At script records).servers n).life.inc ≡ inc → ((At script records).servers n).own.store.fresh ≡ false
 stays_filled script sound records legal n inc was runs lives =
-    by (subst (λ rs. IsFilledAs inc ((At script rs).servers n)) (sym was.is)
-    (along script (λ w. IsFilledAs inc (w.servers n)) step was.before (was.own ∷ was.later) (subst (AreSteps script) was.is legal)
-    (inr (sym was.lives, inr was.waits))))
+    by (since (λ run. IsFilledAs inc ((after run).servers n)) step (run_of script sound records legal) was.before (was.own ∷ was.later) was.is
+    (λ part. inr (sym was.lives, inr was.waits)))
   where
     by : IsFilledAs inc ((At script records).servers n) → ((At script records).servers n).own.store.fresh ≡ false
     by (inl lt) = absurd (omega arith)
     by (inr h) = elim h.1 [ inl rests ↦ true_false runs rests | inr filled ↦ filled ]
 
-    step : (front : List Record) (own : Record) → AreSteps script (front ++ own ∷ []) → IsFilledAs inc ((At script front).servers n)
-        → IsFilledAs inc ((At script (front ++ own ∷ [])).servers n)
-    step front own part filled = elim (step_moves script sound front own part n) [
-      | inl moved ↦ filled_moves script.servers (chosen_log (setting_of script) (At script front)) n inc ((At script front).servers n)
-          ((At script (front ++ own ∷ [])).servers n) moved.moves filled
-      | inr blank ↦ subst (IsFilledAs inc) (sym blank.now) (filled_blanked inc ((At script front).servers n) blank.rests filled)
+    step : (it : OneMore) → IsFilledAs inc ((after it.prior).servers n) → IsFilledAs inc ((after (longer it)).servers n)
+    step it filled = elim (step_moves it n) [
+      | inl moved ↦ filled_moves it.prior.script.servers (chosen_log (setting_in it.prior) (after it.prior)) n inc ((after it.prior).servers n)
+          ((after (longer it)).servers n) moved.moves filled
+      | inr blank ↦ subst (IsFilledAs inc) (sym blank.now) (filled_blanked inc ((after it.prior).servers n) blank.rests filled)
     ]
 
 -- ### A store that waits
@@ -131,22 +106,22 @@ waits_moves servers chosen n server to (Settles _ now inc runs stands) waits = i
 waits_moves servers chosen n server to (Raises _ same inc rests out) waits = inl (same.fresh ∙ waits)
 
 -- since this incarnation the store waits, or a Join with an empty store is chosen
-abbrev pub WaitsSince : Script → (n inc : ℕ) → World → Type 0
-WaitsSince script n inc w = (inc ≤ (w.servers n).life.inc)
-    × (((w.servers n).own.store.fresh ≡ true) ⊎ ((later : ℕ) × (inc ≤ later) × In (Join n later true) (chosen_log (setting_of script) w)))
+abbrev pub WaitsSince : (n inc : ℕ) → Run → Type 0
+WaitsSince n inc run = (inc ≤ ((after run).servers n).life.inc)
+    × ((((after run).servers n).own.store.fresh ≡ true)
+    ⊎ ((later : ℕ) × (inc ≤ later) × In (Join n later true) (chosen_log (setting_in run) (after run))))
 
-module _ (script : Script) (sound : IsSound script) (n inc : ℕ) where
-  waits_step : (front : List Record) (own : Record) → AreSteps script (front ++ own ∷ []) → WaitsSince script n inc (At script front)
-      → WaitsSince script n inc (At script (front ++ own ∷ []))
-  waits_step front own legal h = elim (step_moves script sound front own legal n) [
+module _ (n inc : ℕ) where
+  waits_step : (it : OneMore) → WaitsSince n inc it.prior → WaitsSince n inc (longer it)
+  waits_step it h = elim (step_moves it n) [
     | inl moved ↦
-        let more = later_inc script.servers _ n _ _ moved.moves in
+        let more = later_inc it.prior.script.servers _ n _ _ moved.moves in
         let le = h.0 in (
           omega arith,
           elim h.1 [
-            | inl waits ↦ elim (waits_moves script.servers _ n _ _ moved.moves waits) [
+            | inl waits ↦ elim (waits_moves it.prior.script.servers _ n _ _ moved.moves waits) [
               | inl still ↦ inl still
-              | inr joined ↦ inr (((At script front).servers n).life.inc, h.0, on _ joined)
+              | inr joined ↦ inr (((after it.prior).servers n).life.inc, h.0, on _ joined)
             ]
             | inr joined ↦ inr (joined.0, joined.1, on _ joined.2)
           ],
@@ -155,14 +130,11 @@ module _ (script : Script) (sound : IsSound script) (n inc : ℕ) where
   ]
     where
       Joined : Type 0
-      Joined = (later : ℕ) × (inc ≤ later) × In (Join n later true) (chosen_log (setting_of script) (At script (front ++ own ∷ [])))
+      Joined = (later : ℕ) × (inc ≤ later) × In (Join n later true) (chosen_log (setting_in it.prior) (after (longer it)))
 
-      on : (c : Command) → In c (chosen_log (setting_of script) (At script front)) → In c (chosen_log (setting_of script) (At script (front ++ own ∷ [])))
-      on c i = let grown = history_grows script (front ++ own ∷ []) sound legal front (own ∷ []) refl in
-          subst (In c) (sym grown.is) (in_former c (chosen_log (setting_of script) (At script front)) grown.later i)
+      on : (c : Command) → In c (chosen_log (setting_in it.prior) (after it.prior)) → In c (chosen_log (setting_in it.prior) (after (longer it)))
+      on c i = let grown = grown_in it in subst (In c) (sym grown.is) (in_former c (chosen_log (setting_in it.prior) (after it.prior)) grown.later i)
 
-  pub waits_since : (records : List Record) → AreSteps script records → (before rest : List Record) → records ≡ before ++ rest
-      → ((At script before).servers n).life.inc ≡ inc → ((At script before).servers n).own.store.fresh ≡ true → WaitsSince script n inc (At script records)
-  waits_since records legal before rest is lives waits =
-      subst (λ rs. WaitsSince script n inc (At script rs)) (sym is)
-      (along script (WaitsSince script n inc) waits_step before rest (subst (AreSteps script) is legal) (omega arith, inl waits))
+  pub waits_since : (run : Run) (before rest : List Record) → run.records ≡ before ++ rest → ((At run.script before).servers n).life.inc ≡ inc
+      → ((At run.script before).servers n).own.store.fresh ≡ true → WaitsSince n inc run
+  waits_since run before rest is lives waits = since (WaitsSince n inc) waits_step run before rest is (λ part. (omega arith, inl waits))

@@ -1,12 +1,10 @@
 -- An answer has its cause, every server still is In where none is stopped and none stops by itself, and then no cause is that servers
 -- are unavailable.
-use Rattle.law_steps.proofs.Firms.{always_firm}
+use Rattle.law_jobs.proofs.Runs.{run_of}
 use Rattle.law_causes.proofs.no_answer_is_unavailable.Goals as goal
 use Rattle.law_causes.proofs.Answered.{never_unavailable_after}
-use Rattle.law_causes.proofs.Asked.{commands_are_asked}
 use Rattle.law_causes.proofs.Stops.{all_in}
 
 pub returns : goal.returns
 returns c script records sound legal lines itself number told =
-    never_unavailable_after script records (always_firm script records sound legal) legal (commands_are_asked script records sound legal)
-    (all_in script records sound legal lines itself) number told
+    never_unavailable_after (run_of script sound records legal) (all_in script records sound legal lines itself) number told

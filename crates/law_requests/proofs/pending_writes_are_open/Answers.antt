@@ -1,7 +1,6 @@
 -- By induction on the history.
-use Rattle.law_steps.proofs.Firms.{always_firm}
 use Rattle.law_requests.proofs.Histories.{open_after}
 use Rattle.law_requests.proofs.pending_writes_are_open.Goals as goal
 
 pub returns : goal.returns
-returns c script records sound legal = open_after script records sound (always_firm script records sound legal) legal
+returns c script records sound legal = open_after script records sound legal

@@ -1,6 +1,7 @@
 -- By induction on the history.
+use Rattle.law_jobs.proofs.Runs.{run_of}
 use Rattle.law_run.proofs.Running.{held_after}
 use Rattle.law_run.proofs.contents_are_the_machines.Goals as goal
 
 pub returns : goal.returns
-returns c script records sound legal = held_after script records sound legal
+returns c script records sound legal = held_after (run_of script sound records legal)
