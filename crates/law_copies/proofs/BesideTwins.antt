@@ -41,7 +41,7 @@ use Rattle.law_copies.specs.Pair.{Known, pair_of}
 use Rattle.petal_msg.specs.Kinds.{is_paired}
 use Rattle.law_copies.proofs.CellInBoth.{CellInBoth}
 use Rattle.law_copies.proofs.Mute.{unpaired_known}
-use Rattle.law_copies.proofs.Chains.{chain_apart, copied_chains, drop_apart, page_chains}
+use Rattle.law_jobs.proofs.ChainsApart.{chain_apart, copied_chains, drop_apart, page_chains}
 use Rattle.law_copies.proofs.Others.{IsOther, held_by}
 
 module _ (it : CellInBoth) where

@@ -15,7 +15,7 @@ use Rattle.petal_rules.proofs.Tests.{none_some, same_some, some_or_none, true_fa
 use Rattle.law_steps.specs.Did.{Did}
 use Rattle.law_steps.proofs.Staged.{same_cell_or_apart}
 use Rattle.law_copies.specs.Steps.{AreFilled}
-use Rattle.law_copies.proofs.Puts.{did_keeps}
+use Rattle.law_jobs.proofs.JobsKeepChains.{chains_keep}
 
 pub no_entries : {A : Type 0} (chain : Chain) (epoch : ℕ) (stored : Stored) → put nat_cmp chain epoch stored ≡ [] → A
 no_entries chain epoch stored none =
@@ -47,7 +47,8 @@ drop_filled store key all = set_filled store.chains (cell_of key) (without nat_c
 
 pub did_filled : (heard : Body → Type 0) (here : Here) (own : Own) → AreFilled own.store.chains → (done : Done) → Did heard here own done
     → AreFilled done.own.store.chains
-did_filled heard here own all done d = did_keeps AreFilled entry_filled drop_filled heard here own all done d
+did_filled heard here own all done d =
+    chains_keep AreFilled heard here own (λ chains key stored why kept. entry_filled chains (cell_of key) key.epoch stored kept) drop_filled all done d
 
 -- a chain that is there has an entry
 pub has_entry : (chains : Table Cell Chain) → AreFilled chains → (cell : Cell) → is_some (at cell_cmp chains cell) ≡ true

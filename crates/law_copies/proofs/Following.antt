@@ -21,7 +21,7 @@ use Rattle.law_steps.specs.DidOther.{first_last}
 use Rattle.law_steps.proofs.Tables.{put_rises}
 use Rattle.law_copies.specs.Copied.{AreCopying, HasPut, HasSent, IsFollowed, IsLastCopy, IsOfLast, IsSent, IsTrimming, number_above}
 use Rattle.law_copies.specs.Steps.{IsLeftBy, KeepsRest, StaysTold}
-use Rattle.law_copies.proofs.Chains.{chain_put}
+use Rattle.law_jobs.proofs.ChainsApart.{chain_put}
 use Rattle.law_copies.proofs.Epochs.{IsWithin, among, beyond, same_beyond, within, within_put}
 use Rattle.law_copies.proofs.Lasts.{GoesOn, GoesOnward, of_last, stays_told, to_put, trimmed_of}
 use Rattle.law_copies.proofs.Rows.{row_at}

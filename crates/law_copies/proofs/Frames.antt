@@ -20,8 +20,8 @@ use Rattle.petal_rules.specs.Writes.{with_last, with_pending, without_pending}
 use Rattle.petal_rules.proofs.CellTables.{cell_apart, cell_gone_apart}
 use Rattle.petal_rules.proofs.Tests.{by_test}
 use Rattle.law_copies.specs.Steps.{KeepsCell}
-use Rattle.law_copies.proofs.Chains.{chain_apart, drop_apart}
-use Rattle.law_copies.proofs.Marks.{mark_beside, unmark_beside}
+use Rattle.law_jobs.proofs.ChainsApart.{chain_apart, drop_apart}
+use Rattle.law_jobs.proofs.MarksApart.{mark_beside, unmark_beside}
 
 -- the same pairs, copies, chains and marks
 pub record IsAlikeOwn (one other : Own) : Type 0 where

@@ -40,7 +40,7 @@ use Rattle.law_copies.specs.Copied.{AreCopying, IsLeft, IsTold}
 use Rattle.law_copies.specs.Steps.{HolderKeeps, IsHolding, KeepsCell}
 use Rattle.law_copies.proofs.Apart.{away}
 use Rattle.law_copies.proofs.Blocks.{on_block}
-use Rattle.law_copies.proofs.Chains.{closed_pairs, closed_store}
+use Rattle.law_jobs.proofs.ChainsApart.{closed_pairs, closed_store}
 use Rattle.law_copies.proofs.CopyMoves as moves
 use Rattle.law_copies.proofs.Filled.{has_entry}
 use Rattle.law_copies.proofs.Frames.{copied_alike, copying_beside, keeps_itself}

@@ -28,9 +28,9 @@ use Rattle.law_copies.specs.Copied.{AreCopying, AreInOrder, IsCopied, IsCovered,
 use Rattle.law_copies.specs.Copied.{Is_to_be_copied, IsLeft, IsPage, NotCopied}
 use Rattle.law_copies.specs.Steps.{IsStill, KeepsCell}
 use Rattle.law_copies.proofs.AllPut.{copied_now}
-use Rattle.law_copies.proofs.Chains.{page_chains}
+use Rattle.law_jobs.proofs.ChainsApart.{page_chains}
 use Rattle.law_copies.proofs.Holding.{HolderStep, IsUntouched, calm_step, covers, to_be_copied}
-use Rattle.law_copies.proofs.Marks.{mark_there}
+use Rattle.law_jobs.proofs.MarksApart.{mark_there}
 use Rattle.law_copies.proofs.Onward.{IsOnward, onward_tables}
 use Rattle.law_copies.proofs.Pacing.{IsPaced, paced_table, page_flag, page_marks, progress_itself, same_block_is}
 

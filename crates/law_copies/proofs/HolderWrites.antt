@@ -37,12 +37,13 @@ use Rattle.law_steps.proofs.Subjects.{of_ending, of_lead}
 use Rattle.law_steps.proofs.Taking.{IsTaken, taking}
 use Rattle.law_copies.specs.Copied.{IsTold}
 use Rattle.law_copies.specs.Steps.{IsHolding, KeepsCell}
-use Rattle.law_copies.proofs.Chains.{chain_put}
+use Rattle.law_jobs.proofs.ChainsApart.{chain_put}
+use Rattle.law_jobs.proofs.CountsGrow.{did_count}
 use Rattle.law_copies.proofs.CopyMoves as moves
 use Rattle.law_copies.proofs.Filled.{no_entries}
 use Rattle.law_copies.proofs.HolderSteps as steps
 use Rattle.law_copies.proofs.Holding.{HolderStep}
-use Rattle.law_copies.proofs.Marks.{mark_kept, stale_kept}
+use Rattle.law_jobs.proofs.MarksApart.{mark_kept, stale_kept}
 use Rattle.law_copies.proofs.Onward.{IsOnward, onward_tables}
 use Rattle.law_copies.proofs.Pacing.{IsPaced, paced_table}
 use Rattle.law_copies.proofs.Rising.{did_rising}
@@ -50,34 +51,6 @@ use Rattle.law_copies.proofs.Sent.{filling_not, lead_sends, logged_not, untold}
 use Rattle.law_copies.proofs.Standing.{alone_not_in_both}
 use Rattle.law_copies.proofs.Standing.{only_alone}
 use Rattle.law_copies.proofs.Working.{Away, lead_beside, lead_cell}
-
-module _ (heard : Body → Type 0) (here : Here) (own : Own) where
-  -- ### Numbers only grow
-
-  acts_count : (now : Own) (op : Pending) (next : Action) → now.pairs.next ≤ (acts here now op next).own.pairs.next
-  acts_count now op action.Reserve = omega arith
-  acts_count now op (action.Mark which) = omega arith
-  acts_count now op action.Put = omega arith
-  acts_count now op action.Replicate = omega arith
-  acts_count now op (action.Unmark which) = omega arith
-  acts_count now op action.Answer = let e = (of_ending here (without_pending now op.cell) op op.kind ending.Written).next in omega arith
-  acts_count now op action.Drop =
-      by_test (λ (o : Own). now.pairs.next ≤ o.pairs.next) op.stage.put (without_pending now op.cell) (gives_back (without_pending now op.cell))
-      (λ put. omega arith) (λ fresh. omega arith)
-
-  pub lead_counts : (done : Done) → DidLead heard here own done → own.pairs.next ≤ done.own.pairs.next
-  lead_counts _ (Gives_up op h is reserved put) =
-      let e = (of_ending here (gives_back (without_pending own op.cell)) op op.kind ending.Full).next in omega arith
-  lead_counts _ (Closes op is both stage) =
-      let e = (of_ending here (without_pending own op.cell) op op.kind ending.Written).next in omega arith
-  lead_counts _ (Marks_alone now op taken alone fresh) = let e = (taking own now op taken).next in omega arith
-  lead_counts _ (Puts_alone now op taken alone stale put) = let e = (taking own now op taken).next in omega arith
-  lead_counts _ (Unmarks_alone now op taken alone stale put busy) = let e = (taking own now op taken).next in omega arith
-  lead_counts _ (Closes_alone now op taken alone stale put free) =
-      let e = (of_ending here (without_pending now op.cell) op op.kind ending.Written).next in let k = (taking own now op taken).next in omega arith
-  lead_counts _ (Goes_on_dead now op taken off) =
-      let le = acts_count now op (next_stage here.state here.me op) in let k = (taking own now op taken).next in omega arith
-  lead_counts _ _ = omega arith
 
 module _ (heard : Body → Type 0) (here : Here) (links : ℕ) (row : LinkRow) (vo : Option Own) (own : Own) where
   -- ### A write on the cell
@@ -209,7 +182,7 @@ module _ (heard : Body → Type 0) (here : Here) (links : ℕ) (row : LinkRow) (
     lead_apart done d apart =
         let copies = (of_lead heard here own done d).copies in
         let paced = same_paced done.own (ap (λ (c : Copies). c.progress) copies) (ap (λ (c : Copies). c.pending) copies) in
-        kept done (lead_beside heard here own f.fit.ready done d cell apart) (lead_counts heard here own done d) paced.0 paced.1
+        kept done (lead_beside heard here own f.fit.ready done d cell apart) (did_count heard here own done (By_lead done d)) paced.0 paced.1
 
     -- at the cell of the operation, or apart from it
     either : (c : Cell) (to : Own) → (IsHolding heard here links row c own vo → HolderStep heard links row c vo own to)

@@ -1,5 +1,6 @@
 -- What a job, and a ballot that is started, keeps by itself.
 use Rattle.global_tables.specs.declared.link.LinkState.TheVariants.{Both}
+use Rattle.law_jobs.proofs.CountsGrow.{did_count}
 use Rattle.law_copies.specs.Visits.{AliveIn}
 use Rattle.petal_state.specs.CellState.{cell_link}
 use Rattle.std.proofs.Common.{◌≡◌, ◌≢◌, ◌≤◌, ◌+◌, ℕ, true, false, List, [], Option, Some, None, refl, sym, ap, ◌∙◌, subst, inl, arith}
@@ -51,7 +52,7 @@ use Rattle.law_copies.proofs.Sent.{page_link, page_map, page_sent, pages_sent}
 use Rattle.law_copies.proofs.Speaking.{did_copied, did_lives, idle_silent}
 use Rattle.law_copies.proofs.Standing.{kept_lives, named_id, one_named}
 use Rattle.law_copies.proofs.Twins.{lead_step, second_step}
-use Rattle.law_copies.proofs.Unheard.{did_next, did_pages, unlinked_apart}
+use Rattle.law_copies.proofs.Unheard.{did_pages, unlinked_apart}
 use Rattle.law_copies.proofs.AtJob.{IsKeeping}
 
 module _ (it : AtSeat) where
@@ -116,7 +117,7 @@ module _ (it : AtSeat) where
         pages = pages_sent (Handled w k) here own done did;
         rising = did_rising (Handled w k) here own rising done did;
         filled = did_filled (Handled w k) here own filled done did;
-        counts = did_next (Handled w k) here own done did;
+        counts = did_count (Handled w k) here own done did;
         marks = (job_marked (Handled w k) here own steady (rests.pending k) marks idle done did).marks;
         unheard = λ cell unborn unheard. record {
           bare = unborn_bare (Handled w k) here own fit cell unborn done did;

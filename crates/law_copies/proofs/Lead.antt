@@ -44,7 +44,7 @@ use Rattle.law_copies.specs.Visits.{AliveIn}
 use Rattle.petal_msg.specs.Kinds.{is_paired}
 use Rattle.law_copies.proofs.CellInBoth.{CellInBoth}
 use Rattle.law_copies.proofs.Mute.{logged_known, unpaired_known}
-use Rattle.law_copies.proofs.Chains.{chain_put, chain_apart}
+use Rattle.law_jobs.proofs.ChainsApart.{chain_put, chain_apart}
 use Rattle.law_copies.proofs.Moves as moves
 use Rattle.law_copies.proofs.Working.{lead_beside}
 

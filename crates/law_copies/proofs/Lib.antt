@@ -1,7 +1,4 @@
-pub mod Chains
-pub mod Marks
 pub mod Rows
-pub mod Puts
 pub mod Rising
 pub mod Filled
 pub mod Others

@@ -47,8 +47,8 @@ use Rattle.law_steps.proofs.Subjects.{of_ending, of_read, told_own}
 use Rattle.law_steps.proofs.Taking.{taking}
 use Rattle.law_copies.specs.Pair.{HasMarks, HaveMarks}
 use Rattle.law_copies.specs.Steps.{KeepsCell}
-use Rattle.law_copies.proofs.Chains.{chain_apart, closed_pairs, closed_store}
-use Rattle.law_copies.proofs.Marks.{mark_there, mark_kept, unmark_apart, unmark_beside, stale_kept}
+use Rattle.law_jobs.proofs.ChainsApart.{chain_apart, closed_pairs, closed_store}
+use Rattle.law_jobs.proofs.MarksApart.{mark_there, mark_kept, unmark_apart, unmark_beside, stale_kept}
 use Rattle.law_copies.proofs.Others.{held_not_leading}
 use Rattle.law_copies.proofs.Standing.{leads_not_second}
 use Rattle.law_copies.proofs.Working.{filler_beside, lead_beside, live_beside, other_beside, second_beside}

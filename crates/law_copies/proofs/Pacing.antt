@@ -20,7 +20,7 @@ use Rattle.petal_rules.specs.Store.{with_mark_on}
 use Rattle.petal_rules.proofs.Tests.{by_bool, by_test, same_numbers, true_false}
 use Rattle.law_state.specs.Started.{is_flagged}
 use Rattle.law_log.proofs.Flags.{progress_beside, progress_here, same_caught, same_id}
-use Rattle.law_copies.proofs.Marks.{mark_kept}
+use Rattle.law_jobs.proofs.MarksApart.{mark_kept}
 
 -- pages and the ballot are as they were
 pub record IsPaced (row : LinkRow) (own to : Own) : Type 0 where

@@ -13,8 +13,8 @@ use Rattle.law_steps.specs.Ready.{IsRising}
 use Rattle.law_steps.specs.Did.{Did}
 use Rattle.law_steps.proofs.Staged.{same_cell_or_apart}
 use Rattle.law_steps.proofs.Tables.{put_rises, without_rises}
-use Rattle.law_copies.proofs.Chains.{chain_put, chain_apart, gone_chain, gone_apart}
-use Rattle.law_copies.proofs.Puts.{did_keeps}
+use Rattle.law_jobs.proofs.ChainsApart.{chain_put, chain_apart, gone_chain, gone_apart}
+use Rattle.law_jobs.proofs.JobsKeepChains.{chains_keep}
 
 -- each chain rises
 abbrev pub AreRising : Table Cell Chain → Type 0
@@ -46,4 +46,5 @@ drop_entry store key all =
 
 pub did_rising : (heard : Body → Type 0) (here : Here) (own : Own) → AreRising own.store.chains → (done : Done) → Did heard here own done
     → AreRising done.own.store.chains
-did_rising heard here own all done d = did_keeps AreRising put_entry drop_entry heard here own all done d
+did_rising heard here own all done d =
+    chains_keep AreRising heard here own (λ chains key stored why kept. put_entry chains (cell_of key) key.epoch stored kept) drop_entry all done d

@@ -24,7 +24,7 @@ use Rattle.law_steps.proofs.Staged.{same_cell_or_apart}
 use Rattle.law_steps.proofs.Subjects.{told_own}
 use Rattle.law_copies.specs.BothSteps.{SaysKnown}
 use Rattle.law_copies.specs.Pair.{Pair, pair_of, far, PairOk, IsPutting, Keeps, Known}
-use Rattle.law_copies.proofs.Chains.{chain_put, chain_apart}
+use Rattle.law_jobs.proofs.ChainsApart.{chain_put, chain_apart}
 use Rattle.law_copies.proofs.Moves as moves
 
 -- what a step leaves of the cell, and of what it tells

@@ -16,15 +16,14 @@ use Rattle.petal_msg.specs.declared.operation.Far.TheVariants as far
 use Rattle.petal_msg.specs.declared.operation.OpKind.{OpKind}
 use Rattle.petal_msg.specs.declared.operation.OpKind.TheVariants as kind
 use Rattle.petal_msg.specs.declared.operation.Pending.{Pending}
-use Rattle.petal_state.specs.CellState.{cell_link}
-use Rattle.petal_table.specs.Table.{Table, at}
-use Rattle.petal_rules.specs.Copies.{begins_copy}
+use Rattle.petal_table.specs.Table.{at}
 use Rattle.petal_rules.specs.Lists.{In}
-use Rattle.petal_rules.specs.Progress.{copying_on, last_copy, without_copying}
-use Rattle.petal_rules.specs.Server.{Own, Copies, Here, Post, Done, post_to}
+use Rattle.petal_rules.specs.Progress.{copying_on, last_copy}
+use Rattle.petal_rules.specs.Server.{Own, Here, Post, Done, post_to}
 use Rattle.petal_rules.specs.State.{is_lead, is_second, leads_link, live, second}
-use Rattle.petal_rules.specs.Store.{cell_cmp, chain_in, epochs_of}
+use Rattle.petal_rules.specs.Store.{chain_in, epochs_of}
 use Rattle.petal_rules.specs.Writes.{acts, ended, ends, follows, gives_back, moved_as, next_stage, pending_on, tells, with_last, without_pending}
+use Rattle.petal_rules.proofs.CellTables.{cell_apart}
 use Rattle.petal_rules.proofs.Tests.{by_bool, none_some, same_some, true_false}
 use Rattle.law_state.proofs.Cells.{dead_second}
 use Rattle.law_steps.specs.Did.{Did, Ignores, Refuses, By_read, By_lead, By_second, By_holder, By_other, By_filler, By_sweep}
@@ -32,22 +31,23 @@ use Rattle.law_steps.specs.DidLead.{DidLead, Asks_for, Repeats, Is_full, Opens, 
 use Rattle.law_steps.specs.DidLead.{Closes_alone, Opens_fill, Has_fill, Has_no_room, Goes_on_dead, Asks, A_slot, A_copy}
 use Rattle.law_steps.specs.DidLead.{A_trim, A_copied_entry, A_page, An_entry_to_move, Of_the_log}
 use Rattle.law_steps.specs.DidSecond.{DidSecond, with_tickets, Sets_apart, Promises, Declines, Follows}
-use Rattle.law_steps.specs.DidHolder.{DidHolder, CopyStep, Asks_to_trim, Sends, Unmarks_copied, Closes_copy, TakenCopy, Copy_as_is, Copy_trimmed, Copy_synced}
-use Rattle.law_steps.specs.DidHolder.{first_copy, Asks_page, Turns_page, Begins_copy, Goes_on_copying}
+use Rattle.law_steps.specs.DidHolder.{DidHolder}
+use Rattle.law_steps.specs.DidHolder.{Asks_page, Begins_copy, Goes_on_copying}
 use Rattle.law_steps.specs.DidOther.{DidOther}
 use Rattle.law_steps.specs.Happens.{is_between}
 use Rattle.law_steps.proofs.Leading.{lead_links}
 use Rattle.law_steps.proofs.Letters.{one_post, posted}
 use Rattle.law_steps.proofs.Staged.{same_cell_or_apart}
-use Rattle.law_steps.proofs.Subjects.{HasData, HasNothing, of_filler, of_lead, of_read, of_second, of_sweep}
+use Rattle.law_steps.proofs.Subjects.{HasData, HasNothing, of_filler, of_read, of_sweep}
+use Rattle.law_jobs.specs.Effects.{Effect, Is_begun, Is_copied, Is_further, IsCopiedFor, May, applied}
+use Rattle.law_jobs.proofs.JobsAreEffects.{job_keeps}
 use Rattle.law_copies.specs.Steps.{IsFit}
 use Rattle.law_copies.proofs.Apart.{IsIdleAt, second_live}
-use Rattle.law_copies.proofs.Frames.{copied_alike}
 use Rattle.law_copies.proofs.Left.{next_is}
 use Rattle.law_copies.proofs.Mute.{logged_mute}
 use Rattle.law_copies.proofs.Sent.{IsAt, addressed, holder_says, moved_fills, none_in, other_says}
 use Rattle.law_copies.proofs.Standing.{IsHeldHere, begun_held, copying_held, copying_lives, other_lives, taken_held, taken_lives}
-use Rattle.law_copies.proofs.Working.{Away, IsHeldBy, IsSo, holder_cell, other_beside, other_cell, other_held}
+use Rattle.law_copies.proofs.Working.{IsHeldBy, IsSo, holder_cell, other_cell, other_held}
 
 ended_mute : (seq : ℕ) (how : Ending) → is_between (subject_of (ended seq how)) ≡ false
 ended_mute seq ending.Written = refl
@@ -230,49 +230,19 @@ module _ (heard : Body → Type 0) (here : Here) (own : Own) where
 
     -- ### What is remembered of copies
 
-    -- where nothing is heard of a copy, or it is of another cell
-    same_copied : (to : Own) → last_copy to q ≡ last_copy own q → (last : LastCopy) → last_copy to q ≡ Some last → live here.state q ≡ true
-    same_copied to same last is = fit.copied q last (sym same ∙ is)
+    abbrev IsLive : Own → Type 0
+    IsLive now = (last : LastCopy) → last_copy now q ≡ Some last → live here.state q ≡ true
 
-    other_copied : (done : Done) → DidOther heard here own done → (last : LastCopy) → last_copy done.own q ≡ Some last → live here.state q ≡ true
-    other_copied done d last is = by (other_cell heard here own done d) (other_lives heard here own fit done d)
-        (λ apart. same_copied done.own (other_beside heard here own done d q apart).rest.last last is)
-      where
-        by : (o : Option Cell) → IsSo (λ c. live here.state c ≡ true) o → (Away q o → live here.state q ≡ true) → live here.state q ≡ true
-        by None so else = else tt
-        by (Some cell) so else = elim (same_cell_or_apart q cell) [ inl e ↦ ap (live here.state) e ∙ so | inr ne ↦ else ne ]
+    copied_live : (cell : Cell) (last : LastCopy) → IsCopiedFor heard own cell last → live here.state cell ≡ true
+    copied_live cell _ (Is_begun number epochs h) = fit.lives (body.Trim number cell epochs) h refl cell refl
+    copied_live cell _ (Is_further last index is) = fit.copied cell last is
 
-    pub did_copied : (done : Done) → Did heard here own done → (last : LastCopy) → last_copy done.own q ≡ Some last → live here.state q ≡ true
-    did_copied _ Ignores last is = fit.copied q last is
-    did_copied _ (Refuses to said how why because) last is = fit.copied q last is
-    did_copied _ (By_read done d) last is =
-        same_copied done.own (ap (λ (o : Own). last_copy o q) (of_read heard here own done d).same) last is
-    did_copied _ (By_lead done d) last is =
-        same_copied done.own (ap (λ (c : Copies). at cell_cmp c.last q) (of_lead heard here own done d).copies) last is
-    did_copied _ (By_second done d) last is =
-        same_copied done.own (ap (λ (c : Copies). at cell_cmp c.last q) (of_second heard here own done d).copies) last is
-    did_copied _ (By_holder done d) last is = same_copied done.own (holder_last done d) last is
-      where
-        step_last : (now : Own) (cell : Cell) (copy : Copying) (done : Done) → CopyStep here now cell copy done → last_copy done.own q ≡ last_copy now q
-        step_last now cell copy _ (Asks_to_trim fresh) = refl
-        step_last now cell copy _ (Sends row trimmed is) = refl
-        step_last now cell copy _ (Unmarks_copied kind synced left) = refl
-        step_last now cell copy _ (Closes_copy synced left) =
-            ap (λ t. at cell_cmp t q) (copied_alike (cell_link here.state cell) (without_copying now cell) cell.block).last
+    each_live : (now : Own) (e : Effect) → May heard here own now e → IsLive now → IsLive (applied now e)
+    each_live now (Is_copied cell next) may so last is = elim (same_cell_or_apart q cell) [
+      | inl e ↦ ap (live here.state) e ∙ copied_live cell next may
+      | inr ne ↦ so last (sym (cell_apart now.copies.last cell next q ne) ∙ is)
+    ]
+    each_live now _ may so last is = so last is
 
-        taken_last : (cell : Cell) (now : Own) (copy : Copying) → TakenCopy heard own cell now copy → last_copy now q ≡ last_copy own q
-        taken_last cell _ _ (Copy_as_is copy is) = refl
-        taken_last cell _ _ (Copy_trimmed copy h is fresh) = refl
-        taken_last cell _ _ (Copy_synced copy h is trimmed lt) = refl
-
-        holder_last : (done : Done) → DidHolder heard here own done → last_copy done.own q ≡ last_copy own q
-        holder_last _ (Turns_page id row other after None h held fresh at) = refl
-        holder_last _ (Turns_page id row other after (Some block) h held fresh at) = refl
-        holder_last done (Begins_copy id row other cell _ held next step) = step_last (begins_copy own cell) cell (first_copy own.pairs.next) done step
-        holder_last done (Goes_on_copying cell now copy _ taken step) = step_last now cell copy done step ∙ taken_last cell now copy taken
-        holder_last _ _ = refl
-    did_copied _ (By_other done d) last is = other_copied done d last is
-    did_copied _ (By_filler done d) last is =
-        same_copied done.own (ap (λ (t : Table Cell LastCopy). at cell_cmp t q) (of_filler heard here own done d).last) last is
-    did_copied _ (By_sweep done d) last is =
-        same_copied done.own (ap (λ (c : Copies). at cell_cmp c.last q) (of_sweep heard here own done d).copies) last is
+    pub did_copied : (done : Done) → Did heard here own done → IsLive done.own
+    did_copied = job_keeps heard here own IsLive each_live (fit.copied q)

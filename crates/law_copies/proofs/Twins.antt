@@ -48,7 +48,7 @@ use Rattle.petal_msg.specs.Kinds.{is_paired}
 use Rattle.law_copies.proofs.CellInBoth.{CellInBoth}
 use Rattle.law_copies.proofs.Mute.{logged_known, unpaired_known}
 use Rattle.law_copies.proofs.Apart.{away}
-use Rattle.law_copies.proofs.Chains.{chain_apart}
+use Rattle.law_jobs.proofs.ChainsApart.{chain_apart}
 use Rattle.law_copies.proofs.Lead as lead
 use Rattle.law_copies.proofs.Marking.{job_marked}
 use Rattle.law_copies.proofs.Rising.{AreRising, did_rising}

@@ -47,8 +47,8 @@ use Rattle.law_steps.proofs.Staged.{same_cell_or_apart}
 use Rattle.law_steps.proofs.Subjects.{of_ending, of_filler}
 use Rattle.law_steps.proofs.Taking.{taking}
 use Rattle.law_copies.specs.Steps.{IsBare, KeepsCell}
-use Rattle.law_copies.proofs.Chains.{drop_none}
-use Rattle.law_copies.proofs.Marks.{unmark_none}
+use Rattle.law_jobs.proofs.ChainsApart.{drop_none}
+use Rattle.law_jobs.proofs.MarksApart.{unmark_none}
 use Rattle.law_copies.proofs.Frames.{copied_alike, copied_beside, copying_beside, dropped_beside, ended_beside, entry_beside, followed_beside, keeps_alike}
 use Rattle.law_copies.proofs.Frames.{keeps_itself, keeps_on, last_beside, marked_beside, pending_beside, unmarked_beside}
 

@@ -13,7 +13,7 @@ use Rattle.petal_msg.specs.declared.body.Body.TheVariants as body
 use Rattle.petal_rules.specs.Store.{Chain, Store, Stored, cell_cmp, chain_in, chains_at, chains_with, without_entry}
 use Rattle.petal_rules.proofs.Tests.{none_some, same_or_apart}
 use Rattle.law_steps.proofs.Staged.{same_cell_or_apart}
-use Rattle.law_copies.proofs.Chains.{chain_apart, chain_put, drop_apart, gone_chain}
+use Rattle.law_jobs.proofs.ChainsApart.{chain_apart, chain_put, drop_apart, gone_chain}
 
 abbrev pub IsWithin : (bound : Cell → ℕ → Type 0) → Key → Type 0
 IsWithin bound key = bound (cell_of key) key.epoch

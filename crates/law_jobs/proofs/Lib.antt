@@ -1,2 +1,9 @@
 pub mod Runs
 pub mod Sent
+pub mod ChainsApart
+pub mod MarksApart
+pub mod JobsAreEffects
+pub mod JobsKeepChains
+pub mod CountsGrow
+pub mod FilledAsTold
+pub mod JobsSay

@@ -1,5 +1,27 @@
-//! Runs, and the one induction over them.
+//! Runs, and the one induction over them; and of what a job is made: a few effects on the server's own part, and letters, each with what was
+//! so when it was had or said.
 //!
-//! To the laws above it promises that a run has what the first world has and each record keeps, and what is known of a run and of its next
-//! record. It knows nothing of what any law says, and has no public call: its lemmas are told of every predicate of a run.
+//! To the laws above it promises that a run has what the first world has and each record keeps; that a job keeps what each of its effects
+//! keeps; and what is known of a run, of its next record, and of where a letter was sent. It knows nothing of what any law says.
 #![tactic(auto)]
+
+ghost use Rattle.std.specs.Prelude.{ℕ};
+ghost use Rattle.law_jobs.specs.Effects.{Becomes};
+ghost use Rattle.law_jobs.specs.Sayings.{Says};
+ghost use Rattle.law_steps.specs.Did.{Did};
+ghost use Rattle.law_steps.specs.Happens.{Handled, own_place};
+ghost use Rattle.petal_rules.specs.Lists.{In};
+ghost use Rattle.petal_rules.specs.Server.{Done, Post};
+ghost use Rattle.petal_rules.specs.World.{Setting, World};
+
+/// What a server's own part becomes by a job, it becomes by effects, one after the other, each of which the server may have had.
+pub fn a_job_is_a_list_of_effects()
+    ensures { (setting : Setting) (w : World) (n : ℕ) (done : Done) → Did (Handled w n) (own_place setting w n) (w.servers n).own done
+        → Becomes (Handled w n) (own_place setting w n) (w.servers n).own done.own }
+{}
+
+/// Each letter of a job is one that the server may say.
+pub fn a_job_says_what_it_may()
+    ensures { (setting : Setting) (w : World) (n : ℕ) (done : Done) → Did (Handled w n) (own_place setting w n) (w.servers n).own done
+        → (post : Post) → In post done.posts → Says (Handled w n) (own_place setting w n) (w.servers n).own post.body }
+{}

@@ -34,7 +34,7 @@ use Rattle.law_steps.specs.Happens.{IsSeated}
 use Rattle.law_steps.specs.DidSweep.{Sweeps, cell_swept}
 use Rattle.law_steps.proofs.Subjects.{of_ending, of_filler, of_read, told_own}
 use Rattle.law_steps.proofs.Taking.{taking}
-use Rattle.law_copies.proofs.Chains.{chain_apart, copied_chains, drop_apart, drop_none, page_chains}
+use Rattle.law_jobs.proofs.ChainsApart.{chain_apart, copied_chains, drop_apart, drop_none, page_chains}
 
 -- an operation that is pending here was put
 pub record PutsOwn (own new : Own) : Type 0 where

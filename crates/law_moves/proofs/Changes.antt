@@ -44,7 +44,7 @@ use Rattle.law_steps.proofs.Staged.{same_cell_or_apart}
 use Rattle.law_steps.proofs.Taking.{taking}
 use Rattle.law_copies.specs.Copied.{AreCopying, HasSent, IsCaught, IsLeft, IsTold, links_of}
 use Rattle.law_copies.specs.Visits.{AliveIn, IsLinked, place_by}
-use Rattle.law_copies.proofs.Chains.{chain_apart, chain_put}
+use Rattle.law_jobs.proofs.ChainsApart.{chain_apart, chain_put}
 use Rattle.law_copies.proofs.Later.{alone_or_flagged, holder_is_one, other_than, serves_alone, unseen_beyond}
 use Rattle.law_copies.proofs.Others.{IsOther, held_by, other_apart}
 use Rattle.law_copies.proofs.Places.{at_most_or_above}

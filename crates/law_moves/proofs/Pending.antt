@@ -313,17 +313,16 @@ module _ (it : OneMore) (all : WereKnown it) where
       → op.stage.put ≡ true → Has (chain_in (v.servers m).own.store.chains cell) op.key.epoch
   puts_next m cell op runs is fills put = elim (came m runs cell op is) [
     | Same_pairs up_was was ↦ still_has m cell op op.key.epoch runs up_was was fills (known.puts m cell op up_was was fills put)
-    | By_job job there ↦ elim (did_was (Handled w m) (own_place setting w m) (w.servers m).own
-        (never_dead prior known.filled.opened m job.runs) (keyed_was m) job.done job.did cell op there) [
-          | Is_new next fresh ↦ true_false put fresh
-          | It_was o was same how ↦ elim (how put) [
-            | inr has ↦ subst (λ (s : Own). Has (chain_in s.store.chains cell) op.key.epoch) (sym job.own_is) has
-            | inl old ↦ (
-                let fill = ap is_clients same.kind ∙ fills in
-                subst (λ (x : Key). Has (chain_in (v.servers m).own.store.chains cell) x.epoch) same.key
-                (still_has m cell o o.key.epoch runs job.runs was fill (known.puts m cell o job.runs was fill old)))
-          ]
-        ]
+    | By_job job there ↦ elim (did_was (Handled w m) (own_place setting w m) (w.servers m).own (keyed_was m) job.done job.did cell op there) [
+      | Is_new next fresh ↦ true_false put fresh
+      | It_was o was same how ↦ elim (how put) [
+        | inr has ↦ subst (λ (s : Own). Has (chain_in s.store.chains cell) op.key.epoch) (sym job.own_is) has
+        | inl old ↦ (
+            let fill = ap is_clients same.kind ∙ fills in
+            subst (λ (x : Key). Has (chain_in (v.servers m).own.store.chains cell) x.epoch) same.key
+            (still_has m cell o o.key.epoch runs job.runs was fill (known.puts m cell o job.runs was fill old)))
+      ]
+    ]
   ]
 
   -- and until it is, it is not
@@ -351,8 +350,7 @@ module _ (it : OneMore) (all : WereKnown it) where
       by : (to : Server) → HasGone it m to → at cell_cmp to.own.pairs.pending cell ≡ Some op → 1 ≤ op.op
       by to (Rests same) there = old m cell op (ap (λ (s : Server). at cell_cmp s.own.pairs.pending cell) (sym same) ∙ there)
       by to (Works job) there =
-          elim (did_was (Handled w m) (own_place setting w m) (w.servers m).own
-          (never_dead prior known.filled.opened m job.runs) (keyed_was m) job.done job.did cell op
+          elim (did_was (Handled w m) (own_place setting w m) (w.servers m).own (keyed_was m) job.done job.did cell op
           (ap (λ (o : Own). at cell_cmp o.pairs.pending cell) (sym job.own_is) ∙ there)) [
             | Is_new next fresh ↦ (let one = (good prior).counts m in omega arith)
             | It_was o was same how ↦ (let one = old m cell o was in let e = same.number in omega arith)

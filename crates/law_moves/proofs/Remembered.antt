@@ -23,7 +23,7 @@ use Rattle.law_log.proofs.Filling.{filled_beside, filled_here}
 use Rattle.law_log.proofs.Flags.{same_id}
 use Rattle.law_steps.specs.Happens.{Handled, own_place}
 use Rattle.law_steps.proofs.Fronts.{front_more, front_on}
-use Rattle.law_steps.proofs.Remembering.{As_before, Told_of, did_remember}
+use Rattle.law_jobs.proofs.FilledAsTold.{As_before, Told_of, did_remember}
 use Rattle.law_moves.specs.Fills.{AllFilled, IsOnWay, IsToldOf}
 use Rattle.law_moves.proofs.Knows.{HasBegun, HaveBegun, WasKnown}
 use Rattle.law_moves.proofs.Steps.{Awakes, Enters, HasGone, IsJob, Is_blanked, Raises, Rests}

@@ -40,10 +40,10 @@ use Rattle.law_copies.specs.Visits.{IsLinked, place_by}
 use Rattle.law_copies.proofs.Places.{place_of_later, place_touched, state_next}
 use Rattle.law_epochs.proofs.Histories.{running_timely}
 use Rattle.law_epochs.proofs.Within.{is_of_entries}
+use Rattle.law_jobs.proofs.CountsGrow.{did_follow}
 use Rattle.law_moves.proofs.Changes.{never_dead}
 use Rattle.law_moves.proofs.Kept.{before}
 use Rattle.law_moves.proofs.Knows.{Known, WereKnown}
-use Rattle.law_moves.proofs.Putting.{did_follow}
 use Rattle.law_moves.proofs.Saying.{Asks_copy, Is_done, Is_done_alone, Is_neither, Is_there, Says, did_says, is_replicate}
 use Rattle.law_moves.proofs.Steps.{Awakes, Before, Enters, HasGone, IsPosted, Is_blanked, Other, Posted, Raises, Rests, Starts_ballot}
 use Rattle.law_moves.proofs.Steps.{Works, gone, here, sent}
@@ -116,8 +116,7 @@ module _ (it : OneMore) (all : WereKnown it) where
         → place_by setting to.log.applied row ≡ place_by setting mine row → far_of_last (w.servers m).own cell ≤ far_of_last to.own cell
     far_by to (Rests same) runs on place = let e = ap (λ (s : Server). far_of_last s.own cell) same in omega arith
     far_by to (Works job) runs on place =
-        let le = did_follow (Handled w m) (own_place setting w m) (w.servers m).own (never_dead prior known.filled.opened m job.runs)
-        (λ q op is. (((rests prior).pending m).staged q op is).keyed) job.done job.did cell in
+        let le = did_follow (Handled w m) (own_place setting w m) (w.servers m).own cell job.done job.did in
         let e = ap (λ (o : Own). far_of_last o cell) job.own_is in
         omega arith
     far_by to (Starts_ballot ballot) runs on place =

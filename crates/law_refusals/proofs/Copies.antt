@@ -1,12 +1,10 @@
 -- A server remembers that a slot was wanting since a letter told it so: of its last copy, by the link's other server, which had none; or of an
 -- entry that it is to move, by the new map's lead, which had none, or whose second server had none.
-use Rattle.std.proofs.Common.{◌≡◌, ◌<◌, ℕ, Bool, List, [], ◌∷◌, ◌++◌, length, Option, Some, None, true, false, refl, sym}
+use Rattle.std.proofs.Common.{◌≡◌, ℕ, Bool, List, [], ◌∷◌, ◌++◌, Option, Some, None, true, false, refl, sym}
 use Rattle.std.proofs.Common.{ap, ◌∙◌, subst, ◌⊎◌, inl, inr}
-use Rattle.busy_marks.specs.Marks.{above}
 use Rattle.global_tables.specs.declared.link.LinkRow.{LinkRow}
 use Rattle.petal_base.specs.declared.cell.Cell.{Cell}
 use Rattle.petal_base.specs.Cells.{cell_of}
-use Rattle.petal_base.specs.declared.cell.Key.{Key}
 use Rattle.petal_command.specs.declared.command.Command.{Command}
 use Rattle.petal_command.specs.declared.command.Command.TheVariants.{Caught}
 use Rattle.petal_msg.specs.Kinds.{Copied, Filling, Paired, Refused, subject_of}
@@ -14,32 +12,28 @@ use Rattle.petal_msg.specs.declared.body.Body.{Body}
 use Rattle.petal_msg.specs.declared.body.Body.TheVariants as body
 use Rattle.petal_msg.specs.declared.copying.Copying.{Copying}
 use Rattle.petal_msg.specs.declared.copying.LastCopy.{LastCopy}
-use Rattle.petal_msg.specs.declared.copying.Progress.{Progress}
 use Rattle.petal_msg.specs.declared.letter.Actor.{Actor}
 use Rattle.petal_msg.specs.declared.letter.Actor.TheVariants as actor
 use Rattle.petal_msg.specs.declared.letter.Letter.{Letter}
-use Rattle.petal_rules.specs.Copies.{page_wanted, with_copied, with_page}
+use Rattle.petal_rules.specs.Copies.{page_wanted}
 use Rattle.petal_rules.specs.Crossing.{crossed}
 use Rattle.petal_rules.specs.Jobs.{Acted}
 use Rattle.petal_rules.specs.Lists.{In}
-use Rattle.petal_rules.specs.Progress.{copying_on, progress_on, with_progress}
 use Rattle.petal_rules.specs.Returns.{holds_link, proposed}
 use Rattle.petal_rules.specs.Server.{Own, Copies, Here, Post, Done, Server, post_to}
 use Rattle.petal_rules.specs.State.{State, link_named}
-use Rattle.petal_rules.specs.Store.{chain_in}
 use Rattle.petal_rules.specs.World.{Setting, World, server_state, step, MayActor}
 use Rattle.petal_rules.specs.declared.step.Step.{Step}
 use Rattle.petal_rules.specs.declared.step.Step.TheVariants.{Blank, Work}
 use Rattle.petal_rules.specs.declared.step.WorkEnd.TheVariants as work_end
 use Rattle.petal_rules.proofs.Settled.{settling}
-use Rattle.petal_rules.proofs.Tests.{all_put, by_test, true_false}
+use Rattle.petal_rules.proofs.Tests.{all_put, true_false}
 use Rattle.petal_history.specs.declared.record.Record.{Record}
 use Rattle.law_state.specs.Firm.{Firm}
 use Rattle.law_state.proofs.Moments.{last_moment, moment_more}
 use Rattle.law_steps.specs.Did.{Did, Ignores, Refuses, By_read, By_lead, By_second, By_holder, By_other, By_filler, By_sweep}
-use Rattle.law_steps.specs.DidFiller.{DidFiller, IsNextKey, Is_filled, Is_out_of_slots}
-use Rattle.law_steps.specs.DidHolder.{DidHolder, CopyStep, Unmarks_copied, Closes_copy, TakenCopy, Copy_as_is}
-use Rattle.law_steps.specs.DidHolder.{Asks_page, Turns_page, Begins_copy, Goes_on_copying, Finds_it_full}
+use Rattle.law_steps.specs.DidHolder.{DidHolder, CopyStep, Unmarks_copied, Closes_copy}
+use Rattle.law_steps.specs.DidHolder.{Asks_page, Begins_copy, Goes_on_copying}
 use Rattle.law_steps.specs.DidOther.{OtherReply, Replies, DidOther, TrimStep, Is_trimmed, Drops_entry, Is_copied_to}
 use Rattle.law_steps.specs.DidOther.{Goes_on_trimming, Puts_entry, Has_no_slot}
 use Rattle.law_steps.specs.Happens.{Handled, By_job, By_ballot, By_entry, Serving, Goes, Ends, Stays, Wakes, Fails, own_place}
@@ -47,7 +41,9 @@ use Rattle.law_steps.specs.Ready.{Rests}
 use Rattle.law_steps.proofs.Histories.{own_steady}
 use Rattle.law_steps.proofs.Letters.{one_post, posted}
 use Rattle.law_steps.proofs.Serving.{server_serves}
-use Rattle.law_steps.proofs.Subjects.{of_filler, of_lead, of_read, of_second, of_sweep}
+use Rattle.law_steps.proofs.Subjects.{of_filler, of_read, of_second, of_sweep}
+use Rattle.law_jobs.specs.Effects.{Effect, HearsNone, Is_full, May, applied}
+use Rattle.law_jobs.proofs.JobsAreEffects.{job_keeps}
 use Rattle.law_jobs.proofs.Runs.{At, OneMore, Run, after, at_moment, by_run, firm_in, firm_then, follows_in, longer, rests_in, setting_in, stepped_in}
 use Rattle.law_jobs.proofs.Sent.{was_sent}
 use Rattle.law_refusals.specs.Full.{By_copy, By_fill, HadNoRoom, HasFoundNone, HasJob, LacksRoom, WasTold}
@@ -60,49 +56,6 @@ use Rattle.law_refusals.proofs.Sent.{is_aside, sent_by}
 abbrev full_of : Own → Bool
 full_of own = own.copies.full
 
--- the copy that is under way on a cell is told to have found no slot for its next entry
-record HearsFull (heard : Body → Type 0) (own : Own) : Type 0 where
-  cell : Cell
-  copy : Copying
-  said : heard (body.SyncFull copy.op cell)
-  copying : copying_on own cell ≡ Some copy
-  trimmed : copy.trimmed ≡ true
-  left : copy.index < length (chain_in own.store.chains cell)
-
--- or the next entry of a link that the server is to move
-record HearsFillFull (heard : Body → Type 0) (here : Here) (own : Own) : Type 0 where
-  key : Key
-  row : LinkRow
-  said : heard (body.FillFull key)
-  next : IsNextKey here own key row
-
-abbrev HearsNone : (heard : Body → Type 0) → Here → Own → Type 0
-HearsNone heard here own = HearsFull heard own ⊎ HearsFillFull heard here own
-
-copied_full : (row : Option LinkRow) (own : Own) (block : ℕ) → full_of (with_copied row own block) ≡ full_of own
-copied_full None own block = refl
-copied_full (Some row) own block =
-    by_test (λ (left : Own). full_of left ≡ full_of own) (above (progress_on own row).copied block)
-    (with_progress own row (record (progress_on own row) { copied = Some block })) own (λ t. refl) (λ t. refl)
-
-page_full : (own : Own) (row : LinkRow) (before : Progress) (block : Option ℕ) → full_of (with_page own row before block) ≡ full_of own
-page_full own row before None = refl
-page_full own row before (Some block) = refl
-
-step_full : (here : Here) (own : Own) (cell : Cell) (copy : Copying) (done : Done) → CopyStep here own cell copy done → full_of done.own ≡ true
-    → full_of own ≡ true
-step_full here own cell copy _ (Closes_copy synced left) e = true_false e refl
-step_full here own cell copy _ _ e = e
-
-taken_full : (heard : Body → Type 0) (own : Own) (cell : Cell) (now : Own) (copy : Copying) → TakenCopy heard own cell now copy
-    → full_of now ≡ full_of own
-taken_full heard own cell _ copy (Copy_as_is _ is) = refl
-taken_full heard own cell _ _ _ = refl
-
-trim_full : (own : Own) (cell : Cell) (last : LastCopy) (holder : ℕ) (done : Done) → TrimStep own cell last holder done → full_of done.own ≡ full_of own
-trim_full own cell last holder _ (Is_trimmed none) = refl
-trim_full own cell last holder _ (Drops_entry epoch epochs is) = refl
-
 ballot_full : (state : State) (own : Own) (o : Option Command) → full_of (proposed state own o) ≡ full_of own
 ballot_full state own (Some (Caught of link holder inc other other_inc)) = by (link_named state (record { map = of; link = link }))
   where
@@ -113,37 +66,15 @@ ballot_full state own (Some _) = refl
 ballot_full state own None = refl
 
 module _ (heard : Body → Type 0) (here : Here) (own : Own) where
-  abbrev F : Done → Type 0
-  F done = full_of done.own ≡ true → (full_of own ≡ true) ⊎ HearsNone heard here own
+  abbrev F : Own → Type 0
+  F now = full_of now ≡ true → (full_of own ≡ true) ⊎ HearsNone heard here own
 
-  holder_full : (done : Done) → DidHolder heard here own done → F done
-  holder_full _ (Turns_page id row other after block h held fresh so) e = inl (sym (page_full own row (progress_on own row) block) ∙ e)
-  holder_full done (Begins_copy id row other cell _ held next step) e = inl (step_full here _ cell _ done step e)
-  holder_full done (Goes_on_copying cell now copy _ taken step) e =
-      inl (sym (taken_full heard own cell now copy taken) ∙ step_full here now cell copy done step e)
-  holder_full _ (Finds_it_full cell copy h is trimmed lt) e =
-      inr (inl (record { cell = cell; copy = copy; said = h; copying = is; trimmed = trimmed; left = lt }))
-  holder_full _ _ e = inl e
+  each_full : (now : Own) (e : Effect) → May heard here own now e → F now → F (applied now e)
+  each_full now (Is_full full) may so e = inr (may e)
+  each_full now _ may so e = so e
 
-  other_full : (done : Done) → DidOther heard here own done → full_of done.own ≡ full_of own
-  other_full done (Is_copied_to number cell epochs holder _ h held newer step) = trim_full _ cell _ holder done step
-  other_full done (Goes_on_trimming cell holder last _ held is step) = trim_full own cell last holder done step
-  other_full _ _ = refl
-
-  filler_full : (done : Done) → DidFiller heard here own done → F done
-  filler_full _ (Is_filled key row posts h next fills) e = true_false e refl
-  filler_full _ (Is_out_of_slots key row h next) e = inr (inr (record { key = key; row = row; said = h; next = next }))
-
-  did_full : (done : Done) → Did heard here own done → F done
-  did_full _ Ignores e = inl e
-  did_full _ (Refuses to said is busy held) e = inl e
-  did_full _ (By_read done d) e = inl (sym (ap full_of (of_read heard here own done d).same) ∙ e)
-  did_full _ (By_lead done d) e = inl (sym (ap (λ (c : Copies). c.full) (of_lead heard here own done d).copies) ∙ e)
-  did_full _ (By_second done d) e = inl (sym (ap (λ (c : Copies). c.full) (of_second heard here own done d).copies) ∙ e)
-  did_full _ (By_holder done d) e = holder_full done d e
-  did_full _ (By_other done d) e = inl (sym (other_full done d) ∙ e)
-  did_full _ (By_filler done d) e = filler_full done d e
-  did_full _ (By_sweep done d) e = inl (sym (ap (λ (c : Copies). c.full) (of_sweep heard here own done d).copies) ∙ e)
+  did_full : (done : Done) → Did heard here own done → F done.own
+  did_full = job_keeps heard here own F each_full (λ e. inl e)
 
   -- ### Who says that it has no slot
 

@@ -37,7 +37,7 @@ use Rattle.law_steps.proofs.Subjects.{of_ending}
 use Rattle.law_steps.proofs.Taking.{taking}
 use Rattle.law_copies.specs.Pair.{AreCopies, PairOk, Working, far, pair_of}
 use Rattle.law_copies.specs.Visits.{IsLinked, half}
-use Rattle.law_copies.proofs.Chains.{chain_apart, chain_put}
+use Rattle.law_jobs.proofs.ChainsApart.{chain_apart, chain_put}
 use Rattle.law_requests.specs.Asked.{IsOpen}
 use Rattle.law_run.specs.Onward.{is_held, Onward}
 use Rattle.law_run.specs.Follow.{HasCounted, Is_told, Is_followed, Is_counted}

@@ -33,7 +33,7 @@ use Rattle.petal_history.specs.Events.{change_by}
 use Rattle.law_steps.specs.Ready.{IsRising}
 use Rattle.law_stores.specs.Waiting.{IsOwn}
 use Rattle.law_copies.specs.Visits.{AliveIn}
-use Rattle.law_copies.proofs.Chains.{chain_apart, chain_put}
+use Rattle.law_jobs.proofs.ChainsApart.{chain_apart, chain_put}
 use Rattle.law_run.specs.Onward.{is_held, Onward}
 use Rattle.law_run.proofs.Along.{HasDisk, cell_comes, cell_named, content_is, disk_here, disks_now, has_content_is, named_epoch}
 use Rattle.law_run.proofs.Along.{named_high, named_map_is, one_row_of, plain_now, rows_in}

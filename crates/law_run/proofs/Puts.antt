@@ -23,7 +23,7 @@ use Rattle.law_steps.proofs.Fronts.{front_on}
 use Rattle.law_steps.proofs.Histories.{runs_now}
 use Rattle.law_stores.specs.Waiting.{IsOwn}
 use Rattle.law_copies.specs.Visits.{IsLinked, place_by, AliveIn}
-use Rattle.law_copies.proofs.Chains.{chain_apart}
+use Rattle.law_jobs.proofs.ChainsApart.{chain_apart}
 use Rattle.law_copies.proofs.Places.{one_row, dead_not}
 use Rattle.law_requests.specs.Asked.{IsOpen}
 use Rattle.law_requests.specs.Known.{asked_for}

@@ -31,7 +31,7 @@ use Rattle.law_steps.proofs.Subjects.{of_read, of_second, of_filler, of_sweep}
 use Rattle.law_stores.specs.Waiting.{IsOwn}
 use Rattle.law_copies.specs.Pair.{owns_of}
 use Rattle.law_copies.specs.Visits.{AliveIn}
-use Rattle.law_copies.proofs.Chains.{chain_apart}
+use Rattle.law_jobs.proofs.ChainsApart.{chain_apart}
 use Rattle.law_copies.proofs.Others.{held_not_lead}
 use Rattle.law_requests.proofs.Leads.{one_lead}
 use Rattle.law_requests.specs.Asked.{IsOpen}

@@ -15,7 +15,7 @@ use Rattle.petal_rules.specs.Fills.{Moving, fill_operation}
 use Rattle.petal_rules.specs.Lists.{In}
 use Rattle.petal_rules.specs.Server.{Own, Here, Pairs, Post, Done}
 use Rattle.petal_rules.specs.Store.{cell_cmp}
-use Rattle.petal_rules.specs.Writes.{ends, gives_back, next_stage, operation, with_mark_at, without_pending}
+use Rattle.petal_rules.specs.Writes.{gives_back, next_stage, operation, with_mark_at, without_pending}
 use Rattle.petal_rules.proofs.CellTables.{cell_apart, cell_same}
 use Rattle.petal_rules.proofs.Tests.{by_bool, same_some, true_false}
 use Rattle.law_steps.specs.Did.{Did, Ignores, Refuses, By_read, By_lead, By_second, By_holder, By_other, By_filler, By_sweep}

@@ -32,7 +32,6 @@ pub mod Records
 pub mod OneWorld
 pub mod Histories
 pub mod Firms
-pub mod Remembering
 pub mod Filling
 pub mod Coming
 pub mod Arriving

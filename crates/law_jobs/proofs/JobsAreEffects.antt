@@ -1,0 +1,277 @@
+-- Each job of a server is a list of effects.
+use Rattle.std.proofs.Common.{◌≡◌, ℕ, Bool, true, false, Option, Some, None, refl, sym, ap, subst, inl, inr, arith}
+use Rattle.std.specs.Prelude.{◌+◌, ◌-◌, is_some}
+use Rattle.busy_marks.specs.Marks.{above}
+use Rattle.busy_marks.specs.declared.marks.MarkKind.{MarkKind}
+use Rattle.busy_marks.specs.declared.marks.MarkKind.TheVariants as mark
+use Rattle.global_tables.specs.declared.link.LinkRow.{LinkRow}
+use Rattle.petal_base.specs.Cells.{cell_of, key_at}
+use Rattle.petal_base.specs.declared.cell.Cell.{Cell}
+use Rattle.petal_base.specs.declared.cell.Key.{Key}
+use Rattle.petal_msg.specs.declared.body.Body.{Body}
+use Rattle.petal_msg.specs.declared.copying.Copying.{Copying}
+use Rattle.petal_msg.specs.declared.copying.LastCopy.{LastCopy}
+use Rattle.petal_msg.specs.declared.dead.Dead.TheVariants as dead
+use Rattle.petal_msg.specs.declared.operation.Action.{Action}
+use Rattle.petal_msg.specs.declared.operation.Action.TheVariants as action
+use Rattle.petal_msg.specs.declared.operation.Ending.{Ending}
+use Rattle.petal_msg.specs.declared.operation.Ending.TheVariants as ending
+use Rattle.petal_msg.specs.declared.operation.Far.{Far}
+use Rattle.petal_msg.specs.declared.operation.Far.TheVariants as far
+use Rattle.petal_msg.specs.declared.operation.OpKind.{OpKind}
+use Rattle.petal_msg.specs.declared.operation.OpKind.TheVariants as kind
+use Rattle.petal_msg.specs.declared.operation.Pending.{Pending}
+use Rattle.petal_msg.specs.declared.operation.Stage.{Stage}
+use Rattle.petal_state.specs.CellState.{cell_link}
+use Rattle.petal_rules.specs.Copies.{with_copied, with_page}
+use Rattle.petal_rules.specs.Fills.{fill_operation}
+use Rattle.petal_rules.specs.Progress.{progress_on, with_progress, without_copying}
+use Rattle.petal_rules.specs.Server.{Own, Here, Done}
+use Rattle.petal_rules.specs.Copies.{begins_copy, cell_at}
+use Rattle.petal_rules.specs.Store.{Stored, chain_in, version_of}
+use Rattle.petal_rules.specs.Writes.{acts, ends, gives_back, gives_up, last_on, pending_on, puts, next_stage, operation, tells, with_flag, with_mark_at, with_opened, with_paired, with_pending, with_reserved, without_pending}
+use Rattle.petal_rules.proofs.CellTables.{cell_same}
+use Rattle.petal_rules.proofs.Tests.{by_test, true_false}
+use Rattle.law_steps.specs.DidLead.{DidLead, Is_full, Opens, Opens_alone, Opens_fill, Opens_fill_alone, Gives_up, Closes_alone, Goes_on_dead}
+use Rattle.law_steps.specs.DidLead.{Marks_alone, Puts_alone, Unmarks_alone, Taken, As_it_is, As_told, told}
+use Rattle.law_steps.specs.DidLead.{Marks, Puts, Unmarks, Closes}
+use Rattle.law_steps.specs.DidSecond.{DidSecond, Sets_apart, Promises, Follows}
+use Rattle.law_steps.specs.DidHolder.{DidHolder, CopyStep, Unmarks_copied, Closes_copy, TakenCopy, Copy_as_is, Copy_trimmed, Copy_synced}
+use Rattle.law_steps.specs.DidHolder.{Turns_page, Begins_copy, Goes_on_copying, Finds_it_full, Tidies}
+use Rattle.law_steps.specs.DidOther.{DidOther, TrimStep, Is_trimmed, Drops_entry, Is_copied_to, Goes_on_trimming, Puts_entry, first_last}
+use Rattle.law_steps.specs.DidFiller.{DidFiller, Is_filled, Is_out_of_slots}
+use Rattle.law_steps.specs.DidSweep.{DidSweep, Sweeps}
+use Rattle.law_steps.specs.Did.{Did, Ignores, Refuses, By_read, By_lead, By_second, By_holder, By_other, By_filler, By_sweep}
+use Rattle.petal_msg.specs.declared.copying.LinkId.{LinkId}
+use Rattle.petal_rules.specs.State.{id_of, link_named}
+use Rattle.law_steps.specs.Operations.{progress}
+use Rattle.law_steps.proofs.Resting.{row_named}
+use Rattle.law_steps.proofs.Subjects.{of_read}
+use Rattle.law_steps.proofs.Taking.{taking}
+use Rattle.law_jobs.proofs.ChainsApart.{entry_put}
+use Rattle.law_jobs.specs.Effects as effect
+use Rattle.law_jobs.specs.Effects.{Effect, applied, May, Becomes, As_it_was, Then, IsFilledAs, IsPutFor, IsSetFor, Is_begun, Is_further, Is_opened, Goes_on, Has_put, An_operation, A_lead, A_copy}
+
+module _ (heard : Body → Type 0) (here : Here) (own : Own) where
+  abbrev To : Own → Type 0
+  To now = Becomes heard here own now
+
+  -- ### The lead
+
+  taken_to : (now : Own) (op : Pending) → Taken own now op → To now
+  taken_to _ _ (As_it_is op is) = As_it_was
+  taken_to _ _ (As_told op reserved paired is) = Then own (effect.Sets (told op reserved paired)) As_it_was
+      (Goes_on op (record op.stage { reserved = reserved; paired = paired }) is refl)
+
+  chains_taken : (now : Own) (op : Pending) → Taken own now op → now.store.chains ≡ own.store.chains
+  chains_taken _ _ (As_it_is op is) = refl
+  chains_taken _ _ (As_told op reserved paired is) = refl
+
+  ends_to : (now : Own) (op : Pending) (how : Ending) → To now → To (ends here now op op.kind how).own
+  ends_to now op how so = by op.kind
+    where
+      by : (of : OpKind) → To (ends here now op of how).own
+      by kind.Write = Then now (effect.Finishes op.client (record { seq = op.seq; ending = how })) so tt
+      by kind.Fill = so
+      by kind.Copy = so
+
+  closes_to : (now : Own) (op : Pending) → To now → To (ends here (without_pending now op.cell) op op.kind ending.Written).own
+  closes_to now op so = ends_to (without_pending now op.cell) op ending.Written (Then now (effect.Closes op.cell) so tt)
+
+  flag_put : (stage : Stage) (which : MarkKind) (is : Bool) → (with_flag stage which is).put ≡ stage.put
+  flag_put stage mark.Busy is = refl
+  flag_put stage mark.Stale is = refl
+
+  marks_to : (now : Own) (op : Pending) (which : MarkKind) → pending_on now op.cell ≡ Some op → To now
+      → To (with_pending (applied now (effect.Marks which op.cell)) (with_mark_at op which true))
+  marks_to now op which there so =
+      Then (applied now (effect.Marks which op.cell)) (effect.Sets (with_mark_at op which true)) (Then now (effect.Marks which op.cell) so tt)
+      (Goes_on op (with_flag op.stage which true) there (flag_put op.stage which true))
+
+  unmarks_to : (now : Own) (op : Pending) (which : MarkKind) → pending_on now op.cell ≡ Some op → To now
+      → To (with_pending (applied now (effect.Unmarks which op.cell)) (with_mark_at op which false))
+  unmarks_to now op which there so =
+      Then (applied now (effect.Unmarks which op.cell)) (effect.Sets (with_mark_at op which false)) (Then now (effect.Unmarks which op.cell) so tt)
+      (Goes_on op (with_flag op.stage which false) there (flag_put op.stage which false))
+
+  opened_to : (op : Pending) → op.op ≡ own.pairs.next → op.stage.put ≡ false → To (with_opened own op)
+  opened_to op number fresh =
+      let set = applied own (effect.Sets op) in
+      Then (applied set effect.Counts) (effect.Holds_slots (own.store.tickets + 1))
+      (Then set effect.Counts (Then own (effect.Sets op) As_it_was (Is_opened op number fresh)) tt) tt
+
+  puts_to : (now : Own) (op : Pending) → Taken own now op → To (puts now op).own
+  puts_to now op taken =
+      let version = version_of (chain_in now.store.chains op.cell) + 1 in
+      let stored : Stored = record { version = version; bytes = op.bytes } in
+      Then (applied now (effect.Puts op.key stored)) (effect.Sets (record op { version = version; stage = record op.stage { put = true } }))
+      (Then now (effect.Puts op.key stored) (taken_to now op taken) (for_taken now op taken version, chains_taken now op taken))
+      (put_taken now op taken version stored)
+    where
+      put_taken : (now : Own) (op : Pending) → Taken own now op → (version : ℕ) (stored : Stored)
+          → IsSetFor own (applied now (effect.Puts op.key stored)) (record op { version = version; stage = record op.stage { put = true } })
+      put_taken _ _ (As_it_is op is) version stored =
+          Has_put op version (record op.stage { put = true }) is (ap is_some (entry_put own.store.chains op.key stored))
+      put_taken _ _ (As_told op reserved paired is) version stored =
+          Has_put op version (record op.stage { reserved = reserved; paired = paired; put = true }) is
+          (ap is_some (entry_put own.store.chains op.key stored))
+
+      for_taken : (now : Own) (op : Pending) → Taken own now op → (version : ℕ)
+          → IsPutFor heard own op.key (record { version = version; bytes = op.bytes })
+      for_taken _ _ (As_it_is op is) version = An_operation op version is
+      for_taken _ _ (As_told op reserved paired is) version = An_operation op version is
+
+  drops_to : (now : Own) (op : Pending) → To now → To (gives_up now op)
+  drops_to now op so =
+      let closed = Then now (effect.Closes op.cell) so tt in
+      by_test To op.stage.put (without_pending now op.cell) (gives_back (without_pending now op.cell)) (λ put. closed)
+      (λ fresh. Then (without_pending now op.cell) (effect.Holds_slots (now.store.tickets - 1)) closed tt)
+
+  acts_to : (now : Own) (op : Pending) → Taken own now op → (next : Action) → To (acts here now op next).own
+  acts_to now op taken action.Reserve = taken_to now op taken
+  acts_to now op taken (action.Mark which) = marks_to now op which (taking own now op taken).there (taken_to now op taken)
+  acts_to now op taken action.Put = puts_to now op taken
+  acts_to now op taken action.Replicate = taken_to now op taken
+  acts_to now op taken (action.Unmark which) = unmarks_to now op which (taking own now op taken).there (taken_to now op taken)
+  acts_to now op taken action.Answer = closes_to now op (taken_to now op taken)
+  acts_to now op taken action.Drop = drops_to now op (taken_to now op taken)
+
+  lead_to : (done : Done) → DidLead heard here own done → To done.own
+  lead_to _ (Is_full want new full) = Then own (effect.Finishes want.client (record { seq = want.seq; ending = ending.Full })) As_it_was tt
+  lead_to _ (Gives_up op h is reserved put) =
+      let closed = without_pending own op.cell in
+      ends_to (gives_back closed) op ending.Full
+      (Then closed (effect.Holds_slots (own.store.tickets - 1)) (Then own (effect.Closes op.cell) As_it_was tt) tt)
+  lead_to _ (Opens want new both) = opened_to (operation here own.pairs.next want) refl refl
+  lead_to _ (Marks op h is both stage) =
+      marks_to (with_pending own (with_reserved op)) (with_reserved op) mark.Busy (cell_same own.pairs.pending op.cell (with_reserved op))
+      (Then own (effect.Sets (with_reserved op)) As_it_was (Goes_on op (record op.stage { reserved = true }) is refl))
+  lead_to _ (Puts op is both stage) = puts_to own op (As_it_is op is)
+  lead_to _ (Unmarks op h is both stage) =
+      unmarks_to (with_pending own (with_paired op)) (with_paired op) mark.Busy (cell_same own.pairs.pending op.cell (with_paired op))
+      (Then own (effect.Sets (with_paired op)) As_it_was (Goes_on op (record op.stage { paired = true }) is refl))
+  lead_to _ (Closes op is both stage) = closes_to own op As_it_was
+  lead_to _ (Opens_alone want new alone) =
+      let op = operation here own.pairs.next want in
+      marks_to (with_opened own op) op mark.Stale (cell_same own.pairs.pending op.cell op) (opened_to op refl refl)
+  lead_to _ (Marks_alone now op taken alone fresh) = marks_to now op mark.Stale (taking own now op taken).there (taken_to now op taken)
+  lead_to _ (Puts_alone now op taken alone stale put) = puts_to now op taken
+  lead_to _ (Unmarks_alone now op taken alone stale put busy) = unmarks_to now op mark.Busy (taking own now op taken).there (taken_to now op taken)
+  lead_to _ (Closes_alone now op taken alone stale put free) = closes_to now op (taken_to now op taken)
+  lead_to _ (Opens_fill moving new room both) = opened_to (fill_operation here own.pairs.next moving) refl refl
+  lead_to _ (Opens_fill_alone moving new room alone) =
+      let op = fill_operation here own.pairs.next moving in
+      marks_to (with_opened own op) op mark.Stale (cell_same own.pairs.pending op.cell op) (opened_to op refl refl)
+  lead_to _ (Goes_on_dead now op taken off) = acts_to now op taken (next_stage here.state here.me op)
+  lead_to _ _ = As_it_was
+
+  -- ### The second server
+
+  tells_to : (now : Own) (cell : Cell) (number : ℕ) (how : Far) → To now → To (tells here now cell number how).own
+  tells_to now cell number far.Reserved so = so
+  tells_to now cell number far.Replicated so = so
+
+  second_to : (done : Done) → DidSecond heard here own done → To done.own
+  second_to _ (Sets_apart number cell tickets h is le) =
+      Then (applied own (effect.Holds_slots tickets)) (effect.Follows cell (record { op = number; far = far.Reserved }))
+      (Then own (effect.Holds_slots tickets) As_it_was tt) le
+  second_to _ (Promises number cell how s is) = tells_to own cell number how As_it_was
+  second_to _ (Follows number key version bytes h s is) =
+      let stored : Stored = record { version = version_of (chain_in own.store.chains (cell_of key)) + 1; bytes = bytes } in
+      Then (applied own (effect.Puts key stored)) (effect.Follows (cell_of key) (record { op = number; far = far.Replicated }))
+      (Then own (effect.Puts key stored) As_it_was (A_lead number key version stored.version bytes h, refl))
+      (let was : progress (last_on own (cell_of key)) ≡ number + number = ap progress is in omega arith)
+  second_to _ _ = As_it_was
+
+  -- ### Copies
+
+  copied_to : (cell : Cell) (row : Option LinkRow) → cell_link here.state cell ≡ row → (now : Own) (block : ℕ) → To now → To (with_copied row now block)
+  copied_to cell None is now block so = so
+  copied_to cell (Some row) is now block so =
+      let progress = record (progress_on now row) { copied = Some block } in
+      by_test To (above (progress_on now row).copied block) (with_progress now row progress) now
+      (λ t. Then now (effect.Moves_on row progress) so (id_of row, row_named here.state cell row is)) (λ t. so)
+
+  copy_step_to : (now : Own) (cell : Cell) (copy : Copying) (done : Done) → CopyStep here now cell copy done → To now → To done.own
+  copy_step_to now cell copy _ (Unmarks_copied which synced left) so = Then now (effect.Unmarks which cell) so tt
+  copy_step_to now cell copy _ (Closes_copy synced left) so =
+      Then _ (effect.Is_full false) (copied_to cell (cell_link here.state cell) refl (without_copying now cell) cell.block (Then now (effect.Ends_copy cell) so tt))
+      (λ e. true_false e refl)
+  copy_step_to now cell copy _ _ so = so
+
+  pub copy_to : (cell : Cell) (now : Own) (copy : Copying) → TakenCopy heard own cell now copy → To now
+  copy_to cell _ _ (Copy_as_is copy is) = As_it_was
+  copy_to cell _ _ (Copy_trimmed copy h is fresh) = Then own (effect.Copies cell (record copy { trimmed = true })) As_it_was tt
+  copy_to cell _ _ (Copy_synced copy h is trimmed lt) = Then own (effect.Copies cell (record copy { index = copy.index + 1 })) As_it_was tt
+
+  pub begun_to : (cell : Cell) → To (begins_copy own cell)
+  begun_to cell =
+      Then (applied own effect.Counts) (effect.Copies cell (record { op = own.pairs.next; trimmed = false; index = 0 }))
+      (Then own effect.Counts As_it_was tt) tt
+
+  page_to : (id : LinkId) (row : LinkRow) → link_named here.state id ≡ Some row → (block : Option ℕ) → To (with_page own row (progress_on own row) block)
+  page_to id row is None = Then own (effect.Moves_on row (record (progress_on own row) { paged = true })) As_it_was (id, is)
+  page_to id row is (Some block) =
+      Then (applied own (effect.Marks mark.Stale (cell_at row block))) (effect.Moves_on row (record (progress_on own row) { after = Some block }))
+      (Then own (effect.Marks mark.Stale (cell_at row block)) As_it_was tt) (id, is)
+
+  holder_to : (done : Done) → DidHolder heard here own done → To done.own
+  holder_to _ (Turns_page id row other after block h held fresh at) = page_to id row held.is block
+  holder_to done (Begins_copy id row other cell _ held next step) =
+      copy_step_to _ cell _ done step (begun_to cell)
+  holder_to done (Goes_on_copying cell now copy _ taken step) = copy_step_to now cell copy done step (copy_to cell now copy taken)
+  holder_to _ (Finds_it_full cell copy h is trimmed lt) =
+      Then (without_copying own cell) (effect.Is_full true) (Then own (effect.Ends_copy cell) As_it_was tt)
+      (λ e. inl (record { cell = cell; copy = copy; said = h; copying = is; trimmed = trimmed; left = lt }))
+  holder_to _ (Tidies id row block which is both idle left) = Then own (effect.Unmarks which (cell_at row block)) As_it_was tt
+  holder_to _ _ = As_it_was
+
+  trim_to : (now : Own) (cell : Cell) (last : LastCopy) (holder : ℕ) (done : Done) → TrimStep now cell last holder done → To now
+      → (now.store.chains ≡ own.store.chains) × (now.pairs.pending ≡ own.pairs.pending) → To done.own
+  trim_to now cell last holder _ (Is_trimmed none) so same = so
+  trim_to now cell last holder _ (Drops_entry epoch epochs is) so same = Then now (effect.Drops (key_at cell epoch)) so same
+
+  other_to : (done : Done) → DidOther heard here own done → To done.own
+  other_to done (Is_copied_to number cell epochs holder _ h held newer step) =
+      trim_to _ cell _ holder done step (Then own (effect.Is_copied cell (first_last number epochs)) As_it_was (Is_begun number epochs h)) (refl, refl)
+  other_to done (Goes_on_trimming cell holder last _ held is step) = trim_to own cell last holder done step As_it_was (refl, refl)
+  other_to _ (Puts_entry entry holder last of_copy at room) =
+      let apart = applied own (effect.Holds_slots (own.store.tickets + 1)) in
+      Then (applied apart (effect.Puts entry.key entry.stored)) (effect.Is_copied (cell_of entry.key) (record last { index = last.index + 1 }))
+      (Then apart (effect.Puts entry.key entry.stored) (Then own (effect.Holds_slots (own.store.tickets + 1)) As_it_was tt) (A_copy entry of_copy.said, refl))
+      (Is_further last (last.index + 1) of_copy.last_is)
+  other_to _ _ = As_it_was
+
+  -- ### Moves and sweeps
+
+  filler_to : (done : Done) → DidFiller heard here own done → To done.own
+  filler_to _ (Is_filled key row posts h next fills) =
+      let to : Key = record { map = row.map; block = key.block; epoch = key.epoch } in
+      let filled : IsFilledAs heard here own row to = record { key = key; told = h; next = next; is = refl } in
+      Then (applied own (effect.Fills row to)) (effect.Is_full false) (Then own (effect.Fills row to) As_it_was (filled, refl)) (λ e. true_false e refl)
+  filler_to _ (Is_out_of_slots key row h next) =
+      Then own (effect.Is_full true) As_it_was (λ e. inr (record { key = key; row = row; said = h; next = next }))
+
+  sweep_to : (done : Done) → DidSweep here own done → To done.own
+  sweep_to _ (Sweeps (dead.Key key) seated next off) = Then own (effect.Drops key) As_it_was (refl, refl)
+  sweep_to _ (Sweeps (dead.Mark which cell) seated next off) = Then own (effect.Unmarks which cell) As_it_was tt
+
+  pub effects_of : (done : Done) → Did heard here own done → Becomes heard here own done.own
+  effects_of _ Ignores = As_it_was
+  effects_of _ (Refuses to said is why held) = As_it_was
+  effects_of _ (By_read done d) = subst To (sym (of_read heard here own done d).same) As_it_was
+  effects_of _ (By_lead done d) = lead_to done d
+  effects_of _ (By_second done d) = second_to done d
+  effects_of _ (By_holder done d) = holder_to done d
+  effects_of _ (By_other done d) = other_to done d
+  effects_of _ (By_filler done d) = filler_to done d
+  effects_of _ (By_sweep done d) = sweep_to done d
+
+  -- what each effect keeps, the job keeps
+  module _ (P : Own → Type 0) (each : (now : Own) (e : Effect) → May heard here own now e → P now → P (applied now e)) (begun : P own) where
+    pub all_keep : (now : Own) → Becomes heard here own now → P now
+    all_keep _ As_it_was = begun
+    all_keep _ (Then now e before may) = each now e may (all_keep now before)
+
+    pub job_keeps : (done : Done) → Did heard here own done → P done.own
+    job_keeps done did = all_keep done.own (effects_of done did)

@@ -1,0 +1,136 @@
+-- Of what a job is made: effects, each on one place of a server's own part, with what was so when it was had.
+use Rattle.std.specs.Prelude.{◌≡◌, ◌≤◌, ◌<◌, ◌+◌, ◌⊎◌, ℕ, Bool, true, false, Some, List, length, is_some}
+use Rattle.std.specs.Ordering.{nat_cmp}
+use Rattle.busy_marks.specs.declared.marks.MarkKind.{MarkKind}
+use Rattle.global_tables.specs.declared.link.LinkRow.{LinkRow}
+use Rattle.petal_base.specs.Cells.{cell_of}
+use Rattle.petal_base.specs.declared.cell.Cell.{Cell}
+use Rattle.petal_base.specs.declared.cell.Key.{Key}
+use Rattle.petal_msg.specs.declared.body.Body.{Body}
+use Rattle.petal_msg.specs.declared.body.Body.TheVariants as body
+use Rattle.petal_msg.specs.declared.copying.Copying.{Copying}
+use Rattle.petal_msg.specs.declared.copying.LastCopy.{LastCopy}
+use Rattle.petal_msg.specs.declared.copying.Progress.{Progress}
+use Rattle.petal_msg.specs.declared.operation.Finished.{Finished}
+use Rattle.petal_msg.specs.declared.operation.LastOp.{LastOp}
+use Rattle.petal_msg.specs.declared.operation.Pending.{Pending}
+use Rattle.petal_msg.specs.declared.operation.Stage.{Stage}
+use Rattle.petal_table.specs.Table.{at, put}
+use Rattle.petal_rules.specs.Copies.{Entry}
+use Rattle.petal_rules.specs.Fills.{with_filled}
+use Rattle.petal_rules.specs.Progress.{copying_on, last_copy, with_copying, without_copying, with_full, with_last_copy, with_progress}
+use Rattle.petal_msg.specs.declared.copying.LinkId.{LinkId}
+use Rattle.petal_rules.specs.Server.{Own, Here}
+use Rattle.petal_rules.specs.State.{link_named}
+use Rattle.petal_rules.specs.Store.{Stored, cell_cmp, chain_in, with_mark_on, with_entry, without_entry, without_mark_on}
+use Rattle.petal_rules.specs.Writes.{last_on, pending_on, with_pending, without_pending}
+use Rattle.law_steps.specs.DidFiller.{IsNextKey}
+use Rattle.law_steps.specs.DidOther.{first_last}
+use Rattle.law_steps.specs.Operations.{far_of, progress}
+
+pub data Effect : Type 0 where
+  -- an operation is opened on its cell, or is at another stage
+  Sets : Pending → Effect
+  Closes : Cell → Effect
+  -- a number is given away
+  Counts : Effect
+  Finishes : ℕ → Finished → Effect
+  Follows : Cell → LastOp → Effect
+  -- in a slot that was set apart
+  Puts : Key → Stored → Effect
+  Drops : Key → Effect
+  Marks : MarkKind → Cell → Effect
+  Unmarks : MarkKind → Cell → Effect
+  -- so many slots are set apart
+  Holds_slots : ℕ → Effect
+  Copies : Cell → Copying → Effect
+  Ends_copy : Cell → Effect
+  Is_copied : Cell → LastCopy → Effect
+  Moves_on : LinkRow → Progress → Effect
+  Is_full : Bool → Effect
+  Fills : LinkRow → Key → Effect
+
+abbrev pub applied : Own → Effect → Own
+applied own (Sets op) = with_pending own op
+applied own (Closes cell) = without_pending own cell
+applied own Counts = record own { pairs = record own.pairs { next = own.pairs.next + 1 } }
+applied own (Finishes client last) = record own { pairs = record own.pairs { finished = put nat_cmp own.pairs.finished client last } }
+applied own (Follows cell last) = record own { pairs = record own.pairs { last = put cell_cmp own.pairs.last cell last } }
+applied own (Puts key stored) = record own { store = with_entry own.store key stored }
+applied own (Drops key) = record own { store = without_entry own.store key }
+applied own (Marks kind cell) = record own { store = with_mark_on own.store kind cell }
+applied own (Unmarks kind cell) = record own { store = without_mark_on own.store kind cell }
+applied own (Holds_slots tickets) = record own { store = record own.store { tickets = tickets } }
+applied own (Copies cell copy) = with_copying own cell copy
+applied own (Ends_copy cell) = without_copying own cell
+applied own (Is_copied cell last) = with_last_copy own cell last
+applied own (Moves_on row progress) = with_progress own row progress
+applied own (Is_full full) = with_full own full
+applied own (Fills row key) = with_filled own row key
+
+-- of what comes an entry that is put
+pub data IsPutFor (heard : Body → Type 0) (own : Own) : Key → Stored → Type 0 where
+  An_operation : (op : Pending) (version : ℕ) → pending_on own op.cell ≡ Some op
+      → IsPutFor heard own op.key (record { version = version; bytes = op.bytes })
+  A_lead : (number : ℕ) (key : Key) (told version : ℕ) (bytes : List ℕ) → heard (body.Replicate number key told bytes)
+      → IsPutFor heard own key (record { version = version; bytes = bytes })
+  A_copy : (entry : Entry) → heard (body.Sync entry.op entry.key entry.stored.version entry.index entry.stored.bytes)
+      → IsPutFor heard own entry.key entry.stored
+
+-- how an operation is set: it is new, under the next number, and not put; or it goes on at another stage, put or not as it was; or its entry
+-- has been put
+pub data IsSetFor (own now : Own) : Pending → Type 0 where
+  Is_opened : (op : Pending) → op.op ≡ own.pairs.next → op.stage.put ≡ false → IsSetFor own now op
+  Goes_on : (op : Pending) (stage : Stage) → pending_on now op.cell ≡ Some op → stage.put ≡ op.stage.put → IsSetFor own now (record op { stage = stage })
+  Has_put : (op : Pending) (version : ℕ) (stage : Stage) → pending_on own op.cell ≡ Some op
+      → is_some (at nat_cmp (chain_in now.store.chains (cell_of op.key)) op.key.epoch) ≡ true
+      → IsSetFor own now (record op { version = version; stage = stage })
+
+-- how the last copy of a cell to this server is noted: the holder has begun it, or an entry of it has come
+pub data IsCopiedFor (heard : Body → Type 0) (own : Own) (cell : Cell) : LastCopy → Type 0 where
+  Is_begun : (number : ℕ) (epochs : List ℕ) → heard (body.Trim number cell epochs) → IsCopiedFor heard own cell (first_last number epochs)
+  Is_further : (last : LastCopy) (index : ℕ) → last_copy own cell ≡ Some last → IsCopiedFor heard own cell (record last { index = index })
+
+-- the copy that is under way on a cell is told to have found no slot for its next entry
+pub record HearsFull (heard : Body → Type 0) (own : Own) : Type 0 where
+  pub cell : Cell
+  pub copy : Copying
+  pub said : heard (body.SyncFull copy.op cell)
+  pub copying : copying_on own cell ≡ Some copy
+  pub trimmed : copy.trimmed ≡ true
+  pub left : copy.index < length (chain_in own.store.chains cell)
+
+-- or the next entry of a link that the server is to move
+pub record HearsFillFull (heard : Body → Type 0) (here : Here) (own : Own) : Type 0 where
+  pub key : Key
+  pub row : LinkRow
+  pub said : heard (body.FillFull key)
+  pub next : IsNextKey here own key row
+
+abbrev pub HearsNone : (heard : Body → Type 0) → Here → Own → Type 0
+HearsNone heard here own = HearsFull heard own ⊎ HearsFillFull heard here own
+
+-- a letter told that the next entry of a link has moved, and where it is at the old map
+pub record IsFilledAs (heard : Body → Type 0) (here : Here) (own : Own) (row : LinkRow) (old : Key) : Type 0 where
+  pub key : Key
+  pub told : heard (body.Filled key)
+  pub next : IsNextKey here own key row
+  pub is : old ≡ record { map = row.map; block = key.block; epoch = key.epoch }
+
+-- what was so when a server did it that handled only such letters as `heard` knows: by its own part as the job began, `own`, and as it is
+-- by now. A job puts one entry at most
+abbrev pub May : (heard : Body → Type 0) (here : Here) (own now : Own) → Effect → Type 0
+May heard here own now (Sets op) = IsSetFor own now op
+May heard here own now (Puts key stored) = IsPutFor heard own key stored × (now.store.chains ≡ own.store.chains)
+May heard here own now (Drops key) = (now.store.chains ≡ own.store.chains) × (now.pairs.pending ≡ own.pairs.pending)
+May heard here own now (Follows cell last) = progress (last_on now cell) ≤ far_of last.op last.far
+May heard here own now (Is_copied cell last) = IsCopiedFor heard own cell last
+May heard here own now (Is_full full) = full ≡ true → HearsNone heard here own
+May heard here own now (Moves_on row moved) = (id : LinkId) × (link_named here.state id ≡ Some row)
+May heard here own now (Fills row key) = IsFilledAs heard here own row key × (now.filled ≡ own.filled)
+May heard here own now _ = Unit {0}
+
+-- what a server's own part may become by effects, one after the other
+pub data Becomes (heard : Body → Type 0) (here : Here) (own : Own) : Own → Type 0 where
+  As_it_was : Becomes heard here own own
+  Then : (now : Own) (effect : Effect) → Becomes heard here own now → May heard here own now effect → Becomes heard here own (applied now effect)
