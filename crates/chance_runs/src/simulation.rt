@@ -6,8 +6,8 @@ use crate::struck::{arm_any, arm_running, arm_stopped, disarm};
 use chance_scripts::Chance;
 use petal_base::{NoMemory, OPERATOR, ServerId};
 use petal_disk::{Plan, Which};
-use petal_msg::{Actor, SharedLetter};
-use petal_world::Host;
+use petal_msg::{Actor, Letter, SharedLetter};
+use petal_world::{Host, Record, Step};
 use script_lines::Script;
 use std::alloc::Global;
 use std::test::Fail;
@@ -17,9 +17,6 @@ const STEPS: usize = 2_000;
 
 /// The steps of a long run.
 const LONG: usize = 8_000;
-
-/// The steps of a run that has them all.
-const MIXED: usize = 4_000;
 
 /// A run with so many choices is taken to hang.
 const CHOICES: usize = 80_000;
@@ -46,8 +43,8 @@ pub enum Habit {
     Brisk,
     /// The same, over 8,000 steps.
     Long,
-    /// As `Brisk`, over 4,000 steps; letters are lost too, the operator is busy, devices of the servers that it orders about get and lose
-    /// plans at any time, and a server boots with the plans that they have or without.
+    /// As `Long`; letters are lost too, the operator is busy, devices of the servers that it orders about get and lose plans at any time,
+    /// and a server boots with the plans that they have or without.
     Mixed,
 }
 
@@ -62,8 +59,7 @@ impl Habit {
     // How many steps a run takes.
     fn steps(self) -> usize {
         match self {
-            Habit::Long => LONG,
-            Habit::Mixed => MIXED,
+            Habit::Long | Habit::Mixed => LONG,
             Habit::Even | Habit::CutOff | Habit::Struck | Habit::Brisk => STEPS,
         }
     }
@@ -75,6 +71,29 @@ fn is_ordered(script: &Script, server: ServerId) -> bool {
         Some((_order, of)) => of == server,
         None => false,
     })
+}
+
+/// Whether a letter of the same step was handed over to the same actor.
+fn has_come(records: &[Record], sent: &Letter) -> bool {
+    records.iter().any(|record| match &record.step {
+        Step::Deliver { letter } => {
+            let come = letter.get();
+            come.from == sent.from && come.to == sent.to && come.stamp == sent.stamp
+        }
+        _ => false,
+    })
+}
+
+/// How many letters were sent up to the last one that was handed over. After rounds those that follow are on their way.
+fn handed_over<H: Host>(run: &Run<H>) -> usize {
+    for at in (0..run.sent.len()).rev() {
+        if let Some(letter) = run.sent.get(at) {
+            if has_come(run.records(), letter.get()) {
+                return at.saturating_add(1);
+            }
+        }
+    }
+    0
 }
 
 /// What chooses the steps of a run: what it favours, the letters that were never handed over, how many letters were looked at for
@@ -155,9 +174,11 @@ impl Choice {
         }
     }
 
-    // Whether the letter that would be handed over is lost.
-    fn is_lost(&mut self) -> bool {
-        self.habit == Habit::Mixed && self.chance.below(16) == 0
+    // Whether the letter that would be handed over is lost. None to the operator is: a server is glanced at once for a line.
+    fn is_lost(&mut self, letter: &Letter) -> bool {
+        self.habit == Habit::Mixed
+            && letter.to != Actor::Client(OPERATOR)
+            && self.chance.below(16) == 0
     }
 
     fn hand_over<H: Host>(&mut self, alloc: Global, run: &mut Run<H>) -> Result<bool, NoMemory> {
@@ -166,10 +187,13 @@ impl Choice {
         } else {
             self.fresh_letter()
         };
-        match letter {
-            Some(letter) if !self.is_lost() => run.deliver(alloc, letter),
-            _ => Ok(false),
+        let Some(letter) = letter else {
+            return Ok(false);
+        };
+        if self.is_lost(letter.get()) {
+            return Ok(false);
         }
+        run.deliver(alloc, letter)
     }
 
     fn deliver<H: Host>(&mut self, alloc: Global, run: &mut Run<H>) -> Result<bool, NoMemory> {
@@ -336,7 +360,8 @@ fn simulate_by<H: Host>(
     if choice.habit.is_brisk() && !begin(alloc, run)? {
         return Err(Fail::new(format_args!("seed {seed}: the first phase doesn't end")));
     }
-    choice.seen = run.sent.len();
+    choice.seen = handed_over(run);
+    choice.note_sent(run)?;
     if !choice.go_on(alloc, run)? {
         return Err(Fail::new(format_args!("seed {seed} takes too few steps")));
     }

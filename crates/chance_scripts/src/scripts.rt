@@ -279,7 +279,7 @@ fn add_orders(
     for at in 1..=orders {
         let server = if chance.below(2) == 0 { first } else { second };
         text.push_str(any_order(alloc, chance, server)?.as_str())?;
-        if at % 8 == 0 {
+        if at % 16 == 0 {
             text.push_str("op settle\n")?;
         }
     }
