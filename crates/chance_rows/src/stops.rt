@@ -32,7 +32,7 @@ fn worlds_whose_servers_are_blanked(rt: HostRuntime) -> Result<(), Fail> {
 #[test]
 fn worlds_that_move_a_disk_while_servers_stop(rt: HostRuntime) -> Result<(), Fail> {
     let all = simulate_all(rt.alloc(), Tale::MovesAndStarts, Habit::Long)?;
-    let moves = all.moves >= 15 && all.fills >= 25 && all.by_old_map >= 10;
-    assert!(rt; all.answered >= 400 && moves && all.boots >= 8, "{all:?}");
+    let moves = all.moves >= 15 && all.fills >= 80 && all.by_old_map >= 40;
+    assert!(rt; all.answered >= 1000 && moves && all.boots >= 50, "{all:?}");
     Ok(())
 }
