@@ -2,7 +2,7 @@
 
 use chance_runs::{Count, Habit, simulate_struck};
 use chance_scripts::{Chance, Tale, script_by};
-use memory_runs::{SEEDS, simulate_all, start};
+use memory_runs::{Memory, SEEDS, simulate_all, start};
 use petal_base::ServerId;
 use petal_disk::{CallKind, Plan, Which};
 use std::alloc::Global;
@@ -35,7 +35,7 @@ fn simulate_failing(alloc: Global, seed: u32, stop: bool, late: bool) -> Result<
     let device = device_by(&mut chance);
     let plan = plan_by(&mut chance, stop, late);
     let run = start(alloc, text.as_str())?;
-    simulate_struck(alloc, seed, chance, run, device, plan)
+    simulate_struck(alloc, &Memory, seed, chance, run, device, plan)
 }
 
 fn simulate_all_failing(alloc: Global, stop: bool, late: bool) -> Result<Count, Fail> {

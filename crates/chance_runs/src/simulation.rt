@@ -12,6 +12,7 @@ use script_lines::Script;
 use std::alloc::Global;
 use std::test::Fail;
 use world_runs::{Order, Run, begin, order_of};
+use world_told::{Looks, Stores};
 
 const STEPS: usize = 2_000;
 
@@ -351,8 +352,9 @@ impl Choice {
 }
 
 // Takes the steps of a run that begins. Gives what was counted, or which seed takes too few steps, or which step the plain machine refuses.
-fn simulate_by<H: Host>(
+fn simulate_by<H: Host, S: Stores>(
     alloc: Global,
+    stores: &S,
     seed: u32,
     choice: &mut Choice,
     run: &mut Run<H>,
@@ -365,7 +367,7 @@ fn simulate_by<H: Host>(
     if !choice.go_on(alloc, run)? {
         return Err(Fail::new(format_args!("seed {seed} takes too few steps")));
     }
-    match run.first_refused(alloc)? {
+    match run.first_refused(alloc, stores, Looks::AtStops)? {
         None => Ok(Count {
             cut_jobs: choice.cut_jobs,
             cut_boots: choice.cut_boots,
@@ -381,8 +383,9 @@ fn simulate_by<H: Host>(
 ///
 /// # Errors
 /// Which seed takes too few steps, or which step the plain machine refuses.
-pub fn simulate<H: Host>(
+pub fn simulate<H: Host, S: Stores>(
     alloc: Global,
+    stores: &S,
     seed: u32,
     habit: Habit,
     chance: Chance,
@@ -397,15 +400,16 @@ pub fn simulate<H: Host>(
         cut_jobs: 0,
         cut_boots: 0,
     };
-    simulate_by(alloc, seed, &mut choice, &mut run)
+    simulate_by(alloc, stores, seed, &mut choice, &mut run)
 }
 
 /// As `simulate` by an even habit, where the server's device has this plan from the start.
 ///
 /// # Errors
 /// As of `simulate`.
-pub fn simulate_struck<H: Host>(
+pub fn simulate_struck<H: Host, S: Stores>(
     alloc: Global,
+    stores: &S,
     seed: u32,
     chance: Chance,
     run: Run<H>,
@@ -415,5 +419,5 @@ pub fn simulate_struck<H: Host>(
     let mut run = run;
     let (server, which) = device;
     run.arm(alloc, server, which, Some(plan))?;
-    simulate(alloc, seed, Habit::Even, chance, run)
+    simulate(alloc, stores, seed, Habit::Even, chance, run)
 }

@@ -58,11 +58,6 @@ impl Link {
         }
     }
 
-    // Whether it is a link of one of these maps, and has the block.
-    fn is_of(&self, maps: &[usize], disk: usize, block: BlockNo) -> bool {
-        maps.get(self.map) == Some(&disk) && self.count != 0 && block % self.count == self.place
-    }
-
     fn other_of(&self, server: ServerId) -> ServerId {
         if self.primary == server {
             self.secondary
@@ -218,21 +213,29 @@ impl Disks {
         }
     }
 
-    /// Whether the server's copy of the disk's block counts, under one of the disk's maps.
-    pub fn counts(&self, server: ServerId, name: &Name, block: BlockNo) -> bool {
-        match self.place(name) {
-            Some(disk) => self.links.iter().any(|link| link.counts(server)
-                && link.is_of(&self.maps, disk, block)),
-            None => false,
+    /// The cell by which the disk's block is written.
+    pub fn home(&self, name: &Name, block: BlockNo) -> Option<Cell> {
+        let disk = self.place(name)?;
+        let map = match self.moves.old_map(disk, block) {
+            Some(map) => map,
+            None => self.map_of(disk),
+        };
+        match MapId::try_from(map) {
+            Ok(map) => Some(Cell { map, block }),
+            Err(_) => None,
         }
     }
 
-    /// Whether the link is one of the disk's, and has the block.
-    pub fn is_on(&self, link: &Link, name: &Name, block: BlockNo) -> bool {
-        match self.place(name) {
-            Some(disk) => link.is_of(&self.maps, disk, block),
-            None => false,
-        }
+    /// Whether the server's copy of the cell counts.
+    pub fn counts(&self, server: ServerId, cell: Cell) -> bool {
+        self.links
+            .iter()
+            .any(|link| link.has(cell) && link.counts(server))
+    }
+
+    /// How many records there were when the server last joined with nothing.
+    pub fn emptied(&self, server: ServerId) -> usize {
+        self.members.emptied(server)
     }
 
     // Who serves a new link.
@@ -320,10 +323,11 @@ impl Disks {
     }
 
     // The links that a server alone held which came back with nothing are lost.
-    fn join(&mut self, server: ServerId, inc: Inc, blank: bool) {
+    fn join(&mut self, server: ServerId, inc: Inc, blank: bool, records: usize) {
         if !self.members.join(server, inc) || !blank {
             return;
         }
+        self.members.empty(server, records);
         for link in self.links.iter_mut() {
             link.blank(server);
         }
@@ -397,7 +401,7 @@ impl Disks {
         match command {
             Command::Leave { server, inc } => self.leave(server.get(), *inc, done),
             Command::Join { server, inc, blank } => {
-                self.join(server.get(), *inc, *blank);
+                self.join(server.get(), *inc, *blank, records);
                 Ok(())
             }
             Command::Caught {

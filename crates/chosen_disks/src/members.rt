@@ -3,11 +3,12 @@
 use petal_base::{Inc, NoMemory, ServerId};
 use std::alloc::Global;
 
-/// A server's last incarnation that has joined, and whether it is in.
+/// A server's last incarnation that has joined, and whether it is in; and how many records there were when it last joined with nothing.
 #[derive(Clone, Copy)]
 struct Member {
     inc: Inc,
     is_in: bool,
+    emptied: usize,
 }
 
 /// All servers, by number.
@@ -24,6 +25,7 @@ impl Members {
             members.push(Member {
                 inc: 1,
                 is_in: true,
+                emptied: 0,
             })?;
         }
         Ok(Members { members })
@@ -60,7 +62,7 @@ impl Members {
     pub fn leave(&mut self, server: ServerId, inc: Inc) -> bool {
         let acts = self.is_in_as(server, inc);
         if acts {
-            self.set(server, Member { inc, is_in: false });
+            self.set(server, inc, false);
         }
         acts
     }
@@ -72,14 +74,30 @@ impl Members {
             None => false,
         };
         if acts {
-            self.set(server, Member { inc, is_in: true });
+            self.set(server, inc, true);
         }
         acts
     }
 
-    fn set(&mut self, server: ServerId, member: Member) {
+    fn set(&mut self, server: ServerId, inc: Inc, is_in: bool) {
         if let Some(own) = self.members.get_mut(server as usize) {
-            *own = member;
+            own.inc = inc;
+            own.is_in = is_in;
+        }
+    }
+
+    /// The server has joined with nothing, in the record of this number.
+    pub fn empty(&mut self, server: ServerId, records: usize) {
+        if let Some(own) = self.members.get_mut(server as usize) {
+            own.emptied = records;
+        }
+    }
+
+    /// How many records there were when the server last joined with nothing.
+    pub fn emptied(&self, server: ServerId) -> usize {
+        match self.members.get(server as usize) {
+            Some(member) => member.emptied,
+            None => 0,
         }
     }
 }

@@ -1,10 +1,13 @@
 //! The moves of disks from one map to another, region by region.
 
-use petal_base::NoMemory;
+use petal_base::{BlockNo, NoMemory};
 use std::alloc::Global;
 
 /// A disk has so many regions.
 const REGIONS: u8 = 16;
+
+/// Blocks follow one another within a region in runs of this length.
+const RUN: BlockNo = 8;
 
 /// A disk's move: the map that it leaves; the region whose turn it is, and whether that is between the two maps; and the links of the
 /// old map that have moved all that they had of it.
@@ -35,7 +38,16 @@ pub enum Noted {
     Over,
 }
 
+fn region_of(block: BlockNo) -> u8 {
+    ((block / RUN) % BlockNo::from(REGIONS)) as u8
+}
+
 impl Move {
+    // Whether the region is yet to leave the old map.
+    fn is_before(&self, region: u8) -> bool {
+        self.region < region || (self.region == region && !self.on_way)
+    }
+
     // The link is noted, once. Gives whether all of so many links are.
     fn note(&mut self, link: u8, links: usize) -> Result<bool, NoMemory> {
         if !self.noted.contains(&link) {
@@ -69,6 +81,16 @@ impl Moves {
     /// Whether the disk moves.
     pub fn has(&self, disk: usize) -> bool {
         self.moves.iter().any(|own| own.disk == disk)
+    }
+
+    /// The map that the disk leaves, where it moves and the block is written there yet.
+    pub fn old_map(&self, disk: usize, block: BlockNo) -> Option<usize> {
+        let region = region_of(block);
+        let own = self
+            .moves
+            .iter()
+            .find(|own| own.disk == disk && own.is_before(region))?;
+        Some(own.old_map)
     }
 
     /// The disk begins to leave this map.

@@ -3,6 +3,8 @@
 //! To the layer above it promises no more than safety. It knows nothing of the order of steps.
 #![tactic(auto)]
 
+mod parts;
+
 ghost use Rattle.std.specs.Prelude.{◌≡◌, All, map};
 ghost use Rattle.first_servers.specs.Server.{site_of};
 ghost use Rattle.memory_server.specs.Armed.{armed_of};
@@ -12,15 +14,18 @@ ghost use Rattle.petal_world.specs.Desks.{first_sites};
 use chance_runs::{Count, Habit, simulate};
 use chance_scripts::{Chance, Tale, script_by};
 use first_servers::{MemServer, members};
-use petal_base::{NoMemory, Sequence, ServerId};
+pub use parts::{Parts, play_parts};
+use petal_base::{Cell, NoMemory, Sequence, ServerId, SharedBlock};
 use petal_script::{Script, read_script};
-use petal_world::{World, are_in_order};
+use petal_world::{Record, World, are_in_order};
 use row_runs::{FirstHosts, Row, Run, play_row};
+use server_copy::{Copy, held};
 use std::alloc::Global;
 use std::test::Fail;
+use world_told::Stores;
 
 /// Servers with disks in memory.
-struct Memory;
+pub struct Memory;
 
 impl FirstHosts<MemServer> for Memory {
     fn first(
@@ -30,6 +35,21 @@ impl FirstHosts<MemServer> for Memory {
         server: ServerId,
     ) -> Result<MemServer, NoMemory> {
         MemServer::start(alloc, server, script.servers, script.slots)
+    }
+}
+
+impl Stores for Memory {
+    fn held(
+        &self,
+        alloc: Global,
+        script: &Script,
+        server: ServerId,
+        records: &[Record],
+        cell: Cell,
+    ) -> Result<Option<SharedBlock>, NoMemory> {
+        let host = self.first(alloc, script, server)?;
+        let mut copy = Copy::new(alloc, host, server, script.servers, records)?;
+        held(alloc, &mut copy, cell)
     }
 }
 
@@ -85,7 +105,7 @@ fn simulate_seed(alloc: Global, tale: Tale, habit: Habit, seed: u32) -> Result<C
     let mut chance = Chance::new(seed);
     let text = script_by(alloc, &mut chance, tale)?;
     let run = start(alloc, text.as_str())?;
-    simulate(alloc, seed, habit, chance, run)
+    simulate(alloc, &Memory, seed, habit, chance, run)
 }
 
 /// Steps by chance, from each seed, a world whose script tells such a tale. Gives what was counted in all of them.

@@ -1,6 +1,5 @@
 //! Rows by how servers return, and by what plans leave behind.
 
 mod catch_ups;
-mod parts;
 mod plans;
 mod returns;

@@ -63,6 +63,8 @@ pub enum Act<'a> {
     Wait,
     /// The world keeps to the operator's lines from now on.
     ByLines,
+    /// From now on each write is told to take effect in the step of its put.
+    ByPuts,
     PlayOut,
     /// So many steps are taken, one after the other.
     GoOn(u32),
@@ -258,6 +260,7 @@ fn two_words<'a>(verb: &'a str, word: &'a str) -> Result<Act<'a>, usize> {
     match verb {
         "play" if word == "out" => Ok(Act::PlayOut),
         "by" if word == "lines" => Ok(Act::ByLines),
+        "by" if word == "puts" => Ok(Act::ByPuts),
         "made" => Ok(Act::Made(number(word, 2)?)),
         "failed" => Ok(Act::Failed(number(word, 2)?)),
         "stopped" => Ok(Act::Stopped(number(word, 2)?)),

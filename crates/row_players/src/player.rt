@@ -8,13 +8,14 @@ use row_letters::{changed, owners_of, renamed};
 use row_wants::{FirstHosts, Run, is_held, is_so, play};
 use row_words::Mail;
 use std::alloc::Global;
-use world_told::{made, tells};
+use world_told::{Looks, Stores, made, tells};
 
 /// A run, and for each letter that was sent whether it is gone: handed over or lost.
 #[derive(Drop)]
 pub struct Player<H: Host> {
     run: Run<H>,
     gone: Vec<bool>,
+    looks: Looks,
     // How many ticks were passed on one after the other.
     turns: u32,
 }
@@ -34,6 +35,7 @@ impl<H: Host> Player<H> {
         Player {
             run,
             gone: Vec::new(alloc),
+            looks: Looks::AtStops,
             turns: 0,
         }
     }
@@ -259,8 +261,8 @@ impl<H: Host> Player<H> {
         Ok(true)
     }
 
-    fn made(&self, alloc: Global) -> Result<usize, NoMemory> {
-        let told = self.run.events(alloc)?;
+    fn made<S: Stores>(&self, alloc: Global, stores: &S) -> Result<usize, NoMemory> {
+        let told = self.run.events(alloc, stores, self.looks)?;
         Ok(made(&told))
     }
 
@@ -284,8 +286,13 @@ impl<H: Host> Player<H> {
         owners
     }
 
-    fn tells(&self, alloc: Global, words: &[&str]) -> Result<bool, NoMemory> {
-        let told = self.run.events(alloc)?;
+    fn tells<S: Stores>(
+        &self,
+        alloc: Global,
+        stores: &S,
+        words: &[&str],
+    ) -> Result<bool, NoMemory> {
+        let told = self.run.events(alloc, stores, self.looks)?;
         Ok(tells(&told, words))
     }
 
@@ -294,8 +301,13 @@ impl<H: Host> Player<H> {
         true
     }
 
+    fn tell_by_puts(&mut self) -> bool {
+        self.looks = Looks::AfterJobs;
+        true
+    }
+
     /// Takes a step, or looks whether what is expected is so. Gives whether it was taken, or is so.
-    pub fn take<C: FirstHosts<H>>(
+    pub fn take<C: FirstHosts<H> + Stores>(
         &mut self,
         alloc: Global,
         hosts: &C,
@@ -318,23 +330,28 @@ impl<H: Host> Player<H> {
             Act::Changed(mail) => self.hand_changed(alloc, mail),
             Act::Wait => self.run.go_on(),
             Act::ByLines => Ok(self.keep_to_lines()),
+            Act::ByPuts => Ok(self.tell_by_puts()),
             Act::PlayOut => play(alloc, &mut self.run),
             Act::GoOn(steps) => self.go_on(alloc, *steps),
             Act::Agree(without) => self.agree(alloc, *without),
-            Act::Made(count) => Ok(self.made(alloc)? == *count as usize),
+            Act::Made(count) => Ok(self.made(alloc, hosts)? == *count as usize),
             Act::Failed(count) => Ok(self.run.failed() == *count as usize),
             Act::Stopped(count) => Ok(self.run.stopped() == *count as usize),
             Act::Committed(count) => Ok(self.run.committed() == *count as usize),
             Act::Line(line, want) => Ok(is_so(&self.run, *line, want)),
             Act::Sent(count, mail) => Ok(self.count(mail) >= *count as usize),
             Act::Owners(count, mail) => Ok(self.owners(mail) >= *count as usize),
-            Act::Told(words) => self.tells(alloc, words),
+            Act::Told(words) => self.tells(alloc, hosts, words),
             Act::Holds(server, held) => is_held(alloc, hosts, &self.run, *server, held),
         }
     }
 
     /// The first record whose events the plain machine refuses.
-    pub fn first_refused(&self, alloc: Global) -> Result<Option<usize>, NoMemory> {
-        self.run.first_refused(alloc)
+    pub fn first_refused<S: Stores>(
+        &self,
+        alloc: Global,
+        stores: &S,
+    ) -> Result<Option<usize>, NoMemory> {
+        self.run.first_refused(alloc, stores, self.looks)
     }
 }

@@ -17,6 +17,7 @@
 //! | `1 arms data sync 3 late`, `1 arms state sync 1 late stop` | the same, but a write or a sync fails only after it has done all of its work |
 //! | `1 disarms data` | the device has no plan from now on |
 //! | `by lines` | from now on the world refuses each stop, blank, arming, boot and glance that the operator's open line does not give next; before it, devices are armed and disarmed at any time, and a server boots with the plans that they have |
+//! | `by puts` | of a write that a server puts on a link which it serves alone, it is told from now on that it takes effect in the step of its put; before it, with the letter that ends the write or as the server stops |
 //! | `1 boots` | the stopped server boots: the operator's open line is its start, or has blanked it |
 //! | `1 shows 4` | the server is glanced at, for the operator's open line 4, which has given it each of its steps |
 //! | `1 shows 4 in 2` | the server is glanced at in the second round of the operator's open line 4, which is a settle |
@@ -62,6 +63,7 @@ use row_players::Player;
 use row_wants::{FirstHosts, Run};
 use std::alloc::Global;
 use std::test::Fail;
+use world_told::Stores;
 
 /// What a run shows, its script, and its steps, in the form of this module.
 #[derive(Clone, Copy)]
@@ -99,7 +101,7 @@ fn step_of<'a>(words: &'a [&'a str]) -> Result<(bool, Act<'a>), usize> {
     }
 }
 
-fn fault_of<H: Host, C: FirstHosts<H>>(
+fn fault_of<H: Host, C: FirstHosts<H> + Stores>(
     alloc: Global,
     hosts: &C,
     player: &mut Player<H>,
@@ -137,7 +139,7 @@ fn fail(row: &Row, at: usize, words: &[&str], fault: Fault) -> Fail {
     }
 }
 
-fn walk<H: Host, C: FirstHosts<H>>(
+fn walk<H: Host, C: FirstHosts<H> + Stores>(
     alloc: Global,
     hosts: &C,
     row: &Row,
@@ -151,7 +153,7 @@ fn walk<H: Host, C: FirstHosts<H>>(
             return Err(fail(row, at, &words, fault));
         }
     }
-    match player.first_refused(alloc)? {
+    match player.first_refused(alloc, hosts)? {
         None => Ok(()),
         Some(record) => Err(Fail::new(format_args!(
             "{}: the plain machine refuses record {record}",
@@ -164,7 +166,7 @@ fn walk<H: Host, C: FirstHosts<H>>(
 ///
 /// # Errors
 /// What is wrong: the row, its step, and where a word is none of the form that word; or what the plain machine refuses.
-pub fn play_row<H: Host, C: FirstHosts<H>>(
+pub fn play_row<H: Host, C: FirstHosts<H> + Stores>(
     alloc: Global,
     hosts: &C,
     row: &Row,

@@ -29,14 +29,13 @@ fn bytes_in(said: &[Body]) -> Option<&SharedBlock> {
     None
 }
 
-/// Whether the server's entry of the greatest epoch gives the cell this byte throughout; no entry is zeros. Of a copy that has not been
-/// told of a log yet.
-pub fn holds<H: Host>(
+/// What the server's entry of the greatest epoch gives the cell; no entry is zeros. None where it does not say. Of a copy that has not
+/// been told of a log yet.
+pub fn held<H: Host>(
     alloc: Global,
     copy: &mut Copy<H>,
     cell: Cell,
-    fill: u8,
-) -> Result<bool, NoMemory> {
+) -> Result<Option<SharedBlock>, NoMemory> {
     copy.told(alloc, cell.map, Serving::Own)?;
     let read = Body::Read {
         client: 0,
@@ -46,6 +45,19 @@ pub fn holds<H: Host>(
     };
     let said = copy.hear(alloc, Actor::Client(0), 0, read)?;
     match bytes_in(&said) {
+        Some(bytes) => Ok(Some(bytes.share()?)),
+        None => Ok(None),
+    }
+}
+
+/// Whether that is this byte throughout.
+pub fn holds<H: Host>(
+    alloc: Global,
+    copy: &mut Copy<H>,
+    cell: Cell,
+    fill: u8,
+) -> Result<bool, NoMemory> {
+    match held(alloc, copy, cell)? {
         Some(bytes) => Ok(bytes.bytes().iter().all(|byte| *byte == fill)),
         None => Ok(false),
     }

@@ -10,5 +10,5 @@ mod asked;
 mod copy;
 mod log;
 
-pub use asked::{holds, is_marked_so, stores};
+pub use asked::{held, holds, is_marked_so, stores};
 pub use copy::Copy;

@@ -8,7 +8,7 @@ use petal_msg::{Actor, SharedLetter};
 use petal_world::{CommitEnd, Host, Record, Step, WorkEnd, World, WorldError};
 use script_lines::{Answer, Script};
 use std::alloc::Global;
-use world_told::{Told, told_of};
+use world_told::{Looks, Stores, Told, told_of};
 
 /// No line gives a server more steps than these, before its glance.
 const MOST_STEPS: u32 = 5;
@@ -323,14 +323,30 @@ impl<H: Host> Run<H> {
         answer_in(self.world.records(), line)
     }
 
-    /// What the plain machine is told so far.
-    pub fn events(&self, alloc: Global) -> Result<Vec<Told>, NoMemory> {
-        told_of(alloc, self.world.script(), self.world.records())
+    /// What the plain machine is told so far, where the servers can be looked into.
+    pub fn events<S: Stores>(
+        &self,
+        alloc: Global,
+        stores: &S,
+        looks: Looks,
+    ) -> Result<Vec<Told>, NoMemory> {
+        told_of(
+            alloc,
+            stores,
+            looks,
+            self.world.script(),
+            self.world.records(),
+        )
     }
 
     /// The first record whose events the plain machine refuses, counted from 1.
-    pub fn first_refused(&self, alloc: Global) -> Result<Option<usize>, NoMemory> {
-        let told = self.events(alloc)?;
+    pub fn first_refused<S: Stores>(
+        &self,
+        alloc: Global,
+        stores: &S,
+        looks: Looks,
+    ) -> Result<Option<usize>, NoMemory> {
+        let told = self.events(alloc, stores, looks)?;
         let mut machine = Machine::new(alloc)?;
         first_refused_by(alloc, &mut machine, told)
     }

@@ -1,24 +1,24 @@
 //! What the plain machine is told of a history.
 //!
-//! This says again, from the records alone, what the definition of a history's events says over the worlds of the rules. A put
-//! is not told by itself: that of a second server by the letter that tells its lead, in the same step; that of a lead that is
-//! ahead when its second server is taken out by its copy on its way; and that of a server that writes alone, later than the
-//! definition has it, by the letter that ends the write. Until then nobody reads the block. A put of which no letter tells is told
-//! by a read that shows it.
+//! This says again, from the records, what the definition of a history's events says over the worlds of the rules: a write takes
+//! effect in the step after which its bytes stand in the copy that counts, and did not before. Where a second server puts its copy, that
+//! is told by the letter to its lead, which is sent in the same step; where it is taken out, by the letters in which its lead, which is
+//! ahead, had asked it to put. A put of which no letter of its step tells is found by a look into the server that has made it.
 
+use crate::stores::{Looks, Stores, counted};
 use chosen_disks::{Choices, Disks, Done, Link};
 use letter_traces::{
     Operation, accepted, ahead_on, entry_of, is_brought_in, is_by_old_map, is_replicated_in,
     old_data, replicated_by, since_boot,
 };
-use petal_base::{ClientId, Key, NoMemory, OPERATOR, Seq, SharedBlock};
+use petal_base::{ClientId, Key, NoMemory, OPERATOR, Seq, ServerId, SharedBlock};
 use petal_history::Record;
 use petal_machine::{Event, Write, WriteEnd};
 use petal_msg::{Actor, Body, Letter};
 use petal_rules::Step;
 use script_lines::{Answer, Request, Script};
 use std::alloc::Global;
-use told_writes::{Lates, Told, Writers, committed_by, is_asked, settled};
+use told_writes::{Contents, Told, Writers, again, is_asked, stopped_in, worked_in};
 
 /// A record, its number, the records before and after it, and all of them.
 #[derive(Drop)]
@@ -30,15 +30,17 @@ struct Here<'a> {
     all: &'a [Record],
 }
 
-/// What is told so far of a script's history, and the clients as they are so far.
+/// What is told so far of a script's history, and the clients and the blocks as they are so far.
 #[derive(Drop)]
-struct Telling<'a> {
+struct Telling<'a, S> {
     alloc: Global,
+    stores: &'a S,
+    looks: Looks,
     script: &'a Script,
     writers: Writers,
     choices: Choices,
     disks: Disks,
-    lates: Lates,
+    contents: Contents,
     told: Vec<Told>,
 }
 
@@ -57,6 +59,14 @@ fn from(records: &[Record], at: usize) -> &[Record] {
     match records.get(at..) {
         Some(later) => later,
         None => &[],
+    }
+}
+
+/// The first so many records.
+fn upto(records: &[Record], count: usize) -> &[Record] {
+    match records.get(..count) {
+        Some(first) => first,
+        None => records,
     }
 }
 
@@ -149,7 +159,7 @@ fn look_by(request: &Request, bytes: &SharedBlock) -> Result<Option<Event>, NoMe
     }))
 }
 
-impl<'a> Telling<'a> {
+impl<'a, S: Stores> Telling<'a, S> {
     fn tell(&mut self, step: usize, event: Option<Event>) -> Result<(), NoMemory> {
         self.told.push(Told { step, event })?;
         Ok(())
@@ -214,23 +224,32 @@ impl<'a> Telling<'a> {
         }
     }
 
+    // The write takes effect, where its bytes do not stand in its block.
+    fn take(&mut self, step: usize, write: Write) -> Result<(), NoMemory> {
+        if self.contents.has(&write) {
+            return Ok(());
+        }
+        self.contents.put(&write)?;
+        self.tell(step, Some(Event::Take(write)))
+    }
+
     // The operation's entry counts from now on. What comes from the map that its disk leaves changes no content.
-    fn take(&mut self, here: &Here, operation: Operation) -> Result<(), NoMemory> {
+    fn take_entry(&mut self, here: &Here, operation: Operation) -> Result<(), NoMemory> {
         let Some((key, bytes)) = entry_of(self.beside(here, operation), operation) else {
             return self.tell(here.step, None);
         };
-        let write = self.write_of(key, bytes)?;
-        if write.is_none() && is_brought_in(here.before, operation, (key, bytes)) {
-            return Ok(());
+        match self.write_of(key, bytes)? {
+            Some(write) => self.take(here.step, write),
+            None if is_brought_in(here.before, operation, (key, bytes)) => Ok(()),
+            None => self.tell(here.step, None),
         }
-        self.tell(here.step, write.map(Event::Take))
     }
 
     // A second server says for the first time that it has put its copy.
     fn takes_second(&mut self, here: &Here, letter: &Letter) -> Result<(), NoMemory> {
         match replicated_by(letter) {
             Some(operation) if !is_replicated_in(self.beside(here, operation), operation) => {
-                self.take(here, operation)
+                self.take_entry(here, operation)
             }
             _ => Ok(()),
         }
@@ -238,58 +257,94 @@ impl<'a> Telling<'a> {
 
     // A server that has put a write says for the first time in its life that it is written: its bytes stand in their block.
     fn takes_last(&mut self, here: &Here, letter: &Letter) -> Result<(), NoMemory> {
-        match written_by(here.before, letter) {
-            Some((client, seq)) => match self.writers.numbered(client, seq)? {
-                Some(write) => self.tell(here.step, Some(Event::Take(write))),
-                None => Ok(()),
-            },
+        let Some((client, seq)) = written_by(here.before, letter) else {
+            return Ok(());
+        };
+        match self.writers.numbered(client, seq)? {
+            Some(write) => self.take(here.step, write),
             None => Ok(()),
         }
     }
 
-    // Each open write that the server's job may have put where its copy counts, and had made its commit and tells nobody.
-    fn notes_late(&mut self, here: &Here) -> Result<(), NoMemory> {
-        let Some(server) = committed_by(here.own) else {
-            return Ok(());
-        };
+    // Each open write whose bytes do not stand in its block.
+    fn missing(&self) -> Result<Vec<Write>, NoMemory> {
+        let mut missing = Vec::new(self.alloc);
         for client in 0..OPERATOR {
             if let Some(write) = self.writers.of(client) {
-                if self.disks.counts(server, &write.disk, write.block)
-                    && is_asked(since_boot(here.before, server), server, write)
-                {
-                    self.lates.add(here.step, self.told.len(), write)?;
+                if !self.contents.has(write) {
+                    missing.push(again(write)?)?;
+                }
+            }
+        }
+        Ok(missing)
+    }
+
+    // Whether the write's bytes stand in the server's copy of the block after this record, and that copy counts.
+    fn is_held(&self, here: &Here, server: ServerId, write: &Write) -> Result<bool, NoMemory> {
+        let Some(cell) = self.disks.home(&write.disk, write.block) else {
+            return Ok(false);
+        };
+        if !self.disks.counts(server, cell) {
+            return Ok(false);
+        }
+        let records = counted(
+            upto(here.all, here.step),
+            server,
+            self.disks.emptied(server),
+        );
+        let held = self
+            .stores
+            .held(self.alloc, self.script, server, records, cell)?;
+        match held {
+            Some(bytes) => Ok(bytes == write.bytes),
+            None => Ok(false),
+        }
+    }
+
+    // What the server has put that it was asked for in these records takes effect: of several writes of the same bytes one does.
+    fn takes_held(
+        &mut self,
+        here: &Here,
+        asked: &[Record],
+        server: ServerId,
+    ) -> Result<(), NoMemory> {
+        for missing in self.missing()? {
+            if is_asked(asked, server, &missing) && self.is_held(here, server, &missing)? {
+                let giving = self
+                    .writers
+                    .giving(&missing.disk, missing.block, &missing.bytes)?;
+                if let Some(write) = giving {
+                    self.take(here.step, write)?;
                 }
             }
         }
         Ok(())
     }
 
-    // Each open write that the link's primary may have put without telling its second server: its copy counts from now on.
-    fn notes_passed(&mut self, here: &Here, link: &Link) -> Result<(), NoMemory> {
-        for client in 0..OPERATOR {
-            if let Some(write) = self.writers.of(client) {
-                if self.disks.is_on(link, &write.disk, write.block)
-                    && is_asked(from(here.before, link.since), link.primary, write)
-                {
-                    self.lates.add(here.step, self.told.len(), write)?;
-                }
-            }
+    // The server that is looked into after this record.
+    fn looked_into(&self, own: &Record) -> Option<ServerId> {
+        match self.looks {
+            Looks::AtStops => stopped_in(own),
+            Looks::AfterJobs => stopped_in(own).or(worked_in(own)),
         }
-        Ok(())
     }
 
     // The copies of the link's primary count from now on: what it has put ahead of its second server takes effect.
     fn takes_ahead(&mut self, here: &Here, link: &Link) -> Result<(), NoMemory> {
-        for operation in ahead_on(self.alloc, from(here.before, link.since), link)? {
-            self.take(here, operation)?;
+        let asked = from(here.before, link.since);
+        for operation in ahead_on(self.alloc, asked, link)? {
+            self.take_entry(here, operation)?;
         }
-        self.notes_passed(here, link)
+        self.takes_held(here, asked, link.primary)
     }
 
     fn takes(&mut self, here: &Here, done: &Done) -> Result<(), NoMemory> {
         for letter in here.own.sent.as_slice() {
             self.takes_second(here, letter.get())?;
             self.takes_last(here, letter.get())?;
+        }
+        if let Some(server) = self.looked_into(here.own) {
+            self.takes_held(here, since_boot(here.before, server), server)?;
         }
         for link in &done.passed {
             self.takes_ahead(here, link)?;
@@ -348,7 +403,7 @@ impl<'a> Telling<'a> {
     }
 }
 
-fn tell_all(telling: &mut Telling, records: &[Record]) -> Result<(), NoMemory> {
+fn tell_all<S: Stores>(telling: &mut Telling<S>, records: &[Record]) -> Result<(), NoMemory> {
     for at in 0..records.len() {
         let here = Here {
             step: at + 1,
@@ -357,7 +412,6 @@ fn tell_all(telling: &mut Telling, records: &[Record]) -> Result<(), NoMemory> {
             later: &records[at + 1..],
             all: records,
         };
-        telling.notes_late(&here)?;
         telling.begins(&here)?;
         let done = telling.chooses(&here)?;
         telling.takes(&here, &done)?;
@@ -368,22 +422,27 @@ fn tell_all(telling: &mut Telling, records: &[Record]) -> Result<(), NoMemory> {
     Ok(())
 }
 
-/// The events of a script's history, in order.
-pub fn told_of(alloc: Global, script: &Script, records: &[Record]) -> Result<Vec<Told>, NoMemory> {
+/// The events of a script's history, in order, where its servers can be looked into.
+pub fn told_of<S: Stores>(
+    alloc: Global,
+    stores: &S,
+    looks: Looks,
+    script: &Script,
+    records: &[Record],
+) -> Result<Vec<Told>, NoMemory> {
     let mut telling = Telling {
         alloc,
+        stores,
+        looks,
         script,
         writers: Writers::new(alloc)?,
         choices: Choices::new(alloc, script.servers),
         disks: Disks::new(alloc, script.servers)?,
-        lates: Lates::new(alloc),
+        contents: Contents::new(alloc),
         told: Vec::new(alloc),
     };
     tell_all(&mut telling, records)?;
-    let told = telling.told;
-    let mut lates = telling.lates;
-    lates.show_all(&told);
-    settled(alloc, told, &lates)
+    Ok(telling.told)
 }
 
 /// How many reads were answered by the map that their disk leaves.

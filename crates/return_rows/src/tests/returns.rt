@@ -1,7 +1,7 @@
 //! A server of a link returns, and the other one, which holds the link alone, brings it up to date: schedules in which a rule that
 //! is left out would be seen in what is answered.
 
-use crate::tests::parts::{Parts, play_parts};
+use memory_runs::{Parts, play_parts};
 use std::test::Fail;
 
 // Of three servers, servers 0 and 1 have block 0, and server 0 leads it.

@@ -1,6 +1,6 @@
 //! Rows whose steps stand in several parts.
 
-use memory_runs::play_steps;
+use crate::play_steps;
 use std::alloc::{AllocError, Global};
 use std::test::Fail;
 
