@@ -69,7 +69,7 @@ impl Disk for Remembering {
 
     ghost whole = { λ r told. length-padded r.disk.now.items r.disk.len r.disk.within };
 
-    ghost left_whole = { λ r c left. length-left r.disk.now.items r.disk.kept.items r.disk.len c r.disk.within left };
+    ghost left_whole = { λ r c left. length-left r.disk.now.items r.disk.low r.disk.before.items r.disk.len c r.disk.within left };
 
     ghost counts_now = { λ r t c le now. inl now };
 

@@ -1,8 +1,8 @@
 pub mod Keeping
-mod Kept
 pub mod Mixed
 pub mod Moments
 pub mod Padding
 pub mod Struck
+pub mod Synced
 pub mod Tearing
 mod Writing

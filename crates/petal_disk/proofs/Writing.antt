@@ -1,44 +1,31 @@
--- A write over a file of which the bytes up to the end of the write are in memory.
-use Rattle.std.proofs.Common.{◌≡◌, ℕ, ◌+◌, ◌-◌, ◌≤◌, List, ◌++◌, length, replicate, sym, ◌∙◌, ap, subst}
+-- A write within the range that has been written since the last sync.
+use Rattle.std.proofs.Common.{◌≡◌, ℕ, ◌+◌, ◌≤◌, List, length, sym, ◌∙◌, subst}
 use Rattle.petal_disk.specs.Disk.{written, Torn}
-use Rattle.petal_disk.specs.Mixes.{Mixes}
-use Rattle.petal_disk.specs.Padded.{padded, length-padded}
+use Rattle.petal_disk.specs.Mixes.{Mixes, synced, LeftOf}
 use Rattle.petal_disk.proofs.Mixed.{written_follows}
+use Rattle.petal_disk.proofs.Synced.{synced_torn}
 use Rattle.petal_disk.proofs.Tearing.{torn_written}
-use Rattle.petal_disk.proofs.Padding.{Grown, padded_grown, written_padded}
 
--- count bytes, written over a file of n bytes as it is; it stays as it is kept
-pub record Writes (at count n n' : ℕ) (bytes now kept now' kept' after : List ℕ) : Type 0 where
+-- count bytes, written over a file once the range from low' on has them
+pub record Writes (at count low low' : ℕ) (bytes file file' before before' : List ℕ) : Type 0 where
   pub many : length bytes ≡ count
-  pub fits : at + count ≤ n
-  pub within : length now ≤ n
-  pub same_len : n' ≡ n
-  pub grown : Grown now kept now' kept' (at + count)
-  pub is : after ≡ written now' at bytes
+  pub fits : at + count ≤ length file
+  pub is : file' ≡ written file at bytes
+  pub same : synced file low' before' ≡ synced file low before
+  pub above : low' ≤ at
+  pub below : at + count ≤ low' + length before'
 
-module _ {at count n n' : ℕ} {bytes now kept now' kept' after : List ℕ} (it : Writes at count n n' bytes now kept now' kept' after) where
-  open it use {many, fits, within, same_len, grown, is}
+module _ {at count low low' : ℕ} {bytes file file' before before' : List ℕ} (it : Writes at count low low' bytes file file' before before') where
+  open it use {many, fits, is, same, above, below}
 
-  all_fit : at + length bytes ≤ n
-  all_fit = subst (λ (k : ℕ). at + k ≤ n) (sym many) fits
+  all_fit : at + length bytes ≤ length file
+  all_fit = subst (λ (k : ℕ). at + k ≤ length file) (sym many) fits
 
-  in_file : at + length bytes ≤ length (padded now n)
-  in_file = subst (λ (k : ℕ). at + length bytes ≤ k) (sym (length-padded now n within)) all_fit
+  pub torn_file : Torn at count file file'
+  torn_file = subst (λ (k : ℕ). Torn at k file file') many (subst (Torn at (length bytes) file) (sym is) (torn_written file at bytes all_fit))
 
-  pub written_file : padded after n' ≡ written (padded now n) at bytes
-  written_file = ap (λ (k : ℕ). padded after k) same_len
-      ∙ written_padded at bytes now now' after n within all_fit
-      (grown.now_is ∙ ap (λ (k : ℕ). now ++ replicate ((at + k) - length now) 0) (sym many)) is
-
-  pub torn_file : Torn at count (padded now n) (padded after n')
-  torn_file = subst (λ (k : ℕ). Torn at k (padded now n) (padded after n')) many
-      (subst (Torn at (length bytes) (padded now n)) (sym written_file) (torn_written (padded now n) at bytes in_file))
-
-  pub left_of_file : (c : List ℕ) → Mixes (padded after n') (padded kept' n') c
-      → (d : List ℕ) × Mixes (padded now n) (padded kept n) d × Torn at count d c
+  pub left_of_file : (c : List ℕ) → LeftOf file' low' before' c → (d : List ℕ) × LeftOf file low before d × Torn at count d c
   left_of_file c m =
-      let same : padded kept' n' ≡ padded kept n = ap (λ (k : ℕ). padded kept' k) same_len
-      ∙ padded_grown kept kept' (at + count) n (subst (λ (k : ℕ). k ≤ n) (sym grown.same_size) within) fits grown.kept_is in
-      subst (λ (k : ℕ). (d : List ℕ) × Mixes (padded now n) (padded kept n) d × Torn at k d c) many
-      (written_follows at bytes (padded now n) (padded kept n) (padded after n') c in_file written_file
-      (subst (λ (l : List ℕ). Mixes (padded after n') l c) same m))
+      let stays : synced file' low' before' ≡ synced file low before = synced_torn at count low' before' file file' above below torn_file ∙ same in
+      subst (λ (k : ℕ). (d : List ℕ) × LeftOf file low before d × Torn at k d c) many
+      (written_follows at bytes file (synced file low before) file' c all_fit is (subst (λ (l : List ℕ). Mixes file' l c) stays m))

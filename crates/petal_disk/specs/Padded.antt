@@ -2,7 +2,7 @@
 use Rattle.std.specs.Prelude.{◌≡◌, ℕ, List, ◌++◌, ◌-◌, ◌≤◌, length, replicate}
 use Rattle.std.proofs.Common.{arith, length-append, ◌∙◌}
 use Rattle.std.proofs.lemmas.List.{length-replicate}
-use Rattle.petal_disk.specs.Mixes.{Mixes, length-Mixes}
+use Rattle.petal_disk.specs.Mixes.{synced, LeftOf, length-Mixes}
 
 -- these bytes, and zeros after them up to so many
 abbrev pub padded : List ℕ → ℕ → List ℕ
@@ -12,5 +12,5 @@ pub length-padded : (bytes : List ℕ) (n : ℕ) → length bytes ≤ n → leng
 length-padded bytes n l = omega (arith, length-append bytes (replicate (n - length bytes) 0), length-replicate {A = ℕ} (n - length bytes) 0)
 
 -- what a crash leaves is as long
-pub length-left : (now kept : List ℕ) (n : ℕ) (c : List ℕ) → length now ≤ n → Mixes (padded now n) (padded kept n) c → length c ≡ n
-length-left now kept n c l m = length-Mixes (padded now n) (padded kept n) c m ∙ length-padded now n l
+pub length-left : (bytes : List ℕ) (low : ℕ) (before : List ℕ) (n : ℕ) (c : List ℕ) → length bytes ≤ n → LeftOf (padded bytes n) low before c → length c ≡ n
+length-left bytes low before n c l left = length-Mixes (padded bytes n) (synced (padded bytes n) low before) c left ∙ length-padded bytes n l

@@ -1,8 +1,8 @@
-//! A disk in memory: what was written, and what was there at the last sync. No call fails.
+//! A disk in memory: what is there, and what was there at the last sync. No call fails.
 
-ghost use Rattle.std.specs.Prelude.{◌≡◌, ◌≤◌, ◌+◌, ◌-◌, ◌++◌, length, take, drop, replicate, vec_capacity, IfOk};
-ghost use Rattle.petal_disk.specs.Disk.{written, Only};
-ghost use Rattle.petal_disk.specs.Mixes.{Mixes};
+ghost use Rattle.std.specs.Prelude.{◌≡◌, ◌≤◌, ◌+◌, ◌++◌, length, replicate, vec_capacity, IfOk};
+ghost use Rattle.petal_disk.specs.Disk.{written, part, Only};
+ghost use Rattle.petal_disk.specs.Mixes.{synced, LeftOf};
 ghost use Rattle.petal_disk.specs.Padded.{padded, length-padded, length-left};
 
 use crate::Disk;
@@ -16,59 +16,60 @@ use std::alloc::Global;
 pub struct MemDisk {
     // the bytes up to a place; after it all are zeros, and `write_zeros` from there on brings none in
     now: Vec<u8>,
-    kept: Vec<u8>,
-    len: usize,
-    // what was written since the last sync lies from low up to high
+    // What was written since the last sync lies in a range that begins at `low`; `before` is what was there at the sync. Each sync
+    // empties it, so the same few pages serve again and again.
+    before: Vec<u8>,
     low: usize,
-    high: usize,
-    ghost same_size: { length kept.items ≡ length now.items },
-    ghost same_before: { take low kept.items ≡ take low now.items },
-    ghost same_after: { drop high kept.items ≡ drop high now.items },
-    ghost high_within: { high ≤ length now.items },
+    len: usize,
     ghost within: { length now.items ≤ len },
+    ghost range_within: { low + length before.items ≤ len },
     ghost room_now: { len ≤ vec_capacity now },
-    ghost room_kept: { len ≤ vec_capacity kept },
+    ghost room_before: { len ≤ vec_capacity before },
+}
+
+// Adds n bytes of a file from `at` on; beyond its end they are zeros.
+fn add_part(to: &mut Vec<u8>, file: &[u8], at: usize, n: usize)
+    requires { length to.old.items + n ≤ vec_capacity to.old }
+    ensures items { to.new.items ≡ to.old.items ++ padded (part file.now at n) n }
+    ensures room { vec_capacity to.old ≤ vec_capacity to.new }
+{
+    let end = to.len() + n;
+    if at < file.len() {
+        let there = n.min(file.len() - at);
+        let _ = to.extend_from_slice(&file[at..at + there]);
+    }
+    let _ = to.resize(end, 0);
 }
 
 // Brings zeros into memory, up to so many bytes.
-fn grow(bytes: &mut Vec<u8>, end: usize)
-    requires { end ≤ vec_capacity bytes.old }
-    ensures items { bytes.new.items ≡ bytes.old.items ++ replicate (end - length bytes.old.items) 0 }
-    ensures room { vec_capacity bytes.old ≤ vec_capacity bytes.new }
+fn grow(file: &mut Vec<u8>, end: usize)
+    requires { end ≤ vec_capacity file.old }
+    ensures items { file.new.items ≡ padded file.old.items end }
+    ensures room { vec_capacity file.old ≤ vec_capacity file.new }
 {
-    if bytes.len() < end {
-        let _ = bytes.resize(end, 0);
+    if file.len() < end {
+        let _ = file.resize(end, 0);
     }
 }
 
-fn put(into: &mut Vec<u8>, at: usize, bytes: &[u8])
-    requires { at + length bytes.now ≤ length into.old.items }
-    ensures items { into.new.items ≡ written into.old.items at bytes.now }
-    ensures room { vec_capacity into.new ≡ vec_capacity into.old }
+// Writes bytes over a file and beyond its end, with zeros between the two.
+fn put(file: &mut Vec<u8>, at: usize, bytes: &[u8])
+    requires { at + length bytes.now ≤ vec_capacity file.old }
+    ensures items { file.new.items ≡ written (padded file.old.items at) at bytes.now }
+    ensures room { vec_capacity file.old ≤ vec_capacity file.new }
 {
-    into[at..at + bytes.len()].copy_from_slice(bytes);
+    grow(file, at);
+    let there = bytes.len().min(file.len() - at);
+    file[at..at + there].copy_from_slice(&bytes[..there]);
+    let _ = file.extend_from_slice(&bytes[there..]);
 }
 
-fn put_zeros(into: &mut Vec<u8>, at: usize, n: usize)
-    requires { at + n ≤ length into.old.items }
-    ensures items { into.new.items ≡ written into.old.items at (replicate n 0) }
-    ensures room { vec_capacity into.new ≡ vec_capacity into.old }
+fn put_zeros(file: &mut Vec<u8>, at: usize, n: usize)
+    requires { at + n ≤ length file.old.items }
+    ensures items { file.new.items ≡ written file.old.items at (replicate n 0) }
+    ensures room { vec_capacity file.new ≡ vec_capacity file.old }
 {
-    into[at..at + n].fill(0);
-}
-
-// Makes both the same, by a copy of the range in which they may differ.
-fn bring_over(from: &Vec<u8>, to: &mut Vec<u8>, low: usize, high: usize)
-    requires size { length to.old.items ≡ length from.now.items }
-    requires before { take low to.old.items ≡ take low from.now.items }
-    requires following { drop high to.old.items ≡ drop high from.now.items }
-    requires high { high ≤ length from.now.items }
-    ensures items { to.new.items ≡ from.now.items }
-    ensures room { vec_capacity to.new ≡ vec_capacity to.old }
-{
-    if low < high {
-        put(to, low, &from[low..high]);
-    }
+    file[at..at + n].fill(0);
 }
 
 impl MemDisk {
@@ -81,26 +82,72 @@ impl MemDisk {
         let len = len as usize;
         Ok(MemDisk {
             now: Vec::with_capacity(alloc, len)?,
-            kept: Vec::with_capacity(alloc, len)?,
+            before: Vec::with_capacity(alloc, len)?,
+            low: 0,
             len,
-            low: len,
-            high: 0,
         })
     }
 
-    // Before a write from `at` up to `end`: brings the bytes up to there into memory, and counts the range as written.
-    fn open_range(&mut self, at: usize, end: usize)
+    // A range in which nothing was written since the last sync begins where it is wanted.
+    fn place_range(&mut self, at: usize)
+        requires { at ≤ self.old.len }
+        ensures len { self.new.len ≡ self.old.len }
+        ensures now { self.new.now ≡ self.old.now }
+        ensures synced { synced (padded self.old.now.items self.old.len) self.new.low self.new.before.items
+            ≡ synced (padded self.old.now.items self.old.len) self.old.low self.old.before.items }
+    {
+        if self.before.is_empty() {
+            self.low = at;
+        }
+    }
+
+    // Brings what is there up to `end` into the range.
+    fn reach_up(&mut self, end: usize)
         requires { end ≤ self.old.len }
         ensures len { self.new.len ≡ self.old.len }
-        ensures now { self.new.now.items ≡ self.old.now.items ++ replicate (end - length self.old.now.items) 0 }
-        ensures kept { self.new.kept.items ≡ self.old.kept.items ++ replicate (end - length self.old.kept.items) 0 }
-        ensures low { self.new.low ≤ at }
-        ensures high { end ≤ self.new.high }
+        ensures now { self.new.now ≡ self.old.now }
+        ensures synced { synced (padded self.old.now.items self.old.len) self.new.low self.new.before.items
+            ≡ synced (padded self.old.now.items self.old.len) self.old.low self.old.before.items }
+        ensures low { self.new.low ≡ self.old.low }
+        ensures high { end ≤ self.new.low + length self.new.before.items }
     {
-        grow(&mut self.now, end);
-        grow(&mut self.kept, end);
-        self.low = self.low.min(at);
-        self.high = self.high.max(end);
+        let high = self.low + self.before.len();
+        if high < end {
+            add_part(&mut self.before, &self.now, high, end - high);
+        }
+    }
+
+    // Brings what is there from `at` on into the range.
+    fn reach_down(&mut self, at: usize)
+        ensures len { self.new.len ≡ self.old.len }
+        ensures now { self.new.now ≡ self.old.now }
+        ensures synced { synced (padded self.old.now.items self.old.len) self.new.low self.new.before.items
+            ≡ synced (padded self.old.now.items self.old.len) self.old.low self.old.before.items }
+        ensures low { self.new.low ≤ at }
+        ensures high { self.new.low + length self.new.before.items ≡ self.old.low + length self.old.before.items }
+    {
+        if at < self.low {
+            let n = self.low - at;
+            add_part(&mut self.before, &self.now, at, n);
+            self.before.rotate_right(n);
+            self.low = at;
+        }
+    }
+
+    // Before a write from `at` up to `end`: makes these bytes a part of the range.
+    fn open_range(&mut self, at: usize, end: usize)
+        requires order { at ≤ end }
+        requires within { end ≤ self.old.len }
+        ensures len { self.new.len ≡ self.old.len }
+        ensures now { self.new.now ≡ self.old.now }
+        ensures synced { synced (padded self.old.now.items self.old.len) self.new.low self.new.before.items
+            ≡ synced (padded self.old.now.items self.old.len) self.old.low self.old.before.items }
+        ensures low { self.new.low ≤ at }
+        ensures high { end ≤ self.new.low + length self.new.before.items }
+    {
+        self.place_range(at);
+        self.reach_up(end);
+        self.reach_down(at);
     }
 }
 
@@ -111,11 +158,11 @@ impl Disk for MemDisk {
 
     ghost seen = { λ m. padded m.now.items m.len };
 
-    ghost may_leave = { λ m c. Mixes (padded m.now.items m.len) (padded m.kept.items m.len) c };
+    ghost may_leave = { λ m c. LeftOf (padded m.now.items m.len) m.low m.before.items c };
 
     ghost moment = { λ m. 0 };
 
-    ghost left_since = { λ m t c. Mixes (padded m.now.items m.len) (padded m.kept.items m.len) c };
+    ghost left_since = { λ m t c. LeftOf (padded m.now.items m.len) m.low m.before.items c };
 
     ghost faults = { λ m. 0 };
 
@@ -123,7 +170,7 @@ impl Disk for MemDisk {
 
     ghost whole = { λ m _. length-padded m.now.items m.len m.within };
 
-    ghost left_whole = { λ m c left. length-left m.now.items m.kept.items m.len c m.within left };
+    ghost left_whole = { λ m c left. length-left m.now.items m.low m.before.items m.len c m.within left };
 
     ghost counts_now = { λ m t c le now. now };
 
@@ -163,21 +210,19 @@ impl Disk for MemDisk {
         if self.now.len() <= at {
             return Ok(());
         }
-        self.open_range(at, at + n);
-        put_zeros(&mut self.now, at, n);
+        let there = n.min(self.now.len() - at);
+        self.open_range(at, at + there);
+        put_zeros(&mut self.now, at, there);
         Ok(())
     }
 
     fn sync(&mut self) -> Result<(), Failed> {
-        bring_over(&self.now, &mut self.kept, self.low, self.high);
-        self.low = self.len;
-        self.high = 0;
+        self.before.clear();
         Ok(())
     }
 
     fn crash(&mut self) {
-        bring_over(&self.kept, &mut self.now, self.low, self.high);
-        self.low = self.len;
-        self.high = 0;
+        put(&mut self.now, self.low, &self.before);
+        self.before.clear();
     }
 }

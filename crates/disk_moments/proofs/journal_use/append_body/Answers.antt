@@ -1,8 +1,8 @@
 use Rattle.std.proofs.Common.{List, ℕ}
-use Rattle.petal_disk.specs.Mixes.{Mixes}
+use Rattle.petal_disk.specs.Mixes.{LeftOf}
 use Rattle.petal_disk.specs.Padded.{padded}
-use Rattle.petal_disk.proofs.Mixed.{mixes_now}
-use Rattle.petal_disk.proofs.Padding.{same_padded}
+use Rattle.petal_disk.proofs.Padding.{within_padded}
+use Rattle.petal_disk.proofs.Synced.{left_now}
 use Rattle.petal_disk.specs.declared.memory_disk.MemDisk.{MemDisk}
 use denote.Exit.{yes}
 use denote.Param.Send.{arg_send, param_send}
@@ -15,9 +15,10 @@ returns-clause-past c bodies stored =
     let old = c.args.disk.now in
     let new = c.append.new.disk in
     on_ok c.append.result _ _
-    (λ appended. was_left (λ (d : MemDisk) (f : List ℕ). Mixes (padded d.now.items d.len) (padded d.kept.items d.len) f) old.past.items new.past.items
+    (λ appended. was_left (λ (d : MemDisk) (f : List ℕ). LeftOf (padded d.now.items d.len) d.low d.before.items f) old.past.items new.past.items
     old.disk new.disk 8 c.args.journal.now c.append.new.self _ _ bodies c.args.body.now c.append.ensures.place.0 c.append.ensures.place.1
-    (mixes_now _ _ (same_padded old.disk.now.items old.disk.kept.items old.disk.len old.disk.same_size)) c.append.ensures.run stored
+    (left_now _ old.disk.low old.disk.before.items (within_padded old.disk.now.items old.disk.len _ old.disk.within old.disk.range_within))
+    c.append.ensures.run stored
     (appended tt bodies stored))
     c.append.ensures.appended
 

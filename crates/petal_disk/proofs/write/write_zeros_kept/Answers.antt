@@ -11,5 +11,6 @@ pub returns-clause-any_moment : goal.returns-clause-any_moment
 returns-clause-any_moment g c =
     let only_now = (g.met.D.Disk g.world.𝓛 g.world.𝓜 g.world.𝓡 ((λ s x. x), (λ x. x), (λ x. x), λ x. x)).only_now c.args.disk.now in
     by_sync g.D.Disk.moment g.D.Disk.left_since c.args.disk.now c.write_zeros.new.self c.sync.new.self c.args.at c.args.n _ _ _
-    (by_write g.D.Disk.moment g.D.Disk.left_since c.args.disk.now c.write_zeros.new.self c.args.at c.args.n _ _ only_now c.write_zeros.ensures.time c.write_zeros.ensures.crash)
+    (by_write g.D.Disk.moment g.D.Disk.left_since c.args.disk.now c.write_zeros.new.self c.args.at c.args.n _ _ only_now c.write_zeros.ensures.time
+    c.write_zeros.ensures.crash)
     c.write_zeros.ensures.crash c.sync.ensures.time c.sync.ensures.crash

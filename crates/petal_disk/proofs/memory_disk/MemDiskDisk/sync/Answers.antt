@@ -1,20 +1,16 @@
-use Rattle.std.proofs.Common.{◌≡◌, List, ℕ, subst, sym, ap}
-use Rattle.petal_disk.specs.Mixes.{Mixes}
+use Rattle.std.proofs.Common.{sym, subst}
+use Rattle.petal_disk.specs.Mixes.{LeftOf}
 use Rattle.petal_disk.specs.Padded.{padded}
-use Rattle.petal_disk.proofs.Mixed.{mixes_same, mixes_now}
-use Rattle.petal_disk.proofs.Padding.{same_padded}
+use Rattle.petal_disk.proofs.Padding.{within_padded}
+use Rattle.petal_disk.proofs.Synced.{only_now, left_now}
 use Rattle.petal_disk.proofs.memory_disk.MemDiskDisk.sync.Goals as goal
 
 pub returns-clause-durable : goal.returns-clause-durable
-returns-clause-durable c _ left m =
-    let old = c.args.self.now in
-    let same : padded c.bring_over.new.to.items old.len ≡ padded old.now.items old.len = ap (λ (l : List ℕ). padded l old.len) c.bring_over.ensures.items in
-    mixes_same _ left (subst (λ (k : List ℕ). Mixes (padded old.now.items old.len) k left) same m)
+returns-clause-durable c _ left m = only_now _ c.args.self.now.low _ left c.clear.ensures.items m
 
 pub returns-clause-crash : goal.returns-clause-crash
 returns-clause-crash c left m =
     let old = c.args.self.now in
-    let same : padded c.bring_over.new.to.items old.len ≡ padded old.now.items old.len = ap (λ (l : List ℕ). padded l old.len) c.bring_over.ensures.items in
-    let all = mixes_same _ left (subst (λ (k : List ℕ). Mixes (padded old.now.items old.len) k left) same m) in
-    subst (Mixes (padded old.now.items old.len) (padded old.kept.items old.len)) (sym all)
-    (mixes_now _ _ (same_padded old.now.items old.kept.items old.len old.same_size))
+    let file = padded old.now.items old.len in
+    subst (LeftOf file old.low old.before.items) (sym (only_now file old.low _ left c.clear.ensures.items m))
+    (left_now file old.low old.before.items (within_padded old.now.items old.len _ old.within old.range_within))
