@@ -1,2 +1,3 @@
 pub mod Blocks
+mod Bytes
 pub mod Tuples
