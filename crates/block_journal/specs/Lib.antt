@@ -1,4 +1,4 @@
 pub mod Pieces
 pub mod Records
 pub mod Region
-pub use Rattle.device_gate.specs.Gate
+pub mod Gate

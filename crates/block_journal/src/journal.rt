@@ -3,13 +3,13 @@
 ghost use Rattle.std.specs.Prelude.{◌≡◌, ◌⊎◌, ◌≤◌, ◌<◌, ◌+◌, ◌-◌, ◌*◌, ◌^◌, ◌++◌, ◌↔◌, [], ◌∷◌, ℕ, List, length, OnOk, IfOk, IsErrOf};
 ghost use Rattle.petal_disk.specs.Disk.{LeavesOnly, LeftByWrite, Only, Torn, Within};
 ghost use Rattle.device_faults.specs.Faults.{HasCause};
-ghost use Rattle.device_gate.specs.Gate.{IsShut};
+ghost use Rattle.block_journal.specs.Gate.{IsShut};
 ghost use Rattle.block_journal.specs.Records.{contents, Counts, Stands, Stored, LeftByAppend, WithOrWithout};
 ghost use Rattle.block_journal.specs.declared.error.JournalError.TheVariants as error;
 
 use crate::JournalError;
+use crate::gate::{OPEN, close_gate};
 use crate::reading::read_bodies;
-use device_gate::{OPEN, close_gate};
 use petal_disk::{Disk, Failed, write_kept, write_zeros_kept};
 use std::alloc::Global;
 use std::marker::Model;

@@ -1,14 +1,16 @@
-//! A journal: a list of records of one size in a region of a disk, each of which counts from the moment when its gate byte
-//! is open.
+//! A journal: a list of records of one size in a region of a disk. A record counts from the moment when its gate byte is open. The
+//! first byte of a device is such a gate too: what stands on the device counts only while it is open.
 //!
-//! To the layer above it promises that a crash at any moment of `append` leaves the list before or with the new body, and
-//! that `open` gives what was appended, in order. It knows nothing of what a body says.
+//! To the layer above it promises that a crash at any moment of `append` leaves the list before or with the new body, and that
+//! `open` gives what was appended, in order. A crash while a device's header is written leaves what stood there before, a closed gate,
+//! or the whole header. The crate knows nothing of what a body or a header says.
 #![tactic(auto)]
 
 mod error;
+mod gate;
 mod journal;
 mod reading;
 
-pub use device_gate::write_header;
 pub use error::JournalError;
+pub use gate::{read_front, write_header};
 pub use journal::Journal;

@@ -8,7 +8,7 @@ ghost use Rattle.block_journal.specs.Pieces.{Took, HasReadCause};
 ghost use Rattle.block_journal.specs.declared.error.JournalError.TheVariants as error;
 
 use crate::JournalError;
-use device_gate::OPEN;
+use crate::gate::OPEN;
 use petal_disk::Disk;
 use std::alloc::{AllocError, Global};
 

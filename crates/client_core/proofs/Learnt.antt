@@ -2,18 +2,18 @@
 use Rattle.std.proofs.Common.{◌≡◌, ℕ, ◌++◌, Bool, true, false, cond, if◌then◌else◌, List, [], ◌∷◌, fold, Option, Some, None}
 use Rattle.std.proofs.Common.{refl, sym, ◌∙◌, ap, append_assoc, append-nil}
 use Rattle.petal_command.specs.declared.command.Command.{Command}
-use Rattle.petal_state.specs.State.{latest}
-use Rattle.petal_state.specs.Command.{after, state_after}
-use Rattle.petal_rules.proofs.Applied.{state_append}
+use Rattle.spec_state.specs.State.{latest}
+use Rattle.spec_state.specs.Command.{after, state_after}
+use Rattle.spec_rules.proofs.Applied.{state_append}
 use Rattle.client_core.specs.Core.{Core, state_of}
 use Rattle.script_lines.specs.declared.answer.Answer.{Answer}
 use Rattle.client_core.specs.Learning.{learnt}
-use Rattle.open_request.specs.Judging.{fated}
+use Rattle.client_core.specs.Judging.{fated}
 use Rattle.client_core.specs.declared.learning.Learning.{Learning as Here}
-use Rattle.open_request.specs.declared.judging.Fate.{Fate}
-use Rattle.open_request.specs.declared.judging.Fate.TheVariants.{Waits, Answered}
-use Rattle.petal_rules.specs.Clients.{Client, Asked, Learning, answered_where, witnessed, judged_by, judged, takes_entry, takes_all}
-use Rattle.petal_rules.specs.Clients.{command_of, is_witness, refusal, verdict_for}
+use Rattle.client_core.specs.declared.judging.Fate.{Fate}
+use Rattle.client_core.specs.declared.judging.Fate.TheVariants.{Waits, Answered}
+use Rattle.spec_rules.specs.Clients.{Client, Asked, Learning, answered_where, witnessed, judged_by, judged, takes_entry, takes_all}
+use Rattle.spec_rules.specs.Clients.{command_of, is_witness, refusal, verdict_for}
 
 -- judging the open request changes neither the state nor what was applied
 record IsJudged (later now : Learning) : Type 0 where

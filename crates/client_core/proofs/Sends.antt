@@ -4,19 +4,19 @@ use Rattle.petal_command.specs.declared.command.Command.{Command}
 use Rattle.petal_msg.specs.declared.letter.Actor.TheVariants as actor
 use Rattle.petal_msg.specs.declared.letter.Letter.{Letter}
 use Rattle.script_lines.specs.declared.request.Request.{Request}
-use Rattle.petal_rules.specs.State.{State, servers_of}
-use Rattle.petal_rules.specs.Server.{letters_of}
-use Rattle.petal_rules.specs.Clients.{Client, Asked, asks_to_propose, called, goes_out, goes_out_where, sends}
-use Rattle.petal_rules.specs.Clients.{sends_or_proposes, then_goes_out, to_propose}
+use Rattle.spec_rules.specs.State.{State, servers_of}
+use Rattle.spec_rules.specs.Server.{letters_of}
+use Rattle.spec_rules.specs.Clients.{Client, Asked, asks_to_propose, called, goes_out, goes_out_where, sends}
+use Rattle.spec_rules.specs.Clients.{sends_or_proposes, then_goes_out, to_propose}
 use Rattle.client_core.specs.Core.{Core, at_core, state_of}
-use Rattle.open_request.specs.Open.{fresh, goes_old_where, on_way, sent_last, turned, way_of, with_send, with_witnesses}
+use Rattle.client_core.specs.Open.{fresh, goes_old_where, on_way, sent_last, turned, way_of, with_send, with_witnesses}
 use Rattle.client_core.specs.Sending.{sent_by, sent_where}
-use Rattle.open_request.specs.Posting.{posts_of}
+use Rattle.client_core.specs.Posting.{posts_of}
 use Rattle.client_core.specs.Learning.{learnt}
 use Rattle.client_core.specs.declared.learning.Learning.{Learning as Here}
-use Rattle.open_request.specs.declared.judging.Fate.TheVariants.{Waits}
+use Rattle.client_core.specs.declared.judging.Fate.TheVariants.{Waits}
 use Rattle.client_core.specs.declared.reaction.Reaction.{Reaction}
-use Rattle.open_request.specs.declared.open.Way.{Way}
+use Rattle.client_core.specs.declared.open.Way.{Way}
 use Rattle.client_core.specs.declared.sending.Sent.{Sent}
 
 -- the request goes out as it stands

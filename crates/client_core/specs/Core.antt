@@ -1,14 +1,14 @@
 -- A client's core, and what a step of it leaves, sends and answers.
 use Rattle.std.specs.Prelude.{ℕ, ◌==◌, ◌||◌, Bool, Option, Some, None}
-use Rattle.petal_state.specs.Command.{state_after}
-use Rattle.petal_rules.specs.State.{State}
-use Rattle.petal_rules.specs.Server.{letters_of}
-use Rattle.petal_rules.specs.Clients.{Asked, Client, client_sender}
-use Rattle.petal_rules.specs.Clients as rules
-use Rattle.petal_rules.specs.World.{greatest_u32, round_of, turn_of}
-use Rattle.open_request.specs.Open.{settle_in}
-use Rattle.open_request.specs.Orders.{order_in, order_of}
-use Rattle.open_request.specs.declared.order.Order.{Order}
+use Rattle.spec_state.specs.Command.{state_after}
+use Rattle.spec_rules.specs.State.{State}
+use Rattle.spec_rules.specs.Server.{letters_of}
+use Rattle.spec_rules.specs.Clients.{Asked, Client, client_sender}
+use Rattle.spec_rules.specs.Clients as rules
+use Rattle.spec_rules.specs.World.{greatest_u32, round_of, turn_of}
+use Rattle.client_core.specs.Open.{settle_in}
+use Rattle.client_core.specs.Orders.{order_in, order_of}
+use Rattle.client_core.specs.declared.order.Order.{Order}
 use Rattle.client_core.specs.declared.reaction.Reaction.{Reaction}
 
 -- a client's number, how many servers there are, and what the rules know of it

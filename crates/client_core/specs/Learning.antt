@@ -1,9 +1,9 @@
 -- A client on its way through the entries of a letter, in code: the request itself stays where it is.
 use Rattle.std.specs.Prelude.{Option, Some, None}
-use Rattle.petal_rules.specs.Clients.{Client, Asked}
-use Rattle.petal_rules.specs.Clients as rules
+use Rattle.spec_rules.specs.Clients.{Client, Asked}
+use Rattle.spec_rules.specs.Clients as rules
 use Rattle.client_core.specs.declared.learning.Learning.{Learning}
-use Rattle.open_request.specs.Judging.{fated}
+use Rattle.client_core.specs.Judging.{fated}
 
 -- what the rules know of it, where this request was open as the letter came
 abbrev pub learnt : Client → Option Asked → Learning → rules.Learning

@@ -1,3 +1,7 @@
 pub mod Core
 pub mod Sending
 pub mod Learning
+pub mod Judging
+pub mod Open
+pub mod Orders
+pub mod Posting

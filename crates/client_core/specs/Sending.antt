@@ -1,8 +1,8 @@
 -- What a send of the open request does.
 use Rattle.std.specs.Prelude.{Some, None}
-use Rattle.petal_rules.specs.Clients.{Client, Asked, Reaction}
-use Rattle.open_request.specs.Open.{sent_last, with_send}
-use Rattle.open_request.specs.Posting.{posts_of}
+use Rattle.spec_rules.specs.Clients.{Client, Asked, Reaction}
+use Rattle.client_core.specs.Open.{sent_last, with_send}
+use Rattle.client_core.specs.Posting.{posts_of}
 use Rattle.client_core.specs.declared.sending.Sent.{Sent}
 
 -- what a client leaves and sends whose request goes out

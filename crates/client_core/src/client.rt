@@ -2,25 +2,26 @@
 
 ghost use Rattle.std.specs.Prelude.{◌≡◌, ◌↔◌, ◌+◌, ◌<◌, length, None, Some, [], false, IfOk, OnErr, IsTrue};
 ghost use Rattle.std.specs.Option.{option_map_or};
-ghost use Rattle.petal_state.specs.Command.{state_after};
-ghost use Rattle.petal_rules.specs.State.{servers_of};
-ghost use Rattle.petal_rules.specs.Clients.{Client, first_client, called, heard, hears_of, next_entries, sees, takes_entries};
-ghost use Rattle.petal_rules.specs.Clients.{then_goes_out, ticked, asking, goes_out_where};
-ghost use Rattle.petal_rules.specs.World.{round_of, turn_of};
+ghost use Rattle.spec_state.specs.Command.{state_after};
+ghost use Rattle.spec_rules.specs.State.{servers_of};
+ghost use Rattle.spec_rules.specs.Clients.{Client, first_client, called, heard, hears_of, next_entries, sees, takes_entries};
+ghost use Rattle.spec_rules.specs.Clients.{then_goes_out, ticked, asking, goes_out_where};
+ghost use Rattle.spec_rules.specs.World.{round_of, turn_of};
 ghost use Rattle.client_core.specs.Core.{at_core, is_spent, ordered, settle_of, state_of};
-ghost use Rattle.open_request.specs.Open.{answers_where, fresh, goes_old_where, in_round, outcome, with_send, with_witnesses};
+ghost use Rattle.client_core.specs.Open.{answers_where, fresh, goes_old_where, in_round, outcome, with_send, with_witnesses};
 ghost use Rattle.client_core.specs.Learning.{learnt};
 
+use crate::hearing::Heard;
+use crate::judging::Fate;
 use crate::learning::Learning;
+use crate::open::{Last, Open, was_sent, was_witnessed};
+use crate::order::Order;
+use crate::posting::{one_letter, two_letters};
 use crate::reaction::Reaction;
+use crate::round::{Round, Sight, went_round};
 use crate::sending::Sent;
-use ghost_list::GhostList;
 use global_state::GlobalState;
-use open_request::{
-    Fate, Heard, Last, Open, Order, Round, Sight, one_letter, two_letters, was_sent, was_witnessed,
-    went_round,
-};
-use petal_base::{CLIENTS, ClientId, NoMemory, Rev, Seq, Sequence, ServerId};
+use petal_base::{CLIENTS, ClientId, GhostList, NoMemory, Rev, Seq, Sequence, ServerId};
 use petal_command::{ClientNumber, Command};
 use petal_msg::{Actor, Body, Letter};
 use script_lines::{Answer, Request};
@@ -42,7 +43,7 @@ pub struct ClientCore {
 
 impl Model for ClientCore {
     ghost use Rattle.std.specs.Prelude.{◌≡◌};
-    ghost use Rattle.petal_state.specs.Command.{state_after};
+    ghost use Rattle.spec_state.specs.Command.{state_after};
     ghost use Rattle.client_core.specs.Core.{Core};
 
     ghost Value = { Core };
@@ -93,7 +94,7 @@ impl ClientCore {
     }
 
     /// Handles a letter.
-    #[tactic(auto, unfolding(petal_rules::specs::Clients::heard))]
+    #[tactic(auto, unfolding(spec_rules::specs::Clients::heard))]
     pub fn deliver(&mut self, alloc: Global, letter: &Letter) -> Result<Reaction, NoMemory>
         ensures ok { IfOk result (λ reaction. (self.new, reaction)
             ≡ at_core self.old (heard (state_of self.old) self.old.me self.old.client letter.now)) }
@@ -127,7 +128,7 @@ impl ClientCore {
     }
 
     /// Asks what follows, and sends the open request again.
-    #[tactic(auto, unfolding(petal_rules::specs::Clients::ticked))]
+    #[tactic(auto, unfolding(spec_rules::specs::Clients::ticked))]
     pub fn tick(&mut self, alloc: Global) -> Result<Reaction, NoMemory>
         ensures ok { IfOk result (λ reaction. (self.new, reaction)
             ≡ at_core self.old (ticked (state_of self.old) self.old.me self.old.client)) }
@@ -151,7 +152,7 @@ impl ClientCore {
     }
 
     /// Its revision: how many entries it has applied.
-    #[tactic(auto, using(petal_rules::proofs::Applied::rev_after))]
+    #[tactic(auto, using(spec_rules::proofs::Applied::rev_after))]
     pub fn rev(&self) -> Rev
         ensures { result ≡ length self.now.client.applied }
     {
@@ -290,7 +291,7 @@ impl ClientCore {
     }
 
     /// What a glance means for the open request.
-    #[tactic(auto, using(petal_rules::proofs::Applied::servers_after))]
+    #[tactic(auto, using(spec_rules::proofs::Applied::servers_after))]
     fn seen(&self, alloc: Global, sight: &Sight) -> Result<Heard, NoMemory>
         ensures { IfOk result (λ heard. sees (state_of self.now) self.now.client self.now.client.asked sight.now
             ≡ outcome heard (state_of self.now) self.now.me self.now.client self.now.client.asked) }

@@ -1,17 +1,16 @@
 //! The entries of a letter, applied one after the other.
 
 ghost use Rattle.std.specs.Prelude.{◌≡◌, ◌++◌, [], ◌∷◌, None, OnOk, IfOk};
-ghost use Rattle.petal_state.specs.Command.{after};
-ghost use Rattle.petal_rules.specs.State.{servers_of};
-ghost use Rattle.petal_rules.specs.Clients.{next_entries, takes_all, takes_entry};
+ghost use Rattle.spec_state.specs.Command.{after};
+ghost use Rattle.spec_rules.specs.State.{servers_of};
+ghost use Rattle.spec_rules.specs.Clients.{next_entries, takes_all, takes_entry};
 ghost use Rattle.client_core.specs.Core.{state_of};
 ghost use Rattle.client_core.specs.Learning.{learnt};
 
 use crate::ClientCore;
-use ghost_list::{Change, GhostList};
+use crate::judging::{Fate, judged};
 use global_state::GlobalState;
-use open_request::{Fate, judged};
-use petal_base::{NoMemory, Rev};
+use petal_base::{Change, GhostList, NoMemory, Rev};
 use petal_command::Command;
 use std::alloc::Global;
 
@@ -33,7 +32,7 @@ impl Change<Command> for Kept {
 
 impl Learning {
     /// One entry more is applied.
-    #[tactic(auto, using(petal_rules::proofs::Applied::after_keeps))]
+    #[tactic(auto, using(spec_rules::proofs::Applied::after_keeps))]
     fn apply(&mut self, alloc: Global, entry: &Command) -> Result<(), NoMemory>
         ensures servers { OnOk result (servers_of self.new.state ≡ servers_of self.old.state) }
         ensures state { OnOk result (self.new.state ≡ after self.old.state entry.now) }
@@ -51,7 +50,7 @@ impl Learning {
 
 impl ClientCore {
     /// The entries of a letter that come next. They begin after a revision; there is none where that leaves a gap.
-    #[tactic(auto, using(petal_rules::proofs::Applied::rev_after))]
+    #[tactic(auto, using(spec_rules::proofs::Applied::rev_after))]
     pub(crate) fn next_entries<'a>(&self, after: Rev, commands: &'a [Command]) -> &'a [Command]
         ensures { result.now ≡ next_entries self.now.client after commands.now }
     {

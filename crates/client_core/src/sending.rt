@@ -4,15 +4,17 @@ ghost use Rattle.std.specs.Prelude.{◌≡◌, ◌+◌, ◌%◌, ℕ, List, None
 ghost use Rattle.petal_command.specs.declared.command.Command.{Command as Entry};
 ghost use Rattle.petal_msg.specs.declared.body.Body.TheVariants as body;
 ghost use Rattle.petal_msg.specs.declared.letter.Actor.TheVariants as actor;
-ghost use Rattle.petal_rules.specs.State.{State, servers_of};
-ghost use Rattle.petal_rules.specs.Clients.{Client, asks_to_propose, goes_out, goes_out_where, sends};
+ghost use Rattle.spec_rules.specs.State.{State, servers_of};
+ghost use Rattle.spec_rules.specs.Clients.{Client, asks_to_propose, goes_out, goes_out_where, sends};
 ghost use Rattle.client_core.specs.Core.{state_of};
-ghost use Rattle.open_request.specs.Open.{goes_old_where, on_way, with_witnesses};
+ghost use Rattle.client_core.specs.Open.{goes_old_where, on_way, with_witnesses};
 ghost use Rattle.client_core.specs.Sending.{sent_by, sent_where};
 
 use crate::ClientCore;
+use crate::open::{Last, Open, Way};
+use crate::posting::{Post, post_for};
+use crate::proposing::to_propose;
 use global_state::GlobalState;
-use open_request::{Last, Open, Post, Way, post_for, to_propose};
 use petal_base::{NoMemory, ServerId};
 use petal_command::Command;
 use petal_msg::{Actor, Body};
@@ -124,7 +126,7 @@ impl ClientCore {
     }
 
     /// A request that was just called goes out.
-    #[tactic(auto, using(petal_rules::proofs::Applied::servers_after))]
+    #[tactic(auto, using(spec_rules::proofs::Applied::servers_after))]
     pub(crate) fn sends_first(&self, alloc: Global, asked: &Open) -> Result<Sent, NoMemory>
         ensures { IfOk result (λ sent. (client : Client)
             → goes_out (state_of self.now) self.now.me (record client { asks = self.now.client.asks }) asked.now
@@ -156,7 +158,7 @@ impl ClientCore {
     }
 
     /// The open request, where there is one, goes out.
-    #[tactic(auto, using(petal_rules::proofs::Applied::servers_after))]
+    #[tactic(auto, using(spec_rules::proofs::Applied::servers_after))]
     pub(crate) fn sends(&self, alloc: Global) -> Result<Sent, NoMemory>
         ensures { IfOk result (λ sent. goes_out_where (state_of self.now) self.now.me self.now.client self.now.client.asked
             ≡ sent_where self.now.client sent) }
@@ -171,7 +173,7 @@ impl ClientCore {
     }
 
     /// The open request, where there is one, goes the old way.
-    #[tactic(auto, using(petal_rules::proofs::Applied::servers_after))]
+    #[tactic(auto, using(spec_rules::proofs::Applied::servers_after))]
     pub(crate) fn sends_old_way(&self, alloc: Global) -> Result<Sent, NoMemory>
         ensures { IfOk result (λ sent. goes_old_where (state_of self.now) self.now.me self.now.client self.now.client.asked
             ≡ sent_where self.now.client sent) }
@@ -190,7 +192,7 @@ impl ClientCore {
     }
 
     /// What asks the next server what follows.
-    #[tactic(auto, using(petal_rules::proofs::Applied::rev_after))]
+    #[tactic(auto, using(spec_rules::proofs::Applied::rev_after))]
     pub(crate) fn ask(&self) -> Post
         ensures { result ≡ record { to = actor.Server self.now.client.asks; body = body.Ask (state_of self.now).rev } }
     {
@@ -203,7 +205,7 @@ impl ClientCore {
     }
 
     /// The server that is asked after the next one.
-    #[tactic(auto, using(petal_rules::proofs::Applied::servers_after))]
+    #[tactic(auto, using(spec_rules::proofs::Applied::servers_after))]
     pub(crate) fn after_next(&self) -> Result<ServerId, NoMemory>
         ensures { IfOk result (λ next. next ≡ (self.now.client.asks + 1) % servers_of (state_of self.now)) }
     {

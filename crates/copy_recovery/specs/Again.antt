@@ -1,9 +1,9 @@
 -- What a tick sends again.
 use Rattle.std.specs.Prelude.{ℕ, Option, option_and_then}
 use Rattle.petal_base.specs.declared.cell.Cell.{Cell}
-use Rattle.petal_rules.specs.Server.{Here}
-use Rattle.petal_rules.specs.State.{other_in}
-use Rattle.petal_state.specs.CellState.{cell_link}
+use Rattle.spec_rules.specs.Server.{Here}
+use Rattle.spec_rules.specs.State.{other_in}
+use Rattle.spec_state.specs.CellState.{cell_link}
 
 -- the other server of a cell's link, for the holder
 abbrev pub other_of_cell : Here → Cell → Option ℕ

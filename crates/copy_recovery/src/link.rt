@@ -1,22 +1,22 @@
 //! What a job for a link does: the next page, the next copy, or the next old mark.
 
 ghost use Rattle.std.specs.Prelude.{◌≡◌, filter, map, Some, IfOk};
-ghost use Rattle.petal_rules.specs.Copies as copies;
-ghost use Rattle.petal_rules.specs.State.{id_of, other_in};
-ghost use Rattle.petal_rules.specs.declared.job.Job.TheVariants as job;
-ghost use Rattle.pair_side.specs.Side.{own_of, HasTicketsAt};
-ghost use Rattle.pair_side.specs.Done.{IsDone, IsSaid};
+ghost use Rattle.spec_rules.specs.Copies as copies;
+ghost use Rattle.spec_rules.specs.State.{id_of, other_in};
+ghost use Rattle.spec_rules.specs.declared.job.Job.TheVariants as job;
+ghost use Rattle.pair_memory.specs.Side.{own_of, HasTicketsAt};
+ghost use Rattle.pair_memory.specs.Done.{IsDone, IsSaid};
 
-use copy_sender::{begins, cell_at, followed, idle_mark, next_copy, other_in};
+use crate::page::page_wanted;
+use copy_transfer::{begins, cell_at, followed, idle_mark, next_copy, other_in};
 use global_state::{LinkRow, LinkState};
 use kept_chains::{mark_left, unmark};
-use link_pages::page_wanted;
-use pair_side::{Done, FollowUp, Here, Side, WorkError, link_id, says_to, silent};
+use pair_memory::{Done, FollowUp, Here, Side, WorkError, link_id, says_to, silent};
 use petal_base::{BlockNo, NoMemory, ServerId};
 use petal_disk::Disk;
 use petal_msg::{LinkId, NextCopy};
-use petal_rules::Job;
 use server_store::Store;
+use spec_rules::Job;
 use std::alloc::{AllocError, Global};
 
 /// What is next of the link.
@@ -119,7 +119,7 @@ fn mends_row<D: Disk>(
 ///
 /// # Errors
 /// As of [`copies_on`](crate::copies_on).
-#[tactic(auto, unfolding(petal_rules::specs::Copies::mends))]
+#[tactic(auto, unfolding(spec_rules::specs::Copies::mends))]
 pub fn mends<D: Disk>(
     here: &Here,
     side: &mut Side,

@@ -9,8 +9,8 @@ use Rattle.block_journal.specs.Records.{Stands, Stored, LeftByAppend}
 use Rattle.block_journal.specs.Records as journal
 use Rattle.block_journal.specs.Region.{Region}
 use Rattle.block_journal.proofs.Frame.{stands_outside}
-use Rattle.store_record.specs.declared.record.StoreRecord.{StoreRecord}
-use Rattle.store_record.specs.Spelling.{spelling, HasSpelling}
+use Rattle.data_device.specs.declared.record.StoreRecord.{StoreRecord}
+use Rattle.data_device.specs.Spelling.{spelling, HasSpelling}
 use Rattle.data_device.specs.Device.{header, bodies_of, AreSpelled, StandsFor, Log, Logs, WithOrWithout}
 use Rattle.data_device.specs.Kept.{Kept, Fits, AllFit, kept_after, kept_of, formatted}
 use Rattle.data_device.specs.Reading.{IsBlank, LeftByFormat}

@@ -1,4 +1,5 @@
 pub mod Devices
 pub mod Readings
+pub mod Ledgers
+pub mod Spelled
 pub use Rattle.block_journal.proofs.Frame
-pub use Rattle.slot_ledger.proofs.Ledgers

@@ -1,8 +1,8 @@
 -- What is read of one body more.
 use Rattle.std.proofs.Common.{◌≡◌, ℕ, zero, suc, ◌+◌, ◌<◌, Bool, List, [], ◌∷◌, ◌++◌, length, take, drop, fold, get_or, map, refl, sym, ap, subst, ◌∙◌, arith}
 use Rattle.std.proofs.lemmas.List.{length-map}
-use Rattle.store_record.specs.Spelling.{spelling, HasSpelling}
-use Rattle.store_record.specs.declared.record.StoreRecord.{StoreRecord}
+use Rattle.data_device.specs.Spelling.{spelling, HasSpelling}
+use Rattle.data_device.specs.declared.record.StoreRecord.{StoreRecord}
 use Rattle.data_device.specs.declared.replay.Replay.{Replay}
 use Rattle.data_device.specs.Device.{bodies_of, AreSpelled}
 use Rattle.data_device.specs.Kept.{Kept, Fits, AllFit, kept_of, kept_after, formatted}

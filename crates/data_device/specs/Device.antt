@@ -3,9 +3,9 @@
 use Rattle.std.specs.Prelude.{ℕ, ◌≡◌, ◌⊎◌, Bool, List, [], ◌∷◌, ◌++◌, map, length, take, replicate, ⊤}
 use Rattle.block_journal.specs.Records.{Stands}
 use Rattle.block_journal.specs.Region.{Region}
-use Rattle.store_record.specs.declared.record.StoreRecord.{StoreRecord}
+use Rattle.data_device.specs.declared.record.StoreRecord.{StoreRecord}
 use Rattle.record_fields.specs.Fields.{word, flag}
-use Rattle.store_record.specs.Spelling.{spelling, HasSpelling}
+use Rattle.data_device.specs.Spelling.{spelling, HasSpelling}
 use Rattle.data_device.specs.Kept.{AllFit, formatted}
 
 -- the gate, PETALDAT, version 1, the number of slots, 1 where the store is to be filled again and else 0, zeros

@@ -5,8 +5,8 @@ use Rattle.busy_marks.specs.Marks.{with_mark, without_mark}
 use Rattle.physical_map.specs.declared.entry.Entry.{Entry}
 use Rattle.physical_map.specs.Entries.{key_of, without_key}
 use Rattle.physical_map.specs.Keys.{placed}
-use Rattle.store_record.specs.declared.record.StoreRecord.{StoreRecord}
-use Rattle.store_record.specs.declared.record.StoreRecord.TheVariants as kind
+use Rattle.data_device.specs.declared.record.StoreRecord.{StoreRecord}
+use Rattle.data_device.specs.declared.record.StoreRecord.TheVariants as kind
 
 -- the entries by rising key, the marks in the order of their cells and kinds, and whether the store is still to be filled again
 pub record Kept : Type 0 where

@@ -4,5 +4,7 @@ pub mod Found
 pub mod Kept
 pub mod Reading
 pub mod Slots
+pub mod Accounts
+pub mod Tickets
+pub mod Spelling
 pub use Rattle.block_journal.specs.Records
-pub use Rattle.slot_ledger.specs.Tickets

@@ -1,8 +1,8 @@
 -- What is read of a journal's bodies.
 use Rattle.std.specs.Prelude.{◌≡◌, ◌⊎◌, ℕ, ◌<◌, ◌^◌, Bool, List, [], ◌∷◌, ◌++◌, length, take, slice_index_or, ⊤}
 use Rattle.block_journal.specs.Records.{Counts}
-use Rattle.store_record.specs.Spelling.{spelling, HasSpelling}
-use Rattle.store_record.specs.declared.record.StoreRecord.{StoreRecord}
+use Rattle.data_device.specs.Spelling.{spelling, HasSpelling}
+use Rattle.data_device.specs.declared.record.StoreRecord.{StoreRecord}
 use Rattle.data_device.specs.declared.error.StoreError.{StoreError}
 use Rattle.data_device.specs.declared.error.StoreError.TheVariants.{Failed, NoSpace, JournalFull, BadRecord, NoMemory}
 use Rattle.data_device.specs.declared.replay.Replay.{Replay}

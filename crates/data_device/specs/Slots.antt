@@ -1,7 +1,7 @@
 -- Where slots lie on a data device.
 use Rattle.std.specs.Prelude.{ℕ, List}
 use Rattle.petal_disk.specs.Disk.{part}
-use Rattle.slot_ledger.specs.Slots as slots
+use Rattle.slot_store.specs.Slots as slots
 
 -- the first byte of a slot
 abbrev pub slot_start : ℕ → ℕ

@@ -8,9 +8,9 @@ ghost use Rattle.data_device.specs.Reading.{LeftByFormat};
 
 use crate::error::StoreError;
 use crate::header::Header;
+use crate::ledger::Ledger;
 use crate::record_log::RecordLog;
 use petal_disk::Disk;
-use slot_ledger::Ledger;
 use std::alloc::Global;
 
 /// Makes the device stand for no record, with a ledger of free slots.

@@ -5,7 +5,7 @@ ghost use Rattle.block_journal.specs.Records.{Counts, Stands};
 ghost use Rattle.petal_disk.specs.Disk.{Only};
 ghost use Rattle.device_faults.specs.Faults.{HasCause};
 ghost use Rattle.petal_disk.specs.Keeping.{KeepsDevice};
-ghost use Rattle.store_record.specs.declared.record.StoreRecord.{StoreRecord};
+ghost use Rattle.data_device.specs.declared.record.StoreRecord.{StoreRecord};
 ghost use Rattle.data_device.specs.Device.{header, bodies_of, AreSpelled, StandsFor, Logs};
 ghost use Rattle.data_device.specs.Errors.{HasFault};
 ghost use Rattle.data_device.specs.Found.{IsFound, IsOpenError, IsGoodError};
@@ -15,13 +15,13 @@ ghost use Rattle.data_device.specs.declared.error.StoreError.TheVariants as erro
 
 use crate::error::StoreError;
 use crate::header::{self, HEADER_BYTES, Header};
+use crate::ledger::{DATA_START, Ledger};
 use crate::record_log::{JOURNAL_BASE, JOURNAL_RECORDS, RecordLog};
 use crate::replay::{Replay, read_records};
-use block_journal::Journal;
+use block_journal::{Journal, read_front};
 use busy_marks::Marks;
-use device_gate::read_front;
 use petal_disk::{Disk, Failed};
-use slot_ledger::{DATA_START, Ledger, SLOT_BYTES};
+use slot_store::SLOT_BYTES;
 use std::alloc::Global;
 
 /// The records of a device, and what they give.

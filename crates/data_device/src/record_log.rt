@@ -9,11 +9,11 @@ ghost use Rattle.data_device.specs.Reading.{LeftByFormat};
 
 use crate::error::StoreError;
 use crate::header::{Header, spell};
+use crate::record::{StoreRecord, encode};
 use block_journal::{Journal, JournalError, write_header};
-use ghost_list::GhostList;
+use petal_base::GhostList;
 use petal_disk::Disk;
 use std::marker::Model;
-use store_record::{StoreRecord, encode};
 
 /// Where the journal begins.
 pub const JOURNAL_BASE: u64 = 4096;

@@ -3,8 +3,8 @@
 ghost use Rattle.std.specs.Prelude.{◌≡◌, ◌<◌, ◌^◌, ◌++◌, ◌∷◌, ℕ, List, [], length, IfOk, IfErr};
 ghost use Rattle.std.specs.Bool.{OnTrue, OnFalse};
 ghost use Rattle.block_journal.specs.Records.{contents};
-ghost use Rattle.store_record.specs.Spelling.{spelling, HasSpelling};
-ghost use Rattle.store_record.specs.declared.record.StoreRecord.{StoreRecord};
+ghost use Rattle.data_device.specs.Spelling.{spelling, HasSpelling};
+ghost use Rattle.data_device.specs.declared.record.StoreRecord.{StoreRecord};
 ghost use Rattle.data_device.specs.Device.{bodies_of, AreSpelled};
 ghost use Rattle.data_device.specs.Kept.{Fits, AllFit, formatted, kept_after};
 ghost use Rattle.data_device.specs.Reading.{kept_by, Reads, IsRead, IsBad, IsReadError};
@@ -12,13 +12,12 @@ ghost use Rattle.data_device.specs.declared.error.StoreError.TheVariants as erro
 
 use crate::error::StoreError;
 use crate::header::Header;
+use crate::ledger::Ledger;
+use crate::record::{StoreRecord, decode};
 use busy_marks::Marks;
-use ghost_list::GhostList;
-use petal_base::NoMemory;
+use petal_base::{GhostList, NoMemory};
 use physical_map::Entry;
-use slot_ledger::Ledger;
 use std::alloc::Global;
-use store_record::{StoreRecord, decode};
 
 /// The records so far, and what they give.
 #[derive(Drop)]

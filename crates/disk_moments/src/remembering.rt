@@ -3,8 +3,7 @@
 ghost use Rattle.std.specs.Prelude.{◌≡◌, ◌∷◌, replicate, IfOk};
 ghost use Rattle.petal_disk.specs.Disk.{Only};
 
-use ghost_list::{Change, GhostList};
-use petal_base::NoMemory;
+use petal_base::{Change, GhostList, NoMemory};
 use petal_disk::{Disk, Failed, MemDisk};
 use std::alloc::Global;
 

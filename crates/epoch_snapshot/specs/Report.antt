@@ -8,9 +8,9 @@ use Rattle.petal_command.specs.declared.command.Command.{Command}
 use Rattle.petal_command.specs.declared.command.Command.TheVariants.{Drained}
 use Rattle.global_tables.specs.View.{head}
 use Rattle.global_tables.specs.declared.fence.Fence.{Fence}
-use Rattle.petal_rules.specs.Draining.{awaits}
-use Rattle.petal_rules.specs.State.{State, held}
-use Rattle.petal_rules.specs.Writes.{is_clients, is_writes_held}
+use Rattle.spec_rules.specs.Draining.{awaits}
+use Rattle.spec_rules.specs.State.{State, held}
+use Rattle.spec_rules.specs.Writes.{is_clients, is_writes_held}
 
 -- the row is a client's write on a cell of which the active fence holds the writes
 abbrev pub is_held_write : State → Cell × Pending → Bool

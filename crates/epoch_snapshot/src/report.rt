@@ -2,8 +2,8 @@
 
 ghost use Rattle.std.specs.Prelude.{◌≡◌};
 ghost use Rattle.std.specs.List.{list_any};
-ghost use Rattle.petal_rules.specs.Draining.{awaits};
-ghost use Rattle.petal_rules.specs.Writes.{is_writes_held};
+ghost use Rattle.spec_rules.specs.Draining.{awaits};
+ghost use Rattle.spec_rules.specs.Writes.{is_writes_held};
 ghost use Rattle.epoch_snapshot.specs.Report.{is_held_write, report};
 
 use global_state::{Fence, GlobalState, Hold};

@@ -2,8 +2,8 @@
 use Rattle.std.specs.Prelude.{ℕ, Bool, false, ◌==◌, ◌&&◌}
 use Rattle.std.specs.Option.{is_none, option_map_or}
 use Rattle.global_tables.specs.declared.disk.DiskRow.{DiskRow}
-use Rattle.petal_state.specs.State.{State}
-use Rattle.petal_state.specs.CellState.{owner}
+use Rattle.spec_state.specs.State.{State}
+use Rattle.spec_state.specs.CellState.{owner}
 
 -- the map is the disk's, which is not on the move
 abbrev pub is_still : ℕ → DiskRow → Bool

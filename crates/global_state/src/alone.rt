@@ -3,9 +3,9 @@
 ghost use Rattle.std.specs.Prelude.{◌≡◌, ◌&&◌, false, if◌then◌else◌, None, Some, option_copied};
 ghost use Rattle.std.specs.Option.{option_map_or};
 ghost use Rattle.global_tables.specs.Link.{has_server, is_link, link_at, other_of};
-ghost use Rattle.petal_state.specs.CellState.{cell_link};
-ghost use Rattle.petal_state.specs.Command.{is_alone};
-ghost use Rattle.petal_state.specs.State.{is_up};
+ghost use Rattle.spec_state.specs.CellState.{cell_link};
+ghost use Rattle.spec_state.specs.Command.{is_alone};
+ghost use Rattle.spec_state.specs.State.{is_up};
 
 use crate::state::GlobalState;
 use global_tables::LinkRow;

@@ -3,13 +3,13 @@
 ghost use Rattle.std.specs.Prelude.{◌≡◌, option_copied, option_map};
 ghost use Rattle.global_tables.specs.Disk.{disk_at, named, snapshot_named};
 ghost use Rattle.global_tables.specs.Link.{link_at};
-ghost use Rattle.petal_state.specs.State.{latest};
-ghost use Rattle.petal_state.specs.CellState.{view_of, owner, region_at, cell_link, link_of_row, snapshot, least, next_epoch, next_snapshot};
+ghost use Rattle.spec_state.specs.State.{latest};
+ghost use Rattle.spec_state.specs.CellState.{view_of, owner, region_at, cell_link, link_of_row, snapshot, least, next_epoch, next_snapshot};
 
 use crate::state::GlobalState;
 use global_tables::{DiskRow, LinkRow, RegionState, Snapshot, Verdict};
 use petal_base::{Cell, ClientId, DiskId, Epoch, MapId, Name, Seq};
-use petal_state::{DiskView, Link};
+use spec_state::{DiskView, Link};
 use state_fold::{move_region, snapshot_named};
 
 fn view_of(row: &DiskRow) -> DiskView

@@ -17,5 +17,5 @@ pub use alone::holder_of;
 pub use global_tables::{
     Fence, FenceKind, Latest, LinkRow, LinkState, Member, RegionState, Verdict,
 };
-pub use petal_state::{DiskView, Hold, Link};
+pub use spec_state::{DiskView, Hold, Link};
 pub use state::GlobalState;

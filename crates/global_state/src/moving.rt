@@ -3,14 +3,14 @@
 ghost use Rattle.std.specs.Prelude.{◌≡◌, Option, find, option_and_then};
 ghost use Rattle.std.specs.List.{range_with_len};
 ghost use Rattle.global_tables.specs.Disk.{disk_at};
-ghost use Rattle.petal_state.specs.CellState.{cell_asked, cell_link, comes_under, coming, is_fenced, map_asked, move_region, region_at};
-ghost use Rattle.petal_state.specs.CellState.{region_leaving, region_on_way, row_lead, source, source_in, target};
+ghost use Rattle.spec_state.specs.CellState.{cell_asked, cell_link, comes_under, coming, is_fenced, map_asked, move_region, region_at};
+ghost use Rattle.spec_state.specs.CellState.{region_leaving, region_on_way, row_lead, source, source_in, target};
 
 use crate::state::GlobalState;
 use chain_place::region;
 use global_tables::{DiskRow, Move, RegionState};
 use petal_base::{BlockNo, Cell, MapId, REGIONS, ServerId};
-use petal_state::DiskView;
+use spec_state::DiskView;
 use state_fold::{is_fenced, move_region};
 
 fn comes_under(cell: Cell, row: &DiskRow) -> bool

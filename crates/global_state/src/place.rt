@@ -3,14 +3,14 @@
 ghost use Rattle.std.specs.Prelude.{◌≡◌, ℕ, true, Option, option_and_then, option_copied};
 ghost use Rattle.global_state.specs.LiveMap.{is_live_map, is_still};
 ghost use Rattle.global_tables.specs.Disk.{has_link};
-ghost use Rattle.petal_state.specs.CellState.{has_map, owner, live_new, live_old, live_under, live, leaving, cell_link, state_lead, row_lead, link_lead};
-ghost use Rattle.petal_state.specs.CellState.{lead, serves, readable, is_of, holds, held, noted_in, noted};
+ghost use Rattle.spec_state.specs.CellState.{has_map, owner, live_new, live_old, live_under, live, leaving, cell_link, state_lead, row_lead, link_lead};
+ghost use Rattle.spec_state.specs.CellState.{lead, serves, readable, is_of, holds, held, noted_in, noted};
 
 use crate::state::GlobalState;
 use chain_place::{link_of, region};
 use global_tables::{DiskRow, FenceKind, LinkRow, LinkState, Move, RegionState};
 use petal_base::{Cell, DiskId, MapId, ServerId};
-use petal_state::Hold;
+use spec_state::Hold;
 use state_fold::{is_fenced, leaves, move_region};
 
 fn has_map(map: MapId, row: &DiskRow) -> bool

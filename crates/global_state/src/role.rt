@@ -1,7 +1,7 @@
 //! What a server is to a cell.
 
 ghost use Rattle.std.specs.Prelude.{◌≡◌, option_copied};
-ghost use Rattle.petal_state.specs.Role.{is_the, is_lead, leads_link, row_in_both, both, in_both, first, second, is_second};
+ghost use Rattle.spec_state.specs.Role.{is_the, is_lead, leads_link, row_in_both, both, in_both, first, second, is_second};
 
 use crate::state::GlobalState;
 use global_tables::{LinkRow, LinkState};

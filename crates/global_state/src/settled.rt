@@ -2,7 +2,7 @@
 
 ghost use Rattle.std.specs.Prelude.{◌≡◌};
 ghost use Rattle.std.specs.List.{list_all};
-ghost use Rattle.petal_state.specs.Settled.{agrees, all_agree, is_only, link_settled, lacks_lead, move_settled, is_settled};
+ghost use Rattle.spec_state.specs.Settled.{agrees, all_agree, is_only, link_settled, lacks_lead, move_settled, is_settled};
 
 use crate::state::GlobalState;
 use global_tables::{LinkRow, LinkState, Member, Move};

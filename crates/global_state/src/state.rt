@@ -2,9 +2,9 @@
 
 ghost use Rattle.std.specs.Prelude.{◌≡◌, ◌<◌, ◌-◌, ◌^◌, IfOk, OnOk, OnErr, option_copied, slice_get};
 ghost use Rattle.global_tables.specs.View.{head};
-ghost use Rattle.petal_state.specs.State.{start, inc_of};
-ghost use Rattle.petal_state.specs.Command.{after, may_join};
-ghost use Rattle.petal_state.specs.Bound.{IsWithin};
+ghost use Rattle.spec_state.specs.State.{start, inc_of};
+ghost use Rattle.spec_state.specs.Command.{after, may_join};
+ghost use Rattle.spec_state.specs.Bound.{IsWithin};
 
 use global_tables::Fence;
 use petal_base::{Inc, NoMemory, Rev, ServerId};
@@ -20,8 +20,8 @@ pub struct GlobalState {
 }
 
 impl Model for GlobalState {
-    ghost use Rattle.petal_state.specs.State.{State};
-    ghost use Rattle.petal_state.specs.Bound.{IsWithin};
+    ghost use Rattle.spec_state.specs.State.{State};
+    ghost use Rattle.spec_state.specs.Bound.{IsWithin};
 
     ghost Value = { State };
 

@@ -3,7 +3,7 @@
 ghost use Rattle.std.specs.Prelude.{◌≡◌, false};
 ghost use Rattle.std.specs.Option.{option_map_or};
 ghost use Rattle.global_tables.specs.Link.{link_at};
-ghost use Rattle.petal_state.specs.Place.{touches, touches_cell};
+ghost use Rattle.spec_state.specs.Place.{touches, touches_cell};
 
 use crate::state::GlobalState;
 use global_tables::LinkRow;

@@ -11,8 +11,8 @@ use Rattle.petal_base.specs.declared.cell.Key.{Key}
 use Rattle.petal_base.specs.Cells.{cell_of}
 use Rattle.petal_table.specs.Table.{Table, put}
 use Rattle.petal_table.proofs.Rows.{at-empty}
-use Rattle.petal_rules.specs.Store.{Chain, Stored, cell_cmp, chain_in, chains_with}
-use Rattle.petal_rules.proofs.CellTables.{cell_cmp_total, cell_cmp_same, cell_same, cell_apart}
+use Rattle.spec_rules.specs.Store.{Chain, Stored, cell_cmp, chain_in, chains_with}
+use Rattle.spec_rules.proofs.CellTables.{cell_cmp_total, cell_cmp_same, cell_same, cell_apart}
 use Rattle.physical_map.specs.Keys.{key_below, same_key, placed}
 use Rattle.kept_chains.specs.Chains.{chains_by}
 use Rattle.kept_chains.proofs.Puts.{IsSorted, sorted_put, put_over, put_swap}

@@ -9,12 +9,12 @@ use Rattle.petal_base.specs.declared.cell.Key.{Key}
 use Rattle.petal_disk.specs.Disk.{LeavesOnly}
 use Rattle.petal_disk.specs.declared.disk.Disk.{Ghosts}
 use Rattle.petal_disk.proofs.Moments.{started, weaker}
-use Rattle.petal_rules.specs.Store.{Store, mark_on, settled, with_entry, with_mark_on, without_entry, without_mark_on}
+use Rattle.spec_rules.specs.Store.{Store, mark_on, settled, with_entry, with_mark_on, without_entry, without_mark_on}
 use Rattle.physical_map.specs.Keys.{IsInOrder}
 use Rattle.server_store.specs.Holdings.{Holdings, key_held}
 use Rattle.server_store.specs.Shown.{BeforeOrAfter, Holds, Shows, picture_of}
-use Rattle.store_record.specs.declared.record.StoreRecord.{StoreRecord}
-use Rattle.store_record.specs.declared.record.StoreRecord.TheVariants as kind
+use Rattle.data_device.specs.declared.record.StoreRecord.{StoreRecord}
+use Rattle.data_device.specs.declared.record.StoreRecord.TheVariants as kind
 use Rattle.kept_chains.specs.Kept.{store_of}
 use Rattle.kept_chains.specs.Standing.{StandsAs, StandsAsEither}
 use Rattle.kept_chains.proofs.Drops.{chains_dropped}

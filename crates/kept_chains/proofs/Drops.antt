@@ -11,8 +11,8 @@ use Rattle.petal_base.specs.declared.cell.Key.{Key}
 use Rattle.petal_base.specs.Cells.{cell_of}
 use Rattle.petal_table.specs.Table.{Table, at, put, without}
 use Rattle.petal_table.proofs.Rows.{at-empty}
-use Rattle.petal_rules.specs.Store.{Chain, Stored, cell_cmp, chain_in, chains_at, without_entry}
-use Rattle.petal_rules.proofs.CellTables.{cell_cmp_total, cell_cmp_same, cell_same, cell_apart, cell_gone, cell_gone_apart}
+use Rattle.spec_rules.specs.Store.{Chain, Stored, cell_cmp, chain_in, chains_at, without_entry}
+use Rattle.spec_rules.proofs.CellTables.{cell_cmp_total, cell_cmp_same, cell_same, cell_apart, cell_gone, cell_gone_apart}
 use Rattle.physical_map.specs.Entries.{in_cell}
 use Rattle.physical_map.specs.Keys.{key_below, same_key, IsAbove, IsInOrder}
 use Rattle.server_store.specs.Holdings.{Held, Holdings, key_held, without_held}

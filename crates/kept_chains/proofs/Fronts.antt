@@ -11,7 +11,7 @@ use Rattle.petal_base.specs.declared.cell.Cell.{Cell}
 use Rattle.petal_base.specs.declared.cell.Key.{Key}
 use Rattle.petal_base.specs.Cells.{cell_of}
 use Rattle.petal_table.specs.Table.{Table, at, put}
-use Rattle.petal_rules.specs.Store.{Chain, Stored, cell_cmp, chain_in, chains_with}
+use Rattle.spec_rules.specs.Store.{Chain, Stored, cell_cmp, chain_in, chains_with}
 use Rattle.physical_map.specs.Keys.{key_below, IsAbove, IsInOrder}
 use Rattle.kept_chains.specs.Chains.{chains_by}
 use Rattle.kept_chains.proofs.InOrder.{looked, new_first, none_below, both_first}

@@ -15,8 +15,8 @@ use Rattle.petal_base.specs.declared.cell.Key.{Key}
 use Rattle.petal_base.specs.Cells.{cell_of}
 use Rattle.petal_table.specs.Table.{Table, at, put}
 use Rattle.petal_table.proofs.Rows.{at-empty}
-use Rattle.petal_rules.specs.Store.{Chain, Stored, cell_cmp, chain_in, chains_with, entry_at, or_else, version_of, top_of, entries_of}
-use Rattle.petal_rules.proofs.CellTables.{cell_cmp_total}
+use Rattle.spec_rules.specs.Store.{Chain, Stored, cell_cmp, chain_in, chains_with, entry_at, or_else, version_of, top_of, entries_of}
+use Rattle.spec_rules.proofs.CellTables.{cell_cmp_total}
 use Rattle.physical_map.specs.Entries.{in_cell}
 use Rattle.physical_map.specs.Keys.{key_below, sees, later, newest, IsAbove, IsInOrder}
 use Rattle.std.proofs.lemmas.List.Sums.{sum_by-cons}

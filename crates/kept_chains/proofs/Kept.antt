@@ -5,7 +5,7 @@ use Rattle.std.specs.Prelude.{option_map}
 use Rattle.petal_base.specs.declared.cell.Cell.{Cell}
 use Rattle.petal_base.specs.declared.cell.Key.{Key}
 use Rattle.petal_base.specs.Cells.{cell_of}
-use Rattle.petal_rules.specs.Store as rules
+use Rattle.spec_rules.specs.Store as rules
 use Rattle.physical_map.specs.Entries.{in_cell, version_of, top_of}
 use Rattle.physical_map.specs.Keys.{placed, newest, IsInOrder}
 use Rattle.server_store.specs.Holdings.{Held, Holdings, key_held, listed, free_slots, content_of}

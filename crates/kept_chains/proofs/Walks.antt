@@ -17,9 +17,9 @@ use Rattle.petal_base.specs.declared.cell.Cell.{Cell}
 use Rattle.petal_base.specs.declared.cell.Key.{Key}
 use Rattle.petal_base.specs.Cells.{cell_of}
 use Rattle.petal_table.specs.Table.{Table, at, put}
-use Rattle.petal_rules.specs.Copies.{least}
-use Rattle.petal_rules.specs.Store.{Chain, Stored, bytes_of, cell_cmp, chain_in, entry_at, epochs_of, or_else}
-use Rattle.petal_rules.proofs.CellTables.{cell_cmp_same}
+use Rattle.spec_rules.specs.Copies.{least}
+use Rattle.spec_rules.specs.Store.{Chain, Stored, bytes_of, cell_cmp, chain_in, entry_at, epochs_of, or_else}
+use Rattle.spec_rules.proofs.CellTables.{cell_cmp_same}
 use Rattle.physical_map.specs.declared.entry.Entry.{Entry}
 use Rattle.physical_map.specs.Entries as entries
 use Rattle.physical_map.specs.Entries.{chain_of, in_cell, next_block_of, slot_of}

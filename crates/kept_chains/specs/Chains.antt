@@ -4,7 +4,7 @@ use Rattle.petal_base.specs.declared.cell.Cell.{Cell}
 use Rattle.petal_base.specs.declared.cell.Key.{Key}
 use Rattle.petal_table.specs.Table.{Table}
 use Rattle.physical_map.specs.Entries.{in_cell}
-use Rattle.petal_rules.specs.Store.{Chain, Stored, chains_with}
+use Rattle.spec_rules.specs.Store.{Chain, Stored, chains_with}
 
 -- the chains of all that stands in a list
 abbrev pub chains_by : {A : Type 0} → (A → Key) → (A → Stored) → List A → Table Cell Chain

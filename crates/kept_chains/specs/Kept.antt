@@ -2,7 +2,7 @@
 use Rattle.std.specs.Prelude.{List, length}
 use Rattle.petal_base.specs.declared.cell.Cell.{Cell}
 use Rattle.petal_table.specs.Table.{Table}
-use Rattle.petal_rules.specs.Store.{Chain, Stored, Store}
+use Rattle.spec_rules.specs.Store.{Chain, Stored, Store}
 use Rattle.server_store.specs.Holdings.{Held, Holdings, key_held}
 use Rattle.kept_chains.specs.Chains.{chains_by}
 

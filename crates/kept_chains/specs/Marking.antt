@@ -2,7 +2,7 @@
 use Rattle.std.specs.Prelude.{◌≡◌, ◌+◌, length, Result, IfErr, IsErrOf, OnOk, OnErr}
 use Rattle.petal_disk.specs.Disk.{LeavesOnly}
 use Rattle.petal_disk.specs.declared.disk.Disk.{Ghosts}
-use Rattle.petal_rules.specs.Store.{Store}
+use Rattle.spec_rules.specs.Store.{Store}
 use Rattle.server_store.specs.Errors.{IsMarkError, HasFault}
 use Rattle.server_store.specs.Holdings.{Holdings}
 use Rattle.server_store.specs.Shown.{Holds}

@@ -3,9 +3,9 @@ use Rattle.std.specs.Prelude.{◌≡◌, ◌⊎◌, ◌+◌, ℕ, Bool, List, le
 use Rattle.busy_marks.specs.declared.marks.Mark.{Mark}
 use Rattle.petal_base.specs.declared.cell.Cell.{Cell}
 use Rattle.petal_table.specs.Table.{Table}
-use Rattle.petal_rules.specs.Store.{Chain, Store}
+use Rattle.spec_rules.specs.Store.{Chain, Store}
 use Rattle.server_store.specs.Shown.{Picture, Shows}
-use Rattle.store_record.specs.declared.record.StoreRecord.{StoreRecord}
+use Rattle.data_device.specs.declared.record.StoreRecord.{StoreRecord}
 use Rattle.kept_chains.specs.Kept.{chains_of}
 
 -- these bytes stand for so many records, and what these show has the chains, the marks, and is still to be filled or not

@@ -3,7 +3,7 @@ use Rattle.std.specs.Prelude.{ℕ, ◌==◌, List, map, filter}
 use Rattle.busy_marks.specs.declared.marks.Mark.{Mark}
 use Rattle.petal_base.specs.declared.cell.Cell.{Cell}
 use Rattle.petal_table.specs.Table.{Table}
-use Rattle.petal_rules.specs.Store.{Chain, Stored}
+use Rattle.spec_rules.specs.Store.{Chain, Stored}
 use Rattle.kept_chains.specs.declared.walk.Found.{Found}
 
 -- the blocks of the map that have a chain

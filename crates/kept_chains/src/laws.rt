@@ -4,7 +4,7 @@ ghost use Rattle.std.specs.Prelude.{◌≡◌, List, length};
 ghost use Rattle.petal_base.specs.declared.cell.Cell.{Cell};
 ghost use Rattle.petal_base.specs.declared.cell.Key.{Key};
 ghost use Rattle.petal_base.specs.Cells.{cell_of};
-ghost use Rattle.petal_rules.specs.Store as rules;
+ghost use Rattle.spec_rules.specs.Store as rules;
 ghost use Rattle.physical_map.specs.Entries.{version_of, top_of};
 ghost use Rattle.physical_map.specs.Keys.{placed, newest, IsInOrder};
 ghost use Rattle.server_store.specs.Holdings.{Held, key_held, listed, content_of};

@@ -6,13 +6,13 @@ use Rattle.petal_command.specs.declared.command.Command.{Command}
 use Rattle.petal_command.specs.declared.pax.Pax.{Pax}
 use Rattle.petal_command.specs.declared.pax.Pax.TheVariants.{Prepare, Promise, Accept, Accepted, Refuse, Chosen}
 use Rattle.petal_command.specs.Ballot.{number}
-use Rattle.petal_paxos.specs.declared.phase.Phase.{Phase}
-use Rattle.petal_paxos.specs.declared.phase.Phase.TheVariants.{Idle, Collecting, Voting}
-use Rattle.petal_paxos.specs.Member.{In}
-use Rattle.petal_paxos.specs.Quorum.{IsMajority}
-use Rattle.petal_paxos.specs.Acceptor.{rank}
-use Rattle.petal_paxos.specs.Proposer.{rank_of, is_in}
-use Rattle.petal_paxos.specs.Schedule.{Vote, vote, sent, World, IsChosen}
+use Rattle.spec_paxos.specs.declared.phase.Phase.{Phase}
+use Rattle.spec_paxos.specs.declared.phase.Phase.TheVariants.{Idle, Collecting, Voting}
+use Rattle.spec_paxos.specs.Member.{In}
+use Rattle.spec_paxos.specs.Quorum.{IsMajority}
+use Rattle.spec_paxos.specs.Acceptor.{rank}
+use Rattle.spec_paxos.specs.Proposer.{rank_of, is_in}
+use Rattle.spec_paxos.specs.Schedule.{Vote, vote, sent, World, IsChosen}
 
 -- 0 while the server has promised nothing at the place, else one more than the ballot's number
 abbrev pub promised : World → ℕ → ℕ → ℕ

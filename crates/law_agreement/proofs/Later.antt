@@ -4,9 +4,9 @@ use Rattle.petal_command.specs.declared.ballot.Ballot.{Ballot}
 use Rattle.petal_command.specs.declared.command.Command.{Command}
 use Rattle.petal_command.specs.declared.pax.Pax.{Pax}
 use Rattle.petal_command.specs.declared.pax.Pax.TheVariants.{Prepare, Promise, Accept, Accepted, Refuse, Chosen}
-use Rattle.petal_paxos.specs.declared.phase.Phase.{Phase}
-use Rattle.petal_paxos.specs.declared.phase.Phase.TheVariants.{Idle, Collecting, Voting}
-use Rattle.petal_paxos.specs.Schedule.{World, IsChosen}
+use Rattle.spec_paxos.specs.declared.phase.Phase.{Phase}
+use Rattle.spec_paxos.specs.declared.phase.Phase.TheVariants.{Idle, Collecting, Voting}
+use Rattle.spec_paxos.specs.Schedule.{World, IsChosen}
 use Rattle.law_agreement.proofs.Facts.{HasPromised, IsGreatestBelow, HasCast, SomeoneCast, IsShut, IsBacked, Knows, IsLater}
 
 pub later_promised : (w v : World) → IsLater w v → (s p : ℕ) (b : Ballot) → HasPromised w s p b → HasPromised v s p b

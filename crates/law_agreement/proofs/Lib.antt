@@ -4,3 +4,5 @@ pub mod Later
 pub mod Moves
 pub mod Runs
 pub mod Wants
+pub mod Votes
+pub mod Places

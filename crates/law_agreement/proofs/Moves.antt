@@ -7,15 +7,15 @@ use Rattle.petal_command.specs.declared.command.Command.{Command}
 use Rattle.petal_command.specs.declared.pax.Pax.{Pax}
 use Rattle.petal_command.specs.declared.pax.Pax.TheVariants.{Accept}
 use Rattle.petal_command.specs.Ballot.{number}
-use Rattle.petal_paxos.specs.declared.phase.Phase.{Phase}
-use Rattle.petal_paxos.specs.declared.phase.Phase.TheVariants.{Idle, Collecting, Voting}
-use Rattle.petal_paxos.specs.Member.{In, put}
-use Rattle.petal_paxos.specs.Acceptor.{Acceptor, rank, accept}
-use Rattle.petal_paxos.specs.Proposer.{nobody, is_in, to_propose}
-use Rattle.petal_paxos.specs.Schedule.{Vote, vote, sent, World, End, Event, Starts, keep, cast, learn, raise, send, turn, IsChosen}
+use Rattle.spec_paxos.specs.declared.phase.Phase.{Phase}
+use Rattle.spec_paxos.specs.declared.phase.Phase.TheVariants.{Idle, Collecting, Voting}
+use Rattle.spec_paxos.specs.Member.{In, put}
+use Rattle.spec_paxos.specs.Acceptor.{Acceptor, rank, accept}
+use Rattle.spec_paxos.specs.Proposer.{nobody, is_in, to_propose}
+use Rattle.spec_paxos.specs.Schedule.{Vote, vote, sent, World, End, Event, Starts, keep, cast, learn, raise, send, turn, IsChosen}
 use Rattle.law_agreement.proofs.Facts.{promised, Asked, IsSafe, IsBacked, Knows, HasNotAsked, Holds, IsLater}
 use Rattle.law_agreement.proofs.Later.{later_cast, later_backed, later_knows, later_chosen}
-use Rattle.petal_paxos.proofs.Members.{in_cons, in_there, in_here, put_cases, put_at_cases}
+use Rattle.spec_paxos.proofs.Members.{in_cons, in_there, in_here, put_cases, put_at_cases}
 
 -- what holds of the new value at k, and of each other one, holds of each after `put`
 pub at_put : {A : Type 0} (P : ℕ → A → Type 0) (f : ℕ → A) (k : ℕ) (x : A) → P k x → ((j : ℕ) → j ≢ k → P j (f j)) → (j : ℕ) → P j (put f k x j)

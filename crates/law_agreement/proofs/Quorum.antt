@@ -1,6 +1,6 @@
 -- Two majorities share a server.
 use Rattle.std.proofs.Common.{ℕ, zero, suc, ◌+◌, ◌<◌, Bool, true, false, ◌≡◌, ◌⊎◌, if◌then◌else◌, arith, refl, inl, inr}
-use Rattle.petal_paxos.specs.Quorum.{count_below, IsMajority}
+use Rattle.spec_paxos.specs.Quorum.{count_below, IsMajority}
 
 -- a test that is true or false
 either : (b : Bool) → (b ≡ true) ⊎ (b ≡ false)

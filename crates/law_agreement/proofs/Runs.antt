@@ -8,19 +8,19 @@ use Rattle.petal_command.specs.declared.command.Command.{Command}
 use Rattle.petal_command.specs.declared.pax.Pax.{Pax}
 use Rattle.petal_command.specs.declared.pax.Pax.TheVariants.{Prepare, Promise, Accept, Accepted, Refuse, Chosen}
 use Rattle.petal_command.specs.Ballot.{number, same}
-use Rattle.petal_paxos.specs.declared.phase.Phase.{Phase}
-use Rattle.petal_paxos.specs.declared.phase.Phase.TheVariants.{Idle, Collecting, Voting}
-use Rattle.petal_paxos.specs.Member.{In}
-use Rattle.petal_paxos.specs.Quorum.{IsMajority}
-use Rattle.petal_paxos.specs.Acceptor.{is_open, is_unpromised, promise, refusal}
-use Rattle.petal_paxos.specs.Proposer.{rank_of, is_in, has_majority, higher, to_propose, collected, counted, is_for, counts, collecting, hear}
-use Rattle.petal_paxos.specs.Schedule.{vote, Sent, sent, World, End, Goes, StopsBefore, StopsAfter, Event, Starts, Handed, Stops, Boots, keep, learn, raise}
-use Rattle.petal_paxos.specs.Schedule.{send, turn, ended, starting, started, starts, comes_out, handed, arrives, boots, happens, run, begin, IsChosen}
+use Rattle.spec_paxos.specs.declared.phase.Phase.{Phase}
+use Rattle.spec_paxos.specs.declared.phase.Phase.TheVariants.{Idle, Collecting, Voting}
+use Rattle.spec_paxos.specs.Member.{In}
+use Rattle.spec_paxos.specs.Quorum.{IsMajority}
+use Rattle.spec_paxos.specs.Acceptor.{is_open, is_unpromised, promise, refusal}
+use Rattle.spec_paxos.specs.Proposer.{rank_of, is_in, has_majority, higher, to_propose, collected, counted, is_for, counts, collecting, hear}
+use Rattle.spec_paxos.specs.Schedule.{vote, Sent, sent, World, End, Goes, StopsBefore, StopsAfter, Event, Starts, Handed, Stops, Boots, keep, learn, raise}
+use Rattle.spec_paxos.specs.Schedule.{send, turn, ended, starting, started, starts, comes_out, handed, arrives, boots, happens, run, begin, IsChosen}
 use Rattle.law_agreement.proofs.Facts.{promised, HasPromised, IsGreatestBelow, HasCast, SomeoneCast, Asked, IsSafe, IsBacked, Knows, HasNotAsked, Holds}
 use Rattle.law_agreement.proofs.Later.{later_cast}
 use Rattle.law_agreement.proofs.Moves.{keep_later, cast_in, one_server, not_in_nobody, Origin, HasOrigin, Promises, Casts, Sends, Turns, Asks}
 use Rattle.law_agreement.proofs.Moves.{Learns, Raises, move_holds, Leads, Still, goes, last, keeps}
-use Rattle.petal_paxos.proofs.Members.{in_nil, in_here, in_there, put_at_cases, in_got}
+use Rattle.spec_paxos.proofs.Members.{in_nil, in_here, in_there, put_at_cases, in_got}
 use Rattle.law_agreement.proofs.Quorum.{meet}
 
 -- tests

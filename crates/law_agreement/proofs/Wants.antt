@@ -3,13 +3,13 @@ use Rattle.std.proofs.Common.{ℕ, ◌≤◌, Bool, ◌≡◌, inl, inr, List, [
 use Rattle.std.specs.Prelude.{⊤}
 use Rattle.petal_command.specs.declared.ballot.Ballot.{Ballot}
 use Rattle.petal_command.specs.declared.command.Command.{Command}
-use Rattle.petal_paxos.specs.declared.phase.Phase.{Phase}
-use Rattle.petal_paxos.specs.declared.phase.Phase.TheVariants.{Idle, Collecting, Voting}
-use Rattle.petal_paxos.specs.Member.{In, put}
-use Rattle.petal_paxos.specs.Proposer.{nobody, to_propose}
-use Rattle.petal_paxos.specs.Schedule.{Vote, World, Event, Starts, Handed, Stops, Boots, happens, run, begin, IsChosen, IsWanted}
+use Rattle.spec_paxos.specs.declared.phase.Phase.{Phase}
+use Rattle.spec_paxos.specs.declared.phase.Phase.TheVariants.{Idle, Collecting, Voting}
+use Rattle.spec_paxos.specs.Member.{In, put}
+use Rattle.spec_paxos.specs.Proposer.{nobody, to_propose}
+use Rattle.spec_paxos.specs.Schedule.{Vote, World, Event, Starts, Handed, Stops, Boots, happens, run, begin, IsChosen, IsWanted}
 use Rattle.law_agreement.proofs.Facts.{SomeoneCast, Asked, Holds}
-use Rattle.petal_paxos.proofs.Members.{in_nil, in_cons, in_there}
+use Rattle.spec_paxos.proofs.Members.{in_nil, in_cons, in_there}
 use Rattle.law_agreement.proofs.Moves.{at_put, Origin, HasOrigin, IsMove, Promises, Casts, Sends, Turns, Asks, Learns, Raises, keeps}
 use Rattle.law_agreement.proofs.Runs.{moves, happens_holds, run_holds, begin_holds, meets}
 

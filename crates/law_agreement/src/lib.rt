@@ -2,18 +2,22 @@
 //! Parliament", 1998; "Paxos Made Simple", 2001).
 //!
 //! To the layers above it promises this and what goes with it: what is chosen stays chosen, only what a server wanted is
-//! chosen, what is told of a place is what was chosen there, and what a letter says stands on its sender's device. It speaks
-//! of the definitions of `petal_paxos` alone and knows nothing of code.
+//! chosen, what is told of a place is what was chosen there, and what a letter says stands on its sender's device; and what the records
+//! on all state devices tell of the chosen log (`chosen`). It speaks of the definitions of `spec_paxos` alone and knows nothing of code.
 #![tactic(auto)]
 
 ghost use Rattle.std.specs.Prelude.{◌≡◌, ◌≤◌, ◌<◌, ◌+◌, ◌++◌, ℕ, Bool, true, List, [], ◌∷◌, Option, Some};
 ghost use Rattle.petal_command.specs.declared.ballot.Ballot.{Ballot};
 ghost use Rattle.petal_command.specs.declared.command.Command.{Command};
 ghost use Rattle.petal_command.specs.declared.pax.Pax.TheVariants.{Promise, Accepted, Chosen};
-ghost use Rattle.petal_paxos.specs.Member.{In};
-ghost use Rattle.petal_paxos.specs.Quorum.{IsMajority};
-ghost use Rattle.petal_paxos.specs.Acceptor.{rank};
-ghost use Rattle.petal_paxos.specs.Schedule.{Sent, sent, vote, World, Event, Starts, Handed, Boots, Goes, StopsAfter, run, begin, IsChosen, IsWanted};
+ghost use Rattle.spec_paxos.specs.Member.{In};
+ghost use Rattle.spec_paxos.specs.Quorum.{IsMajority};
+ghost use Rattle.spec_paxos.specs.Acceptor.{rank};
+ghost use Rattle.spec_paxos.specs.Schedule.{Sent, sent, vote, World, Event, Starts, Handed, Boots, Goes, StopsAfter, run, begin, IsChosen, IsWanted};
+
+mod chosen;
+
+pub use chosen::{log_is_the_longest_run, log_only_grows, majorities_choose};
 
 /// Two majorities share a server.
 pub fn majorities_meet()

@@ -13,15 +13,15 @@ use Rattle.script_lines.specs.Printed.{answer_line}
 use Rattle.script_lines.specs.declared.answer.Answer.{Answer}
 use Rattle.script_lines.specs.declared.request.Line.{Line}
 use Rattle.script_lines.specs.declared.script.Script.{Script}
-use Rattle.petal_rules.specs.Lists.{In}
-use Rattle.petal_rules.specs.World.{Setting, World, IsAnswered, start, setting_of}
-use Rattle.petal_history.specs.Steps.{AreSteps, AreStepsFrom, stepped, world_after}
-use Rattle.petal_history.specs.Text.{answers_of, text_of, with_given}
-use Rattle.petal_history.specs.declared.record.Record.{Record}
+use Rattle.spec_rules.specs.Lists.{In}
+use Rattle.spec_rules.specs.World.{Setting, World, IsAnswered, start, setting_of}
+use Rattle.spec_history.specs.Steps.{AreSteps, AreStepsFrom, stepped, world_after}
+use Rattle.spec_history.specs.Text.{answers_of, text_of, with_given}
+use Rattle.spec_history.specs.declared.record.Record.{Record}
 use Rattle.law_steps.proofs.Histories.{front_legal}
-use Rattle.petal_rules.proofs.Tests.{by_bool}
-use Rattle.petal_history.specs.Order.{AreRising, AnsweredComeFirst, is_answered}
-use Rattle.law_answers.proofs.Once.{Ahead, answered_more, stepped_is, ahead_after, told_after, ahead_start, told_start}
+use Rattle.spec_rules.proofs.Tests.{by_bool}
+use Rattle.spec_history.specs.Order.{AreRising, AnsweredComeFirst, is_answered}
+use Rattle.law_answers.proofs.AnsweredOnce.{Ahead, answered_more, stepped_is, ahead_after, told_after, ahead_start, told_start}
 
 -- ### Tables
 

@@ -2,10 +2,10 @@
 use Rattle.std.proofs.Common.{◌≡◌, ◌<◌, ℕ, zero, suc, Bool, true, false, cond, List, [], ◌∷◌, Some, refl, sym, ap, ◌∙◌, subst, inl, inr, arith}
 use Rattle.std.specs.Prelude.{◌==◌, filter, slice_get}
 use Rattle.script_lines.specs.declared.request.Line.{Line}
-use Rattle.petal_rules.specs.Lists.{In}
-use Rattle.petal_rules.specs.World.{lines_of}
-use Rattle.petal_rules.proofs.Tests.{same_some, none_some, same_numbers}
-use Rattle.petal_history.specs.Order.{AreRising}
+use Rattle.spec_rules.specs.Lists.{In}
+use Rattle.spec_rules.specs.World.{lines_of}
+use Rattle.spec_rules.proofs.Tests.{same_some, none_some, same_numbers}
+use Rattle.spec_history.specs.Order.{AreRising}
 
 kept_line : (p : Line → Bool) (lines : List Line) (line : Line) → In line (filter p lines) → In line lines × (p line ≡ true)
 unfolding In

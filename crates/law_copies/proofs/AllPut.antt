@@ -7,11 +7,11 @@ use Rattle.global_tables.specs.declared.link.LinkRow.{LinkRow}
 use Rattle.petal_base.specs.declared.cell.Cell.{Cell}
 use Rattle.petal_msg.specs.declared.copying.Copying.{Copying}
 use Rattle.petal_msg.specs.declared.copying.LastCopy.{LastCopy}
-use Rattle.petal_rules.specs.Copies.{epochs_beyond}
-use Rattle.petal_rules.specs.Progress.{copying_on, last_copy}
-use Rattle.petal_rules.specs.Server.{Own}
-use Rattle.petal_rules.specs.Store.{Chain, Store, chain_in, epochs_of}
-use Rattle.petal_rules.proofs.Tests.{same_some, true_false}
+use Rattle.spec_rules.specs.Copies.{epochs_beyond}
+use Rattle.spec_rules.specs.Progress.{copying_on, last_copy}
+use Rattle.spec_rules.specs.Server.{Own}
+use Rattle.spec_rules.specs.Store.{Chain, Store, chain_in, epochs_of}
+use Rattle.spec_rules.proofs.Tests.{same_some, true_false}
 use Rattle.law_steps.specs.Ready.{IsRising}
 use Rattle.law_copies.specs.Copied.{AreCopying, IsCopied, IsCopying, IsFollowed}
 use Rattle.law_copies.specs.Steps.{IsStill}

@@ -6,12 +6,12 @@ use Rattle.global_tables.specs.declared.link.LinkRow.{LinkRow}
 use Rattle.global_tables.specs.declared.link.LinkState.TheVariants.{Both, Lost}
 use Rattle.petal_base.specs.declared.cell.Cell.{Cell}
 use Rattle.petal_msg.specs.declared.body.Body.{Body}
-use Rattle.petal_state.specs.CellState.{cell_link, row_lead}
-use Rattle.petal_state.specs.Command.{is_alone}
-use Rattle.petal_rules.specs.Copies.{cell_holder}
-use Rattle.petal_rules.specs.Server.{Own, Here, Done}
-use Rattle.petal_rules.specs.State.{holder_of, is_second, leads_link, live, second}
-use Rattle.petal_rules.proofs.Tests.{by_bool, is_the_one, none_some, same_some, true_false}
+use Rattle.spec_state.specs.CellState.{cell_link, row_lead}
+use Rattle.spec_state.specs.Command.{is_alone}
+use Rattle.spec_rules.specs.Copies.{cell_holder}
+use Rattle.spec_rules.specs.Server.{Own, Here, Done}
+use Rattle.spec_rules.specs.State.{holder_of, is_second, leads_link, live, second}
+use Rattle.spec_rules.proofs.Tests.{by_bool, is_the_one, none_some, same_some, true_false}
 use Rattle.law_state.specs.Homes.{stage_at}
 use Rattle.law_state.specs.Rows.{ByBoth, ByNone, ByOne}
 use Rattle.law_state.specs.Steady.{IsLinked, IsSteady}

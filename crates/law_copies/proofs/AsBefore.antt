@@ -11,12 +11,12 @@ use Rattle.petal_table.specs.Table.{at}
 use Rattle.petal_msg.specs.declared.body.Body.{Body}
 use Rattle.petal_msg.specs.declared.copying.Progress.{Progress}
 use Rattle.petal_msg.specs.declared.operation.Pending.{Pending}
-use Rattle.petal_rules.specs.Progress.{no_progress, progress_on}
-use Rattle.petal_rules.specs.Server.{Own}
-use Rattle.petal_rules.specs.State.{id_of, link_cmp}
-use Rattle.petal_rules.specs.Store.{Store}
-use Rattle.petal_rules.specs.Writes.{is_clients}
-use Rattle.petal_rules.proofs.Tests.{same_some}
+use Rattle.spec_rules.specs.Progress.{no_progress, progress_on}
+use Rattle.spec_rules.specs.Server.{Own}
+use Rattle.spec_rules.specs.State.{id_of, link_cmp}
+use Rattle.spec_rules.specs.Store.{Store}
+use Rattle.spec_rules.specs.Writes.{is_clients}
+use Rattle.spec_rules.proofs.Tests.{same_some}
 use Rattle.law_state.specs.Started.{is_flagged}
 use Rattle.law_copies.specs.Copied.{AreAlike, AreCopying, IsCovered, Is_equal, Is_marked_here, Is_marked_there, Is_to_be_copied}
 use Rattle.law_copies.specs.Pair.{Known, Pair, PairOk, far}

@@ -8,13 +8,13 @@ use Rattle.petal_msg.specs.Kinds.{about, subject_of}
 use Rattle.petal_msg.specs.declared.body.Body.{Body}
 use Rattle.petal_msg.specs.declared.body.Body.TheVariants as body
 use Rattle.petal_msg.specs.declared.copying.LastCopy.{LastCopy}
-use Rattle.petal_state.specs.CellState.{cell_link}
-use Rattle.petal_rules.specs.Lists.{In}
-use Rattle.petal_rules.specs.Progress.{last_copy}
-use Rattle.petal_rules.specs.Server.{Own, Post, Server, Done}
-use Rattle.petal_rules.specs.State.{holder_of, live}
-use Rattle.petal_rules.specs.Store.{Store, chain_in}
-use Rattle.petal_rules.specs.World.{Setting, World, chosen_log, server_state}
+use Rattle.spec_state.specs.CellState.{cell_link}
+use Rattle.spec_rules.specs.Lists.{In}
+use Rattle.spec_rules.specs.Progress.{last_copy}
+use Rattle.spec_rules.specs.Server.{Own, Post, Server, Done}
+use Rattle.spec_rules.specs.State.{holder_of, live}
+use Rattle.spec_rules.specs.Store.{Store, chain_in}
+use Rattle.spec_rules.specs.World.{Setting, World, chosen_log, server_state}
 use Rattle.law_state.specs.Homes.{stage_at}
 use Rattle.law_steps.specs.Happens.{Handled, is_between, own_place}
 use Rattle.law_steps.specs.Ready.{IsRising}

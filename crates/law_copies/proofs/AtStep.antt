@@ -1,10 +1,10 @@
 -- A step of a server, over what was good before it.
 use Rattle.std.proofs.Common.{◌≡◌, ◌≢◌, ℕ, List, None}
 use Rattle.petal_command.specs.declared.command.Command.{Command}
-use Rattle.petal_history.specs.Claims.{IsPrefix}
-use Rattle.petal_history.specs.declared.record.Record.{Record}
-use Rattle.petal_rules.specs.Server.{Server}
-use Rattle.petal_rules.specs.World.{Setting, World}
+use Rattle.spec_history.specs.Claims.{IsPrefix}
+use Rattle.spec_history.specs.declared.record.Record.{Record}
+use Rattle.spec_rules.specs.Server.{Server}
+use Rattle.spec_rules.specs.World.{Setting, World}
 use Rattle.law_state.specs.Plain.{IsPlainLog}
 use Rattle.law_copies.specs.Good.{Good}
 

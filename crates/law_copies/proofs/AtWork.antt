@@ -1,13 +1,13 @@
 -- A server that runs, and is In as itself, is at work with the store that counts.
 use Rattle.std.proofs.Common.{◌≡◌, ℕ, List, true}
 use Rattle.script_lines.specs.declared.script.Script.{Script}
-use Rattle.petal_history.specs.Steps.{AreSteps, world_after}
-use Rattle.petal_history.specs.Sound.{IsSound}
-use Rattle.petal_history.specs.declared.record.Record.{Record}
-use Rattle.petal_rules.specs.State.{is_in}
-use Rattle.petal_rules.specs.World.{World, kept, server_state, setting_of, start}
+use Rattle.spec_history.specs.Steps.{AreSteps, world_after}
+use Rattle.spec_history.specs.Sound.{IsSound}
+use Rattle.spec_history.specs.declared.record.Record.{Record}
+use Rattle.spec_rules.specs.State.{is_in}
+use Rattle.spec_rules.specs.World.{World, kept, server_state, setting_of, start}
 use Rattle.law_log.proofs.Histories.{history_is_firm}
-use Rattle.law_stores.proofs.Histories.{in_counts, in_own}
+use Rattle.law_copies.proofs.StoreHistories.{in_counts, in_own}
 use Rattle.law_copies.proofs.AtSeat.{IsAtWork}
 
 abbrev At : Script → List Record → World

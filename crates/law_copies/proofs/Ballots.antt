@@ -11,15 +11,15 @@ use Rattle.petal_msg.specs.declared.body.Body.{Body}
 use Rattle.petal_msg.specs.declared.copying.Copying.{Copying}
 use Rattle.petal_msg.specs.declared.copying.LinkId.{LinkId}
 use Rattle.petal_msg.specs.declared.copying.Progress.{Progress}
-use Rattle.petal_state.specs.CellState.{cell_link}
+use Rattle.spec_state.specs.CellState.{cell_link}
 use Rattle.petal_table.specs.Table.{Table, at}
-use Rattle.petal_rules.specs.Copies.{cell_at}
-use Rattle.petal_rules.specs.Progress.{progress_on, with_progress}
-use Rattle.petal_rules.specs.Returns.{holds_link, proposed}
-use Rattle.petal_rules.specs.Server.{Own, Pairs, Here}
-use Rattle.petal_rules.specs.State.{State, id_of, link_cmp, link_named, live}
-use Rattle.petal_rules.specs.Store.{Store, cell_cmp, chain_in}
-use Rattle.petal_rules.proofs.Tests.{by_bool, none_some, true_false}
+use Rattle.spec_rules.specs.Copies.{cell_at}
+use Rattle.spec_rules.specs.Progress.{progress_on, with_progress}
+use Rattle.spec_rules.specs.Returns.{holds_link, proposed}
+use Rattle.spec_rules.specs.Server.{Own, Pairs, Here}
+use Rattle.spec_rules.specs.State.{State, id_of, link_cmp, link_named, live}
+use Rattle.spec_rules.specs.Store.{Store, cell_cmp, chain_in}
+use Rattle.spec_rules.proofs.Tests.{by_bool, none_some, true_false}
 use Rattle.law_log.proofs.Flags.{flag_put, progress_beside, same_id}
 use Rattle.law_steps.specs.Happens.{IsBallotFor, Starts}
 use Rattle.law_copies.specs.Copied.{AreCopying, HasPage, IsCovered, Is_equal, Is_marked_here, Is_marked_there, Is_to_be_copied, IsLeft, IsTrimming, NotCopied}

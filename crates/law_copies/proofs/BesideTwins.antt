@@ -15,15 +15,15 @@ use Rattle.petal_msg.specs.declared.copying.LastCopy.{LastCopy}
 use Rattle.petal_msg.specs.declared.letter.Actor.{Actor}
 use Rattle.petal_msg.specs.declared.operation.Far.{Far}
 use Rattle.petal_msg.specs.declared.operation.Far.TheVariants as far
-use Rattle.petal_state.specs.CellState.{cell_link}
-use Rattle.petal_state.specs.Command.{is_alone}
-use Rattle.petal_rules.specs.Copies.{cell_holder}
-use Rattle.petal_rules.specs.Lists.{In}
-use Rattle.petal_rules.specs.State.{in_both, is_second, secondary}
-use Rattle.petal_rules.specs.Store.{chain_in}
-use Rattle.petal_rules.specs.Server.{Own, Post, Done, says}
-use Rattle.petal_rules.specs.Writes.{follows, tells, with_last}
-use Rattle.petal_rules.proofs.Tests.{is_the_one, same_some, true_false}
+use Rattle.spec_state.specs.CellState.{cell_link}
+use Rattle.spec_state.specs.Command.{is_alone}
+use Rattle.spec_rules.specs.Copies.{cell_holder}
+use Rattle.spec_rules.specs.Lists.{In}
+use Rattle.spec_rules.specs.State.{in_both, is_second, secondary}
+use Rattle.spec_rules.specs.Store.{chain_in}
+use Rattle.spec_rules.specs.Server.{Own, Post, Done, says}
+use Rattle.spec_rules.specs.Writes.{follows, tells, with_last}
+use Rattle.spec_rules.proofs.Tests.{is_the_one, same_some, true_false}
 use Rattle.law_state.proofs.Alone.{second_secondary, so_both}
 use Rattle.law_steps.specs.DidFiller.{DidFiller}
 use Rattle.law_steps.specs.DidSweep.{DidSweep}

@@ -8,18 +8,18 @@ use Rattle.global_tables.specs.declared.link.LinkState.TheVariants.{Both, Lost, 
 use Rattle.petal_base.specs.declared.cell.Cell.{Cell}
 use Rattle.petal_command.specs.declared.command.Command.{Command}
 use Rattle.petal_command.specs.declared.command.Command.TheVariants.{Caught, Join, Leave}
-use Rattle.petal_history.specs.Claims.{IsPrefix}
-use Rattle.petal_history.specs.declared.record.Record.{Record}
-use Rattle.petal_state.specs.CellState.{cell_link}
-use Rattle.petal_state.specs.Command.{state_after}
-use Rattle.petal_rules.specs.Blanked.{joins_blank}
-use Rattle.petal_rules.specs.Lists.{In}
-use Rattle.petal_rules.specs.Server.{Own}
-use Rattle.petal_rules.specs.State.{State, id_of, is_whole}
-use Rattle.petal_rules.specs.Store.{Store, chain_in}
-use Rattle.petal_rules.specs.World.{Setting, World, blank_joins_in, chosen_log}
-use Rattle.petal_rules.proofs.ListLemmas.{in_later}
-use Rattle.petal_rules.proofs.Tests.{by_bool, number_itself}
+use Rattle.spec_history.specs.Claims.{IsPrefix}
+use Rattle.spec_history.specs.declared.record.Record.{Record}
+use Rattle.spec_state.specs.CellState.{cell_link}
+use Rattle.spec_state.specs.Command.{state_after}
+use Rattle.spec_rules.specs.Blanked.{joins_blank}
+use Rattle.spec_rules.specs.Lists.{In}
+use Rattle.spec_rules.specs.Server.{Own}
+use Rattle.spec_rules.specs.State.{State, id_of, is_whole}
+use Rattle.spec_rules.specs.Store.{Store, chain_in}
+use Rattle.spec_rules.specs.World.{Setting, World, blank_joins_in, chosen_log}
+use Rattle.spec_rules.proofs.ListLemmas.{in_later}
+use Rattle.spec_rules.proofs.Tests.{by_bool, number_itself}
 use Rattle.law_state.specs.Firm.{Firm}
 use Rattle.law_state.specs.Joins.{HasJoinedSince}
 use Rattle.law_state.specs.Places.{By_caught, By_join, By_leave, row_joined}

@@ -11,18 +11,18 @@ use Rattle.petal_msg.specs.Kinds.{about, subject_of}
 use Rattle.petal_msg.specs.declared.body.Body.{Body}
 use Rattle.petal_msg.specs.declared.body.Body.TheVariants as body
 use Rattle.petal_msg.specs.declared.letter.Letter.{Letter}
-use Rattle.petal_history.specs.Claims.{IsPrefix}
-use Rattle.petal_history.specs.declared.record.Record.{Record}
-use Rattle.petal_state.specs.Command.{state_after}
-use Rattle.petal_rules.specs.Lists.{In}
-use Rattle.petal_rules.specs.Log.{state_in}
-use Rattle.petal_rules.specs.Progress.{last_copy}
-use Rattle.petal_rules.specs.Server.{Own, Post, letters_of, sender}
-use Rattle.petal_rules.specs.State.{State, id_of, live}
-use Rattle.petal_rules.specs.Store.{chain_in}
-use Rattle.petal_rules.specs.World.{chosen_log, server_state, stamped}
-use Rattle.petal_rules.proofs.Applied.{rev_after}
-use Rattle.petal_rules.proofs.Tests.{by_bool, same_some, true_false}
+use Rattle.spec_history.specs.Claims.{IsPrefix}
+use Rattle.spec_history.specs.declared.record.Record.{Record}
+use Rattle.spec_state.specs.Command.{state_after}
+use Rattle.spec_rules.specs.Lists.{In}
+use Rattle.spec_rules.specs.Log.{state_in}
+use Rattle.spec_rules.specs.Progress.{last_copy}
+use Rattle.spec_rules.specs.Server.{Own, Post, letters_of, sender}
+use Rattle.spec_rules.specs.State.{State, id_of, live}
+use Rattle.spec_rules.specs.Store.{chain_in}
+use Rattle.spec_rules.specs.World.{chosen_log, server_state, stamped}
+use Rattle.spec_rules.proofs.Applied.{rev_after}
+use Rattle.spec_rules.proofs.Tests.{by_bool, same_some, true_false}
 use Rattle.law_state.specs.Homes.{stage_at}
 use Rattle.law_state.specs.Started.{is_flagged}
 use Rattle.law_state.proofs.Grown.{alone_not_both, lost_not_both}

@@ -2,11 +2,11 @@
 use Rattle.std.proofs.Common.{◌≡◌, ◌++◌, ℕ, List, [], ◌∷◌, true, false, if◌then◌else◌, Some, sym, ap, ◌∙◌, subst, inl, inr, append_assoc}
 use Rattle.std.proofs.lemmas.List.{append-nil}
 use Rattle.petal_base.specs.declared.cell.Cell.{Cell}
-use Rattle.petal_history.specs.Steps.{world_after}
-use Rattle.petal_history.specs.declared.record.Record.{Record}
-use Rattle.petal_rules.specs.Server.{Own, Server}
-use Rattle.petal_rules.specs.World.{Setting, World, start}
-use Rattle.petal_rules.proofs.Tests.{by_bool, same_some, true_false}
+use Rattle.spec_history.specs.Steps.{world_after}
+use Rattle.spec_history.specs.declared.record.Record.{Record}
+use Rattle.spec_rules.specs.Server.{Own, Server}
+use Rattle.spec_rules.specs.World.{Setting, World, start}
+use Rattle.spec_rules.proofs.Tests.{by_bool, same_some, true_false}
 use Rattle.law_steps.proofs.Records.{none_before_none, split_last}
 use Rattle.law_copies.specs.Visits.{Visits, WasThere, is_at}
 use Rattle.law_copies.proofs.Visited.{IsThen, seen}

@@ -11,15 +11,15 @@ use Rattle.petal_msg.specs.declared.body.Body.{Body}
 use Rattle.petal_msg.specs.declared.body.Body.TheVariants as body
 use Rattle.petal_msg.specs.declared.copying.Copying.{Copying}
 use Rattle.petal_msg.specs.declared.copying.LastCopy.{LastCopy}
-use Rattle.petal_history.specs.Claims.{IsMarked, IsToBeCopied}
-use Rattle.petal_rules.specs.Copies.{begins_copy, cell_at, epochs_beyond}
-use Rattle.petal_rules.specs.Progress.{copying_on, last_copy, progress_on, with_copying}
-use Rattle.petal_rules.specs.Server.{Own, Pairs}
-use Rattle.petal_rules.specs.State.{id_of}
-use Rattle.petal_rules.specs.Store.{Chain, Store, Stored, chain_in, epochs_of, without_mark_on}
-use Rattle.petal_rules.specs.Writes.{pending_on}
-use Rattle.petal_rules.proofs.CellTables.{cell_apart, cell_same}
-use Rattle.petal_rules.proofs.Tests.{none_some, same_some, some_or_none, true_false}
+use Rattle.spec_history.specs.Claims.{IsMarked, IsToBeCopied}
+use Rattle.spec_rules.specs.Copies.{begins_copy, cell_at, epochs_beyond}
+use Rattle.spec_rules.specs.Progress.{copying_on, last_copy, progress_on, with_copying}
+use Rattle.spec_rules.specs.Server.{Own, Pairs}
+use Rattle.spec_rules.specs.State.{id_of}
+use Rattle.spec_rules.specs.Store.{Chain, Store, Stored, chain_in, epochs_of, without_mark_on}
+use Rattle.spec_rules.specs.Writes.{pending_on}
+use Rattle.spec_rules.proofs.CellTables.{cell_apart, cell_same}
+use Rattle.spec_rules.proofs.Tests.{none_some, same_some, some_or_none, true_false}
 use Rattle.law_state.specs.Started.{is_flagged}
 use Rattle.law_steps.specs.DidHolder.{first_copy}
 use Rattle.law_steps.specs.Ready.{IsRising}

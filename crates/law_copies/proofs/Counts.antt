@@ -7,15 +7,15 @@ use Rattle.global_tables.specs.declared.link.LinkRow.{LinkRow}
 use Rattle.petal_base.specs.declared.cell.Cell.{Cell}
 use Rattle.petal_command.specs.declared.command.Command.{Command}
 use Rattle.petal_command.specs.declared.command.Command.TheVariants.{Join}
-use Rattle.petal_history.specs.Claims.{IsPrefix}
-use Rattle.petal_state.specs.Command.{after, may_join, state_after}
-use Rattle.petal_state.specs.Place.{places_from, touches}
-use Rattle.petal_state.specs.State.{start}
-use Rattle.petal_rules.specs.Blanked.{blank_joins_from, joins_blank}
-use Rattle.petal_rules.specs.State.{State}
-use Rattle.petal_rules.specs.Store.{Store}
-use Rattle.petal_rules.specs.World.{Setting, blank_joins_in}
-use Rattle.petal_rules.proofs.Tests.{both_true, by_bool, same_numbers, true_false}
+use Rattle.spec_history.specs.Claims.{IsPrefix}
+use Rattle.spec_state.specs.Command.{after, may_join, state_after}
+use Rattle.spec_state.specs.Place.{places_from, touches}
+use Rattle.spec_state.specs.State.{start}
+use Rattle.spec_rules.specs.Blanked.{blank_joins_from, joins_blank}
+use Rattle.spec_rules.specs.State.{State}
+use Rattle.spec_rules.specs.Store.{Store}
+use Rattle.spec_rules.specs.World.{Setting, blank_joins_in}
+use Rattle.spec_rules.proofs.Tests.{both_true, by_bool, same_numbers, true_false}
 use Rattle.law_state.specs.Plain.{IsPlainLog}
 use Rattle.law_state.proofs.BlankJoins.{joins_grow, joins_on}
 use Rattle.law_state.proofs.Touching.{places_of_both}

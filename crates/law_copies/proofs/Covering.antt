@@ -8,10 +8,10 @@ use Rattle.petal_base.specs.declared.cell.Cell.{Cell}
 use Rattle.petal_table.specs.Table.{at}
 use Rattle.petal_msg.specs.declared.operation.Pending.{Pending}
 use Rattle.petal_msg.specs.declared.operation.Stage.{Stage}
-use Rattle.petal_history.specs.Claims.{one_put_ahead}
-use Rattle.petal_rules.specs.Server.{Own}
-use Rattle.petal_rules.specs.Store.{cell_cmp, is_marked}
-use Rattle.petal_rules.proofs.Tests.{by_bool}
+use Rattle.spec_history.specs.Claims.{one_put_ahead}
+use Rattle.spec_rules.specs.Server.{Own}
+use Rattle.spec_rules.specs.Store.{cell_cmp, is_marked}
+use Rattle.spec_rules.proofs.Tests.{by_bool}
 use Rattle.law_steps.specs.Operations.{AtRest}
 use Rattle.law_steps.proofs.InvertLead.{is_copying}
 use Rattle.law_copies.specs.Copied.{IsCovered, Is_equal, Is_marked_here, Is_marked_there}

@@ -16,18 +16,18 @@ use Rattle.petal_msg.specs.declared.body.Body.{Body}
 use Rattle.petal_msg.specs.declared.copying.Progress.{Progress}
 use Rattle.petal_msg.specs.declared.letter.Letter.{Letter}
 use Rattle.petal_msg.specs.declared.operation.Pending.{Pending}
-use Rattle.petal_history.specs.Claims.{IsMarked, IsPrefix, IsToBeCopied}
-use Rattle.petal_history.specs.declared.record.Record.{Record}
-use Rattle.petal_state.specs.Command.{state_after}
-use Rattle.petal_state.specs.State.{inc_of}
-use Rattle.petal_rules.specs.Lists.{In}
-use Rattle.petal_rules.specs.Log.{state_in}
-use Rattle.petal_rules.specs.Server.{Own, Pairs}
-use Rattle.petal_rules.specs.State.{id_of, is_in}
-use Rattle.petal_rules.specs.Store.{Store, cell_cmp, chain_in, mark_on}
-use Rattle.petal_rules.specs.World.{World, chosen_log, server_state}
-use Rattle.petal_rules.specs.Writes.{is_clients, pending_on}
-use Rattle.petal_rules.proofs.Tests.{none_some, same_or_apart, same_some, some_or_none}
+use Rattle.spec_history.specs.Claims.{IsMarked, IsPrefix, IsToBeCopied}
+use Rattle.spec_history.specs.declared.record.Record.{Record}
+use Rattle.spec_state.specs.Command.{state_after}
+use Rattle.spec_state.specs.State.{inc_of}
+use Rattle.spec_rules.specs.Lists.{In}
+use Rattle.spec_rules.specs.Log.{state_in}
+use Rattle.spec_rules.specs.Server.{Own, Pairs}
+use Rattle.spec_rules.specs.State.{id_of, is_in}
+use Rattle.spec_rules.specs.Store.{Store, cell_cmp, chain_in, mark_on}
+use Rattle.spec_rules.specs.World.{World, chosen_log, server_state}
+use Rattle.spec_rules.specs.Writes.{is_clients, pending_on}
+use Rattle.spec_rules.proofs.Tests.{none_some, same_or_apart, same_some, some_or_none}
 use Rattle.law_state.specs.Places.{StaysSo}
 use Rattle.law_state.specs.Started.{is_flagged}
 use Rattle.law_state.proofs.Leaves.{other_between}

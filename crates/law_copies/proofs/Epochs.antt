@@ -8,11 +8,11 @@ use Rattle.std.proofs.lemmas.Option.{slice_get-map, slice_get_within}
 use Rattle.petal_base.specs.declared.cell.Cell.{Cell}
 use Rattle.petal_table.specs.Table.{at, put}
 use Rattle.petal_table.proofs.Rows.{at_apart}
-use Rattle.petal_rules.specs.Copies.{epochs_beyond}
-use Rattle.petal_rules.specs.Lists.{In}
-use Rattle.petal_rules.specs.Server.{Own}
-use Rattle.petal_rules.specs.Store.{Chain, Stored, chain_in, epochs_of}
-use Rattle.petal_rules.proofs.Tests.{none_some, number_itself, same_numbers, same_or_apart, some_or_none}
+use Rattle.spec_rules.specs.Copies.{epochs_beyond}
+use Rattle.spec_rules.specs.Lists.{In}
+use Rattle.spec_rules.specs.Server.{Own}
+use Rattle.spec_rules.specs.Store.{Chain, Stored, chain_in, epochs_of}
+use Rattle.spec_rules.proofs.Tests.{none_some, number_itself, same_numbers, same_or_apart, some_or_none}
 use Rattle.law_state.proofs.Links.{in_map}
 use Rattle.law_state.proofs.Places.{in_get}
 use Rattle.law_steps.specs.Ready.{IsRising}

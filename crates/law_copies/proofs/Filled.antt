@@ -8,10 +8,10 @@ use Rattle.petal_base.specs.Cells.{cell_of}
 use Rattle.petal_table.specs.Table.{Table, at, put, without}
 use Rattle.petal_table.proofs.Rows.{at-empty, at_same}
 use Rattle.petal_msg.specs.declared.body.Body.{Body}
-use Rattle.petal_rules.specs.Server.{Own, Here, Done}
-use Rattle.petal_rules.specs.Store.{Chain, Store, Stored, cell_cmp, chain_in, chains_at, without_entry}
-use Rattle.petal_rules.proofs.CellTables.{cell_apart, cell_gone, cell_gone_apart, cell_same}
-use Rattle.petal_rules.proofs.Tests.{none_some, same_some, some_or_none, true_false}
+use Rattle.spec_rules.specs.Server.{Own, Here, Done}
+use Rattle.spec_rules.specs.Store.{Chain, Store, Stored, cell_cmp, chain_in, chains_at, without_entry}
+use Rattle.spec_rules.proofs.CellTables.{cell_apart, cell_gone, cell_gone_apart, cell_same}
+use Rattle.spec_rules.proofs.Tests.{none_some, same_some, some_or_none, true_false}
 use Rattle.law_steps.specs.Did.{Did}
 use Rattle.law_steps.proofs.Staged.{same_cell_or_apart}
 use Rattle.law_copies.specs.Steps.{AreFilled}

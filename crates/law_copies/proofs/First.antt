@@ -2,22 +2,22 @@
 use Rattle.std.proofs.Common.{◌≡◌, ◌≢◌, ◌++◌, ◌∷◌, ℕ, List, [], true, refl, ap, sym, ◌∙◌, subst, inl, inr, append_assoc}
 use Rattle.petal_base.specs.declared.cell.Cell.{Cell}
 use Rattle.script_lines.specs.declared.script.Script.{Script}
-use Rattle.petal_history.specs.Claims.{IsMarked, MarksFirst}
-use Rattle.petal_history.specs.Steps.{AreSteps, world_after}
-use Rattle.petal_history.specs.Sound.{IsSound}
-use Rattle.petal_history.specs.declared.record.Record.{Record}
-use Rattle.petal_rules.specs.Boots.{blanked, stays}
-use Rattle.petal_rules.specs.Crossing.{crossed}
-use Rattle.petal_rules.specs.Jobs.{Acted}
-use Rattle.petal_rules.specs.Lists.{put_at}
-use Rattle.petal_rules.specs.State.{State, is_in, leads_link, live}
-use Rattle.petal_rules.specs.Store.{Store, chain_in}
-use Rattle.petal_rules.specs.Server.{Server, Done}
-use Rattle.petal_rules.specs.World.{Setting, World, chosen_log, chosen_state, counted, kept, server_state, setting_of, start}
-use Rattle.petal_rules.specs.declared.step.Step.{Step}
-use Rattle.petal_rules.proofs.ListLemmas.{put_apart, put_same}
-use Rattle.petal_rules.proofs.Settled.{settling}
-use Rattle.petal_rules.proofs.Tests.{same_or_apart, true_false}
+use Rattle.spec_history.specs.Claims.{IsMarked, MarksFirst}
+use Rattle.spec_history.specs.Steps.{AreSteps, world_after}
+use Rattle.spec_history.specs.Sound.{IsSound}
+use Rattle.spec_history.specs.declared.record.Record.{Record}
+use Rattle.spec_rules.specs.Boots.{blanked, stays}
+use Rattle.spec_rules.specs.Crossing.{crossed}
+use Rattle.spec_rules.specs.Jobs.{Acted}
+use Rattle.spec_rules.specs.Lists.{put_at}
+use Rattle.spec_rules.specs.State.{State, is_in, leads_link, live}
+use Rattle.spec_rules.specs.Store.{Store, chain_in}
+use Rattle.spec_rules.specs.Server.{Server, Done}
+use Rattle.spec_rules.specs.World.{Setting, World, chosen_log, chosen_state, counted, kept, server_state, setting_of, start}
+use Rattle.spec_rules.specs.declared.step.Step.{Step}
+use Rattle.spec_rules.proofs.ListLemmas.{put_apart, put_same}
+use Rattle.spec_rules.proofs.Settled.{settling}
+use Rattle.spec_rules.proofs.Tests.{same_or_apart, true_false}
 use Rattle.law_log.proofs.Histories.{history_is_firm}
 use Rattle.law_state.specs.Firm.{Firm}
 use Rattle.law_steps.specs.Did.{Did}

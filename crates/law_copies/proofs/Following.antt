@@ -10,12 +10,12 @@ use Rattle.petal_table.specs.Table.{at, put}
 use Rattle.petal_table.proofs.Rows.{at_apart, at_same}
 use Rattle.petal_msg.specs.declared.copying.Copying.{Copying}
 use Rattle.petal_msg.specs.declared.copying.LastCopy.{LastCopy}
-use Rattle.petal_rules.specs.Copies.{Entry, epochs_beyond, puts_entry}
-use Rattle.petal_rules.specs.Progress.{copying_on, last_copy, with_last_copy}
-use Rattle.petal_rules.specs.Server.{Own}
-use Rattle.petal_rules.specs.Store.{Chain, Stored, chain_in, epochs_of, without_entry}
-use Rattle.petal_rules.proofs.CellTables.{cell_same}
-use Rattle.petal_rules.proofs.Tests.{same_or_apart, same_some, true_false}
+use Rattle.spec_rules.specs.Copies.{Entry, epochs_beyond, puts_entry}
+use Rattle.spec_rules.specs.Progress.{copying_on, last_copy, with_last_copy}
+use Rattle.spec_rules.specs.Server.{Own}
+use Rattle.spec_rules.specs.Store.{Chain, Stored, chain_in, epochs_of, without_entry}
+use Rattle.spec_rules.proofs.CellTables.{cell_same}
+use Rattle.spec_rules.proofs.Tests.{same_or_apart, same_some, true_false}
 use Rattle.law_steps.specs.Ready.{IsRising}
 use Rattle.law_steps.specs.DidOther.{first_last}
 use Rattle.law_steps.proofs.Tables.{put_rises}

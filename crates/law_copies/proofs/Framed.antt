@@ -12,11 +12,11 @@ use Rattle.petal_command.specs.declared.command.Command.{Command}
 use Rattle.petal_table.specs.Table.{at}
 use Rattle.petal_msg.specs.declared.body.Body.{Body}
 use Rattle.petal_msg.specs.declared.operation.Pending.{Pending}
-use Rattle.petal_history.specs.Claims.{IsMarked, IsToBeCopied}
-use Rattle.petal_state.specs.Command.{state_after}
-use Rattle.petal_rules.specs.Server.{Own, no_pairs}
-use Rattle.petal_rules.specs.Store.{Store, cell_cmp, chain_in, is_marked}
-use Rattle.petal_rules.proofs.Tests.{by_test, none_some, some_or_none}
+use Rattle.spec_history.specs.Claims.{IsMarked, IsToBeCopied}
+use Rattle.spec_state.specs.Command.{state_after}
+use Rattle.spec_rules.specs.Server.{Own, no_pairs}
+use Rattle.spec_rules.specs.Store.{Store, cell_cmp, chain_in, is_marked}
+use Rattle.spec_rules.proofs.Tests.{by_test, none_some, some_or_none}
 use Rattle.law_state.proofs.Roles.{primary_is_one, secondary_is_one}
 use Rattle.law_copies.specs.Copied.{AreAlike, AreCopying, IsCovered, IsPage, IsTold, links_of, Is_equal, Is_marked_here, Is_marked_there, Is_to_be_copied}
 use Rattle.law_copies.specs.Good.{AloneOk, AreBeside, AreTwins, BothOk, SaidOk, pair_at}

@@ -12,13 +12,13 @@ use Rattle.petal_msg.specs.declared.copying.Copying.{Copying}
 use Rattle.petal_msg.specs.declared.copying.LastCopy.{LastCopy}
 use Rattle.petal_msg.specs.declared.operation.Far.{Far}
 use Rattle.petal_msg.specs.declared.operation.Pending.{Pending}
-use Rattle.petal_rules.specs.Copies.{with_copied}
-use Rattle.petal_rules.specs.Progress.{progress_on, with_copying, with_last_copy, with_progress, without_copying}
-use Rattle.petal_rules.specs.Server.{Own}
-use Rattle.petal_rules.specs.Store.{Stored, cell_cmp, chain_in, mark_on, with_entry, without_entry, with_mark_on, without_mark_on}
-use Rattle.petal_rules.specs.Writes.{with_last, with_pending, without_pending}
-use Rattle.petal_rules.proofs.CellTables.{cell_apart, cell_gone_apart}
-use Rattle.petal_rules.proofs.Tests.{by_test}
+use Rattle.spec_rules.specs.Copies.{with_copied}
+use Rattle.spec_rules.specs.Progress.{progress_on, with_copying, with_last_copy, with_progress, without_copying}
+use Rattle.spec_rules.specs.Server.{Own}
+use Rattle.spec_rules.specs.Store.{Stored, cell_cmp, chain_in, mark_on, with_entry, without_entry, with_mark_on, without_mark_on}
+use Rattle.spec_rules.specs.Writes.{with_last, with_pending, without_pending}
+use Rattle.spec_rules.proofs.CellTables.{cell_apart, cell_gone_apart}
+use Rattle.spec_rules.proofs.Tests.{by_test}
 use Rattle.law_copies.specs.Steps.{KeepsCell}
 use Rattle.law_jobs.proofs.ChainsApart.{chain_apart, drop_apart}
 use Rattle.law_jobs.proofs.MarksApart.{mark_beside, unmark_beside}

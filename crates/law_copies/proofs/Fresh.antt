@@ -9,11 +9,11 @@ use Rattle.petal_msg.specs.Kinds.{about}
 use Rattle.petal_msg.specs.declared.body.Body.{Body}
 use Rattle.petal_msg.specs.declared.body.Body.TheVariants as body
 use Rattle.petal_msg.specs.declared.copying.Progress.{Progress}
-use Rattle.petal_rules.specs.Progress.{copying_on, last_copy, no_progress, progress_on}
-use Rattle.petal_rules.specs.Server.{Own}
-use Rattle.petal_rules.specs.State.{id_of}
-use Rattle.petal_rules.specs.Store.{Store, Stored, cell_cmp, chain_in}
-use Rattle.petal_rules.proofs.Tests.{none_some, same_some, true_false}
+use Rattle.spec_rules.specs.Progress.{copying_on, last_copy, no_progress, progress_on}
+use Rattle.spec_rules.specs.Server.{Own}
+use Rattle.spec_rules.specs.State.{id_of}
+use Rattle.spec_rules.specs.Store.{Store, Stored, cell_cmp, chain_in}
+use Rattle.spec_rules.proofs.Tests.{none_some, same_some, true_false}
 use Rattle.law_log.proofs.Flags.{same_caught}
 use Rattle.law_state.specs.Started.{is_flagged}
 use Rattle.law_steps.specs.Ready.{IsRising}

@@ -5,20 +5,20 @@ use Rattle.std.proofs.lemmas.List.{append-nil}
 use Rattle.petal_base.specs.declared.cell.Cell.{Cell}
 use Rattle.petal_command.specs.declared.command.Command.{Command}
 use Rattle.petal_command.specs.declared.command.Command.TheVariants.{Join}
-use Rattle.petal_history.specs.Claims.{IsPrefix}
-use Rattle.petal_history.specs.declared.record.Record.{Record}
-use Rattle.petal_state.specs.Command.{state_after}
-use Rattle.petal_rules.specs.Blanked.{joins_blank, kept_store}
-use Rattle.petal_rules.specs.State.{State, is_in}
-use Rattle.petal_rules.specs.Store.{Store}
-use Rattle.petal_rules.specs.World.{Setting, World, blank_joins_in, chosen_log, counted, counted_by, kept_by, server_state}
-use Rattle.petal_rules.proofs.Tests.{by_bool, number_itself, same_numbers, true_false}
+use Rattle.spec_history.specs.Claims.{IsPrefix}
+use Rattle.spec_history.specs.declared.record.Record.{Record}
+use Rattle.spec_state.specs.Command.{state_after}
+use Rattle.spec_rules.specs.Blanked.{joins_blank, kept_store}
+use Rattle.spec_rules.specs.State.{State, is_in}
+use Rattle.spec_rules.specs.Store.{Store}
+use Rattle.spec_rules.specs.World.{Setting, World, blank_joins_in, chosen_log, counted, counted_by, kept_by, server_state}
+use Rattle.spec_rules.proofs.Tests.{by_bool, number_itself, same_numbers, true_false}
 use Rattle.law_state.specs.Firm.{Firm}
 use Rattle.law_state.proofs.BlankJoins.{joins_grow}
 use Rattle.law_state.proofs.Incarnations.{joined_in, joined_once}
 use Rattle.law_state.proofs.Steady.{front_plain}
 use Rattle.law_steps.specs.Ready.{Rests}
-use Rattle.law_stores.specs.Waiting.{IsEmpty, IsOwn}
+use Rattle.law_copies.specs.Waiting.{IsEmpty, IsOwn}
 use Rattle.law_steps.proofs.Fronts.{front_itself, front_more, front_on}
 use Rattle.law_copies.specs.Good.{Good, store_of}
 use Rattle.law_copies.specs.Pair.{HaveMarks}

@@ -12,19 +12,19 @@ use Rattle.global_tables.specs.declared.link.LinkState.TheVariants.{Both, Only}
 use Rattle.petal_base.specs.declared.cell.Cell.{Cell}
 use Rattle.petal_command.specs.declared.command.Command.{Command}
 use Rattle.petal_command.specs.declared.command.Command.TheVariants.{Join, Leave}
-use Rattle.petal_history.specs.Claims.{IsPrefix}
+use Rattle.spec_history.specs.Claims.{IsPrefix}
 use Rattle.petal_msg.specs.Kinds.{subject_of}
 use Rattle.petal_msg.specs.declared.body.Body.{Body}
 use Rattle.petal_msg.specs.declared.copying.LinkId.{LinkId}
-use Rattle.petal_state.specs.CellState.{cell_link, serves}
-use Rattle.petal_state.specs.Command.{after, may_join, state_after}
-use Rattle.petal_state.specs.Place.{touches}
-use Rattle.petal_rules.specs.Blanked.{joins_blank}
-use Rattle.petal_rules.specs.Server.{Own}
-use Rattle.petal_rules.specs.State.{id_of, is_in, is_whole}
-use Rattle.petal_rules.specs.Store.{Store, cell_cmp, chain_in, is_marked, mark_on}
-use Rattle.petal_rules.specs.World.{blank_joins_in, server_state, with_store}
-use Rattle.petal_rules.proofs.Tests.{by_bool, none_some, same_some, true_false}
+use Rattle.spec_state.specs.CellState.{cell_link, serves}
+use Rattle.spec_state.specs.Command.{after, may_join, state_after}
+use Rattle.spec_state.specs.Place.{touches}
+use Rattle.spec_rules.specs.Blanked.{joins_blank}
+use Rattle.spec_rules.specs.Server.{Own}
+use Rattle.spec_rules.specs.State.{id_of, is_in, is_whole}
+use Rattle.spec_rules.specs.Store.{Store, cell_cmp, chain_in, is_marked, mark_on}
+use Rattle.spec_rules.specs.World.{blank_joins_in, server_state, with_store}
+use Rattle.spec_rules.proofs.Tests.{by_bool, none_some, same_some, true_false}
 use Rattle.petal_table.proofs.Rows.{at-empty}
 use Rattle.law_log.specs.Requested.{WasStarted}
 use Rattle.law_state.specs.Homes.{stage_at}

@@ -4,22 +4,22 @@ use Rattle.std.proofs.Common.{ap, ◌∙◌, subst, inl, inr, arith}
 use Rattle.petal_base.specs.declared.cell.Cell.{Cell}
 use Rattle.petal_msg.specs.Kinds.{subject_of}
 use Rattle.script_lines.specs.declared.script.Script.{Script}
-use Rattle.petal_history.specs.Claims.{IsPrefix}
-use Rattle.petal_history.specs.Steps.{AreSteps, world_after}
-use Rattle.petal_history.specs.Sound.{IsSound}
-use Rattle.petal_history.specs.declared.record.Record.{Record}
-use Rattle.petal_rules.specs.Blanked.{BeforeBlank, kept_store}
-use Rattle.petal_rules.specs.Boots.{blanked, stays}
-use Rattle.petal_rules.specs.Clients.{Reaction, client_sender}
-use Rattle.petal_rules.specs.Lists.{In, put_at}
-use Rattle.petal_rules.specs.Server.{Post, letters_of}
-use Rattle.petal_rules.specs.State.{State}
-use Rattle.petal_rules.specs.Store.{Store}
-use Rattle.petal_rules.specs.World.{Setting, World, acts, blank_joins_in, chosen_log, chosen_state, counted, counted_by, kept}
-use Rattle.petal_rules.specs.World.{reacts, setting_of, stamped, start, with_store}
-use Rattle.petal_rules.specs.declared.step.Step.TheVariants.{Blank}
-use Rattle.petal_rules.proofs.ListLemmas.{in-append, put_apart, put_same}
-use Rattle.petal_rules.proofs.Tests.{by_bool, none_some, number_itself, same_or_apart, true_false}
+use Rattle.spec_history.specs.Claims.{IsPrefix}
+use Rattle.spec_history.specs.Steps.{AreSteps, world_after}
+use Rattle.spec_history.specs.Sound.{IsSound}
+use Rattle.spec_history.specs.declared.record.Record.{Record}
+use Rattle.spec_rules.specs.Blanked.{BeforeBlank, kept_store}
+use Rattle.spec_rules.specs.Boots.{blanked, stays}
+use Rattle.spec_rules.specs.Clients.{Reaction, client_sender}
+use Rattle.spec_rules.specs.Lists.{In, put_at}
+use Rattle.spec_rules.specs.Server.{Post, letters_of}
+use Rattle.spec_rules.specs.State.{State}
+use Rattle.spec_rules.specs.Store.{Store}
+use Rattle.spec_rules.specs.World.{Setting, World, acts, blank_joins_in, chosen_log, chosen_state, counted, counted_by, kept}
+use Rattle.spec_rules.specs.World.{reacts, setting_of, stamped, start, with_store}
+use Rattle.spec_rules.specs.declared.step.Step.TheVariants.{Blank}
+use Rattle.spec_rules.proofs.ListLemmas.{in-append, put_apart, put_same}
+use Rattle.spec_rules.proofs.Tests.{by_bool, none_some, number_itself, same_or_apart, true_false}
 use Rattle.law_log.proofs.Histories.{history_grows, history_is_firm}
 use Rattle.law_steps.specs.Happens.{Happens, Serves, Blanks, Turns}
 use Rattle.law_steps.specs.Happens.{is_between}
@@ -29,7 +29,7 @@ use Rattle.law_steps.proofs.Histories.{last_happens}
 use Rattle.law_steps.proofs.Records.{split_last}
 use Rattle.law_steps.proofs.Sending.{turned_asks}
 use Rattle.law_jobs.proofs.Runs.{before_part, by_run, run_of}
-use Rattle.law_stores.proofs.Histories.{join_empty, join_own}
+use Rattle.law_copies.proofs.StoreHistories.{join_empty, join_own}
 use Rattle.law_copies.specs.Good.{Good}
 use Rattle.law_copies.specs.Visits.{is_at}
 use Rattle.law_copies.proofs.AtStep.{IsStep, at_step}

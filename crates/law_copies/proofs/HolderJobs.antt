@@ -16,15 +16,15 @@ use Rattle.petal_msg.specs.declared.copying.Copying.{Copying}
 use Rattle.petal_msg.specs.declared.copying.LastCopy.{LastCopy}
 use Rattle.petal_msg.specs.declared.copying.LinkId.{LinkId}
 use Rattle.petal_msg.specs.declared.copying.Progress.{Progress}
-use Rattle.petal_state.specs.CellState.{cell_link}
-use Rattle.petal_rules.specs.Copies.{begins_copy, cell_at, closes, idle_mark, same_block, turns_page as turned, with_copied, with_page}
-use Rattle.petal_rules.specs.Lists.{In}
-use Rattle.petal_rules.specs.Progress.{copying_on, progress_on, with_copying, with_full, with_last_copy, without_copying}
-use Rattle.petal_rules.specs.Server.{Own, Copies, Pairs, Here, Post, Done, silent}
-use Rattle.petal_rules.specs.State.{id_of, is_second, link_cmp, link_named}
-use Rattle.petal_rules.specs.Store.{cell_cmp, chain_in, epochs_of, with_mark_on}
-use Rattle.petal_rules.proofs.CellTables.{cell_gone, cell_gone_apart, cell_same}
-use Rattle.petal_rules.proofs.Tests.{by_bool, same_some, some_or_none, true_false}
+use Rattle.spec_state.specs.CellState.{cell_link}
+use Rattle.spec_rules.specs.Copies.{begins_copy, cell_at, closes, idle_mark, same_block, turns_page as turned, with_copied, with_page}
+use Rattle.spec_rules.specs.Lists.{In}
+use Rattle.spec_rules.specs.Progress.{copying_on, progress_on, with_copying, with_full, with_last_copy, without_copying}
+use Rattle.spec_rules.specs.Server.{Own, Copies, Pairs, Here, Post, Done, silent}
+use Rattle.spec_rules.specs.State.{id_of, is_second, link_cmp, link_named}
+use Rattle.spec_rules.specs.Store.{cell_cmp, chain_in, epochs_of, with_mark_on}
+use Rattle.spec_rules.proofs.CellTables.{cell_gone, cell_gone_apart, cell_same}
+use Rattle.spec_rules.proofs.Tests.{by_bool, same_some, some_or_none, true_false}
 use Rattle.law_log.proofs.Flags.{progress_beside, same_id}
 use Rattle.law_steps.specs.DidHolder.{DidHolder, CopyStep, Asks_to_trim, Sends, Unmarks_copied, Closes_copy, TakenCopy, Copy_as_is, Copy_trimmed, Copy_synced}
 use Rattle.law_steps.specs.DidHolder.{Asks_page, Turns_page, Begins_copy, Goes_on_copying, Finds_it_full, Tidies, IsHeldWith, first_copy}

@@ -14,14 +14,14 @@ use Rattle.petal_msg.specs.declared.body.Body.TheVariants as body
 use Rattle.petal_msg.specs.declared.operation.Pending.{Pending}
 use Rattle.petal_msg.specs.declared.copying.Progress.{Progress}
 use Rattle.petal_table.specs.Table.{at}
-use Rattle.petal_history.specs.Claims.{IsMarked}
-use Rattle.petal_rules.specs.Copies.{cell_at, same_block, with_page}
-use Rattle.petal_rules.specs.Progress.{copying_on, no_progress, progress_on}
-use Rattle.petal_rules.specs.Server.{Own, Copies}
-use Rattle.petal_rules.specs.State.{id_of, link_cmp}
-use Rattle.petal_rules.specs.Store.{Chain, Store, cell_cmp, chain_in, is_marked, with_mark_on}
-use Rattle.petal_rules.specs.Writes.{pending_on}
-use Rattle.petal_rules.proofs.Tests.{by_bool, none_some, same_or_apart, some_or_none, true_false}
+use Rattle.spec_history.specs.Claims.{IsMarked}
+use Rattle.spec_rules.specs.Copies.{cell_at, same_block, with_page}
+use Rattle.spec_rules.specs.Progress.{copying_on, no_progress, progress_on}
+use Rattle.spec_rules.specs.Server.{Own, Copies}
+use Rattle.spec_rules.specs.State.{id_of, link_cmp}
+use Rattle.spec_rules.specs.Store.{Chain, Store, cell_cmp, chain_in, is_marked, with_mark_on}
+use Rattle.spec_rules.specs.Writes.{pending_on}
+use Rattle.spec_rules.proofs.Tests.{by_bool, none_some, same_or_apart, some_or_none, true_false}
 use Rattle.law_state.specs.Started.{is_flagged}
 use Rattle.law_steps.specs.Ready.{IsRising}
 use Rattle.law_copies.specs.Copied.{AreCopying, AreInOrder, IsCopied, IsCovered, Is_equal, Is_marked_here, Is_marked_there}

@@ -9,14 +9,14 @@ use Rattle.petal_msg.specs.declared.body.Body.{Body}
 use Rattle.petal_msg.specs.declared.body.Body.TheVariants as body
 use Rattle.petal_msg.specs.declared.copying.Copying.{Copying}
 use Rattle.petal_msg.specs.declared.copying.LastCopy.{LastCopy}
-use Rattle.petal_history.specs.Claims.{IsMarked, IsToBeCopied}
-use Rattle.petal_rules.specs.Copies.{epochs_beyond}
-use Rattle.petal_rules.specs.Progress.{copying_on, last_copy, progress_on}
-use Rattle.petal_rules.specs.Server.{Own}
-use Rattle.petal_rules.specs.State.{id_of}
-use Rattle.petal_rules.specs.Store.{Chain, Store, Stored, chain_in, epochs_of}
-use Rattle.petal_rules.specs.Writes.{pending_on}
-use Rattle.petal_rules.proofs.Tests.{same_some}
+use Rattle.spec_history.specs.Claims.{IsMarked, IsToBeCopied}
+use Rattle.spec_rules.specs.Copies.{epochs_beyond}
+use Rattle.spec_rules.specs.Progress.{copying_on, last_copy, progress_on}
+use Rattle.spec_rules.specs.Server.{Own}
+use Rattle.spec_rules.specs.State.{id_of}
+use Rattle.spec_rules.specs.Store.{Chain, Store, Stored, chain_in, epochs_of}
+use Rattle.spec_rules.specs.Writes.{pending_on}
+use Rattle.spec_rules.proofs.Tests.{same_some}
 use Rattle.law_state.specs.Started.{is_flagged}
 use Rattle.law_steps.specs.Ready.{IsRising}
 use Rattle.law_copies.specs.Copied.{AreAlike, AreCopying, AreInOrder, HasPage, HasSent, IsCaught, IsCopied, IsCopying, IsCovered, Is_equal, Is_marked_here}

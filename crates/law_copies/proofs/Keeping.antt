@@ -2,7 +2,7 @@
 use Rattle.global_tables.specs.declared.link.LinkState.TheVariants.{Both}
 use Rattle.law_jobs.proofs.CountsGrow.{did_count}
 use Rattle.law_copies.specs.Visits.{AliveIn}
-use Rattle.petal_state.specs.CellState.{cell_link}
+use Rattle.spec_state.specs.CellState.{cell_link}
 use Rattle.std.proofs.Common.{◌≡◌, ◌≢◌, ◌≤◌, ◌+◌, ℕ, true, false, List, [], Option, Some, None, refl, sym, ap, ◌∙◌, subst, inl, arith}
 use Rattle.std.specs.Ordering.{eq_by_cmp, nat_cmp}
 use Rattle.global_tables.specs.declared.link.LinkRow.{LinkRow}
@@ -12,15 +12,15 @@ use Rattle.petal_command.specs.declared.command.Command.TheVariants.{Caught}
 use Rattle.petal_table.specs.Table.{at}
 use Rattle.petal_msg.specs.Kinds.{is_logged, subject_of}
 use Rattle.petal_msg.specs.declared.copying.LinkId.{LinkId}
-use Rattle.petal_history.specs.Claims.{IsMarked}
-use Rattle.petal_rules.specs.Lists.{In}
-use Rattle.petal_rules.specs.Progress.{progress_on}
-use Rattle.petal_rules.specs.Returns.{holds_link, proposed}
-use Rattle.petal_rules.specs.Server.{Own, Pairs, Here, Post, Done}
-use Rattle.petal_rules.specs.State.{holder_of, id_of, link_cmp, link_named, both}
-use Rattle.petal_rules.specs.Store.{Store, cell_cmp, chain_in, is_marked}
-use Rattle.petal_rules.proofs.Tests.{true_false}
-use Rattle.petal_rules.specs.World.{chosen_log, server_state}
+use Rattle.spec_history.specs.Claims.{IsMarked}
+use Rattle.spec_rules.specs.Lists.{In}
+use Rattle.spec_rules.specs.Progress.{progress_on}
+use Rattle.spec_rules.specs.Returns.{holds_link, proposed}
+use Rattle.spec_rules.specs.Server.{Own, Pairs, Here, Post, Done}
+use Rattle.spec_rules.specs.State.{holder_of, id_of, link_cmp, link_named, both}
+use Rattle.spec_rules.specs.Store.{Store, cell_cmp, chain_in, is_marked}
+use Rattle.spec_rules.proofs.Tests.{true_false}
+use Rattle.spec_rules.specs.World.{chosen_log, server_state}
 use Rattle.law_state.specs.Tables.{IsPlainState}
 use Rattle.law_state.proofs.Alone.{so_both}
 use Rattle.law_state.proofs.Entries.{log_plain}

@@ -3,15 +3,15 @@ use Rattle.std.proofs.Common.{◌≡◌, ◌≤◌, ◌+◌, ℕ, true, false, L
 use Rattle.std.proofs.Common.{inl, inr, arith}
 use Rattle.petal_command.specs.declared.command.Command.{Command}
 use Rattle.script_lines.specs.declared.script.Script.{Script}
-use Rattle.petal_state.specs.Command.{state_after}
-use Rattle.petal_history.specs.Claims.{IsPrefix}
-use Rattle.petal_history.specs.Steps.{AreSteps, world_after}
-use Rattle.petal_history.specs.Sound.{IsSound}
-use Rattle.petal_history.specs.declared.record.Record.{Record}
-use Rattle.petal_rules.specs.State.{is_in}
-use Rattle.petal_rules.specs.World.{Setting, World, blank_joins_in, chosen_log, chosen_state, counted}
-use Rattle.petal_rules.specs.World.{server_state, setting_of, start}
-use Rattle.petal_rules.proofs.Tests.{by_bool}
+use Rattle.spec_state.specs.Command.{state_after}
+use Rattle.spec_history.specs.Claims.{IsPrefix}
+use Rattle.spec_history.specs.Steps.{AreSteps, world_after}
+use Rattle.spec_history.specs.Sound.{IsSound}
+use Rattle.spec_history.specs.declared.record.Record.{Record}
+use Rattle.spec_rules.specs.State.{is_in}
+use Rattle.spec_rules.specs.World.{Setting, World, blank_joins_in, chosen_log, chosen_state, counted}
+use Rattle.spec_rules.specs.World.{server_state, setting_of, start}
+use Rattle.spec_rules.proofs.Tests.{by_bool}
 use Rattle.law_log.proofs.Histories.{chosen_caught_was, history_is_firm, out_has_stopped, who_is_in_has_begun}
 use Rattle.law_state.specs.Firm.{Firm}
 use Rattle.law_steps.specs.Ready.{Rests}
@@ -19,8 +19,8 @@ use Rattle.law_steps.specs.Waking.{AllMayWake}
 use Rattle.law_steps.proofs.Firms.{always_firm}
 use Rattle.law_steps.proofs.Histories.{rests_after, start_rests}
 use Rattle.law_steps.proofs.Waking.{may_wake}
-use Rattle.law_stores.specs.Waiting.{IsOwn}
-use Rattle.law_stores.proofs.Histories.{in_counts, in_own}
+use Rattle.law_copies.specs.Waiting.{IsOwn}
+use Rattle.law_copies.proofs.StoreHistories.{in_counts, in_own}
 use Rattle.law_copies.specs.Good.{Good}
 use Rattle.law_copies.proofs.Later.{AllStarted}
 

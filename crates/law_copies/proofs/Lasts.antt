@@ -6,11 +6,11 @@ use Rattle.global_tables.specs.declared.link.LinkRow.{LinkRow}
 use Rattle.petal_base.specs.declared.cell.Cell.{Cell}
 use Rattle.petal_msg.specs.declared.body.Body.TheVariants as body
 use Rattle.petal_msg.specs.declared.copying.LastCopy.{LastCopy}
-use Rattle.petal_rules.specs.Copies.{epochs_beyond}
-use Rattle.petal_rules.specs.Progress.{last_copy}
-use Rattle.petal_rules.specs.Server.{Own}
-use Rattle.petal_rules.specs.Store.{Stored}
-use Rattle.petal_rules.proofs.Tests.{same_some}
+use Rattle.spec_rules.specs.Copies.{epochs_beyond}
+use Rattle.spec_rules.specs.Progress.{last_copy}
+use Rattle.spec_rules.specs.Server.{Own}
+use Rattle.spec_rules.specs.Store.{Stored}
+use Rattle.spec_rules.proofs.Tests.{same_some}
 use Rattle.law_copies.specs.Copied.{HasPut, HasSent, HasTrimmed, IsOfLast, IsPast, IsTold}
 use Rattle.law_copies.specs.Steps.{StaysTold}
 

@@ -9,15 +9,15 @@ use Rattle.global_tables.specs.declared.link.LinkState.TheVariants.{Both, Lost, 
 use Rattle.petal_base.specs.declared.cell.Cell.{Cell}
 use Rattle.petal_command.specs.declared.command.Command.{Command}
 use Rattle.petal_command.specs.declared.command.Command.TheVariants.{Caught}
-use Rattle.petal_history.specs.Claims.{IsPrefix}
-use Rattle.petal_history.specs.declared.record.Record.{Record}
-use Rattle.petal_state.specs.CellState.{cell_link, serves}
-use Rattle.petal_state.specs.Command.{state_after}
-use Rattle.petal_rules.specs.Server.{Own}
-use Rattle.petal_rules.specs.State.{State, id_of, is_alone_on, is_in}
-use Rattle.petal_rules.specs.Store.{Store}
-use Rattle.petal_rules.specs.World.{Setting, World, chosen_log, server_state}
-use Rattle.petal_rules.proofs.Tests.{by_bool, number_itself, same_numbers, same_some, some_or_none, true_false}
+use Rattle.spec_history.specs.Claims.{IsPrefix}
+use Rattle.spec_history.specs.declared.record.Record.{Record}
+use Rattle.spec_state.specs.CellState.{cell_link, serves}
+use Rattle.spec_state.specs.Command.{state_after}
+use Rattle.spec_rules.specs.Server.{Own}
+use Rattle.spec_rules.specs.State.{State, id_of, is_alone_on, is_in}
+use Rattle.spec_rules.specs.Store.{Store}
+use Rattle.spec_rules.specs.World.{Setting, World, chosen_log, server_state}
+use Rattle.spec_rules.proofs.Tests.{by_bool, number_itself, same_numbers, same_some, some_or_none, true_false}
 use Rattle.law_log.specs.Requested.{WasStarted}
 use Rattle.law_state.specs.Firm.{Firm}
 use Rattle.law_state.specs.Places.{IsCaughtStill, IsHeldStill, StaysSo}

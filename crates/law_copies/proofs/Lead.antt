@@ -17,16 +17,16 @@ use Rattle.petal_msg.specs.declared.operation.OpKind.{OpKind}
 use Rattle.petal_msg.specs.declared.operation.OpKind.TheVariants as kind
 use Rattle.petal_msg.specs.declared.operation.Pending.{Pending}
 use Rattle.petal_msg.specs.declared.operation.Stage.{Stage}
-use Rattle.petal_rules.specs.Fills.{fill_operation}
-use Rattle.petal_rules.specs.Lists.{In}
-use Rattle.petal_rules.specs.Progress.{has_proposed}
-use Rattle.petal_rules.specs.State.{in_both, is_alone_on, live, second}
-use Rattle.petal_rules.specs.Store.{Chain, Store, cell_cmp, chain_in, version_of}
-use Rattle.petal_rules.specs.Server.{Own, Here, Post, Done, post_to}
-use Rattle.petal_rules.specs.Writes.{acts, ends, moved_as, next_stage, old_lead, operation, with_opened, with_reserved, with_paired, with_mark_at, ended}
-use Rattle.petal_rules.specs.Writes.{finishes, gives_back, marks, puts, unmarks, with_pending, without_pending}
-use Rattle.petal_rules.proofs.CellTables.{cell_same, cell_apart, cell_gone, cell_gone_apart}
-use Rattle.petal_rules.proofs.Tests.{by_test, same_some, true_false}
+use Rattle.spec_rules.specs.Fills.{fill_operation}
+use Rattle.spec_rules.specs.Lists.{In}
+use Rattle.spec_rules.specs.Progress.{has_proposed}
+use Rattle.spec_rules.specs.State.{in_both, is_alone_on, live, second}
+use Rattle.spec_rules.specs.Store.{Chain, Store, cell_cmp, chain_in, version_of}
+use Rattle.spec_rules.specs.Server.{Own, Here, Post, Done, post_to}
+use Rattle.spec_rules.specs.Writes.{acts, ends, moved_as, next_stage, old_lead, operation, with_opened, with_reserved, with_paired, with_mark_at, ended}
+use Rattle.spec_rules.specs.Writes.{finishes, gives_back, marks, puts, unmarks, with_pending, without_pending}
+use Rattle.spec_rules.proofs.CellTables.{cell_same, cell_apart, cell_gone, cell_gone_apart}
+use Rattle.spec_rules.proofs.Tests.{by_test, same_some, true_false}
 use Rattle.law_state.proofs.Alone.{both_not_alone, so_both}
 use Rattle.law_steps.specs.Operations.{waiting, putting, copying}
 use Rattle.law_steps.specs.DidLead.{DidLead, Asks_for, Repeats, Is_full, Opens, Marks, Puts, Gives_up, Unmarks, Closes, Opens_alone, Marks_alone, Puts_alone}

@@ -9,15 +9,15 @@ use Rattle.global_tables.specs.declared.link.LinkRow.{LinkRow}
 use Rattle.global_tables.specs.declared.link.LinkState.TheVariants.{Both, Lost, Only}
 use Rattle.petal_base.specs.declared.cell.Cell.{Cell}
 use Rattle.petal_command.specs.declared.command.Command.{Command}
-use Rattle.petal_history.specs.Claims.{IsMarked, IsPrefix, IsToBeCopied}
-use Rattle.petal_state.specs.CellState.{serves}
-use Rattle.petal_state.specs.Command.{state_after}
-use Rattle.petal_rules.specs.Progress.{progress_on}
-use Rattle.petal_rules.specs.Server.{Own}
-use Rattle.petal_rules.specs.State.{id_of, is_whole}
-use Rattle.petal_rules.specs.Store.{Store, chain_in, is_marked}
-use Rattle.petal_rules.specs.World.{blank_joins_in, chosen_log, server_state}
-use Rattle.petal_rules.proofs.Tests.{none_some, number_itself, same_or_apart, some_or_none, true_false}
+use Rattle.spec_history.specs.Claims.{IsMarked, IsPrefix, IsToBeCopied}
+use Rattle.spec_state.specs.CellState.{serves}
+use Rattle.spec_state.specs.Command.{state_after}
+use Rattle.spec_rules.specs.Progress.{progress_on}
+use Rattle.spec_rules.specs.Server.{Own}
+use Rattle.spec_rules.specs.State.{id_of, is_whole}
+use Rattle.spec_rules.specs.Store.{Store, chain_in, is_marked}
+use Rattle.spec_rules.specs.World.{blank_joins_in, chosen_log, server_state}
+use Rattle.spec_rules.proofs.Tests.{none_some, number_itself, same_or_apart, some_or_none, true_false}
 use Rattle.law_state.specs.Rows.{IsLater, ByBoth, ByNone, ByOne}
 use Rattle.law_state.specs.Started.{is_flagged}
 use Rattle.law_state.specs.Steady.{IsSteady}

@@ -23,19 +23,19 @@ use Rattle.petal_msg.specs.declared.copying.LinkId.{LinkId}
 use Rattle.petal_msg.specs.declared.copying.NextCopy.{NextCopy}
 use Rattle.petal_msg.specs.declared.copying.NextCopy.TheVariants.{Ask, Block, Wait, Nothing}
 use Rattle.petal_msg.specs.declared.operation.Pending.{Pending}
-use Rattle.petal_state.specs.CellState.{cell_link}
+use Rattle.spec_state.specs.CellState.{cell_link}
 use Rattle.petal_table.specs.Table.{Table, at}
-use Rattle.petal_history.specs.Claims.{IsMarked, IsToBeCopied}
-use Rattle.petal_rules.specs.Copies.{blocks_left, cell_at, is_kept_on, is_link_under_way, least, marked_blocks, next_block, next_copy, stored_blocks}
-use Rattle.petal_rules.specs.Lists.{In}
-use Rattle.petal_rules.specs.Progress.{copying_on, progress_on}
-use Rattle.petal_rules.specs.Server.{Own}
-use Rattle.petal_rules.specs.State.{State, is_on, is_whole, link_named, live}
-use Rattle.petal_rules.specs.Store.{Chain, Store, cell_cmp, chain_in, is_marked, mark_on}
-use Rattle.petal_rules.specs.Writes.{is_under_way, pending_on}
-use Rattle.petal_rules.proofs.CellTables.{cell_cmp_same, cell_cmp_total}
-use Rattle.petal_rules.proofs.ListLemmas.{in-append, in_former, in_later}
-use Rattle.petal_rules.proofs.Tests.{both_true, by_bool, by_test, none_some, number_itself, same_some, some_or_none, true_false}
+use Rattle.spec_history.specs.Claims.{IsMarked, IsToBeCopied}
+use Rattle.spec_rules.specs.Copies.{blocks_left, cell_at, is_kept_on, is_link_under_way, least, marked_blocks, next_block, next_copy, stored_blocks}
+use Rattle.spec_rules.specs.Lists.{In}
+use Rattle.spec_rules.specs.Progress.{copying_on, progress_on}
+use Rattle.spec_rules.specs.Server.{Own}
+use Rattle.spec_rules.specs.State.{State, is_on, is_whole, link_named, live}
+use Rattle.spec_rules.specs.Store.{Chain, Store, cell_cmp, chain_in, is_marked, mark_on}
+use Rattle.spec_rules.specs.Writes.{is_under_way, pending_on}
+use Rattle.spec_rules.proofs.CellTables.{cell_cmp_same, cell_cmp_total}
+use Rattle.spec_rules.proofs.ListLemmas.{in-append, in_former, in_later}
+use Rattle.spec_rules.proofs.Tests.{both_true, by_bool, by_test, none_some, number_itself, same_some, some_or_none, true_false}
 use Rattle.law_state.proofs.Links.{either_false, in_map}
 use Rattle.law_steps.proofs.Resting.{among_least, cell_left, in_none, on_row, same_cell}
 use Rattle.busy_marks.proofs.Orders.{is_mark, same_itself}

@@ -14,17 +14,17 @@ use Rattle.petal_msg.specs.declared.copying.Copying.{Copying}
 use Rattle.petal_msg.specs.declared.copying.LastCopy.{LastCopy}
 use Rattle.petal_msg.specs.declared.copying.LinkId.{LinkId}
 use Rattle.petal_msg.specs.declared.copying.Progress.{Progress}
-use Rattle.petal_state.specs.CellState.{cell_link}
-use Rattle.petal_state.specs.Command.{after}
-use Rattle.petal_state.specs.Place.{touches, touches_cell}
-use Rattle.petal_rules.specs.Copies.{cell_at}
-use Rattle.petal_rules.specs.Crossing.{crossed, dies, ends_cell, ends_link, touches_link}
-use Rattle.petal_rules.specs.Progress.{copying_on, last_copy, no_progress, progress_on}
-use Rattle.petal_rules.specs.Server.{Copies, Own, Pairs}
-use Rattle.petal_rules.specs.State.{State, id_of, link_cmp, link_named, live}
-use Rattle.petal_rules.specs.Store.{cell_cmp, chain_in, mark_on}
-use Rattle.petal_rules.proofs.CellTables.{cell_cmp_same}
-use Rattle.petal_rules.proofs.Tests.{by_bool, none_some, true_false}
+use Rattle.spec_state.specs.CellState.{cell_link}
+use Rattle.spec_state.specs.Command.{after}
+use Rattle.spec_state.specs.Place.{touches, touches_cell}
+use Rattle.spec_rules.specs.Copies.{cell_at}
+use Rattle.spec_rules.specs.Crossing.{crossed, dies, ends_cell, ends_link, touches_link}
+use Rattle.spec_rules.specs.Progress.{copying_on, last_copy, no_progress, progress_on}
+use Rattle.spec_rules.specs.Server.{Copies, Own, Pairs}
+use Rattle.spec_rules.specs.State.{State, id_of, link_cmp, link_named, live}
+use Rattle.spec_rules.specs.Store.{cell_cmp, chain_in, mark_on}
+use Rattle.spec_rules.proofs.CellTables.{cell_cmp_same}
+use Rattle.spec_rules.proofs.Tests.{by_bool, none_some, true_false}
 use Rattle.law_log.proofs.Flags.{same_id}
 use Rattle.law_state.specs.Homes.{stage_at}
 use Rattle.law_state.proofs.Links.{either_false}

@@ -72,3 +72,9 @@ pub mod ServerSteps
 pub mod Histories
 pub mod Rules
 pub mod First
+pub mod StoreJobs
+pub mod StoreMoves
+pub mod EmptyJoins
+pub mod StoreKept
+pub mod StoreWays
+pub mod StoreHistories

@@ -18,18 +18,18 @@ use Rattle.petal_msg.specs.declared.operation.Ending.TheVariants as ending
 use Rattle.petal_msg.specs.declared.operation.OpKind.TheVariants as kind
 use Rattle.petal_msg.specs.declared.operation.Pending.{Pending}
 use Rattle.petal_msg.specs.declared.operation.Stage.{Stage}
-use Rattle.petal_rules.specs.Copies.{begins_copy, cell_at, cell_holder, closes, idle_mark, marked_blocks, with_page}
-use Rattle.petal_rules.specs.Fills.{fill_operation}
-use Rattle.petal_rules.specs.Lists.{In}
-use Rattle.petal_rules.specs.Progress.{copying_on, has_proposed, progress_on}
-use Rattle.petal_rules.specs.State.{State, is_second, leads_link, live}
-use Rattle.petal_rules.specs.Store.{Chain, Store, cell_cmp, chain_in, version_of, is_marked, mark_on, with_mark_on, without_mark_on}
-use Rattle.petal_rules.specs.Server.{Own, Here, Done}
-use Rattle.petal_rules.specs.Writes.{ends, gives_back, is_clients, is_under_way, operation, marks, pending_on, puts, tells, unmarks, with_mark_at}
-use Rattle.petal_rules.specs.Writes.{with_opened, with_pending, with_reserved, with_paired, without_pending}
-use Rattle.petal_rules.proofs.CellTables.{cell_same, cell_apart, cell_gone, cell_gone_apart}
-use Rattle.petal_rules.proofs.Tests.{by_test, not_true, same_some, none_some, some_or_none, true_false}
-use Rattle.petal_history.specs.Claims.{IsMarked}
+use Rattle.spec_rules.specs.Copies.{begins_copy, cell_at, cell_holder, closes, idle_mark, marked_blocks, with_page}
+use Rattle.spec_rules.specs.Fills.{fill_operation}
+use Rattle.spec_rules.specs.Lists.{In}
+use Rattle.spec_rules.specs.Progress.{copying_on, has_proposed, progress_on}
+use Rattle.spec_rules.specs.State.{State, is_second, leads_link, live}
+use Rattle.spec_rules.specs.Store.{Chain, Store, cell_cmp, chain_in, version_of, is_marked, mark_on, with_mark_on, without_mark_on}
+use Rattle.spec_rules.specs.Server.{Own, Here, Done}
+use Rattle.spec_rules.specs.Writes.{ends, gives_back, is_clients, is_under_way, operation, marks, pending_on, puts, tells, unmarks, with_mark_at}
+use Rattle.spec_rules.specs.Writes.{with_opened, with_pending, with_reserved, with_paired, without_pending}
+use Rattle.spec_rules.proofs.CellTables.{cell_same, cell_apart, cell_gone, cell_gone_apart}
+use Rattle.spec_rules.proofs.Tests.{by_test, not_true, same_some, none_some, some_or_none, true_false}
+use Rattle.spec_history.specs.Claims.{IsMarked}
 use Rattle.law_state.specs.Steady.{IsSteady}
 use Rattle.law_steps.specs.DidLead.{DidLead, Is_full, Opens, Marks, Puts, Gives_up, Unmarks, Closes, Opens_alone, Marks_alone, Puts_alone}
 use Rattle.law_steps.specs.DidLead.{Unmarks_alone, Closes_alone, Opens_fill, Opens_fill_alone, Goes_on_dead, Taken}

@@ -7,7 +7,7 @@ use Rattle.petal_msg.specs.declared.body.Body.{Body}
 use Rattle.petal_msg.specs.declared.body.Body.TheVariants as body
 use Rattle.petal_msg.specs.declared.operation.Far.TheVariants.{Reserved, Replicated}
 use Rattle.petal_msg.specs.declared.operation.Pending.{Pending}
-use Rattle.petal_rules.specs.Store.{version_of}
+use Rattle.spec_rules.specs.Store.{version_of}
 use Rattle.law_steps.specs.Operations.{progress}
 use Rattle.law_copies.specs.Pair.{Pair, far, ceiling, Grows, PairOk, IsPutting, Keeps, Known}
 

@@ -7,10 +7,10 @@ use Rattle.petal_command.specs.declared.command.Command.{Command}
 use Rattle.petal_msg.specs.Kinds.{Subject, is_asked, is_logged, is_paired, subject_of, Logged, Paired, Read_asked, Write_asked}
 use Rattle.petal_msg.specs.declared.body.Body.{Body}
 use Rattle.petal_msg.specs.declared.body.Body.TheVariants as body
-use Rattle.petal_rules.specs.Server.{Own}
-use Rattle.petal_rules.specs.Store.{Store}
-use Rattle.petal_rules.specs.World.{Setting}
-use Rattle.petal_rules.proofs.Tests.{true_false}
+use Rattle.spec_rules.specs.Server.{Own}
+use Rattle.spec_rules.specs.Store.{Store}
+use Rattle.spec_rules.specs.World.{Setting}
+use Rattle.spec_rules.proofs.Tests.{true_false}
 use Rattle.law_steps.specs.Happens.{is_between}
 use Rattle.law_copies.specs.Copied.{IsTold}
 use Rattle.law_copies.specs.Good.{SaidOk, pair_at}

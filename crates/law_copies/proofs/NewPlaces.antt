@@ -6,12 +6,12 @@ use Rattle.global_tables.specs.declared.link.LinkRow.{LinkRow}
 use Rattle.petal_base.specs.declared.cell.Cell.{Cell}
 use Rattle.petal_command.specs.declared.command.Command.{Command}
 use Rattle.petal_msg.specs.declared.operation.Pending.{Pending}
-use Rattle.petal_state.specs.Command.{state_after}
-use Rattle.petal_rules.specs.Server.{Own}
-use Rattle.petal_rules.specs.State.{is_whole}
-use Rattle.petal_rules.specs.Store.{Store, cell_cmp, chain_in}
-use Rattle.petal_rules.specs.World.{Setting}
-use Rattle.petal_rules.proofs.Tests.{none_some}
+use Rattle.spec_state.specs.Command.{state_after}
+use Rattle.spec_rules.specs.Server.{Own}
+use Rattle.spec_rules.specs.State.{is_whole}
+use Rattle.spec_rules.specs.Store.{Store, cell_cmp, chain_in}
+use Rattle.spec_rules.specs.World.{Setting}
+use Rattle.spec_rules.proofs.Tests.{none_some}
 use Rattle.petal_table.specs.Table.{at}
 use Rattle.petal_table.proofs.Rows.{at-empty}
 use Rattle.law_state.proofs.Leaves.{other_between}

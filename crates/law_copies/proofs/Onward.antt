@@ -11,16 +11,16 @@ use Rattle.petal_base.specs.declared.cell.Cell.{Cell}
 use Rattle.petal_msg.specs.declared.copying.Copying.{Copying}
 use Rattle.petal_msg.specs.declared.copying.LinkId.{LinkId}
 use Rattle.petal_msg.specs.declared.copying.Progress.{Progress}
-use Rattle.petal_state.specs.CellState.{cell_link}
+use Rattle.spec_state.specs.CellState.{cell_link}
 use Rattle.petal_table.specs.Table.{Table, at}
-use Rattle.petal_history.specs.Claims.{IsMarked, IsToBeCopied}
-use Rattle.petal_rules.specs.Copies.{begins_copy, cell_at, with_copied}
-use Rattle.petal_rules.specs.Progress.{copying_on, no_progress, progress_on, with_copying, with_progress, without_copying}
-use Rattle.petal_rules.specs.Server.{Own}
-use Rattle.petal_rules.specs.State.{State, id_of, link_cmp, live}
-use Rattle.petal_rules.specs.Store.{cell_cmp}
-use Rattle.petal_rules.proofs.CellTables.{cell_apart, cell_gone, cell_gone_apart}
-use Rattle.petal_rules.proofs.Tests.{by_bool, by_test, none_some, same_or_apart, same_some}
+use Rattle.spec_history.specs.Claims.{IsMarked, IsToBeCopied}
+use Rattle.spec_rules.specs.Copies.{begins_copy, cell_at, with_copied}
+use Rattle.spec_rules.specs.Progress.{copying_on, no_progress, progress_on, with_copying, with_progress, without_copying}
+use Rattle.spec_rules.specs.Server.{Own}
+use Rattle.spec_rules.specs.State.{State, id_of, link_cmp, live}
+use Rattle.spec_rules.specs.Store.{cell_cmp}
+use Rattle.spec_rules.proofs.CellTables.{cell_apart, cell_gone, cell_gone_apart}
+use Rattle.spec_rules.proofs.Tests.{by_bool, by_test, none_some, same_or_apart, same_some}
 use Rattle.law_log.proofs.Flags.{progress_beside, progress_here, same_id}
 use Rattle.law_steps.specs.DidHolder.{first_copy}
 use Rattle.law_steps.proofs.Resting.{row_named}

@@ -10,15 +10,15 @@ use Rattle.petal_msg.specs.Kinds.{about, subject_of}
 use Rattle.petal_msg.specs.declared.body.Body.{Body}
 use Rattle.petal_msg.specs.declared.body.Body.TheVariants as body
 use Rattle.petal_msg.specs.declared.copying.LastCopy.{LastCopy}
-use Rattle.petal_state.specs.Command.{is_alone}
-use Rattle.petal_history.specs.Claims.{IsMarked}
-use Rattle.petal_rules.specs.Copies.{Entry, marked_blocks, puts_entry}
-use Rattle.petal_rules.specs.Lists.{In}
-use Rattle.petal_rules.specs.Progress.{last_copy, with_last_copy}
-use Rattle.petal_rules.specs.Server.{Own, Here, Post, Done, says_to}
-use Rattle.petal_rules.specs.State.{is_on, is_second}
-use Rattle.petal_rules.specs.Store.{Store, chain_in, is_marked}
-use Rattle.petal_rules.proofs.Tests.{same_some}
+use Rattle.spec_state.specs.Command.{is_alone}
+use Rattle.spec_history.specs.Claims.{IsMarked}
+use Rattle.spec_rules.specs.Copies.{Entry, marked_blocks, puts_entry}
+use Rattle.spec_rules.specs.Lists.{In}
+use Rattle.spec_rules.specs.Progress.{last_copy, with_last_copy}
+use Rattle.spec_rules.specs.Server.{Own, Here, Post, Done, says_to}
+use Rattle.spec_rules.specs.State.{is_on, is_second}
+use Rattle.spec_rules.specs.Store.{Store, chain_in, is_marked}
+use Rattle.spec_rules.proofs.Tests.{same_some}
 use Rattle.law_state.proofs.Alone.{IsBothRow}
 use Rattle.law_steps.specs.DidLead.{DidLead, Asks, A_trim, A_copied_entry, An_entry_to_move, Of_the_log}
 use Rattle.law_steps.specs.DidHolder.{DidHolder}

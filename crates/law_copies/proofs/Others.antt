@@ -6,16 +6,16 @@ use Rattle.global_tables.specs.declared.link.LinkRow.{LinkRow}
 use Rattle.global_tables.specs.declared.link.LinkState.{LinkState}
 use Rattle.global_tables.specs.declared.link.LinkState.TheVariants.{Both, Only, Lost}
 use Rattle.petal_base.specs.declared.cell.Cell.{Cell}
-use Rattle.petal_state.specs.CellState.{cell_link, row_lead}
-use Rattle.petal_rules.specs.Copies.{cell_holder}
-use Rattle.petal_rules.specs.Server.{Here}
-use Rattle.petal_state.specs.Command.{is_alone}
-use Rattle.petal_rules.specs.State.{holder_of, is_lead, leads_link}
-use Rattle.petal_rules.proofs.Tests.{both_true, by_test, none_some, number_itself, same_numbers, same_some, some_or_none, true_false}
+use Rattle.spec_state.specs.CellState.{cell_link, row_lead}
+use Rattle.spec_rules.specs.Copies.{cell_holder}
+use Rattle.spec_rules.specs.Server.{Here}
+use Rattle.spec_state.specs.Command.{is_alone}
+use Rattle.spec_rules.specs.State.{holder_of, is_lead, leads_link}
+use Rattle.spec_rules.proofs.Tests.{both_true, by_test, none_some, number_itself, same_numbers, same_some, some_or_none, true_false}
 use Rattle.law_state.specs.Steady.{IsSteady}
 use Rattle.law_state.proofs.Cells.{link_led_by}
 use Rattle.law_steps.proofs.Leading.{lead_links}
-use Rattle.petal_rules.proofs.Tests.{is_the_one}
+use Rattle.spec_rules.proofs.Tests.{is_the_one}
 
 -- a link's two servers are two
 pub other_apart : (row : LinkRow) (n : ℕ) → row.primary ≢ row.secondary → other_of n row ≢ n

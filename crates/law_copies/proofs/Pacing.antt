@@ -11,13 +11,13 @@ use Rattle.petal_base.specs.declared.cell.Cell.{Cell}
 use Rattle.petal_msg.specs.declared.copying.LinkId.{LinkId}
 use Rattle.petal_msg.specs.declared.copying.Progress.{Progress}
 use Rattle.petal_table.specs.Table.{Table, at}
-use Rattle.petal_history.specs.Claims.{IsMarked}
-use Rattle.petal_rules.specs.Copies.{cell_at, same_block, with_copied, with_page}
-use Rattle.petal_rules.specs.Progress.{no_progress, progress_on, with_progress}
-use Rattle.petal_rules.specs.Server.{Own}
-use Rattle.petal_rules.specs.State.{id_of, link_cmp}
-use Rattle.petal_rules.specs.Store.{with_mark_on}
-use Rattle.petal_rules.proofs.Tests.{by_bool, by_test, same_numbers, true_false}
+use Rattle.spec_history.specs.Claims.{IsMarked}
+use Rattle.spec_rules.specs.Copies.{cell_at, same_block, with_copied, with_page}
+use Rattle.spec_rules.specs.Progress.{no_progress, progress_on, with_progress}
+use Rattle.spec_rules.specs.Server.{Own}
+use Rattle.spec_rules.specs.State.{id_of, link_cmp}
+use Rattle.spec_rules.specs.Store.{with_mark_on}
+use Rattle.spec_rules.proofs.Tests.{by_bool, by_test, same_numbers, true_false}
 use Rattle.law_state.specs.Started.{is_flagged}
 use Rattle.law_log.proofs.Flags.{progress_beside, progress_here, same_caught, same_id}
 use Rattle.law_jobs.proofs.MarksApart.{mark_kept}

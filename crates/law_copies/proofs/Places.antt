@@ -1,5 +1,5 @@
 -- Fronts of one log, and the places of a link by them.
-use Rattle.petal_rules.specs.Server.{Own}
+use Rattle.spec_rules.specs.Server.{Own}
 use Rattle.std.proofs.Common.{◌≡◌, ◌+◌, ◌≤◌, ◌<◌, ◌++◌, ◌==◌, ℕ, List, [], ◌∷◌, length, length-append, true, false, if◌then◌else◌}
 use Rattle.std.proofs.Common.{Some, None, sym, ap, ◌∙◌, subst, ◌⊎◌, inl, inr, arith}
 use Rattle.std.proofs.lemmas.Grind.{fold-append}
@@ -11,14 +11,14 @@ use Rattle.global_tables.specs.Region.{link_of}
 use Rattle.global_tables.specs.declared.link.LinkRow.{LinkRow}
 use Rattle.petal_base.specs.declared.cell.Cell.{Cell}
 use Rattle.petal_command.specs.declared.command.Command.{Command}
-use Rattle.petal_history.specs.Claims.{IsPrefix}
-use Rattle.petal_state.specs.CellState.{cell_link}
-use Rattle.petal_state.specs.Command.{after, state_after}
-use Rattle.petal_state.specs.Place.{touches}
-use Rattle.petal_state.specs.State.{start}
-use Rattle.petal_rules.specs.State.{State}
-use Rattle.petal_rules.specs.World.{Setting, blank_joins_in}
-use Rattle.petal_rules.proofs.Tests.{none_some, same_some, some_or_none, true_false}
+use Rattle.spec_history.specs.Claims.{IsPrefix}
+use Rattle.spec_state.specs.CellState.{cell_link}
+use Rattle.spec_state.specs.Command.{after, state_after}
+use Rattle.spec_state.specs.Place.{touches}
+use Rattle.spec_state.specs.State.{start}
+use Rattle.spec_rules.specs.State.{State}
+use Rattle.spec_rules.specs.World.{Setting, blank_joins_in}
+use Rattle.spec_rules.proofs.Tests.{none_some, same_some, some_or_none, true_false}
 use Rattle.law_state.specs.Below.{IsBelow}
 use Rattle.law_state.specs.Homes.{HasDied, stage_at}
 use Rattle.law_state.specs.Places.{StaysSo}

@@ -8,16 +8,16 @@ use Rattle.petal_command.specs.declared.command.Command.{Command}
 use Rattle.petal_msg.specs.Kinds.{subject_of}
 use Rattle.petal_msg.specs.declared.body.Body.{Body}
 use Rattle.petal_msg.specs.declared.letter.Letter.{Letter}
-use Rattle.petal_history.specs.Claims.{IsPrefix}
-use Rattle.petal_history.specs.declared.record.Record.{Record}
-use Rattle.petal_state.specs.Command.{state_after}
-use Rattle.petal_rules.specs.Lists.{In}
-use Rattle.petal_rules.specs.Log.{state_in}
-use Rattle.petal_rules.specs.Server.{Own, Post, Sender, letters_of}
-use Rattle.petal_rules.specs.State.{id_of, is_in}
-use Rattle.petal_rules.specs.Store.{Store}
-use Rattle.petal_rules.specs.World.{Setting, blank_joins_in, stamped}
-use Rattle.petal_rules.proofs.Tests.{same_or_apart, same_some, true_false}
+use Rattle.spec_history.specs.Claims.{IsPrefix}
+use Rattle.spec_history.specs.declared.record.Record.{Record}
+use Rattle.spec_state.specs.Command.{state_after}
+use Rattle.spec_rules.specs.Lists.{In}
+use Rattle.spec_rules.specs.Log.{state_in}
+use Rattle.spec_rules.specs.Server.{Own, Post, Sender, letters_of}
+use Rattle.spec_rules.specs.State.{id_of, is_in}
+use Rattle.spec_rules.specs.Store.{Store}
+use Rattle.spec_rules.specs.World.{Setting, blank_joins_in, stamped}
+use Rattle.spec_rules.proofs.Tests.{same_or_apart, same_some, true_false}
 use Rattle.law_state.specs.Started.{is_flagged}
 use Rattle.law_state.proofs.Steady.{front_plain, log_steady}
 use Rattle.law_steps.specs.Happens.{is_between}

@@ -10,12 +10,12 @@ use Rattle.global_tables.specs.declared.link.LinkState.TheVariants.{Both, Lost, 
 use Rattle.petal_base.specs.declared.cell.Cell.{Cell}
 use Rattle.petal_command.specs.declared.command.Command.{Command}
 use Rattle.petal_command.specs.declared.command.Command.TheVariants.{Join}
-use Rattle.petal_state.specs.Command.{may_join, state_after}
-use Rattle.petal_rules.specs.Blanked.{joins_blank}
-use Rattle.petal_rules.specs.State.{State, is_whole}
-use Rattle.petal_rules.specs.Store.{Chain, Store, cell_cmp, chain_in}
-use Rattle.petal_rules.specs.World.{Setting, blank_joins_in}
-use Rattle.petal_rules.proofs.Tests.{both_true, by_bool, number_itself, same_numbers, true_false}
+use Rattle.spec_state.specs.Command.{may_join, state_after}
+use Rattle.spec_rules.specs.Blanked.{joins_blank}
+use Rattle.spec_rules.specs.State.{State, is_whole}
+use Rattle.spec_rules.specs.Store.{Chain, Store, cell_cmp, chain_in}
+use Rattle.spec_rules.specs.World.{Setting, blank_joins_in}
+use Rattle.spec_rules.proofs.Tests.{both_true, by_bool, number_itself, same_numbers, true_false}
 use Rattle.petal_table.proofs.Rows.{at-empty}
 use Rattle.law_state.specs.Places.{row_joined}
 use Rattle.law_state.proofs.BlankJoins.{counts_joins, joined_counts}

@@ -7,8 +7,8 @@ use Rattle.petal_base.specs.declared.cell.Key.{Key}
 use Rattle.petal_base.specs.Cells.{cell_of}
 use Rattle.petal_table.specs.Table.{Table, put, without}
 use Rattle.petal_msg.specs.declared.body.Body.{Body}
-use Rattle.petal_rules.specs.Server.{Own, Here, Done}
-use Rattle.petal_rules.specs.Store.{Chain, Store, Stored, cell_cmp, chain_in, chains_at, without_entry}
+use Rattle.spec_rules.specs.Server.{Own, Here, Done}
+use Rattle.spec_rules.specs.Store.{Chain, Store, Stored, cell_cmp, chain_in, chains_at, without_entry}
 use Rattle.law_steps.specs.Ready.{IsRising}
 use Rattle.law_steps.specs.Did.{Did}
 use Rattle.law_steps.proofs.Staged.{same_cell_or_apart}

@@ -8,8 +8,8 @@ use Rattle.std.specs.declared.cmp.Ordering.TheVariants.{Less}
 use Rattle.std.proofs.lemmas.Bool.Decides.{nat_tests}
 use Rattle.petal_table.specs.Table.{Table, at}
 use Rattle.petal_table.proofs.Rows.{at-empty}
-use Rattle.petal_rules.specs.Lists.{In}
-use Rattle.petal_rules.proofs.Tests.{by_bool, none_some, same_or_apart, same_some, some_or_none, true_false}
+use Rattle.spec_rules.specs.Lists.{In}
+use Rattle.spec_rules.proofs.Tests.{by_bool, none_some, same_or_apart, same_some, some_or_none, true_false}
 use Rattle.law_state.proofs.Places.{in_get, get_in}
 use Rattle.law_steps.specs.Ready.{IsRising}
 use Rattle.law_steps.proofs.Tables.{at_row}

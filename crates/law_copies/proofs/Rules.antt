@@ -12,18 +12,18 @@ use Rattle.petal_table.specs.Table.{at}
 use Rattle.petal_table.proofs.Rows.{at-empty}
 use Rattle.petal_msg.specs.declared.operation.Pending.{Pending}
 use Rattle.script_lines.specs.declared.script.Script.{Script}
-use Rattle.petal_history.specs.Claims.{AreCovered, Copies, Covered, TwoCopies, is_at_work, one_put_ahead}
-use Rattle.petal_history.specs.Steps.{AreSteps, world_after}
-use Rattle.petal_history.specs.Sound.{IsSound}
-use Rattle.petal_history.specs.declared.record.Record.{Record}
-use Rattle.petal_state.specs.CellState.{cell_link}
-use Rattle.petal_state.specs.Role.{row_in_both}
-use Rattle.petal_state.specs.State.{inc_of}
-use Rattle.petal_rules.specs.Server.{Own}
-use Rattle.petal_rules.specs.State.{State, first, is_in, live}
-use Rattle.petal_rules.specs.Store.{Store, cell_cmp, chain_in, is_marked}
-use Rattle.petal_rules.specs.World.{Setting, World, chosen_log, chosen_state, counted, server_state, setting_of, start}
-use Rattle.petal_rules.proofs.Tests.{both_true, by_bool, none_some, same_some}
+use Rattle.spec_history.specs.Claims.{AreCovered, Copies, Covered, TwoCopies, is_at_work, one_put_ahead}
+use Rattle.spec_history.specs.Steps.{AreSteps, world_after}
+use Rattle.spec_history.specs.Sound.{IsSound}
+use Rattle.spec_history.specs.declared.record.Record.{Record}
+use Rattle.spec_state.specs.CellState.{cell_link}
+use Rattle.spec_state.specs.Role.{row_in_both}
+use Rattle.spec_state.specs.State.{inc_of}
+use Rattle.spec_rules.specs.Server.{Own}
+use Rattle.spec_rules.specs.State.{State, first, is_in, live}
+use Rattle.spec_rules.specs.Store.{Store, cell_cmp, chain_in, is_marked}
+use Rattle.spec_rules.specs.World.{Setting, World, chosen_log, chosen_state, counted, server_state, setting_of, start}
+use Rattle.spec_rules.proofs.Tests.{both_true, by_bool, none_some, same_some}
 use Rattle.law_log.proofs.Histories.{history_is_firm}
 use Rattle.law_state.specs.Firm.{Firm}
 use Rattle.law_state.specs.Steady.{IsSteady}

@@ -10,14 +10,14 @@ use Rattle.petal_msg.specs.Kinds.{about, subject_of}
 use Rattle.petal_msg.specs.declared.body.Body.{Body}
 use Rattle.petal_msg.specs.declared.body.Body.TheVariants as body
 use Rattle.petal_msg.specs.declared.copying.Copying.{Copying}
-use Rattle.petal_state.specs.Command.{is_alone, state_after}
-use Rattle.petal_rules.specs.Progress.{copying_on}
-use Rattle.petal_rules.specs.Server.{Own, Here}
-use Rattle.petal_rules.specs.State.{holder_of}
-use Rattle.petal_rules.specs.Store.{Store, chain_in}
-use Rattle.petal_rules.specs.World.{chosen_log, server_state}
-use Rattle.petal_rules.specs.Writes.{pending_on}
-use Rattle.petal_rules.proofs.Tests.{number_itself, same_numbers, true_false}
+use Rattle.spec_state.specs.Command.{is_alone, state_after}
+use Rattle.spec_rules.specs.Progress.{copying_on}
+use Rattle.spec_rules.specs.Server.{Own, Here}
+use Rattle.spec_rules.specs.State.{holder_of}
+use Rattle.spec_rules.specs.Store.{Store, chain_in}
+use Rattle.spec_rules.specs.World.{chosen_log, server_state}
+use Rattle.spec_rules.specs.Writes.{pending_on}
+use Rattle.spec_rules.proofs.Tests.{number_itself, same_numbers, true_false}
 use Rattle.law_state.specs.Rows.{ByBoth, ByNone, ByOne}
 use Rattle.law_state.specs.Steady.{IsSteady}
 use Rattle.law_state.proofs.Leaves.{other_between}

@@ -11,12 +11,12 @@ use Rattle.petal_msg.specs.declared.body.Body.TheVariants as body
 use Rattle.petal_msg.specs.declared.operation.Far.{Far}
 use Rattle.petal_msg.specs.declared.operation.Far.TheVariants as far_is
 use Rattle.petal_msg.specs.declared.operation.LastOp.{LastOp}
-use Rattle.petal_rules.specs.Lists.{In}
-use Rattle.petal_rules.specs.Store.{Chain, cell_cmp, chain_in, version_of}
-use Rattle.petal_rules.specs.Server.{Own, Here, Post, Done}
-use Rattle.petal_rules.specs.Writes.{with_last, tells, follows}
-use Rattle.petal_rules.proofs.CellTables.{cell_same, cell_apart}
-use Rattle.petal_rules.proofs.Tests.{same_some}
+use Rattle.spec_rules.specs.Lists.{In}
+use Rattle.spec_rules.specs.Store.{Chain, cell_cmp, chain_in, version_of}
+use Rattle.spec_rules.specs.Server.{Own, Here, Post, Done}
+use Rattle.spec_rules.specs.Writes.{with_last, tells, follows}
+use Rattle.spec_rules.proofs.CellTables.{cell_same, cell_apart}
+use Rattle.spec_rules.proofs.Tests.{same_some}
 use Rattle.law_steps.specs.Operations.{progress}
 use Rattle.law_steps.specs.DidSecond.{DidSecond, with_tickets, Sets_apart, Promises, Declines, Follows}
 use Rattle.law_steps.proofs.Letters.{posted}

@@ -19,14 +19,14 @@ use Rattle.petal_msg.specs.declared.operation.Ending.TheVariants as ending
 use Rattle.petal_msg.specs.declared.operation.OpKind.{OpKind}
 use Rattle.petal_msg.specs.declared.operation.OpKind.TheVariants as kind
 use Rattle.petal_msg.specs.declared.operation.Pending.{Pending}
-use Rattle.petal_state.specs.CellState.{cell_link}
-use Rattle.petal_rules.specs.Copies.{begins_copy, least, marked_blocks, page_wanted}
-use Rattle.petal_rules.specs.Lists.{In}
-use Rattle.petal_rules.specs.Server.{Own, Here, Post, Done, post_to, says_to}
-use Rattle.petal_rules.specs.State.{holder_of, link_named, live}
-use Rattle.petal_rules.specs.Store.{chain_in, epochs_of}
-use Rattle.petal_rules.specs.Writes.{acts, ended, ends, gives_back, moved_as, next_stage, without_pending}
-use Rattle.petal_rules.proofs.Tests.{none_some, same_some, true_false}
+use Rattle.spec_state.specs.CellState.{cell_link}
+use Rattle.spec_rules.specs.Copies.{begins_copy, least, marked_blocks, page_wanted}
+use Rattle.spec_rules.specs.Lists.{In}
+use Rattle.spec_rules.specs.Server.{Own, Here, Post, Done, post_to, says_to}
+use Rattle.spec_rules.specs.State.{holder_of, link_named, live}
+use Rattle.spec_rules.specs.Store.{chain_in, epochs_of}
+use Rattle.spec_rules.specs.Writes.{acts, ended, ends, gives_back, moved_as, next_stage, without_pending}
+use Rattle.spec_rules.proofs.Tests.{none_some, same_some, true_false}
 use Rattle.law_steps.specs.DidLead.{DidLead, Asks, An_entry_to_move, Of_the_log, Asks_for, Repeats, Is_full}
 use Rattle.law_steps.specs.DidLead.{Opens, Gives_up, Closes, Closes_alone}
 use Rattle.law_steps.specs.DidLead.{Opens_fill, Has_fill, Has_no_room, Goes_on_dead}

@@ -9,27 +9,27 @@ use Rattle.petal_command.specs.declared.command.Command.TheVariants.{Caught}
 use Rattle.petal_msg.specs.Kinds.{subject_of}
 use Rattle.petal_msg.specs.declared.body.Body.TheVariants as body
 use Rattle.petal_msg.specs.declared.letter.Letter.{Letter}
-use Rattle.petal_state.specs.Command.{state_after}
-use Rattle.petal_history.specs.Claims.{IsPrefix}
-use Rattle.petal_history.specs.Steps.{world_after}
-use Rattle.petal_rules.specs.Ballots.{post_of}
-use Rattle.petal_rules.specs.Blanked.{BeforeBlank, kept_store}
-use Rattle.petal_rules.specs.Boots.{awake, raised, stays, wakes}
-use Rattle.petal_rules.specs.Crossing.{crossed, settled_by}
-use Rattle.petal_rules.specs.Jobs.{Acted}
-use Rattle.petal_rules.specs.Lists.{In}
-use Rattle.petal_rules.specs.Log.{state_in}
-use Rattle.petal_rules.specs.Progress.{last_copy}
-use Rattle.petal_rules.specs.Returns.{proposed}
-use Rattle.petal_rules.specs.Server.{Own, Server, Post, Sender, Done, silent, sender, letters_of}
-use Rattle.petal_rules.specs.State.{State, is_in, live}
-use Rattle.petal_rules.specs.Store.{Store, chain_in, mark_on}
-use Rattle.petal_rules.specs.World.{Setting, World, acts, before_blanks, blank_joins_in, counted_by, kept}
-use Rattle.petal_rules.specs.World.{server_state, stamped, start, with_store}
-use Rattle.petal_rules.specs.declared.step.Step.{Step}
-use Rattle.petal_rules.proofs.ListLemmas.{in-append, put_apart, put_same}
-use Rattle.petal_rules.proofs.Settled.{settling}
-use Rattle.petal_rules.proofs.Tests.{by_bool, true_false}
+use Rattle.spec_state.specs.Command.{state_after}
+use Rattle.spec_history.specs.Claims.{IsPrefix}
+use Rattle.spec_history.specs.Steps.{world_after}
+use Rattle.spec_rules.specs.Ballots.{post_of}
+use Rattle.spec_rules.specs.Blanked.{BeforeBlank, kept_store}
+use Rattle.spec_rules.specs.Boots.{awake, raised, stays, wakes}
+use Rattle.spec_rules.specs.Crossing.{crossed, settled_by}
+use Rattle.spec_rules.specs.Jobs.{Acted}
+use Rattle.spec_rules.specs.Lists.{In}
+use Rattle.spec_rules.specs.Log.{state_in}
+use Rattle.spec_rules.specs.Progress.{last_copy}
+use Rattle.spec_rules.specs.Returns.{proposed}
+use Rattle.spec_rules.specs.Server.{Own, Server, Post, Sender, Done, silent, sender, letters_of}
+use Rattle.spec_rules.specs.State.{State, is_in, live}
+use Rattle.spec_rules.specs.Store.{Store, chain_in, mark_on}
+use Rattle.spec_rules.specs.World.{Setting, World, acts, before_blanks, blank_joins_in, counted_by, kept}
+use Rattle.spec_rules.specs.World.{server_state, stamped, start, with_store}
+use Rattle.spec_rules.specs.declared.step.Step.{Step}
+use Rattle.spec_rules.proofs.ListLemmas.{in-append, put_apart, put_same}
+use Rattle.spec_rules.proofs.Settled.{settling}
+use Rattle.spec_rules.proofs.Tests.{by_bool, true_false}
 use Rattle.law_state.specs.Homes.{stage_at}
 use Rattle.law_steps.specs.Happens.{Serving, Goes, Ends, Stays, Wakes, Fails, By_job, By_ballot, By_entry, Starts}
 use Rattle.law_steps.specs.Happens.{served_so, stopped_so, shown_so, is_between, own_place, without_rev}

@@ -17,14 +17,14 @@ use Rattle.petal_msg.specs.declared.operation.OpKind.{OpKind}
 use Rattle.petal_msg.specs.declared.operation.OpKind.TheVariants as kind
 use Rattle.petal_msg.specs.declared.operation.Pending.{Pending}
 use Rattle.petal_table.specs.Table.{at}
-use Rattle.petal_rules.specs.Lists.{In}
-use Rattle.petal_rules.specs.Progress.{copying_on, last_copy}
-use Rattle.petal_rules.specs.Server.{Own, Here, Post, Done, post_to}
-use Rattle.petal_rules.specs.State.{is_lead, is_second, leads_link, live, second}
-use Rattle.petal_rules.specs.Store.{chain_in, epochs_of}
-use Rattle.petal_rules.specs.Writes.{acts, ended, ends, follows, gives_back, moved_as, next_stage, pending_on, tells, with_last, without_pending}
-use Rattle.petal_rules.proofs.CellTables.{cell_apart}
-use Rattle.petal_rules.proofs.Tests.{by_bool, none_some, same_some, true_false}
+use Rattle.spec_rules.specs.Lists.{In}
+use Rattle.spec_rules.specs.Progress.{copying_on, last_copy}
+use Rattle.spec_rules.specs.Server.{Own, Here, Post, Done, post_to}
+use Rattle.spec_rules.specs.State.{is_lead, is_second, leads_link, live, second}
+use Rattle.spec_rules.specs.Store.{chain_in, epochs_of}
+use Rattle.spec_rules.specs.Writes.{acts, ended, ends, follows, gives_back, moved_as, next_stage, pending_on, tells, with_last, without_pending}
+use Rattle.spec_rules.proofs.CellTables.{cell_apart}
+use Rattle.spec_rules.proofs.Tests.{by_bool, none_some, same_some, true_false}
 use Rattle.law_state.proofs.Cells.{dead_second}
 use Rattle.law_steps.specs.Did.{Did, Ignores, Refuses, By_read, By_lead, By_second, By_holder, By_other, By_filler, By_sweep}
 use Rattle.law_steps.specs.DidLead.{DidLead, Asks_for, Repeats, Is_full, Opens, Gives_up, Closes}

@@ -13,16 +13,16 @@ use Rattle.petal_msg.specs.declared.copying.Copying.{Copying}
 use Rattle.petal_msg.specs.declared.copying.LastCopy.{LastCopy}
 use Rattle.petal_msg.specs.declared.copying.LinkId.{LinkId}
 use Rattle.petal_msg.specs.declared.copying.NextCopy.TheVariants.{Block}
-use Rattle.petal_state.specs.CellState.{cell_link, row_lead}
-use Rattle.petal_state.specs.Command.{is_alone}
-use Rattle.petal_state.specs.State.{is_up}
-use Rattle.petal_rules.specs.Copies.{Entry, cell_at, cell_holder, idle_mark, marked_blocks, next_copy}
-use Rattle.petal_rules.specs.Writes.{is_under_way}
-use Rattle.petal_rules.specs.Progress.{copying_on}
+use Rattle.spec_state.specs.CellState.{cell_link, row_lead}
+use Rattle.spec_state.specs.Command.{is_alone}
+use Rattle.spec_state.specs.State.{is_up}
+use Rattle.spec_rules.specs.Copies.{Entry, cell_at, cell_holder, idle_mark, marked_blocks, next_copy}
+use Rattle.spec_rules.specs.Writes.{is_under_way}
+use Rattle.spec_rules.specs.Progress.{copying_on}
 use Rattle.petal_msg.specs.Kinds.{about}
-use Rattle.petal_rules.specs.Server.{Own, Here, Done}
-use Rattle.petal_rules.specs.State.{State, holder_of, id_of, in_both, is_second, leads_link, link_named, live, other_in, second}
-use Rattle.petal_rules.proofs.Tests.{both_true, by_test, is_the_one, none_some, same_numbers, same_or_apart, same_some, true_false}
+use Rattle.spec_rules.specs.Server.{Own, Here, Done}
+use Rattle.spec_rules.specs.State.{State, holder_of, id_of, in_both, is_second, leads_link, link_named, live, other_in, second}
+use Rattle.spec_rules.proofs.Tests.{both_true, by_test, is_the_one, none_some, same_numbers, same_or_apart, same_some, true_false}
 use Rattle.law_state.specs.Homes.{stage_at}
 use Rattle.law_state.specs.Steady.{IsSteady}
 use Rattle.law_state.proofs.Alone.{IsBothRow, both_row}

@@ -7,17 +7,17 @@ use Rattle.std.specs.Ordering.{nat_cmp}
 use Rattle.petal_base.specs.declared.cell.Cell.{Cell}
 use Rattle.petal_table.proofs.Rows.{at-empty}
 use Rattle.petal_msg.specs.declared.copying.Progress.{Progress}
-use Rattle.petal_state.specs.CellState.{cell_link}
-use Rattle.petal_state.specs.Command.{state_after}
-use Rattle.petal_state.specs.State.{start as first_state}
-use Rattle.petal_history.specs.Steps.{world_after}
-use Rattle.petal_rules.specs.Lists.{In}
-use Rattle.petal_rules.specs.Progress.{no_progress}
-use Rattle.petal_rules.specs.State.{id_of, link_cmp}
-use Rattle.petal_rules.specs.Store.{Store, cell_cmp, chain_in, empty_store}
-use Rattle.petal_rules.specs.World.{Setting, chosen_log, counted}
-use Rattle.petal_rules.specs.World.{start}
-use Rattle.petal_rules.proofs.Tests.{none_some, true_false}
+use Rattle.spec_state.specs.CellState.{cell_link}
+use Rattle.spec_state.specs.Command.{state_after}
+use Rattle.spec_state.specs.State.{start as first_state}
+use Rattle.spec_history.specs.Steps.{world_after}
+use Rattle.spec_rules.specs.Lists.{In}
+use Rattle.spec_rules.specs.Progress.{no_progress}
+use Rattle.spec_rules.specs.State.{id_of, link_cmp}
+use Rattle.spec_rules.specs.Store.{Store, cell_cmp, chain_in, empty_store}
+use Rattle.spec_rules.specs.World.{Setting, chosen_log, counted}
+use Rattle.spec_rules.specs.World.{start}
+use Rattle.spec_rules.proofs.Tests.{none_some, true_false}
 use Rattle.law_state.specs.Started.{is_flagged}
 use Rattle.law_state.proofs.Entries.{start_plain}
 use Rattle.law_state.proofs.Rows.{past_link}

@@ -17,14 +17,14 @@ use Rattle.petal_msg.specs.declared.operation.Ending.{Ending}
 use Rattle.petal_msg.specs.declared.operation.Ending.TheVariants as ending
 use Rattle.petal_msg.specs.declared.operation.Far.TheVariants as far
 use Rattle.petal_msg.specs.declared.operation.Pending.{Pending}
-use Rattle.petal_state.specs.CellState.{row_lead, state_lead}
-use Rattle.petal_rules.specs.Progress.{copying_on, has_proposed}
-use Rattle.petal_rules.specs.State.{in_both, is_lead, is_the, leads_link}
-use Rattle.petal_rules.specs.Store.{Store, cell_cmp, chain_in}
-use Rattle.petal_rules.specs.Server.{Own, Pairs, Post, Done}
-use Rattle.petal_rules.specs.Writes.{acts, ended, ends, follows, gives_back, is_clients, next_stage, pending_on, tells, with_last, without_pending}
-use Rattle.petal_rules.proofs.CellTables.{cell_same}
-use Rattle.petal_rules.proofs.Tests.{same_numbers, same_some, true_false}
+use Rattle.spec_state.specs.CellState.{row_lead, state_lead}
+use Rattle.spec_rules.specs.Progress.{copying_on, has_proposed}
+use Rattle.spec_rules.specs.State.{in_both, is_lead, is_the, leads_link}
+use Rattle.spec_rules.specs.Store.{Store, cell_cmp, chain_in}
+use Rattle.spec_rules.specs.Server.{Own, Pairs, Post, Done}
+use Rattle.spec_rules.specs.Writes.{acts, ended, ends, follows, gives_back, is_clients, next_stage, pending_on, tells, with_last, without_pending}
+use Rattle.spec_rules.proofs.CellTables.{cell_same}
+use Rattle.spec_rules.proofs.Tests.{same_numbers, same_some, true_false}
 use Rattle.law_state.specs.Homes.{stage_at}
 use Rattle.law_steps.specs.Did.{Did, Ignores, Refuses, By_read, By_lead, By_second, By_holder, By_other, By_filler, By_sweep}
 use Rattle.law_steps.specs.Operations.{progress}

@@ -6,11 +6,11 @@ use Rattle.global_tables.specs.declared.link.LinkRow.{LinkRow}
 use Rattle.petal_base.specs.declared.cell.Cell.{Cell}
 use Rattle.petal_msg.specs.declared.body.Body.{Body}
 use Rattle.petal_msg.specs.declared.copying.LinkId.{LinkId}
-use Rattle.petal_state.specs.CellState.{cell_link, owner}
-use Rattle.petal_rules.specs.Progress.{progress_on}
-use Rattle.petal_rules.specs.Server.{Own, Here, Done}
-use Rattle.petal_rules.specs.State.{State, id_of, link_cmp, link_named}
-use Rattle.petal_rules.proofs.Tests.{by_bool, by_test, none_some, some_or_none}
+use Rattle.spec_state.specs.CellState.{cell_link, owner}
+use Rattle.spec_rules.specs.Progress.{progress_on}
+use Rattle.spec_rules.specs.Server.{Own, Here, Done}
+use Rattle.spec_rules.specs.State.{State, id_of, link_cmp, link_named}
+use Rattle.spec_rules.proofs.Tests.{by_bool, by_test, none_some, some_or_none}
 use Rattle.law_log.proofs.Flags.{progress_beside, same_id}
 use Rattle.law_state.specs.Tables.{IsPlainState}
 use Rattle.law_state.proofs.Steady.{linked}

@@ -8,17 +8,17 @@ use Rattle.global_tables.specs.declared.link.LinkRow.{LinkRow}
 use Rattle.global_tables.specs.declared.link.LinkState.TheVariants.{Only}
 use Rattle.petal_base.specs.declared.cell.Cell.{Cell}
 use Rattle.petal_command.specs.declared.command.Command.{Command}
-use Rattle.petal_history.specs.Claims.{IsPrefix}
-use Rattle.petal_history.specs.Steps.{world_after}
-use Rattle.petal_history.specs.declared.record.Record.{Record}
-use Rattle.petal_state.specs.CellState.{cell_link, serves}
-use Rattle.petal_state.specs.Command.{state_after}
-use Rattle.petal_rules.specs.Log.{state_in}
-use Rattle.petal_rules.specs.Server.{Own, Server}
-use Rattle.petal_rules.specs.State.{State, id_of, is_in}
-use Rattle.petal_rules.specs.Store.{Store, chain_in}
-use Rattle.petal_rules.specs.World.{Setting, World, blank_joins_in, server_state, start, with_store}
-use Rattle.petal_rules.proofs.Tests.{both_true, by_bool, number_itself, same_numbers, same_or_apart, some_or_none, true_false}
+use Rattle.spec_history.specs.Claims.{IsPrefix}
+use Rattle.spec_history.specs.Steps.{world_after}
+use Rattle.spec_history.specs.declared.record.Record.{Record}
+use Rattle.spec_state.specs.CellState.{cell_link, serves}
+use Rattle.spec_state.specs.Command.{state_after}
+use Rattle.spec_rules.specs.Log.{state_in}
+use Rattle.spec_rules.specs.Server.{Own, Server}
+use Rattle.spec_rules.specs.State.{State, id_of, is_in}
+use Rattle.spec_rules.specs.Store.{Store, chain_in}
+use Rattle.spec_rules.specs.World.{Setting, World, blank_joins_in, server_state, start, with_store}
+use Rattle.spec_rules.proofs.Tests.{both_true, by_bool, number_itself, same_numbers, same_or_apart, some_or_none, true_false}
 use Rattle.law_log.specs.Requested.{WasStarted}
 use Rattle.law_state.specs.Started.{is_flagged}
 use Rattle.law_steps.specs.Ready.{IsRising}

@@ -5,12 +5,12 @@ use Rattle.std.specs.Ordering.{nat_cmp}
 use Rattle.busy_marks.specs.Marks.{has_mark}
 use Rattle.petal_table.specs.Table.{at}
 use Rattle.petal_table.proofs.Rows.{at-empty}
-use Rattle.petal_rules.specs.Progress.{no_progress}
-use Rattle.petal_rules.specs.Server.{Copies, Pairs, Server, no_copies, no_pairs}
-use Rattle.petal_rules.specs.State.{id_of, link_cmp}
-use Rattle.petal_rules.specs.Store.{cell_cmp, chain_in, mark_on}
-use Rattle.petal_rules.specs.World.{World}
-use Rattle.petal_rules.proofs.Tests.{none_some}
+use Rattle.spec_rules.specs.Progress.{no_progress}
+use Rattle.spec_rules.specs.Server.{Copies, Pairs, Server, no_copies, no_pairs}
+use Rattle.spec_rules.specs.State.{id_of, link_cmp}
+use Rattle.spec_rules.specs.Store.{cell_cmp, chain_in, mark_on}
+use Rattle.spec_rules.specs.World.{World}
+use Rattle.spec_rules.proofs.Tests.{none_some}
 use Rattle.law_state.proofs.Steady.{front_plain, log_below}
 use Rattle.law_steps.specs.Ready.{IsRising}
 use Rattle.law_copies.specs.Steps.{AreFilled}

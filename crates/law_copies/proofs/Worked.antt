@@ -10,15 +10,15 @@ use Rattle.petal_table.specs.Table.{at}
 use Rattle.petal_msg.specs.Kinds.{about}
 use Rattle.petal_msg.specs.declared.body.Body.{Body}
 use Rattle.petal_msg.specs.declared.body.Body.TheVariants as body
-use Rattle.petal_history.specs.Claims.{IsMarked, IsToBeCopied}
-use Rattle.petal_state.specs.Command.{is_alone, state_after}
-use Rattle.petal_rules.specs.Lists.{In}
-use Rattle.petal_rules.specs.Log.{state_in}
-use Rattle.petal_rules.specs.Server.{Own, Pairs, Post, Server}
-use Rattle.petal_rules.specs.State.{id_of, is_in, is_whole}
-use Rattle.petal_rules.specs.Store.{Store, cell_cmp, chain_in}
-use Rattle.petal_rules.specs.World.{blank_joins_in, chosen_log, server_state}
-use Rattle.petal_rules.proofs.Tests.{none_some, same_numbers, same_or_apart, same_some, some_or_none}
+use Rattle.spec_history.specs.Claims.{IsMarked, IsToBeCopied}
+use Rattle.spec_state.specs.Command.{is_alone, state_after}
+use Rattle.spec_rules.specs.Lists.{In}
+use Rattle.spec_rules.specs.Log.{state_in}
+use Rattle.spec_rules.specs.Server.{Own, Pairs, Post, Server}
+use Rattle.spec_rules.specs.State.{id_of, is_in, is_whole}
+use Rattle.spec_rules.specs.Store.{Store, cell_cmp, chain_in}
+use Rattle.spec_rules.specs.World.{blank_joins_in, chosen_log, server_state}
+use Rattle.spec_rules.proofs.Tests.{none_some, same_numbers, same_or_apart, same_some, some_or_none}
 use Rattle.petal_table.proofs.Rows.{at-empty}
 use Rattle.law_state.specs.Started.{is_flagged}
 use Rattle.law_state.proofs.Leaves.{other_between}

@@ -19,18 +19,18 @@ use Rattle.petal_msg.specs.declared.operation.Ending.{Ending}
 use Rattle.petal_msg.specs.declared.operation.Far.{Far}
 use Rattle.petal_msg.specs.declared.operation.Far.TheVariants as far
 use Rattle.petal_msg.specs.declared.operation.Pending.{Pending}
-use Rattle.petal_state.specs.CellState.{cell_link}
-use Rattle.petal_rules.specs.Copies.{begins_copy, cell_at, cell_holder, with_page}
-use Rattle.petal_rules.specs.Progress.{has_proposed, progress_on, with_last_copy, without_copying}
+use Rattle.spec_state.specs.CellState.{cell_link}
+use Rattle.spec_rules.specs.Copies.{begins_copy, cell_at, cell_holder, with_page}
+use Rattle.spec_rules.specs.Progress.{has_proposed, progress_on, with_last_copy, without_copying}
 use Rattle.petal_msg.specs.Kinds.{about}
-use Rattle.petal_rules.specs.Server.{Own, Here, Done}
-use Rattle.petal_rules.specs.Fills.{fill_operation}
-use Rattle.petal_rules.specs.State.{is_lead, is_second, leads_link, live}
-use Rattle.petal_rules.specs.Store.{Stored, chain_in, version_of, with_entry, with_mark_on, with_ticket, without_entry, without_mark_on}
-use Rattle.petal_rules.specs.Sweeping.{without_dead}
-use Rattle.petal_rules.specs.Writes.{acts, ends, gives_back, marks, next_stage, operation, opened, puts, tells, unmarks, with_mark_at, with_opened}
-use Rattle.petal_rules.specs.Writes.{with_paired, with_pending, with_reserved, without_pending, pending_on}
-use Rattle.petal_rules.proofs.Tests.{by_test, same_or_apart, true_false}
+use Rattle.spec_rules.specs.Server.{Own, Here, Done}
+use Rattle.spec_rules.specs.Fills.{fill_operation}
+use Rattle.spec_rules.specs.State.{is_lead, is_second, leads_link, live}
+use Rattle.spec_rules.specs.Store.{Stored, chain_in, version_of, with_entry, with_mark_on, with_ticket, without_entry, without_mark_on}
+use Rattle.spec_rules.specs.Sweeping.{without_dead}
+use Rattle.spec_rules.specs.Writes.{acts, ends, gives_back, marks, next_stage, operation, opened, puts, tells, unmarks, with_mark_at, with_opened}
+use Rattle.spec_rules.specs.Writes.{with_paired, with_pending, with_reserved, without_pending, pending_on}
+use Rattle.spec_rules.proofs.Tests.{by_test, same_or_apart, true_false}
 use Rattle.law_state.specs.Homes.{stage_at}
 use Rattle.law_steps.specs.Ready.{IsReady}
 use Rattle.law_steps.specs.DidLead.{DidLead, Is_full, Opens, Marks, Puts, Gives_up, Unmarks, Closes, Opens_alone, Marks_alone, Puts_alone}

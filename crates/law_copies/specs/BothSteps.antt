@@ -5,10 +5,10 @@ use Rattle.petal_base.specs.declared.cell.Cell.{Cell}
 use Rattle.petal_table.specs.Table.{at}
 use Rattle.petal_msg.specs.Kinds.{about}
 use Rattle.petal_msg.specs.declared.operation.Pending.{Pending}
-use Rattle.petal_rules.specs.Lists.{In}
-use Rattle.petal_rules.specs.Server.{Own, Post}
-use Rattle.petal_rules.specs.Store.{cell_cmp, chain_in}
-use Rattle.petal_rules.specs.Writes.{is_clients}
+use Rattle.spec_rules.specs.Lists.{In}
+use Rattle.spec_rules.specs.Server.{Own, Post}
+use Rattle.spec_rules.specs.Store.{cell_cmp, chain_in}
+use Rattle.spec_rules.specs.Writes.{is_clients}
 use Rattle.law_steps.specs.Ready.{IsRising}
 use Rattle.law_copies.specs.Pair.{IsRecalled, Keeps, Known, Pair, far, pair_of}
 

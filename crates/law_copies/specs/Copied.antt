@@ -14,16 +14,16 @@ use Rattle.petal_msg.specs.declared.body.Body.{Body}
 use Rattle.petal_msg.specs.declared.body.Body.TheVariants as body
 use Rattle.petal_msg.specs.declared.copying.Copying.{Copying}
 use Rattle.petal_msg.specs.declared.copying.LastCopy.{LastCopy}
-use Rattle.petal_history.specs.Claims.{IsMarked, IsToBeCopied}
-use Rattle.petal_rules.specs.Copies.{cell_at, epochs_beyond}
-use Rattle.petal_rules.specs.Progress.{copying_on, last_copy, progress_on}
-use Rattle.petal_rules.specs.Server.{Own}
-use Rattle.petal_rules.specs.Store.{Store, Stored, chain_in, epochs_of}
-use Rattle.petal_rules.specs.Writes.{pending_on}
+use Rattle.spec_history.specs.Claims.{IsMarked, IsToBeCopied}
+use Rattle.spec_rules.specs.Copies.{cell_at, epochs_beyond}
+use Rattle.spec_rules.specs.Progress.{copying_on, last_copy, progress_on}
+use Rattle.spec_rules.specs.Server.{Own}
+use Rattle.spec_rules.specs.Store.{Store, Stored, chain_in, epochs_of}
+use Rattle.spec_rules.specs.Writes.{pending_on}
 use Rattle.law_state.specs.Started.{is_flagged}
 use Rattle.law_steps.specs.Ready.{IsRising}
-use Rattle.petal_state.specs.CellState.{cell_link}
-use Rattle.petal_rules.specs.State.{State, id_of, live}
+use Rattle.spec_state.specs.CellState.{cell_link}
+use Rattle.spec_rules.specs.State.{State, id_of, live}
 
 -- ### What is left to copy
 

@@ -13,17 +13,17 @@ use Rattle.petal_msg.specs.declared.body.Body.TheVariants as body
 use Rattle.petal_msg.specs.declared.copying.LastCopy.{LastCopy}
 use Rattle.petal_msg.specs.declared.letter.Letter.{Letter}
 use Rattle.petal_msg.specs.declared.operation.Pending.{Pending}
-use Rattle.petal_history.specs.Claims.{IsPrefix, IsMarked, IsToBeCopied}
-use Rattle.petal_history.specs.declared.record.Record.{Record}
-use Rattle.petal_rules.specs.Lists.{In}
-use Rattle.petal_rules.specs.Progress.{last_copy, no_progress, progress_on}
-use Rattle.petal_rules.specs.Server.{Own}
-use Rattle.petal_rules.specs.State.{State, id_of, is_in, is_whole, live}
-use Rattle.petal_rules.specs.Store.{Store, cell_cmp, chain_in}
-use Rattle.petal_rules.specs.World.{Setting, World, blank_joins_in, server_state}
-use Rattle.petal_rules.specs.Writes.{is_clients}
-use Rattle.petal_state.specs.CellState.{cell_link}
-use Rattle.petal_state.specs.Command.{state_after}
+use Rattle.spec_history.specs.Claims.{IsPrefix, IsMarked, IsToBeCopied}
+use Rattle.spec_history.specs.declared.record.Record.{Record}
+use Rattle.spec_rules.specs.Lists.{In}
+use Rattle.spec_rules.specs.Progress.{last_copy, no_progress, progress_on}
+use Rattle.spec_rules.specs.Server.{Own}
+use Rattle.spec_rules.specs.State.{State, id_of, is_in, is_whole, live}
+use Rattle.spec_rules.specs.Store.{Store, cell_cmp, chain_in}
+use Rattle.spec_rules.specs.World.{Setting, World, blank_joins_in, server_state}
+use Rattle.spec_rules.specs.Writes.{is_clients}
+use Rattle.spec_state.specs.CellState.{cell_link}
+use Rattle.spec_state.specs.Command.{state_after}
 use Rattle.law_log.specs.Requested.{WasStarted}
 use Rattle.law_state.specs.Homes.{stage_at}
 use Rattle.law_state.specs.Started.{is_flagged}

@@ -4,3 +4,4 @@ pub mod Copied
 pub mod Steps
 pub mod Good
 pub mod BothSteps
+pub mod Waiting

@@ -9,12 +9,12 @@ use Rattle.petal_msg.specs.declared.body.Body.{Body}
 use Rattle.petal_msg.specs.declared.body.Body.TheVariants as body
 use Rattle.petal_msg.specs.declared.operation.LastOp.{LastOp}
 use Rattle.petal_msg.specs.declared.operation.Pending.{Pending}
-use Rattle.petal_rules.specs.State.{State, live, primary, secondary}
-use Rattle.petal_rules.specs.Store.{Chain, Store, cell_cmp, chain_in, is_marked}
-use Rattle.petal_rules.specs.Server.{Own}
-use Rattle.petal_rules.specs.Writes.{is_clients}
-use Rattle.petal_rules.specs.World.{World}
-use Rattle.petal_history.specs.Claims.{one_put_ahead}
+use Rattle.spec_rules.specs.State.{State, live, primary, secondary}
+use Rattle.spec_rules.specs.Store.{Chain, Store, cell_cmp, chain_in, is_marked}
+use Rattle.spec_rules.specs.Server.{Own}
+use Rattle.spec_rules.specs.Writes.{is_clients}
+use Rattle.spec_rules.specs.World.{World}
+use Rattle.spec_history.specs.Claims.{one_put_ahead}
 use Rattle.law_steps.specs.Operations.{AtRest, progress}
 
 -- the two copies, the operation that is pending at the first server and the number of its next one, and the last operation that

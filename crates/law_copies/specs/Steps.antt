@@ -11,15 +11,15 @@ use Rattle.petal_msg.specs.Kinds.{about, subject_of}
 use Rattle.petal_msg.specs.declared.body.Body.{Body}
 use Rattle.petal_msg.specs.declared.body.Body.TheVariants as body
 use Rattle.petal_msg.specs.declared.copying.LastCopy.{LastCopy}
-use Rattle.petal_state.specs.CellState.{cell_link}
+use Rattle.spec_state.specs.CellState.{cell_link}
 use Rattle.petal_table.specs.Table.{Table, at}
-use Rattle.petal_history.specs.Claims.{IsMarked}
-use Rattle.petal_rules.specs.Lists.{In}
-use Rattle.petal_rules.specs.Progress.{copying_on, has_proposed, last_copy}
-use Rattle.petal_rules.specs.Server.{Own, Here, Post, Done}
-use Rattle.petal_rules.specs.State.{holder_of, id_of, live}
-use Rattle.petal_rules.specs.Store.{Chain, Store, cell_cmp, chain_in, is_marked}
-use Rattle.petal_rules.specs.Writes.{last_on, pending_on}
+use Rattle.spec_history.specs.Claims.{IsMarked}
+use Rattle.spec_rules.specs.Lists.{In}
+use Rattle.spec_rules.specs.Progress.{copying_on, has_proposed, last_copy}
+use Rattle.spec_rules.specs.Server.{Own, Here, Post, Done}
+use Rattle.spec_rules.specs.State.{holder_of, id_of, live}
+use Rattle.spec_rules.specs.Store.{Chain, Store, cell_cmp, chain_in, is_marked}
+use Rattle.spec_rules.specs.Writes.{last_on, pending_on}
 use Rattle.law_state.specs.Homes.{stage_at}
 use Rattle.law_state.specs.Started.{is_flagged}
 use Rattle.law_state.specs.Steady.{IsSteady}

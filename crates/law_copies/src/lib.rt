@@ -1,8 +1,8 @@
 //! The two-copy rule: after every legal history, the two chains of a cell in Both are equal, or the first is one put ahead, and
 //! the block is marked busy ("Petal: Distributed Virtual Disks", 1996, 3.2); and an unequal block of a cell that one server
 //! holds alone is marked, or is one of all that the holder is to copy. A server that was blanked counts as it was before, until its Join
-//! with an empty store is chosen; a link that is Lost has no copy that counts. Of a cell whose contents have left it for another map nothing is
-//! said of stores, since what is left there is swept.
+//! with an empty store is chosen (`stores`); a link that is Lost has no copy that counts. Of a cell whose contents have left it for
+//! another map nothing is said of stores, since what is left there is swept.
 //!
 //! To the laws above it promises this and what goes with it: that a block is marked before its lead puts, how far the second
 //! server of a link in Both is, how far the copies are by which a holder brings the other server up to date, and what a letter between
@@ -11,10 +11,17 @@
 
 ghost use Rattle.std.specs.Prelude.{List};
 ghost use Rattle.petal_base.specs.declared.cell.Cell.{Cell};
-ghost use Rattle.petal_rules.specs.World.{chosen_log, chosen_state, counted};
-ghost use Rattle.petal_history.specs.Claims.{TwoCopies, Covered, MarksFirst};
+ghost use Rattle.spec_rules.specs.World.{chosen_log, chosen_state, counted};
+ghost use Rattle.spec_history.specs.Claims.{TwoCopies, Covered, MarksFirst};
 ghost use Rattle.law_state.specs.Histories.{AreSteps, IsSound, Record, Script, setting_of, start, world_after};
 ghost use Rattle.law_copies.specs.Good.{Good};
+
+mod stores;
+
+pub use stores::{
+    a_blank_join_finds_an_empty_store, a_store_that_waits_is_empty, what_was_blanked_waits,
+    who_is_in_has_the_store_that_counts,
+};
 
 /// After every legal history of a sound script, the two copies of each cell in Both keep the rule, by the stores that count.
 pub fn two_copies()

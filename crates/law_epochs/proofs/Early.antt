@@ -14,21 +14,21 @@ use Rattle.petal_msg.specs.declared.body.Body.{Body}
 use Rattle.petal_msg.specs.declared.body.Body.TheVariants as body
 use Rattle.petal_msg.specs.declared.letter.Letter.{Letter}
 use Rattle.script_lines.specs.declared.script.Script.{Script}
-use Rattle.petal_state.specs.Command.{state_after}
-use Rattle.petal_rules.specs.Blanked.{BeforeBlank}
-use Rattle.petal_rules.specs.Clients.{client_sender}
-use Rattle.petal_rules.specs.Jobs.{Acted, down_posts}
-use Rattle.petal_rules.specs.Lists.{In}
-use Rattle.petal_rules.specs.Log.{Log}
-use Rattle.petal_rules.specs.Server.{Own, Post, Sender, Done, letters_of, sender}
-use Rattle.petal_rules.specs.State.{State}
-use Rattle.petal_rules.specs.Store.{Chain, Store, chain_in}
-use Rattle.petal_rules.specs.World.{World, chosen_state, setting_of, stamped}
-use Rattle.petal_rules.specs.declared.step.Step.{Step}
-use Rattle.petal_rules.proofs.ListLemmas.{in-append}
-use Rattle.petal_history.specs.Steps.{AreSteps}
-use Rattle.petal_history.specs.Sound.{IsSound}
-use Rattle.petal_history.specs.declared.record.Record.{Record}
+use Rattle.spec_state.specs.Command.{state_after}
+use Rattle.spec_rules.specs.Blanked.{BeforeBlank}
+use Rattle.spec_rules.specs.Clients.{client_sender}
+use Rattle.spec_rules.specs.Jobs.{Acted, down_posts}
+use Rattle.spec_rules.specs.Lists.{In}
+use Rattle.spec_rules.specs.Log.{Log}
+use Rattle.spec_rules.specs.Server.{Own, Post, Sender, Done, letters_of, sender}
+use Rattle.spec_rules.specs.State.{State}
+use Rattle.spec_rules.specs.Store.{Chain, Store, chain_in}
+use Rattle.spec_rules.specs.World.{World, chosen_state, setting_of, stamped}
+use Rattle.spec_rules.specs.declared.step.Step.{Step}
+use Rattle.spec_rules.proofs.ListLemmas.{in-append}
+use Rattle.spec_history.specs.Steps.{AreSteps}
+use Rattle.spec_history.specs.Sound.{IsSound}
+use Rattle.spec_history.specs.declared.record.Record.{Record}
 use Rattle.law_state.specs.Homes.{stage_at}
 use Rattle.law_state.specs.Firm.{Firm}
 use Rattle.law_state.proofs.Steady.{log_rev}

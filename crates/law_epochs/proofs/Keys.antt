@@ -6,7 +6,7 @@ use Rattle.std.specs.Map.{lookup}
 use Rattle.std.specs.Ordering.{nat_cmp, is_eq}
 use Rattle.std.specs.Cmp.{nat_cmp_total, tied_itself}
 use Rattle.petal_table.specs.Table.{Table, at}
-use Rattle.petal_rules.proofs.Tests.{by_bool, none_some, same_some}
+use Rattle.spec_rules.proofs.Tests.{by_bool, none_some, same_some}
 
 -- something stands at the key of each row
 pub at_key : {X : Type 0} (t : Table ℕ X) (i : ℕ) (row : ℕ × X) → slice_get t i ≡ Some row → (x : X) × (at nat_cmp t row.0 ≡ Some x)

@@ -9,22 +9,22 @@ use Rattle.petal_table.proofs.Rows.{at-empty}
 use Rattle.petal_msg.specs.declared.body.Body.{Body}
 use Rattle.petal_msg.specs.declared.letter.Letter.{Letter}
 use Rattle.petal_msg.specs.declared.operation.Pending.{Pending}
-use Rattle.petal_state.specs.Command.{state_after}
-use Rattle.petal_rules.specs.Blanked.{BeforeBlank, kept_store}
-use Rattle.petal_rules.specs.Boots.{blanked}
-use Rattle.petal_rules.specs.Crossing.{crossed}
-use Rattle.petal_rules.specs.Jobs.{Acted}
-use Rattle.petal_rules.specs.Lists.{In}
-use Rattle.petal_rules.specs.Log.{Log}
-use Rattle.petal_rules.specs.Server.{Pairs, Server, Done}
-use Rattle.petal_rules.specs.State.{State}
-use Rattle.petal_rules.specs.Store.{Store, cell_cmp}
-use Rattle.petal_rules.specs.Writes.{is_clients}
-use Rattle.petal_rules.specs.World.{Setting, World, blank_joins_in, chosen_log, kept, server_state, start}
-use Rattle.petal_rules.specs.declared.step.Step.{Step}
-use Rattle.petal_rules.proofs.Settled.{settling}
-use Rattle.petal_rules.proofs.Tests.{all_put, by_bool, by_test, none_some, same_some, true_false}
-use Rattle.petal_history.specs.Claims.{IsPrefix}
+use Rattle.spec_state.specs.Command.{state_after}
+use Rattle.spec_rules.specs.Blanked.{BeforeBlank, kept_store}
+use Rattle.spec_rules.specs.Boots.{blanked}
+use Rattle.spec_rules.specs.Crossing.{crossed}
+use Rattle.spec_rules.specs.Jobs.{Acted}
+use Rattle.spec_rules.specs.Lists.{In}
+use Rattle.spec_rules.specs.Log.{Log}
+use Rattle.spec_rules.specs.Server.{Pairs, Server, Done}
+use Rattle.spec_rules.specs.State.{State}
+use Rattle.spec_rules.specs.Store.{Store, cell_cmp}
+use Rattle.spec_rules.specs.Writes.{is_clients}
+use Rattle.spec_rules.specs.World.{Setting, World, blank_joins_in, chosen_log, kept, server_state, start}
+use Rattle.spec_rules.specs.declared.step.Step.{Step}
+use Rattle.spec_rules.proofs.Settled.{settling}
+use Rattle.spec_rules.proofs.Tests.{all_put, by_bool, by_test, none_some, same_some, true_false}
+use Rattle.spec_history.specs.Claims.{IsPrefix}
 use Rattle.law_state.specs.Homes.{epoch_at, stage_at}
 use Rattle.law_state.specs.Firm.{Firm}
 use Rattle.law_state.specs.Plain.{IsPlainLog}
@@ -34,7 +34,7 @@ use Rattle.law_steps.specs.Happens.{Ends, Stays, Wakes, Fails, own_place}
 use Rattle.law_steps.proofs.Filling.{Fills, Stood, Writes, did_come}
 use Rattle.law_steps.proofs.Fronts.{front_on, one_front}
 use Rattle.law_steps.proofs.Histories.{own_plain, proposed_pairs}
-use Rattle.law_stores.proofs.Jobs.{ballot_store}
+use Rattle.law_copies.proofs.StoreJobs.{ballot_store}
 use Rattle.law_epochs.proofs.Present.{firm, opened_by, was_opened}
 use Rattle.law_epochs.proofs.Puts.{did_kept}
 use Rattle.law_epochs.proofs.Reports.{resting}

@@ -5,8 +5,8 @@ use Rattle.petal_base.specs.declared.cell.Key.{Key}
 use Rattle.petal_table.specs.Table.{at}
 use Rattle.petal_msg.specs.declared.body.Body.{Body}
 use Rattle.petal_msg.specs.declared.operation.Pending.{Pending}
-use Rattle.petal_rules.specs.Server.{Own, Here, Done}
-use Rattle.petal_rules.specs.Store.{Stored, cell_cmp}
+use Rattle.spec_rules.specs.Server.{Own, Here, Done}
+use Rattle.spec_rules.specs.Store.{Stored, cell_cmp}
 use Rattle.law_steps.specs.Did.{Did}
 use Rattle.law_jobs.specs.Effects.{Becomes, A_copy, A_lead, An_operation, IsPutFor}
 use Rattle.law_jobs.proofs.JobsAreEffects.{effects_of}

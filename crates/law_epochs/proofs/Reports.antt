@@ -5,17 +5,17 @@ use Rattle.petal_command.specs.declared.command.Command.{Command}
 use Rattle.petal_table.specs.Table.{at}
 use Rattle.petal_msg.specs.declared.operation.Pending.{Pending}
 use Rattle.script_lines.specs.declared.script.Script.{Script}
-use Rattle.petal_state.specs.Command.{state_after}
-use Rattle.petal_rules.specs.Draining.{has_held_write}
-use Rattle.petal_rules.specs.State.{held}
-use Rattle.petal_rules.specs.Store.{cell_cmp}
-use Rattle.petal_rules.specs.Writes.{is_clients, is_writes_held}
-use Rattle.petal_rules.specs.World.{Setting, setting_of, start}
-use Rattle.petal_rules.proofs.Tests.{true_false}
-use Rattle.petal_history.specs.Claims.{IsPrefix}
-use Rattle.petal_history.specs.Steps.{AreSteps}
-use Rattle.petal_history.specs.Sound.{IsSound}
-use Rattle.petal_history.specs.declared.record.Record.{Record}
+use Rattle.spec_state.specs.Command.{state_after}
+use Rattle.spec_rules.specs.Draining.{has_held_write}
+use Rattle.spec_rules.specs.State.{held}
+use Rattle.spec_rules.specs.Store.{cell_cmp}
+use Rattle.spec_rules.specs.Writes.{is_clients, is_writes_held}
+use Rattle.spec_rules.specs.World.{Setting, setting_of, start}
+use Rattle.spec_rules.proofs.Tests.{true_false}
+use Rattle.spec_history.specs.Claims.{IsPrefix}
+use Rattle.spec_history.specs.Steps.{AreSteps}
+use Rattle.spec_history.specs.Sound.{IsSound}
+use Rattle.spec_history.specs.declared.record.Record.{Record}
 use Rattle.law_steps.specs.Ready.{Rests}
 use Rattle.law_steps.proofs.Firms.{always_firm}
 use Rattle.law_steps.proofs.Histories.{rests_after, start_rests}

@@ -2,12 +2,12 @@
 use Rattle.std.proofs.Common.{◌≡◌, List, [], ◌∷◌, ◌++◌, refl, subst}
 use Rattle.petal_command.specs.declared.command.Command.{Command}
 use Rattle.script_lines.specs.declared.script.Script.{Script}
-use Rattle.petal_state.specs.Command.{state_after}
-use Rattle.petal_rules.specs.State.{State}
-use Rattle.petal_rules.specs.World.{Setting, World, chosen_log, setting_of}
-use Rattle.petal_history.specs.Claims.{IsPrefix}
-use Rattle.petal_history.specs.Steps.{AreSteps}
-use Rattle.petal_history.specs.declared.record.Record.{Record}
+use Rattle.spec_state.specs.Command.{state_after}
+use Rattle.spec_rules.specs.State.{State}
+use Rattle.spec_rules.specs.World.{Setting, World, chosen_log, setting_of}
+use Rattle.spec_history.specs.Claims.{IsPrefix}
+use Rattle.spec_history.specs.Steps.{AreSteps}
+use Rattle.spec_history.specs.declared.record.Record.{Record}
 use Rattle.law_state.specs.Plain.{IsPlainLog}
 use Rattle.law_log.proofs.Histories.{history_grows, history_is_firm}
 pub use Rattle.law_jobs.proofs.Runs.{OneMore, Run}

@@ -5,11 +5,11 @@ use Rattle.global_tables.specs.Link.{has_server}
 use Rattle.global_tables.specs.declared.link.LinkRow.{LinkRow}
 use Rattle.petal_base.specs.declared.cell.Cell.{Cell}
 use Rattle.petal_command.specs.declared.command.Command.{Command}
-use Rattle.petal_history.specs.Claims.{IsPrefix}
-use Rattle.petal_state.specs.CellState.{cell_link, row_lead}
-use Rattle.petal_state.specs.Command.{state_after}
-use Rattle.petal_rules.specs.State.{State, leads_link}
-use Rattle.petal_rules.proofs.Tests.{is_the_one, none_some, same_some}
+use Rattle.spec_history.specs.Claims.{IsPrefix}
+use Rattle.spec_state.specs.CellState.{cell_link, row_lead}
+use Rattle.spec_state.specs.Command.{state_after}
+use Rattle.spec_rules.specs.State.{State, leads_link}
+use Rattle.spec_rules.proofs.Tests.{is_the_one, none_some, same_some}
 use Rattle.law_state.specs.Plain.{IsPlainLog}
 use Rattle.law_state.proofs.Cells.{link_led_by}
 use Rattle.law_state.proofs.Roles.{holder_is_one, primary_is_one}

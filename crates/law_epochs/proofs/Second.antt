@@ -10,14 +10,14 @@ use Rattle.petal_base.specs.declared.cell.Cell.{Cell}
 use Rattle.petal_command.specs.declared.command.Command.{Command}
 use Rattle.petal_command.specs.declared.command.Command.TheVariants.{Leave}
 use Rattle.petal_msg.specs.declared.operation.Pending.{Pending}
-use Rattle.petal_state.specs.Command.{after}
-use Rattle.petal_state.specs.Place.{places_from, touches}
-use Rattle.petal_state.specs.State.{is_up_as, start}
-use Rattle.petal_rules.specs.State.{is_in}
-use Rattle.petal_rules.specs.World.{Setting, World, chosen_log, server_state}
-use Rattle.petal_rules.proofs.Tests.{same_or_apart}
-use Rattle.petal_history.specs.Claims.{IsPrefix}
-use Rattle.petal_history.specs.declared.record.Record.{Record}
+use Rattle.spec_state.specs.Command.{after}
+use Rattle.spec_state.specs.Place.{places_from, touches}
+use Rattle.spec_state.specs.State.{is_up_as, start}
+use Rattle.spec_rules.specs.State.{is_in}
+use Rattle.spec_rules.specs.World.{Setting, World, chosen_log, server_state}
+use Rattle.spec_rules.proofs.Tests.{same_or_apart}
+use Rattle.spec_history.specs.Claims.{IsPrefix}
+use Rattle.spec_history.specs.declared.record.Record.{Record}
 use Rattle.law_state.specs.Epochs.{era_at}
 use Rattle.law_state.specs.Firm.{Firm}
 use Rattle.law_state.specs.Places.{By_leave, By_join, By_caught, IsTouchedBy}
@@ -27,7 +27,7 @@ use Rattle.law_state.proofs.Touching.{log_touched, places_grow, places_of_both, 
 use Rattle.law_log.proofs.Histories.{report_was_made}
 use Rattle.law_steps.proofs.Fronts.{front_itself, front_long, front_more, front_on, front_within}
 use Rattle.law_steps.proofs.Histories.{runs_at, runs_now}
-use Rattle.law_stores.proofs.Counts.{stands_in}
+use Rattle.law_copies.proofs.EmptyJoins.{stands_in}
 use Rattle.law_jobs.proofs.Runs.{At}
 use Rattle.law_copies.specs.Visits.{IsLinked, place_by}
 use Rattle.law_copies.proofs.Places.{at_most_or_above, place_of_later, place_touched}

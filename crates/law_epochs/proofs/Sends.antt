@@ -9,9 +9,9 @@ use Rattle.petal_msg.specs.declared.body.Body.{Body}
 use Rattle.petal_msg.specs.declared.body.Body.TheVariants as body
 use Rattle.petal_msg.specs.declared.operation.Ending.TheVariants as ending
 use Rattle.petal_msg.specs.declared.operation.Pending.{Pending}
-use Rattle.petal_rules.specs.Lists.{In}
-use Rattle.petal_rules.specs.Server.{Own, Here, Post, Done}
-use Rattle.petal_rules.specs.Store.{cell_cmp, chain_in}
+use Rattle.spec_rules.specs.Lists.{In}
+use Rattle.spec_rules.specs.Server.{Own, Here, Post, Done}
+use Rattle.spec_rules.specs.Store.{cell_cmp, chain_in}
 use Rattle.law_steps.specs.Did.{Did}
 use Rattle.law_steps.specs.DidFiller.{IsNextKey, filled_to}
 use Rattle.law_steps.specs.DidLead.{IsNextFill}

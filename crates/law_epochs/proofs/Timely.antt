@@ -11,12 +11,12 @@ use Rattle.petal_base.specs.declared.cell.Cell.{Cell}
 use Rattle.petal_command.specs.declared.command.Command.{Command}
 use Rattle.petal_command.specs.declared.command.Command.TheVariants.{Moved}
 use Rattle.petal_msg.specs.declared.operation.Pending.{Pending}
-use Rattle.petal_history.specs.Claims.{IsPrefix}
-use Rattle.petal_state.specs.CellState.{cell_link}
-use Rattle.petal_state.specs.Command.{state_after}
-use Rattle.petal_state.specs.State.{links_of}
-use Rattle.petal_rules.specs.State.{State}
-use Rattle.petal_rules.proofs.Tests.{none_some, some_or_none}
+use Rattle.spec_history.specs.Claims.{IsPrefix}
+use Rattle.spec_state.specs.CellState.{cell_link}
+use Rattle.spec_state.specs.Command.{state_after}
+use Rattle.spec_state.specs.State.{links_of}
+use Rattle.spec_rules.specs.State.{State}
+use Rattle.spec_rules.proofs.Tests.{none_some, some_or_none}
 use Rattle.global_tables.specs.Region.{region_of}
 use Rattle.law_state.specs.Homes.{epoch_at, era_at, era_by, stage_at}
 use Rattle.law_state.specs.Plain.{IsPlainLog}

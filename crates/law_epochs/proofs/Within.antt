@@ -10,8 +10,8 @@ use Rattle.petal_table.proofs.Rows.{at_apart, at-empty, gone_apart, gone_same}
 use Rattle.petal_msg.specs.Kinds.{Copied, Filling, Logged, Paired, Read_asked, Subject, Write_asked, is_asked, is_logged, subject_of}
 use Rattle.petal_msg.specs.declared.body.Body.{Body}
 use Rattle.petal_msg.specs.declared.body.Body.TheVariants as body
-use Rattle.petal_rules.specs.Store.{Chain, Store, Stored, cell_cmp, chain_in, chains_at, chains_with, without_entry}
-use Rattle.petal_rules.proofs.Tests.{none_some, same_or_apart}
+use Rattle.spec_rules.specs.Store.{Chain, Store, Stored, cell_cmp, chain_in, chains_at, chains_with, without_entry}
+use Rattle.spec_rules.proofs.Tests.{none_some, same_or_apart}
 use Rattle.law_steps.proofs.Staged.{same_cell_or_apart}
 use Rattle.law_jobs.proofs.ChainsApart.{chain_apart, chain_put, drop_apart, gone_chain}
 

@@ -4,10 +4,10 @@ use Rattle.std.specs.Ordering.{nat_cmp}
 use Rattle.petal_base.specs.declared.cell.Cell.{Cell}
 use Rattle.petal_command.specs.declared.command.Command.{Command}
 use Rattle.petal_table.specs.Table.{at}
-use Rattle.petal_state.specs.Command.{state_after}
-use Rattle.petal_rules.specs.Blanked.{BeforeBlank}
-use Rattle.petal_rules.specs.Store.{Store, Stored, chain_in}
-use Rattle.petal_rules.specs.World.{World}
+use Rattle.spec_state.specs.Command.{state_after}
+use Rattle.spec_rules.specs.Blanked.{BeforeBlank}
+use Rattle.spec_rules.specs.Store.{Store, Stored, chain_in}
+use Rattle.spec_rules.specs.World.{World}
 use Rattle.law_state.specs.Homes.{epoch_at, stage_at}
 
 -- each entry is of an epoch that its cell's disk has, or has had, by these entries of the log; and each cell with an entry is live by them, or

@@ -3,7 +3,7 @@ use Rattle.std.specs.Prelude.{◌≡◌, ◌≤◌, ℕ, List}
 use Rattle.petal_base.specs.declared.cell.Cell.{Cell}
 use Rattle.petal_command.specs.declared.command.Command.{Command}
 use Rattle.petal_msg.specs.declared.operation.Pending.{Pending}
-use Rattle.petal_state.specs.Command.{state_after}
+use Rattle.spec_state.specs.Command.{state_after}
 use Rattle.law_state.specs.Homes.{epoch_at, stage_at}
 
 -- by these entries the write is of the epoch that its disk has, and its cell is live and not leaving

@@ -2,9 +2,9 @@
 use Rattle.std.proofs.Common.{◌≡◌, ◌≤◌, ℕ, ap, ◌∙◌, inl, inr, arith}
 use Rattle.petal_base.specs.declared.cell.Cell.{Cell}
 use Rattle.petal_msg.specs.declared.body.Body.{Body}
-use Rattle.petal_rules.specs.Server.{Own, Here, Done}
-use Rattle.petal_rules.specs.Writes.{last_on}
-use Rattle.petal_rules.proofs.CellTables.{cell_apart, cell_same}
+use Rattle.spec_rules.specs.Server.{Own, Here, Done}
+use Rattle.spec_rules.specs.Writes.{last_on}
+use Rattle.spec_rules.proofs.CellTables.{cell_apart, cell_same}
 use Rattle.law_steps.specs.Did.{Did}
 use Rattle.law_steps.specs.Operations.{far_of, progress}
 use Rattle.law_steps.proofs.Staged.{same_cell_or_apart}

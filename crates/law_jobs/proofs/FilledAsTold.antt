@@ -5,8 +5,8 @@ use Rattle.petal_base.specs.declared.cell.Key.{Key}
 use Rattle.petal_msg.specs.declared.body.Body.{Body}
 use Rattle.petal_msg.specs.declared.body.Body.TheVariants as body
 use Rattle.petal_msg.specs.declared.copying.LinkId.{LinkId}
-use Rattle.petal_rules.specs.Server.{Own, Here, Done}
-use Rattle.petal_rules.specs.State.{id_of, link_cmp}
+use Rattle.spec_rules.specs.Server.{Own, Here, Done}
+use Rattle.spec_rules.specs.State.{id_of, link_cmp}
 use Rattle.petal_table.specs.Table.{Table, put}
 use Rattle.law_steps.specs.Did.{Did}
 use Rattle.law_steps.specs.DidFiller.{IsNextKey}

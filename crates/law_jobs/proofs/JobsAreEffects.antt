@@ -22,16 +22,16 @@ use Rattle.petal_msg.specs.declared.operation.OpKind.{OpKind}
 use Rattle.petal_msg.specs.declared.operation.OpKind.TheVariants as kind
 use Rattle.petal_msg.specs.declared.operation.Pending.{Pending}
 use Rattle.petal_msg.specs.declared.operation.Stage.{Stage}
-use Rattle.petal_state.specs.CellState.{cell_link}
-use Rattle.petal_rules.specs.Copies.{with_copied, with_page}
-use Rattle.petal_rules.specs.Fills.{fill_operation}
-use Rattle.petal_rules.specs.Progress.{progress_on, with_progress, without_copying}
-use Rattle.petal_rules.specs.Server.{Own, Here, Done}
-use Rattle.petal_rules.specs.Copies.{begins_copy, cell_at}
-use Rattle.petal_rules.specs.Store.{Stored, chain_in, version_of}
-use Rattle.petal_rules.specs.Writes.{acts, ends, gives_back, gives_up, last_on, pending_on, puts, next_stage, operation, tells, with_flag, with_mark_at, with_opened, with_paired, with_pending, with_reserved, without_pending}
-use Rattle.petal_rules.proofs.CellTables.{cell_same}
-use Rattle.petal_rules.proofs.Tests.{by_test, true_false}
+use Rattle.spec_state.specs.CellState.{cell_link}
+use Rattle.spec_rules.specs.Copies.{with_copied, with_page}
+use Rattle.spec_rules.specs.Fills.{fill_operation}
+use Rattle.spec_rules.specs.Progress.{progress_on, with_progress, without_copying}
+use Rattle.spec_rules.specs.Server.{Own, Here, Done}
+use Rattle.spec_rules.specs.Copies.{begins_copy, cell_at}
+use Rattle.spec_rules.specs.Store.{Stored, chain_in, version_of}
+use Rattle.spec_rules.specs.Writes.{acts, ends, gives_back, gives_up, last_on, pending_on, puts, next_stage, operation, tells, with_flag, with_mark_at, with_opened, with_paired, with_pending, with_reserved, without_pending}
+use Rattle.spec_rules.proofs.CellTables.{cell_same}
+use Rattle.spec_rules.proofs.Tests.{by_test, true_false}
 use Rattle.law_steps.specs.DidLead.{DidLead, Is_full, Opens, Opens_alone, Opens_fill, Opens_fill_alone, Gives_up, Closes_alone, Goes_on_dead}
 use Rattle.law_steps.specs.DidLead.{Marks_alone, Puts_alone, Unmarks_alone, Taken, As_it_is, As_told, told}
 use Rattle.law_steps.specs.DidLead.{Marks, Puts, Unmarks, Closes}
@@ -43,7 +43,7 @@ use Rattle.law_steps.specs.DidFiller.{DidFiller, Is_filled, Is_out_of_slots}
 use Rattle.law_steps.specs.DidSweep.{DidSweep, Sweeps}
 use Rattle.law_steps.specs.Did.{Did, Ignores, Refuses, By_read, By_lead, By_second, By_holder, By_other, By_filler, By_sweep}
 use Rattle.petal_msg.specs.declared.copying.LinkId.{LinkId}
-use Rattle.petal_rules.specs.State.{id_of, link_named}
+use Rattle.spec_rules.specs.State.{id_of, link_named}
 use Rattle.law_steps.specs.Operations.{progress}
 use Rattle.law_steps.proofs.Resting.{row_named}
 use Rattle.law_steps.proofs.Subjects.{of_read}

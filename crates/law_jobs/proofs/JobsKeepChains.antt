@@ -3,8 +3,8 @@ use Rattle.petal_base.specs.declared.cell.Cell.{Cell}
 use Rattle.petal_base.specs.declared.cell.Key.{Key}
 use Rattle.petal_table.specs.Table.{Table}
 use Rattle.petal_msg.specs.declared.body.Body.{Body}
-use Rattle.petal_rules.specs.Server.{Own, Here, Done}
-use Rattle.petal_rules.specs.Store.{Chain, Store, Stored, chains_with, without_entry}
+use Rattle.spec_rules.specs.Server.{Own, Here, Done}
+use Rattle.spec_rules.specs.Store.{Chain, Store, Stored, chains_with, without_entry}
 use Rattle.law_steps.specs.Did.{Did}
 use Rattle.law_jobs.specs.Effects.{Becomes, Effect, IsPutFor, May, Drops, Puts, applied}
 use Rattle.law_jobs.proofs.JobsAreEffects.{all_keep, effects_of}

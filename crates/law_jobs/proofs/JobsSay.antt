@@ -16,11 +16,11 @@ use Rattle.petal_msg.specs.declared.operation.Far.TheVariants as far
 use Rattle.petal_msg.specs.declared.operation.OpKind.{OpKind}
 use Rattle.petal_msg.specs.declared.operation.OpKind.TheVariants as kind
 use Rattle.petal_msg.specs.declared.operation.Pending.{Pending}
-use Rattle.petal_rules.specs.Copies.{begins_copy, page_wanted}
-use Rattle.petal_rules.specs.Lists.{In}
-use Rattle.petal_rules.specs.Server.{Own, Here, Post, Done, post_to}
-use Rattle.petal_rules.specs.Store.{chain_in, epochs_of}
-use Rattle.petal_rules.specs.Writes.{acts, old_lead, ends, follows, gives_back, moved_as, next_stage, tells, with_last, without_pending}
+use Rattle.spec_rules.specs.Copies.{begins_copy, page_wanted}
+use Rattle.spec_rules.specs.Lists.{In}
+use Rattle.spec_rules.specs.Server.{Own, Here, Post, Done, post_to}
+use Rattle.spec_rules.specs.Store.{chain_in, epochs_of}
+use Rattle.spec_rules.specs.Writes.{acts, old_lead, ends, follows, gives_back, moved_as, next_stage, tells, with_last, without_pending}
 use Rattle.law_steps.specs.DidLead.{DidLead, Asks_for, Repeats, Is_full, Opens, Gives_up, Closes}
 use Rattle.law_steps.specs.DidLead.{Closes_alone, Opens_fill, Has_fill, Has_no_room, Goes_on_dead, Taken, As_it_is, As_told, Asks}
 use Rattle.law_steps.specs.DidLead.{A_slot, A_copy, A_trim, A_copied_entry, A_page, An_entry_to_move, Of_the_log}
@@ -37,7 +37,7 @@ use Rattle.law_jobs.specs.Effects.{As_it_was, Becomes}
 use Rattle.law_jobs.specs.Sayings as says
 use Rattle.law_jobs.specs.Sayings.{Says}
 use Rattle.law_jobs.proofs.JobsAreEffects.{begun_to, copy_to}
-use Rattle.petal_rules.specs.State.{first, second}
+use Rattle.spec_rules.specs.State.{first, second}
 use Rattle.petal_msg.specs.declared.letter.Actor.{Actor}
 
 none_in : {A : Type 0} (post : Post) → In post [] → A

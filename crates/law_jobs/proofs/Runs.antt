@@ -1,8 +1,8 @@
 -- What the first world has, and each record keeps, every run has; and what is known of a run and of its next record.
 use Rattle.std.proofs.Common.{◌≡◌, List, [], ◌∷◌, ◌++◌, refl, sym, ◌∙◌, subst, append_assoc}
 use Rattle.std.proofs.lemmas.List.{append-nil}
-use Rattle.petal_history.specs.Steps.{Follows, stepped}
-use Rattle.petal_rules.specs.State.{State}
+use Rattle.spec_history.specs.Steps.{Follows, stepped}
+use Rattle.spec_rules.specs.State.{State}
 use Rattle.law_state.specs.Below.{IsBelow}
 use Rattle.law_state.specs.Firm.{Firm}
 use Rattle.law_state.specs.Histories.{AreSteps, IsPrefix, IsSound, Record, Script, chosen_log, chosen_state, setting_of, start}

@@ -1,13 +1,13 @@
 -- Each letter was sent by one of a run's records, and what was sent stays so; so it is of answers.
 use Rattle.std.proofs.Common.{◌≡◌, ◌++◌, ℕ, List, [], ◌∷◌, sym, ap, ◌∙◌, subst, inl, inr, refl, append_assoc}
-use Rattle.petal_history.specs.declared.record.Record.{Record}
+use Rattle.spec_history.specs.declared.record.Record.{Record}
 use Rattle.petal_msg.specs.declared.letter.Actor.{Actor}
 use Rattle.petal_msg.specs.declared.letter.Actor.TheVariants as actor
 use Rattle.petal_msg.specs.declared.letter.Letter.{Letter}
-use Rattle.petal_rules.specs.Lists.{In}
-use Rattle.petal_rules.specs.World.{Setting, World, step, with_answer}
-use Rattle.petal_rules.specs.declared.step.Step.{Step}
-use Rattle.petal_rules.proofs.ListLemmas.{in-append, in_former, in_later}
+use Rattle.spec_rules.specs.Lists.{In}
+use Rattle.spec_rules.specs.World.{Setting, World, step, with_answer}
+use Rattle.spec_rules.specs.declared.step.Step.{Step}
+use Rattle.spec_rules.proofs.ListLemmas.{in-append, in_former, in_later}
 use Rattle.law_state.specs.Moments.{IsMoment}
 use Rattle.law_state.proofs.Moments.{last_moment, moment_more}
 use Rattle.law_jobs.proofs.Runs.{At, OneMore, Run, after, at_moment, by_run, follows_in, longer, setting_in, since, stepped_in}

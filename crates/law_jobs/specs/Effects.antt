@@ -16,14 +16,14 @@ use Rattle.petal_msg.specs.declared.operation.LastOp.{LastOp}
 use Rattle.petal_msg.specs.declared.operation.Pending.{Pending}
 use Rattle.petal_msg.specs.declared.operation.Stage.{Stage}
 use Rattle.petal_table.specs.Table.{at, put}
-use Rattle.petal_rules.specs.Copies.{Entry}
-use Rattle.petal_rules.specs.Fills.{with_filled}
-use Rattle.petal_rules.specs.Progress.{copying_on, last_copy, with_copying, without_copying, with_full, with_last_copy, with_progress}
+use Rattle.spec_rules.specs.Copies.{Entry}
+use Rattle.spec_rules.specs.Fills.{with_filled}
+use Rattle.spec_rules.specs.Progress.{copying_on, last_copy, with_copying, without_copying, with_full, with_last_copy, with_progress}
 use Rattle.petal_msg.specs.declared.copying.LinkId.{LinkId}
-use Rattle.petal_rules.specs.Server.{Own, Here}
-use Rattle.petal_rules.specs.State.{link_named}
-use Rattle.petal_rules.specs.Store.{Stored, cell_cmp, chain_in, with_mark_on, with_entry, without_entry, without_mark_on}
-use Rattle.petal_rules.specs.Writes.{last_on, pending_on, with_pending, without_pending}
+use Rattle.spec_rules.specs.Server.{Own, Here}
+use Rattle.spec_rules.specs.State.{link_named}
+use Rattle.spec_rules.specs.Store.{Stored, cell_cmp, chain_in, with_mark_on, with_entry, without_entry, without_mark_on}
+use Rattle.spec_rules.specs.Writes.{last_on, pending_on, with_pending, without_pending}
 use Rattle.law_steps.specs.DidFiller.{IsNextKey}
 use Rattle.law_steps.specs.DidOther.{first_last}
 use Rattle.law_steps.specs.Operations.{far_of, progress}

@@ -1,6 +1,6 @@
 -- Runs: the lists of allowed steps of sound scripts.
 use Rattle.std.specs.Prelude.{List, [], ◌∷◌, ◌++◌}
-use Rattle.petal_rules.specs.World.{Setting, World}
+use Rattle.spec_rules.specs.World.{Setting, World}
 use Rattle.law_state.specs.Histories.{AreSteps, IsSound, Record, Script, setting_of, start, world_after}
 
 -- the world after these records

@@ -10,9 +10,9 @@ ghost use Rattle.law_jobs.specs.Effects.{Becomes};
 ghost use Rattle.law_jobs.specs.Sayings.{Says};
 ghost use Rattle.law_steps.specs.Did.{Did};
 ghost use Rattle.law_steps.specs.Happens.{Handled, own_place};
-ghost use Rattle.petal_rules.specs.Lists.{In};
-ghost use Rattle.petal_rules.specs.Server.{Done, Post};
-ghost use Rattle.petal_rules.specs.World.{Setting, World};
+ghost use Rattle.spec_rules.specs.Lists.{In};
+ghost use Rattle.spec_rules.specs.Server.{Done, Post};
+ghost use Rattle.spec_rules.specs.World.{Setting, World};
 
 /// What a server's own part becomes by a job, it becomes by effects, one after the other, each of which the server may have had.
 pub fn a_job_is_a_list_of_effects()

@@ -2,16 +2,16 @@
 use Rattle.std.proofs.Common.{◌≡◌, ◌+◌, ℕ, Bool, true, false, List, [], ◌∷◌, Option, Some, None, refl, sym, ap, ◌∙◌, subst, arith}
 use Rattle.petal_command.specs.declared.ballot.Ballot.{Ballot}
 use Rattle.petal_command.specs.declared.command.Command.{Command}
-use Rattle.petal_paxos.specs.Kept.{committed, inc_of, known_at}
-use Rattle.petal_paxos.specs.Schedule.{World, Boots, Goes, StopsAfter, raise, turn}
-use Rattle.petal_paxos.specs.declared.phase.Phase.{Phase}
-use Rattle.petal_paxos.specs.declared.phase.Phase.TheVariants.{Idle}
-use Rattle.petal_paxos.specs.declared.record.StateRecord.{StateRecord}
-use Rattle.petal_paxos.specs.declared.record.StateRecord.TheVariants.{Inc, Accepted}
-use Rattle.petal_paxos.proofs.Committed.{acceptor_inc, inc_committed, known_inc}
-use Rattle.petal_rules.specs.Agreement.{IsProposer}
-use Rattle.petal_rules.specs.Boots.{known_front, read_log}
-use Rattle.petal_rules.specs.Log.{Log, commits}
+use Rattle.spec_paxos.specs.Kept.{committed, inc_of, known_at}
+use Rattle.spec_paxos.specs.Schedule.{World, Boots, Goes, StopsAfter, raise, turn}
+use Rattle.spec_paxos.specs.declared.phase.Phase.{Phase}
+use Rattle.spec_paxos.specs.declared.phase.Phase.TheVariants.{Idle}
+use Rattle.spec_paxos.specs.declared.record.StateRecord.{StateRecord}
+use Rattle.spec_paxos.specs.declared.record.StateRecord.TheVariants.{Inc, Accepted}
+use Rattle.spec_paxos.proofs.Committed.{acceptor_inc, inc_committed, known_inc}
+use Rattle.spec_rules.specs.Agreement.{IsProposer}
+use Rattle.spec_rules.specs.Boots.{known_front, read_log}
+use Rattle.spec_rules.specs.Log.{Log, commits}
 use Rattle.law_log.specs.Logged.{AreLow, IsBusyAs, IsSeenAt}
 use Rattle.law_log.proofs.Jobs.{run_known}
 use Rattle.law_log.proofs.Kept.{same_votes}

@@ -6,16 +6,16 @@ use Rattle.global_tables.specs.Link.{link_at, other_of}
 use Rattle.global_tables.specs.declared.link.LinkRow.{LinkRow}
 use Rattle.petal_command.specs.declared.command.Command.{Command}
 use Rattle.petal_command.specs.declared.command.Command.TheVariants.{Caught}
-use Rattle.petal_state.specs.Command.{is_alone, may_catch}
-use Rattle.petal_state.specs.State.{inc_of, is_up}
-use Rattle.petal_rules.specs.Copies.{next_copy}
-use Rattle.petal_rules.specs.Lists.{In as Among}
-use Rattle.petal_rules.specs.Progress.{progress_on}
-use Rattle.petal_rules.specs.Returns.{caught_as, caught_links, caught_of, holds_link, is_nothing, proposed}
-use Rattle.petal_rules.specs.Server.{Own, Here}
-use Rattle.petal_rules.specs.State.{State, id_of, link_named, other_in}
-use Rattle.petal_rules.proofs.ListLemmas.{in-append}
-use Rattle.petal_rules.proofs.Tests.{both_true, by_test, none_some, number_itself, same_some}
+use Rattle.spec_state.specs.Command.{is_alone, may_catch}
+use Rattle.spec_state.specs.State.{inc_of, is_up}
+use Rattle.spec_rules.specs.Copies.{next_copy}
+use Rattle.spec_rules.specs.Lists.{In as Among}
+use Rattle.spec_rules.specs.Progress.{progress_on}
+use Rattle.spec_rules.specs.Returns.{caught_as, caught_links, caught_of, holds_link, is_nothing, proposed}
+use Rattle.spec_rules.specs.Server.{Own, Here}
+use Rattle.spec_rules.specs.State.{State, id_of, link_named, other_in}
+use Rattle.spec_rules.proofs.ListLemmas.{in-append}
+use Rattle.spec_rules.proofs.Tests.{both_true, by_test, none_some, number_itself, same_some}
 use Rattle.law_state.specs.Started.{is_flagged}
 use Rattle.law_log.proofs.Copying.{IsKept, kept_itself}
 use Rattle.law_log.proofs.Flags.{flag_put, flags_put}

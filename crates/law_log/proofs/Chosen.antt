@@ -5,21 +5,21 @@ use Rattle.std.specs.Prelude.{slice_get}
 use Rattle.std.proofs.lemmas.Bool.Decides.{nat_tests}
 use Rattle.petal_command.specs.declared.command.Command.{Command}
 use Rattle.petal_command.specs.declared.command.Command.TheVariants.{Join, Leave, Caught, Drained, Moved}
-use Rattle.petal_paxos.specs.Chosen.{IsChosenBy, chosen_at}
-use Rattle.petal_paxos.specs.Schedule.{run, begin, IsChosen}
-use Rattle.petal_paxos.specs.Schedule as schedule
-use Rattle.law_chosen.specs.Single.{IsSingle}
-use Rattle.law_chosen.proofs.Places.{log_tells, log_ends, log_has, front_of_log}
-use Rattle.law_chosen.proofs.Votes.{told_is_chosen, chosen_is_told}
-use Rattle.petal_history.specs.Claims.{IsPrefix, Agrees}
+use Rattle.spec_paxos.specs.Chosen.{IsChosenBy, chosen_at}
+use Rattle.spec_paxos.specs.Schedule.{run, begin, IsChosen}
+use Rattle.spec_paxos.specs.Schedule as schedule
+use Rattle.law_agreement.specs.Single.{IsSingle}
+use Rattle.law_agreement.proofs.Places.{log_tells, log_ends, log_has, front_of_log}
+use Rattle.law_agreement.proofs.Votes.{told_is_chosen, chosen_is_told}
+use Rattle.spec_history.specs.Claims.{IsPrefix, Agrees}
 use Rattle.petal_msg.specs.declared.body.Body.TheVariants as body
 use Rattle.petal_msg.specs.declared.letter.Letter.{Letter}
-use Rattle.petal_rules.specs.Agreement.{IsTold, HasSchedule}
-use Rattle.petal_rules.specs.Lists.{In as Among}
-use Rattle.petal_state.specs.Command.{state_after}
-use Rattle.petal_rules.specs.State.{is_in}
-use Rattle.petal_rules.specs.World.{Setting, World, devices, chosen_log, chosen_state}
-use Rattle.petal_rules.proofs.Tests.{by_bool, none_some, true_false}
+use Rattle.spec_rules.specs.Agreement.{IsTold, HasSchedule}
+use Rattle.spec_rules.specs.Lists.{In as Among}
+use Rattle.spec_state.specs.Command.{state_after}
+use Rattle.spec_rules.specs.State.{is_in}
+use Rattle.spec_rules.specs.World.{Setting, World, devices, chosen_log, chosen_state}
+use Rattle.spec_rules.proofs.Tests.{by_bool, none_some, true_false}
 use Rattle.law_state.specs.Firm.{Firm}
 use Rattle.law_state.specs.Plain.{IsPlainLog}
 use Rattle.law_state.proofs.Disks.{who_is_out}

@@ -17,23 +17,23 @@ use Rattle.script_lines.specs.declared.answer.Answer.TheVariants as answer
 use Rattle.script_lines.specs.declared.request.Line.{Line}
 use Rattle.script_lines.specs.declared.request.Request.{Request}
 use Rattle.script_lines.specs.declared.request.Request.TheVariants as request
-use Rattle.petal_state.specs.CellState.{cell_asked}
-use Rattle.petal_state.specs.Settled.{is_settled}
-use Rattle.petal_state.specs.State.{latest}
-use Rattle.petal_state.specs.Command.{after}
-use Rattle.petal_state.specs.declared.answer.DiskView.{DiskView}
-use Rattle.petal_rules.specs.Clients.{Client, Asked, Reaction, Learning, Turn, rests, in_turn, readers, epoch_for, write_posts, read_posts_at, read_posts}
-use Rattle.petal_rules.specs.Clients.{posts_for, command_of, refusal, witness_where, or_command, to_propose, post_in_turn, sends_or_proposes, goes_out}
-use Rattle.petal_rules.specs.Clients.{goes_out_where, goes_the_old_way, way_now, asking, asks_and_sends, called, replies, is_read, is_write, first_round, Sight}
-use Rattle.petal_rules.specs.Clients.{with_sight, stays_open, rounds, settles, sees_for, sees, sees_from, answers, hears, hears_of, verdict_for, answered_where}
-use Rattle.petal_rules.specs.Clients.{witnessed, is_witness, judged_by, judged, takes_entry, next_entries, takes_all, then_goes_out, takes_entries, hears_any}
-use Rattle.petal_rules.specs.Clients.{heard, ticked}
-use Rattle.petal_rules.specs.Lists.{In as Among}
-use Rattle.petal_rules.specs.Posts.{Post}
-use Rattle.petal_rules.specs.State.{State, lead, servers_of}
-use Rattle.petal_rules.specs.World.{lines_of}
-use Rattle.petal_rules.proofs.ListLemmas.{in-append}
-use Rattle.petal_rules.proofs.Tests.{only, by_test, same_some, none_some}
+use Rattle.spec_state.specs.CellState.{cell_asked}
+use Rattle.spec_state.specs.Settled.{is_settled}
+use Rattle.spec_state.specs.State.{latest}
+use Rattle.spec_state.specs.Command.{after}
+use Rattle.spec_state.specs.declared.answer.DiskView.{DiskView}
+use Rattle.spec_rules.specs.Clients.{Client, Asked, Reaction, Learning, Turn, rests, in_turn, readers, epoch_for, write_posts, read_posts_at, read_posts}
+use Rattle.spec_rules.specs.Clients.{posts_for, command_of, refusal, witness_where, or_command, to_propose, post_in_turn, sends_or_proposes, goes_out}
+use Rattle.spec_rules.specs.Clients.{goes_out_where, goes_the_old_way, way_now, asking, asks_and_sends, called, replies, is_read, is_write, first_round, Sight}
+use Rattle.spec_rules.specs.Clients.{with_sight, stays_open, rounds, settles, sees_for, sees, sees_from, answers, hears, hears_of, verdict_for, answered_where}
+use Rattle.spec_rules.specs.Clients.{witnessed, is_witness, judged_by, judged, takes_entry, next_entries, takes_all, then_goes_out, takes_entries, hears_any}
+use Rattle.spec_rules.specs.Clients.{heard, ticked}
+use Rattle.spec_rules.specs.Lists.{In as Among}
+use Rattle.spec_rules.specs.Posts.{Post}
+use Rattle.spec_rules.specs.State.{State, lead, servers_of}
+use Rattle.spec_rules.specs.World.{lines_of}
+use Rattle.spec_rules.proofs.ListLemmas.{in-append}
+use Rattle.spec_rules.proofs.Tests.{only, by_test, same_some, none_some}
 use Rattle.law_log.specs.Logged.{IsOpen}
 use Rattle.law_log.proofs.Lists.{at_last}
 use Rattle.law_log.proofs.Pairs.{IsDated, posted_dated}

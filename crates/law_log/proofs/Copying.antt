@@ -18,20 +18,20 @@ use Rattle.petal_msg.specs.declared.copying.LinkId.{LinkId}
 use Rattle.petal_msg.specs.declared.copying.NextCopy.{NextCopy}
 use Rattle.petal_msg.specs.declared.copying.NextCopy.TheVariants.{Ask, Block, Wait, Nothing}
 use Rattle.petal_msg.specs.declared.letter.Letter.{Letter}
-use Rattle.petal_state.specs.CellState.{cell_link}
-use Rattle.petal_rules.specs.Copies.{copies_on, copies_with, copy_acts, copy_stage, sends_entry, closes, mend_after, with_copied, begins_copy, goes_for}
-use Rattle.petal_rules.specs.Copies.{catches_up, tidies, takes_mark, mends_row, mends_found, mends, next_copy, idle_mark, cell_at, answers_page, on_hello_ask}
-use Rattle.petal_rules.specs.Copies.{with_page, hears_page, hears_hello, on_hello, same_block, cell_holder, trims_first, trims_for, trims_on, trims_newly}
-use Rattle.petal_rules.specs.Copies.{trims_again, hears_trim, hears_trim_of, on_trim, Entry, puts_entry, hears_entry, hears_sync, on_sync, hears_trimmed}
-use Rattle.petal_rules.specs.Copies.{on_trimmed, is_syncing, hears_synced, on_synced, hears_sync_full, on_sync_full, page_asked, page_wanted, page_for}
-use Rattle.petal_rules.specs.Copies.{page_posts, copy_awaited, copy_posts}
-use Rattle.petal_rules.specs.Lists.{In as Among}
-use Rattle.petal_rules.specs.Progress.{copying_on, last_copy, progress_on, with_progress, with_copying, without_copying, with_last_copy}
-use Rattle.petal_rules.specs.Server.{Own, Here, Post, Done, silent, says_to}
-use Rattle.petal_rules.specs.State.{State, link_named, other_in}
-use Rattle.petal_rules.specs.declared.job.Job.TheVariants as job
-use Rattle.petal_rules.proofs.ListLemmas.{in-append}
-use Rattle.petal_rules.proofs.Tests.{by_test}
+use Rattle.spec_state.specs.CellState.{cell_link}
+use Rattle.spec_rules.specs.Copies.{copies_on, copies_with, copy_acts, copy_stage, sends_entry, closes, mend_after, with_copied, begins_copy, goes_for}
+use Rattle.spec_rules.specs.Copies.{catches_up, tidies, takes_mark, mends_row, mends_found, mends, next_copy, idle_mark, cell_at, answers_page, on_hello_ask}
+use Rattle.spec_rules.specs.Copies.{with_page, hears_page, hears_hello, on_hello, same_block, cell_holder, trims_first, trims_for, trims_on, trims_newly}
+use Rattle.spec_rules.specs.Copies.{trims_again, hears_trim, hears_trim_of, on_trim, Entry, puts_entry, hears_entry, hears_sync, on_sync, hears_trimmed}
+use Rattle.spec_rules.specs.Copies.{on_trimmed, is_syncing, hears_synced, on_synced, hears_sync_full, on_sync_full, page_asked, page_wanted, page_for}
+use Rattle.spec_rules.specs.Copies.{page_posts, copy_awaited, copy_posts}
+use Rattle.spec_rules.specs.Lists.{In as Among}
+use Rattle.spec_rules.specs.Progress.{copying_on, last_copy, progress_on, with_progress, with_copying, without_copying, with_last_copy}
+use Rattle.spec_rules.specs.Server.{Own, Here, Post, Done, silent, says_to}
+use Rattle.spec_rules.specs.State.{State, link_named, other_in}
+use Rattle.spec_rules.specs.declared.job.Job.TheVariants as job
+use Rattle.spec_rules.proofs.ListLemmas.{in-append}
+use Rattle.spec_rules.proofs.Tests.{by_test}
 use Rattle.law_state.specs.Started.{is_flagged}
 use Rattle.law_log.proofs.Flags.{flags_put}
 use Rattle.law_log.proofs.Pairs.{IsDated, IsQuiet, no_letter, only_stage, posted_dated, quiet_says_to}

@@ -4,11 +4,11 @@ use Rattle.global_tables.specs.View.{head}
 use Rattle.global_tables.specs.declared.fence.Fence.{Fence}
 use Rattle.petal_command.specs.declared.command.Command.{Command}
 use Rattle.petal_command.specs.declared.command.Command.TheVariants.{Drained}
-use Rattle.petal_rules.specs.Draining.{awaits, drained_for, draining, has_held_write}
-use Rattle.petal_rules.specs.Lists.{In as Among}
-use Rattle.petal_rules.specs.Server.{Own, Here}
-use Rattle.petal_rules.specs.State.{is_in}
-use Rattle.petal_rules.proofs.Tests.{both_true, by_test, not_true}
+use Rattle.spec_rules.specs.Draining.{awaits, drained_for, draining, has_held_write}
+use Rattle.spec_rules.specs.Lists.{In as Among}
+use Rattle.spec_rules.specs.Server.{Own, Here}
+use Rattle.spec_rules.specs.State.{is_in}
+use Rattle.spec_rules.proofs.Tests.{both_true, by_test, not_true}
 use Rattle.law_log.proofs.Lists.{none_among, only_among}
 
 -- the command is the server's report to the active fence

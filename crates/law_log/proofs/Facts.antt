@@ -5,23 +5,23 @@ use Rattle.petal_base.specs.Tuple.{is_tuple}
 use Rattle.petal_command.specs.declared.command.Command.{Command}
 use Rattle.petal_command.specs.declared.command.Command.TheVariants.{Join, Leave, Caught, Drained, MakeDisk, Moved, Snap, StartMove, Witness}
 use Rattle.petal_command.specs.declared.pax.Pax.TheVariants.{Chosen}
-use Rattle.petal_paxos.specs.Schedule.{run, begin, IsChosen}
-use Rattle.petal_paxos.specs.Schedule as schedule
+use Rattle.spec_paxos.specs.Schedule.{run, begin, IsChosen}
+use Rattle.spec_paxos.specs.Schedule as schedule
 use Rattle.law_agreement.proofs.Runs.{run_holds, begin_holds, one_chosen}
 use Rattle.law_agreement.proofs.Wants as wants
-use Rattle.petal_rules.specs.Agreement.{IsTold}
-use Rattle.petal_rules.specs.Clients.{command_of}
-use Rattle.petal_rules.specs.Lists.{In as Among}
-use Rattle.petal_rules.specs.State.{servers_of}
-use Rattle.petal_rules.specs.World.{Setting, World, lines_of, server_state}
-use Rattle.petal_rules.proofs.Tests.{same_some, none_some, true_false}
+use Rattle.spec_rules.specs.Agreement.{IsTold}
+use Rattle.spec_rules.specs.Clients.{command_of}
+use Rattle.spec_rules.specs.Lists.{In as Among}
+use Rattle.spec_rules.specs.State.{servers_of}
+use Rattle.spec_rules.specs.World.{Setting, World, lines_of, server_state}
+use Rattle.spec_rules.proofs.Tests.{same_some, none_some, true_false}
 use Rattle.script_lines.specs.declared.request.Line.{Line}
 use Rattle.script_lines.specs.declared.request.Request.{Request}
 use Rattle.script_lines.specs.declared.request.Request.TheVariants as request
 use Rattle.law_state.specs.Plain.{IsPlain, IsPlainLog}
 use Rattle.law_state.specs.Started.{is_caught}
 use Rattle.law_state.proofs.Disks.{log_in}
-use Rattle.petal_rules.specs.Server.{Server}
+use Rattle.spec_rules.specs.Server.{Server}
 use Rattle.law_log.specs.Logged.{IsCalledAnywhere, Logged, MayWant, Minded, Returns, is_join}
 use Rattle.law_log.specs.Requested.{HasStopped, IsCalledFor, IsOfLives, IsScripted}
 use Rattle.law_log.proofs.Lists.{among_at, at_among, kept_among}

@@ -13,22 +13,22 @@ use Rattle.petal_msg.specs.declared.copying.LinkId.{LinkId}
 use Rattle.petal_msg.specs.declared.dead.Dead.{Dead}
 use Rattle.petal_msg.specs.declared.letter.Letter.{Letter}
 use Rattle.petal_msg.specs.declared.operation.Ending.TheVariants as ending
-use Rattle.petal_state.specs.CellState.{target}
+use Rattle.spec_state.specs.CellState.{target}
 use Rattle.petal_table.specs.Table.{at}
 use Rattle.petal_table.proofs.Rows.{at-put}
-use Rattle.petal_rules.specs.Fills.{Moving, fill_of, fill_operation, fill_posts, fills_row, goes_after, has_epoch, hears_fill, hears_fill_full, hears_filled}
-use Rattle.petal_rules.specs.Fills.{is_next, link_before, on_fill, on_fill_full, on_filled, opens_fill, sends_key, sends_moving, with_filled}
-use Rattle.petal_rules.specs.Lists.{In as Among}
-use Rattle.petal_rules.specs.Progress.{has_proposed, with_full}
-use Rattle.petal_rules.specs.Server.{Own, Here, Post}
-use Rattle.petal_rules.specs.State.{State, id_of, is_lead, lead, link_cmp}
-use Rattle.petal_rules.specs.Store.{Stored, chain_in, free_of}
-use Rattle.petal_rules.specs.Sweeping.{next_dead, sweep_jobs, sweeps, sweeps_with}
-use Rattle.petal_rules.specs.Writes.{is_under_way, with_opened}
-use Rattle.petal_rules.specs.declared.job.Job.{Job}
-use Rattle.petal_rules.specs.declared.job.Job.TheVariants as job
-use Rattle.petal_rules.proofs.ListLemmas.{in-append}
-use Rattle.petal_rules.proofs.Tests.{by_test}
+use Rattle.spec_rules.specs.Fills.{Moving, fill_of, fill_operation, fill_posts, fills_row, goes_after, has_epoch, hears_fill, hears_fill_full, hears_filled}
+use Rattle.spec_rules.specs.Fills.{is_next, link_before, on_fill, on_fill_full, on_filled, opens_fill, sends_key, sends_moving, with_filled}
+use Rattle.spec_rules.specs.Lists.{In as Among}
+use Rattle.spec_rules.specs.Progress.{has_proposed, with_full}
+use Rattle.spec_rules.specs.Server.{Own, Here, Post}
+use Rattle.spec_rules.specs.State.{State, id_of, is_lead, lead, link_cmp}
+use Rattle.spec_rules.specs.Store.{Stored, chain_in, free_of}
+use Rattle.spec_rules.specs.Sweeping.{next_dead, sweep_jobs, sweeps, sweeps_with}
+use Rattle.spec_rules.specs.Writes.{is_under_way, with_opened}
+use Rattle.spec_rules.specs.declared.job.Job.{Job}
+use Rattle.spec_rules.specs.declared.job.Job.TheVariants as job
+use Rattle.spec_rules.proofs.ListLemmas.{in-append}
+use Rattle.spec_rules.proofs.Tests.{by_test}
 use Rattle.law_log.proofs.Copying.{IsCalm, IsKept, calm_silent}
 use Rattle.law_log.proofs.Flags.{link_cmp_total}
 use Rattle.law_log.proofs.Pairs.{IsDated, Leaves, no_letter, dated_moved, pair_goes, pair_says_to, pair_silent, posted_dated, quiet_silent}

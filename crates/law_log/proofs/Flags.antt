@@ -11,10 +11,10 @@ use Rattle.petal_msg.specs.declared.copying.LinkId.{LinkId}
 use Rattle.petal_msg.specs.declared.copying.Progress.{Progress}
 use Rattle.petal_table.specs.Table.{at}
 use Rattle.petal_table.proofs.Rows.{at-put}
-use Rattle.petal_rules.specs.Progress.{no_progress, progress_on, with_progress}
-use Rattle.petal_rules.specs.Server.{Own}
-use Rattle.petal_rules.specs.State.{id_of, link_cmp}
-use Rattle.petal_rules.proofs.Tests.{both_true, by_bool}
+use Rattle.spec_rules.specs.Progress.{no_progress, progress_on, with_progress}
+use Rattle.spec_rules.specs.Server.{Own}
+use Rattle.spec_rules.specs.State.{id_of, link_cmp}
+use Rattle.spec_rules.proofs.Tests.{both_true, by_bool}
 use Rattle.law_state.specs.Started.{is_flagged}
 
 -- names stand in a line

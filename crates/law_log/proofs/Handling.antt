@@ -11,18 +11,18 @@ use Rattle.petal_msg.specs.declared.letter.Actor.{Actor}
 use Rattle.petal_msg.specs.declared.letter.Actor.TheVariants as actor
 use Rattle.petal_msg.specs.declared.letter.Letter.{Letter}
 use Rattle.petal_table.specs.Table.{at}
-use Rattle.petal_rules.specs.Jobs.{handles, wrong_rev, at_other_rev, is_from_in, on_letter, stages, does, asked_by, copies_again}
-use Rattle.petal_rules.specs.Copies.{copy_posts, page_posts}
-use Rattle.petal_rules.specs.Fills.{fill_posts}
-use Rattle.petal_rules.specs.Lists.{In as Among}
-use Rattle.petal_rules.specs.Progress.{copying_on}
-use Rattle.petal_rules.specs.Server.{Own, Copies, Here, Post, Done, silent}
-use Rattle.petal_rules.specs.State.{is_in, link_cmp}
-use Rattle.petal_rules.specs.Writes.{pending_on}
-use Rattle.petal_rules.specs.declared.job.Job.{Job}
-use Rattle.petal_rules.specs.declared.job.Job.TheVariants as job
-use Rattle.petal_rules.proofs.ListLemmas.{in-append}
-use Rattle.petal_rules.proofs.Tests.{by_test, only}
+use Rattle.spec_rules.specs.Jobs.{handles, wrong_rev, at_other_rev, is_from_in, on_letter, stages, does, asked_by, copies_again}
+use Rattle.spec_rules.specs.Copies.{copy_posts, page_posts}
+use Rattle.spec_rules.specs.Fills.{fill_posts}
+use Rattle.spec_rules.specs.Lists.{In as Among}
+use Rattle.spec_rules.specs.Progress.{copying_on}
+use Rattle.spec_rules.specs.Server.{Own, Copies, Here, Post, Done, silent}
+use Rattle.spec_rules.specs.State.{is_in, link_cmp}
+use Rattle.spec_rules.specs.Writes.{pending_on}
+use Rattle.spec_rules.specs.declared.job.Job.{Job}
+use Rattle.spec_rules.specs.declared.job.Job.TheVariants as job
+use Rattle.spec_rules.proofs.ListLemmas.{in-append}
+use Rattle.spec_rules.proofs.Tests.{by_test, only}
 use Rattle.law_log.proofs.Copying.{IsCalm, IsKept, kept_itself, calm_silent, calm_copies, calm_mends, calm_hello_ask}
 use Rattle.law_log.proofs.Copying.{calm_hello, calm_trims, calm_trim, calm_sync}
 use Rattle.law_log.proofs.Copying.{calm_trimmed, calm_synced, calm_sync_full, dated_copy_posts, dated_page_posts}

@@ -5,19 +5,19 @@ use Rattle.petal_command.specs.declared.command.Command.{Command}
 use Rattle.petal_command.specs.declared.command.Command.TheVariants.{Join, Leave, Caught, Drained, Moved}
 use Rattle.petal_msg.specs.declared.body.Body.TheVariants as body
 use Rattle.petal_msg.specs.declared.letter.Letter.{Letter}
-use Rattle.petal_paxos.specs.Schedule.{run, begin}
+use Rattle.spec_paxos.specs.Schedule.{run, begin}
 use Rattle.script_lines.specs.declared.script.Script.{Script}
-use Rattle.petal_history.specs.Claims.{Agrees, Grows, IsPrefix}
-use Rattle.petal_history.specs.Steps.{AreSteps, AreStepsFrom, stepped, world_after}
-use Rattle.petal_history.specs.Sound.{IsSound}
-use Rattle.petal_history.specs.declared.record.Record.{Record}
-use Rattle.petal_rules.specs.Agreement.{HasSchedule}
-use Rattle.petal_rules.specs.Lists.{In}
-use Rattle.petal_rules.specs.State.{is_in}
-use Rattle.petal_rules.specs.World.{Setting, World, start, setting_of, chosen_log, chosen_state}
-use Rattle.petal_paxos.specs.Kept.{inc_of}
-use Rattle.petal_state.specs.Command.{may_join, state_after}
-use Rattle.petal_rules.specs.Server.{Server}
+use Rattle.spec_history.specs.Claims.{Agrees, Grows, IsPrefix}
+use Rattle.spec_history.specs.Steps.{AreSteps, AreStepsFrom, stepped, world_after}
+use Rattle.spec_history.specs.Sound.{IsSound}
+use Rattle.spec_history.specs.declared.record.Record.{Record}
+use Rattle.spec_rules.specs.Agreement.{HasSchedule}
+use Rattle.spec_rules.specs.Lists.{In}
+use Rattle.spec_rules.specs.State.{is_in}
+use Rattle.spec_rules.specs.World.{Setting, World, start, setting_of, chosen_log, chosen_state}
+use Rattle.spec_paxos.specs.Kept.{inc_of}
+use Rattle.spec_state.specs.Command.{may_join, state_after}
+use Rattle.spec_rules.specs.Server.{Server}
 use Rattle.law_state.specs.Firm.{Firm}
 use Rattle.law_log.specs.Logged.{Catches, Drains, IsBacked, IsCalledAnywhere, IsSaidBy, Logged, Minded, Moves, Waits}
 use Rattle.law_log.specs.Requested.{HasBegun, HasStopped, IsCalledFor, IsCaughtAt, IsReportAt, WasDraining, WasMoving, WasReturning, WasRunning}

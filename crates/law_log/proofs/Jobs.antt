@@ -13,32 +13,32 @@ use Rattle.petal_msg.specs.declared.body.Body.TheVariants as body
 use Rattle.petal_msg.specs.declared.letter.Actor.{Actor}
 use Rattle.petal_msg.specs.declared.letter.Actor.TheVariants as actor
 use Rattle.petal_msg.specs.declared.letter.Letter.{Letter}
-use Rattle.petal_paxos.specs.Acceptor.{is_open}
-use Rattle.petal_paxos.specs.Kept.{acceptor_of, known_at}
-use Rattle.petal_paxos.specs.Kept.{inc_of as told_inc}
-use Rattle.petal_paxos.proofs.Committed.{inc_accepted, inc_chosen, inc_promise}
-use Rattle.petal_paxos.specs.Member.{In}
-use Rattle.petal_paxos.specs.Proposer.{Step, hear}
-use Rattle.petal_paxos.specs.Schedule.{sent, World}
-use Rattle.petal_paxos.specs.declared.phase.Heard.{Heard}
-use Rattle.petal_paxos.specs.declared.phase.Heard.TheVariants.{Nothing, Send, Refused}
-use Rattle.petal_paxos.specs.declared.phase.Heard.TheVariants.{Chosen as Decided}
-use Rattle.petal_paxos.specs.declared.phase.Phase.{Phase}
-use Rattle.petal_paxos.specs.declared.phase.Phase.TheVariants.{Idle}
-use Rattle.petal_state.specs.State.{inc_of}
-use Rattle.petal_rules.specs.Agreement.{IsTold, IsProposer}
-use Rattle.petal_rules.specs.Ballots.{is_due, own_leave, leave_before, with_leave, wanted, on_down, on_propose, on_pax, first_wanted}
-use Rattle.petal_rules.specs.Ballots.{starts, starts_for, hears_of_ballot, proposes}
-use Rattle.petal_rules.specs.Entries.{learns, applies_then, unknown_from, learns_first, on_news, with_entry, applies}
-use Rattle.petal_rules.specs.Entries.{applies_known, before_known, known_run, on_ask}
-use Rattle.petal_rules.specs.Jobs.{log_does, hears_log}
-use Rattle.petal_rules.specs.Lists.{In as Among}
-use Rattle.petal_rules.specs.Log.{Log, LogDone, Voter, state_in, rev_of, next_place, known, keeps}
-use Rattle.petal_rules.specs.Server.{Post}
-use Rattle.petal_rules.specs.declared.job.Job.{Job}
-use Rattle.petal_rules.specs.declared.job.Job.TheVariants as job
-use Rattle.petal_rules.proofs.ListLemmas.{in-append}
-use Rattle.petal_rules.proofs.Tests.{only, by_test, none_some}
+use Rattle.spec_paxos.specs.Acceptor.{is_open}
+use Rattle.spec_paxos.specs.Kept.{acceptor_of, known_at}
+use Rattle.spec_paxos.specs.Kept.{inc_of as told_inc}
+use Rattle.spec_paxos.proofs.Committed.{inc_accepted, inc_chosen, inc_promise}
+use Rattle.spec_paxos.specs.Member.{In}
+use Rattle.spec_paxos.specs.Proposer.{Step, hear}
+use Rattle.spec_paxos.specs.Schedule.{sent, World}
+use Rattle.spec_paxos.specs.declared.phase.Heard.{Heard}
+use Rattle.spec_paxos.specs.declared.phase.Heard.TheVariants.{Nothing, Send, Refused}
+use Rattle.spec_paxos.specs.declared.phase.Heard.TheVariants.{Chosen as Decided}
+use Rattle.spec_paxos.specs.declared.phase.Phase.{Phase}
+use Rattle.spec_paxos.specs.declared.phase.Phase.TheVariants.{Idle}
+use Rattle.spec_state.specs.State.{inc_of}
+use Rattle.spec_rules.specs.Agreement.{IsTold, IsProposer}
+use Rattle.spec_rules.specs.Ballots.{is_due, own_leave, leave_before, with_leave, wanted, on_down, on_propose, on_pax, first_wanted}
+use Rattle.spec_rules.specs.Ballots.{starts, starts_for, hears_of_ballot, proposes}
+use Rattle.spec_rules.specs.Entries.{learns, applies_then, unknown_from, learns_first, on_news, with_entry, applies}
+use Rattle.spec_rules.specs.Entries.{applies_known, before_known, known_run, on_ask}
+use Rattle.spec_rules.specs.Jobs.{log_does, hears_log}
+use Rattle.spec_rules.specs.Lists.{In as Among}
+use Rattle.spec_rules.specs.Log.{Log, LogDone, Voter, state_in, rev_of, next_place, known, keeps}
+use Rattle.spec_rules.specs.Server.{Post}
+use Rattle.spec_rules.specs.declared.job.Job.{Job}
+use Rattle.spec_rules.specs.declared.job.Job.TheVariants as job
+use Rattle.spec_rules.proofs.ListLemmas.{in-append}
+use Rattle.spec_rules.proofs.Tests.{only, by_test, none_some}
 use Rattle.law_log.specs.Logged.{IsBacked, IsSaidBy}
 use Rattle.law_log.proofs.RunningLog.{VotingLog, voter_at}
 use Rattle.law_log.proofs.Lists.{at_last, kept_among}

@@ -1,10 +1,10 @@
 -- Places in lists, and functions with one value given again.
 use Rattle.std.proofs.Common.{◌≡◌, ◌≢◌, ◌<◌, ◌⊎◌, inl, inr, ℕ, zero, suc, Bool, true, false, cond, List, [], ◌∷◌, ◌++◌, length, Some, refl, sym, ap, ◌∙◌, arith}
 use Rattle.std.specs.Prelude.{filter, slice_get}
-use Rattle.petal_paxos.specs.Member.{In, put, put_at}
-use Rattle.petal_paxos.proofs.Members.{put_cases, put_at_cases}
-use Rattle.petal_rules.specs.Lists.{In as Among}
-use Rattle.petal_rules.proofs.Tests.{same_some, none_some}
+use Rattle.spec_paxos.specs.Member.{In, put, put_at}
+use Rattle.spec_paxos.proofs.Members.{put_cases, put_at_cases}
+use Rattle.spec_rules.specs.Lists.{In as Among}
+use Rattle.spec_rules.proofs.Tests.{same_some, none_some}
 
 -- a member stands at some place
 pub placed : {X : Type 0} (x : X) (xs : List X) → In x xs → (i : ℕ) × (slice_get xs i ≡ Some x)

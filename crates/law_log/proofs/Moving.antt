@@ -5,12 +5,12 @@ use Rattle.global_tables.specs.declared.link.LinkRow.{LinkRow}
 use Rattle.petal_base.specs.declared.cell.Key.{Key}
 use Rattle.petal_command.specs.declared.command.Command.{Command}
 use Rattle.petal_command.specs.declared.command.Command.TheVariants.{Moved}
-use Rattle.petal_rules.specs.Fills.{fill_of, moved_of, moved_where, moving, region_to_move}
-use Rattle.petal_rules.specs.Lists.{In as Among}
-use Rattle.petal_rules.specs.Server.{Own, Here}
-use Rattle.petal_rules.specs.State.{is_in}
-use Rattle.petal_rules.proofs.ListLemmas.{in-append}
-use Rattle.petal_rules.proofs.Tests.{by_test}
+use Rattle.spec_rules.specs.Fills.{fill_of, moved_of, moved_where, moving, region_to_move}
+use Rattle.spec_rules.specs.Lists.{In as Among}
+use Rattle.spec_rules.specs.Server.{Own, Here}
+use Rattle.spec_rules.specs.State.{is_in}
+use Rattle.spec_rules.proofs.ListLemmas.{in-append}
+use Rattle.spec_rules.proofs.Tests.{by_test}
 use Rattle.law_log.proofs.Lists.{none_among, only_among}
 
 -- the command is the Moved of this link, of which the server is to move the region and has nothing left

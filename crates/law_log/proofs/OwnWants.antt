@@ -6,24 +6,24 @@ use Rattle.std.specs.Prelude.{slice_get}
 use Rattle.std.specs.Option.{option_map_or}
 use Rattle.petal_command.specs.declared.command.Command.{Command}
 use Rattle.petal_msg.specs.declared.copying.LinkId.{LinkId}
-use Rattle.petal_paxos.specs.Schedule.{run, begin}
+use Rattle.spec_paxos.specs.Schedule.{run, begin}
 use Rattle.petal_command.specs.declared.command.Command.TheVariants.{Join}
-use Rattle.petal_rules.specs.Ballots.{first_wanted, starts}
-use Rattle.petal_rules.specs.Draining.{draining}
-use Rattle.petal_rules.specs.Fills.{moving}
-use Rattle.petal_rules.specs.Returns.{caught_links, own_join, proposed, returning}
-use Rattle.petal_state.specs.Command.{may_join}
-use Rattle.petal_rules.specs.Jobs.{voter_of}
-use Rattle.petal_rules.specs.Jobs.{own_wants, wanted_by}
-use Rattle.petal_rules.specs.Lists.{In as Among, put_at}
-use Rattle.petal_rules.specs.Log.{Log, Voter, next_place, rev_of}
-use Rattle.petal_rules.specs.Server.{Server}
-use Rattle.petal_rules.specs.State.{State, id_of}
-use Rattle.petal_rules.specs.State.{is_in as seated}
-use Rattle.petal_rules.specs.World.{Setting, World}
-use Rattle.petal_rules.specs.declared.job.Job.{Job}
-use Rattle.petal_rules.proofs.ListLemmas.{in-append, put_same}
-use Rattle.petal_rules.proofs.Tests.{number_itself, by_test}
+use Rattle.spec_rules.specs.Ballots.{first_wanted, starts}
+use Rattle.spec_rules.specs.Draining.{draining}
+use Rattle.spec_rules.specs.Fills.{moving}
+use Rattle.spec_rules.specs.Returns.{caught_links, own_join, proposed, returning}
+use Rattle.spec_state.specs.Command.{may_join}
+use Rattle.spec_rules.specs.Jobs.{voter_of}
+use Rattle.spec_rules.specs.Jobs.{own_wants, wanted_by}
+use Rattle.spec_rules.specs.Lists.{In as Among, put_at}
+use Rattle.spec_rules.specs.Log.{Log, Voter, next_place, rev_of}
+use Rattle.spec_rules.specs.Server.{Server}
+use Rattle.spec_rules.specs.State.{State, id_of}
+use Rattle.spec_rules.specs.State.{is_in as seated}
+use Rattle.spec_rules.specs.World.{Setting, World}
+use Rattle.spec_rules.specs.declared.job.Job.{Job}
+use Rattle.spec_rules.proofs.ListLemmas.{in-append, put_same}
+use Rattle.spec_rules.proofs.Tests.{number_itself, by_test}
 use Rattle.law_log.specs.Logged.{Catches, IsReached, IsToldBefore}
 use Rattle.law_log.specs.Logged.{Logged, Minded, Returns, WasMinded}
 use Rattle.law_state.specs.Started.{HasFlag, is_flagged}

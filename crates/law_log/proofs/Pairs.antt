@@ -26,20 +26,20 @@ use Rattle.petal_msg.specs.declared.operation.OpKind.TheVariants as kind
 use Rattle.petal_msg.specs.declared.operation.Pending.{Pending}
 use Rattle.petal_msg.specs.declared.operation.Reply.{Reply}
 use Rattle.petal_msg.specs.declared.operation.Reply.TheVariants as reply
-use Rattle.petal_paxos.specs.Schedule.{World}
-use Rattle.petal_rules.specs.Jobs.{awaited, sent_again}
-use Rattle.petal_rules.specs.Lists.{In as Among}
-use Rattle.petal_rules.specs.Reads.{on_read, reply_to, said}
-use Rattle.petal_rules.specs.Server.{Own, Copies, Here, Post, Done, post_to, silent, says, says_to}
-use Rattle.petal_rules.specs.State.{is_lead, is_second, readable}
-use Rattle.petal_rules.specs.Writes.{Wanted, Standing, Older, Again, Newer, acts, ended, ends, finishes, gives_back, gives_up}
-use Rattle.petal_rules.specs.Writes.{moved_as, without_pending, goes_on_with}
-use Rattle.petal_rules.specs.Writes.{goes_on, pending_on, opens, opened, takes_newer, takes, is_pending_for, is_kept_back, is_under_way, on_write, is_reserving}
-use Rattle.petal_rules.specs.Writes.{is_replicating, hears_reserved, on_reserved, hears_pair_full, on_pair_full, hears_replicated, on_replicated, tells}
-use Rattle.petal_rules.specs.Writes.{reserves, hears_reserve, on_reserve, follows_once, hears_replicate, on_replicate, last_on}
-use Rattle.petal_rules.specs.declared.job.Job.TheVariants as job
-use Rattle.petal_rules.proofs.ListLemmas.{in-append}
-use Rattle.petal_rules.proofs.Tests.{only, by_test}
+use Rattle.spec_paxos.specs.Schedule.{World}
+use Rattle.spec_rules.specs.Jobs.{awaited, sent_again}
+use Rattle.spec_rules.specs.Lists.{In as Among}
+use Rattle.spec_rules.specs.Reads.{on_read, reply_to, said}
+use Rattle.spec_rules.specs.Server.{Own, Copies, Here, Post, Done, post_to, silent, says, says_to}
+use Rattle.spec_rules.specs.State.{is_lead, is_second, readable}
+use Rattle.spec_rules.specs.Writes.{Wanted, Standing, Older, Again, Newer, acts, ended, ends, finishes, gives_back, gives_up}
+use Rattle.spec_rules.specs.Writes.{moved_as, without_pending, goes_on_with}
+use Rattle.spec_rules.specs.Writes.{goes_on, pending_on, opens, opened, takes_newer, takes, is_pending_for, is_kept_back, is_under_way, on_write, is_reserving}
+use Rattle.spec_rules.specs.Writes.{is_replicating, hears_reserved, on_reserved, hears_pair_full, on_pair_full, hears_replicated, on_replicated, tells}
+use Rattle.spec_rules.specs.Writes.{reserves, hears_reserve, on_reserve, follows_once, hears_replicate, on_replicate, last_on}
+use Rattle.spec_rules.specs.declared.job.Job.TheVariants as job
+use Rattle.spec_rules.proofs.ListLemmas.{in-append}
+use Rattle.spec_rules.proofs.Tests.{only, by_test}
 use Rattle.law_log.specs.Logged.{IsBacked}
 use Rattle.law_log.proofs.Turns.{no_posts}
 

@@ -11,29 +11,29 @@ use Rattle.petal_command.specs.declared.pax.Pax.TheVariants as pax
 use Rattle.petal_command.specs.Ballot.{number}
 use Rattle.petal_msg.specs.declared.body.Body.{Body}
 use Rattle.petal_msg.specs.declared.body.Body.TheVariants as body
-use Rattle.petal_paxos.specs.Acceptor.{Acceptor, rank, is_open, is_unpromised, promise}
-use Rattle.petal_paxos.specs.Kept.{acceptor_of, committed}
-use Rattle.petal_paxos.specs.Member.{In}
-use Rattle.petal_paxos.specs.Proposer.{Step, nobody, is_in, has_majority, hear, collecting, collected, counted, is_for, counts, higher}
-use Rattle.petal_paxos.specs.Quorum.{count_below}
-use Rattle.petal_paxos.specs.Schedule.{Sent, sent, World, Starts, Goes, keep, send, turn, started, happens, IsWanted}
-use Rattle.petal_paxos.specs.Schedule as schedule
-use Rattle.petal_paxos.specs.declared.phase.Phase.{Phase}
-use Rattle.petal_paxos.specs.declared.phase.Phase.TheVariants.{Idle, Collecting, Voting}
-use Rattle.petal_paxos.specs.declared.phase.Heard.{Heard}
-use Rattle.petal_paxos.specs.declared.phase.Heard.TheVariants.{Nothing, Send, Refused}
-use Rattle.petal_paxos.specs.declared.phase.Heard.TheVariants.{Chosen as Decided}
-use Rattle.petal_paxos.specs.declared.record.StateRecord.TheVariants.{Promise}
-use Rattle.petal_paxos.proofs.Members.{in_here, in_there}
+use Rattle.spec_paxos.specs.Acceptor.{Acceptor, rank, is_open, is_unpromised, promise}
+use Rattle.spec_paxos.specs.Kept.{acceptor_of, committed}
+use Rattle.spec_paxos.specs.Member.{In}
+use Rattle.spec_paxos.specs.Proposer.{Step, nobody, is_in, has_majority, hear, collecting, collected, counted, is_for, counts, higher}
+use Rattle.spec_paxos.specs.Quorum.{count_below}
+use Rattle.spec_paxos.specs.Schedule.{Sent, sent, World, Starts, Goes, keep, send, turn, started, happens, IsWanted}
+use Rattle.spec_paxos.specs.Schedule as schedule
+use Rattle.spec_paxos.specs.declared.phase.Phase.{Phase}
+use Rattle.spec_paxos.specs.declared.phase.Phase.TheVariants.{Idle, Collecting, Voting}
+use Rattle.spec_paxos.specs.declared.phase.Heard.{Heard}
+use Rattle.spec_paxos.specs.declared.phase.Heard.TheVariants.{Nothing, Send, Refused}
+use Rattle.spec_paxos.specs.declared.phase.Heard.TheVariants.{Chosen as Decided}
+use Rattle.spec_paxos.specs.declared.record.StateRecord.TheVariants.{Promise}
+use Rattle.spec_paxos.proofs.Members.{in_here, in_there}
 use Rattle.law_agreement.proofs.Moves.{not_in_nobody}
-use Rattle.petal_rules.specs.Agreement.{IsTold, IsAskedFor, IsAbout, IsProposer}
-use Rattle.petal_rules.specs.Ballots.{post_of, round_of, next_round, first_wanted, starts, starts_for, starts_ballot, greatest_place}
-use Rattle.petal_rules.specs.Ballots.{gives_way, proposes, comes_out, hears_of_ballot}
-use Rattle.petal_rules.specs.Entries.{learns}
-use Rattle.petal_rules.specs.Lists.{In as Among}
-use Rattle.petal_rules.specs.Log.{Log, rev_of, next_place, with_phase, Voter}
-use Rattle.petal_rules.specs.Server.{Post}
-use Rattle.petal_rules.proofs.Tests.{true_false, by_test, none_some, same_some}
+use Rattle.spec_rules.specs.Agreement.{IsTold, IsAskedFor, IsAbout, IsProposer}
+use Rattle.spec_rules.specs.Ballots.{post_of, round_of, next_round, first_wanted, starts, starts_for, starts_ballot, greatest_place}
+use Rattle.spec_rules.specs.Ballots.{gives_way, proposes, comes_out, hears_of_ballot}
+use Rattle.spec_rules.specs.Entries.{learns}
+use Rattle.spec_rules.specs.Lists.{In as Among}
+use Rattle.spec_rules.specs.Log.{Log, rev_of, next_place, with_phase, Voter}
+use Rattle.spec_rules.specs.Server.{Post}
+use Rattle.spec_rules.proofs.Tests.{true_false, by_test, none_some, same_some}
 use Rattle.law_log.specs.Logged.{IsSeenAt, AreLow, IsLow, IsBacked}
 use Rattle.law_log.proofs.RunningLog.{VotingLog, voter_at}
 use Rattle.law_log.proofs.Lists.{put_here}

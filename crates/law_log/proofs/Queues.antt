@@ -9,31 +9,31 @@ use Rattle.petal_command.specs.declared.command.Command.{Command}
 use Rattle.petal_command.specs.declared.pax.Pax.TheVariants as pax
 use Rattle.petal_msg.specs.declared.letter.Letter.{Letter}
 use Rattle.petal_msg.specs.declared.operation.Pending.{Pending}
-use Rattle.petal_paxos.specs.Member.{In}
-use Rattle.petal_paxos.specs.Proposer.{is_in, has_majority}
-use Rattle.petal_paxos.specs.Schedule.{sent}
-use Rattle.petal_paxos.specs.Schedule as schedule
-use Rattle.petal_paxos.specs.declared.phase.Phase.{Phase}
-use Rattle.petal_paxos.specs.declared.phase.Phase.TheVariants.{Idle, Collecting, Voting}
-use Rattle.petal_rules.specs.Agreement.{IsAskedFor}
-use Rattle.petal_rules.specs.Ballots.{ballot_posts, start_jobs}
-use Rattle.petal_rules.specs.Copies.{mend_jobs, waits_for_job}
-use Rattle.petal_rules.specs.Sweeping.{sweep_jobs}
-use Rattle.petal_state.specs.Command.{after}
-use Rattle.petal_state.specs.Place.{touches}
-use Rattle.petal_rules.specs.Crossing.{is_mended, jobs_by, link_jobs, stage_jobs, touches_cell}
-use Rattle.petal_rules.specs.Jobs.{tick_jobs}
-use Rattle.petal_rules.specs.Jobs.{wanted_by}
-use Rattle.petal_rules.specs.Lists.{In as Among}
-use Rattle.petal_rules.specs.Log.{Voter}
-use Rattle.petal_rules.specs.Posts.{Post}
-use Rattle.petal_rules.specs.Server.{Server, Own, Here}
-use Rattle.petal_rules.specs.State.{State, id_of}
-use Rattle.petal_rules.specs.State.{is_in as seated}
-use Rattle.petal_rules.specs.declared.job.Job.{Job}
-use Rattle.petal_rules.specs.declared.job.Job.TheVariants as job
-use Rattle.petal_rules.proofs.ListLemmas.{in-append}
-use Rattle.petal_rules.proofs.Tests.{by_test}
+use Rattle.spec_paxos.specs.Member.{In}
+use Rattle.spec_paxos.specs.Proposer.{is_in, has_majority}
+use Rattle.spec_paxos.specs.Schedule.{sent}
+use Rattle.spec_paxos.specs.Schedule as schedule
+use Rattle.spec_paxos.specs.declared.phase.Phase.{Phase}
+use Rattle.spec_paxos.specs.declared.phase.Phase.TheVariants.{Idle, Collecting, Voting}
+use Rattle.spec_rules.specs.Agreement.{IsAskedFor}
+use Rattle.spec_rules.specs.Ballots.{ballot_posts, start_jobs}
+use Rattle.spec_rules.specs.Copies.{mend_jobs, waits_for_job}
+use Rattle.spec_rules.specs.Sweeping.{sweep_jobs}
+use Rattle.spec_state.specs.Command.{after}
+use Rattle.spec_state.specs.Place.{touches}
+use Rattle.spec_rules.specs.Crossing.{is_mended, jobs_by, link_jobs, stage_jobs, touches_cell}
+use Rattle.spec_rules.specs.Jobs.{tick_jobs}
+use Rattle.spec_rules.specs.Jobs.{wanted_by}
+use Rattle.spec_rules.specs.Lists.{In as Among}
+use Rattle.spec_rules.specs.Log.{Voter}
+use Rattle.spec_rules.specs.Posts.{Post}
+use Rattle.spec_rules.specs.Server.{Server, Own, Here}
+use Rattle.spec_rules.specs.State.{State, id_of}
+use Rattle.spec_rules.specs.State.{is_in as seated}
+use Rattle.spec_rules.specs.declared.job.Job.{Job}
+use Rattle.spec_rules.specs.declared.job.Job.TheVariants as job
+use Rattle.spec_rules.proofs.ListLemmas.{in-append}
+use Rattle.spec_rules.proofs.Tests.{by_test}
 use Rattle.law_log.specs.Logged.{IsBacked}
 use Rattle.law_log.proofs.Filling.{no_sweep}
 use Rattle.law_log.proofs.Proposing.{all_backed}

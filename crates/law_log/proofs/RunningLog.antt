@@ -1,7 +1,7 @@
 -- The log of a server that runs, and what the schedule's world has of it.
 use Rattle.std.proofs.Common.{◌≤◌, ◌<◌, ℕ, true}
-use Rattle.petal_paxos.specs.Schedule.{World}
-use Rattle.petal_rules.specs.Log.{Log, Voter}
+use Rattle.spec_paxos.specs.Schedule.{World}
+use Rattle.spec_rules.specs.Log.{Log, Voter}
 use Rattle.law_log.specs.Logged.{AreLow, IsBusyAs, IsSeenAt}
 
 -- such a log

@@ -8,38 +8,38 @@ use Rattle.petal_msg.specs.declared.body.Body.TheVariants as body
 use Rattle.petal_msg.specs.declared.letter.Actor.TheVariants as actor
 use Rattle.petal_msg.specs.declared.letter.Letter.{Letter}
 use Rattle.petal_msg.specs.declared.copying.LinkId.{LinkId}
-use Rattle.petal_paxos.specs.Member.{In}
-use Rattle.petal_paxos.specs.Schedule.{sent, run, begin}
-use Rattle.petal_paxos.specs.Schedule as schedule
-use Rattle.petal_paxos.specs.declared.phase.Phase.{Phase}
-use Rattle.petal_rules.specs.Agreement.{IsAskedFor, IsProposer}
-use Rattle.petal_paxos.specs.Kept.{inc_of}
-use Rattle.petal_paxos.proofs.Committed.{inc_committed}
-use Rattle.petal_paxos.specs.declared.record.StateRecord.TheVariants.{Inc}
-use Rattle.petal_rules.specs.Ballots.{ballot_posts, ask_posts, first_wanted, starts, wanted}
-use Rattle.petal_rules.specs.Boots.{awake, blanked, boots, raised, stays, wakes}
-use Rattle.petal_rules.specs.Returns.{proposed}
-use Rattle.petal_rules.specs.Crossing.{crossed_by, jobs_by}
-use Rattle.petal_rules.specs.Entries.{applies, applies_known}
-use Rattle.petal_rules.specs.Jobs.{Acted, is_log_job, voter_of, worked, entered, crossing, job_done, down_posts, stops, is_overfull}
-use Rattle.petal_rules.specs.Jobs.{works, faults, glances, glance_sender, delivered, tick_jobs, tick_posts, ticks, log_does, does, sent_again}
-use Rattle.petal_rules.specs.Jobs.{copies_again, starting, own_wants, wanted_by}
-use Rattle.petal_rules.specs.Lists.{In as Among, put_at}
-use Rattle.petal_rules.specs.Log.{LogDone, known, next_place, rev_of}
-use Rattle.petal_rules.specs.Posts.{Post, Sender, letters_of}
-use Rattle.petal_rules.specs.Server.{Life, Server, Own, Here, Done, sender, stopped}
-use Rattle.petal_rules.specs.State.{servers_of}
-use Rattle.petal_rules.specs.World.{Setting, World, MayServer, server_state, server_step, acts}
-use Rattle.petal_rules.specs.declared.job.Job.{Job}
-use Rattle.petal_rules.specs.declared.job.Job.TheVariants as job
-use Rattle.petal_rules.specs.declared.step.CommitEnd.{CommitEnd}
-use Rattle.petal_rules.specs.declared.step.CommitEnd.TheVariants.{Before, After}
-use Rattle.petal_rules.specs.declared.step.Step.{Step}
-use Rattle.petal_rules.specs.declared.step.Step.TheVariants.{Call, Deliver, Tick, Work, StopIn, Stop, Blank, Boot, Arm, Glance}
-use Rattle.petal_rules.specs.declared.step.WorkEnd.{WorkEnd}
-use Rattle.petal_rules.specs.declared.step.WorkEnd.TheVariants as work_end
-use Rattle.petal_rules.proofs.ListLemmas.{in-append, put_apart, put_same}
-use Rattle.petal_rules.proofs.Tests.{only, by_test, same_or_apart}
+use Rattle.spec_paxos.specs.Member.{In}
+use Rattle.spec_paxos.specs.Schedule.{sent, run, begin}
+use Rattle.spec_paxos.specs.Schedule as schedule
+use Rattle.spec_paxos.specs.declared.phase.Phase.{Phase}
+use Rattle.spec_rules.specs.Agreement.{IsAskedFor, IsProposer}
+use Rattle.spec_paxos.specs.Kept.{inc_of}
+use Rattle.spec_paxos.proofs.Committed.{inc_committed}
+use Rattle.spec_paxos.specs.declared.record.StateRecord.TheVariants.{Inc}
+use Rattle.spec_rules.specs.Ballots.{ballot_posts, ask_posts, first_wanted, starts, wanted}
+use Rattle.spec_rules.specs.Boots.{awake, blanked, boots, raised, stays, wakes}
+use Rattle.spec_rules.specs.Returns.{proposed}
+use Rattle.spec_rules.specs.Crossing.{crossed_by, jobs_by}
+use Rattle.spec_rules.specs.Entries.{applies, applies_known}
+use Rattle.spec_rules.specs.Jobs.{Acted, is_log_job, voter_of, worked, entered, crossing, job_done, down_posts, stops, is_overfull}
+use Rattle.spec_rules.specs.Jobs.{works, faults, glances, glance_sender, delivered, tick_jobs, tick_posts, ticks, log_does, does, sent_again}
+use Rattle.spec_rules.specs.Jobs.{copies_again, starting, own_wants, wanted_by}
+use Rattle.spec_rules.specs.Lists.{In as Among, put_at}
+use Rattle.spec_rules.specs.Log.{LogDone, known, next_place, rev_of}
+use Rattle.spec_rules.specs.Posts.{Post, Sender, letters_of}
+use Rattle.spec_rules.specs.Server.{Life, Server, Own, Here, Done, sender, stopped}
+use Rattle.spec_rules.specs.State.{servers_of}
+use Rattle.spec_rules.specs.World.{Setting, World, MayServer, server_state, server_step, acts}
+use Rattle.spec_rules.specs.declared.job.Job.{Job}
+use Rattle.spec_rules.specs.declared.job.Job.TheVariants as job
+use Rattle.spec_rules.specs.declared.step.CommitEnd.{CommitEnd}
+use Rattle.spec_rules.specs.declared.step.CommitEnd.TheVariants.{Before, After}
+use Rattle.spec_rules.specs.declared.step.Step.{Step}
+use Rattle.spec_rules.specs.declared.step.Step.TheVariants.{Call, Deliver, Tick, Work, StopIn, Stop, Blank, Boot, Arm, Glance}
+use Rattle.spec_rules.specs.declared.step.WorkEnd.{WorkEnd}
+use Rattle.spec_rules.specs.declared.step.WorkEnd.TheVariants as work_end
+use Rattle.spec_rules.proofs.ListLemmas.{in-append, put_apart, put_same}
+use Rattle.spec_rules.proofs.Tests.{only, by_test, same_or_apart}
 use Rattle.law_log.specs.Logged.{IsBacked, IsBusyAs, IsCalledAnywhere, IsSaidBy, IsSeenAt, Logged, Minded}
 use Rattle.law_state.specs.Started.{HasFlag}
 use Rattle.law_log.proofs.Facts.{IsFair, as_many, told_once}

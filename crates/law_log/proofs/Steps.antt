@@ -10,23 +10,23 @@ use Rattle.petal_msg.specs.declared.body.Body.TheVariants as body
 use Rattle.petal_msg.specs.declared.letter.Actor.{Actor}
 use Rattle.petal_msg.specs.declared.letter.Actor.TheVariants as actor
 use Rattle.petal_msg.specs.declared.letter.Letter.{Letter}
-use Rattle.petal_paxos.specs.Member.{In}
-use Rattle.petal_paxos.specs.Schedule.{run, begin}
-use Rattle.petal_paxos.specs.Schedule as schedule
-use Rattle.petal_paxos.specs.declared.record.StateRecord.TheVariants.{Inc, Accepted}
+use Rattle.spec_paxos.specs.Member.{In}
+use Rattle.spec_paxos.specs.Schedule.{run, begin}
+use Rattle.spec_paxos.specs.Schedule as schedule
+use Rattle.spec_paxos.specs.declared.record.StateRecord.TheVariants.{Inc, Accepted}
 use Rattle.script_lines.specs.declared.request.Line.{Line}
-use Rattle.petal_rules.specs.Agreement.{IsTold}
-use Rattle.petal_rules.specs.Clients.{Client, Asked, Reaction, client_sender}
-use Rattle.petal_rules.specs.Lists.{In as Among}
-use Rattle.petal_rules.specs.Server.{letters_of}
-use Rattle.petal_rules.specs.World.{Setting, World, start, stamped, reacts, step, MayActor, MayClient, client_step, client_state}
-use Rattle.petal_rules.specs.World.{calls, next_line, server_state, server_step}
-use Rattle.petal_rules.specs.declared.step.Step.{Step}
-use Rattle.petal_rules.specs.declared.step.Step.TheVariants.{Call, Deliver, Tick}
-use Rattle.petal_rules.proofs.ListLemmas.{in-append, in_later, put_same}
-use Rattle.petal_rules.proofs.Tests.{all_put_apart, none_some}
-use Rattle.petal_history.specs.Steps.{AreStepsFrom, stepped, world_after}
-use Rattle.petal_history.specs.declared.record.Record.{Record}
+use Rattle.spec_rules.specs.Agreement.{IsTold}
+use Rattle.spec_rules.specs.Clients.{Client, Asked, Reaction, client_sender}
+use Rattle.spec_rules.specs.Lists.{In as Among}
+use Rattle.spec_rules.specs.Server.{letters_of}
+use Rattle.spec_rules.specs.World.{Setting, World, start, stamped, reacts, step, MayActor, MayClient, client_step, client_state}
+use Rattle.spec_rules.specs.World.{calls, next_line, server_state, server_step}
+use Rattle.spec_rules.specs.declared.step.Step.{Step}
+use Rattle.spec_rules.specs.declared.step.Step.TheVariants.{Call, Deliver, Tick}
+use Rattle.spec_rules.proofs.ListLemmas.{in-append, in_later, put_same}
+use Rattle.spec_rules.proofs.Tests.{all_put_apart, none_some}
+use Rattle.spec_history.specs.Steps.{AreStepsFrom, stepped, world_after}
+use Rattle.spec_history.specs.declared.record.Record.{Record}
 use Rattle.law_log.specs.Logged.{IsBacked, IsCalledAnywhere, IsSaidBy, IsOpen, Logged, Minded}
 use Rattle.law_log.specs.Requested.{IsRequested, calls_in}
 use Rattle.law_log.proofs.Clients.{IsFine, Reacts, IsOf, IsClients, calls_so, hears_so, ticks_so}

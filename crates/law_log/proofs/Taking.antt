@@ -5,24 +5,24 @@ use Rattle.petal_command.specs.declared.command.Command.{Command}
 use Rattle.petal_command.specs.declared.pax.Pax.{Pax}
 use Rattle.petal_command.specs.declared.pax.Pax.TheVariants as pax
 use Rattle.petal_msg.specs.declared.body.Body.TheVariants as body
-use Rattle.petal_paxos.specs.Acceptor.{Acceptor, is_open, promise, accept, prepare_reply, accept_reply}
-use Rattle.petal_paxos.specs.Kept.{acceptor_of, known_at, committed}
-use Rattle.petal_paxos.specs.Member.{In, put_at}
-use Rattle.petal_paxos.specs.Schedule.{vote, sent, World, keep, cast, learn, send}
-use Rattle.petal_paxos.specs.declared.phase.Phase.{Phase}
-use Rattle.petal_paxos.specs.declared.record.StateRecord.{StateRecord}
-use Rattle.petal_paxos.specs.declared.record.StateRecord.TheVariants.{Promise, Accepted, Chosen}
-use Rattle.petal_paxos.proofs.Members.{in_cons, in_here, in_there}
-use Rattle.petal_rules.specs.Agreement.{IsTold}
+use Rattle.spec_paxos.specs.Acceptor.{Acceptor, is_open, promise, accept, prepare_reply, accept_reply}
+use Rattle.spec_paxos.specs.Kept.{acceptor_of, known_at, committed}
+use Rattle.spec_paxos.specs.Member.{In, put_at}
+use Rattle.spec_paxos.specs.Schedule.{vote, sent, World, keep, cast, learn, send}
+use Rattle.spec_paxos.specs.declared.phase.Phase.{Phase}
+use Rattle.spec_paxos.specs.declared.record.StateRecord.{StateRecord}
+use Rattle.spec_paxos.specs.declared.record.StateRecord.TheVariants.{Promise, Accepted, Chosen}
+use Rattle.spec_paxos.proofs.Members.{in_cons, in_here, in_there}
+use Rattle.spec_rules.specs.Agreement.{IsTold}
 use Rattle.petal_msg.specs.declared.letter.Actor.{Actor}
 use Rattle.petal_msg.specs.declared.letter.Actor.TheVariants as actor
-use Rattle.petal_rules.specs.Ballots.{on_prepare, on_accept}
-use Rattle.petal_rules.specs.Entries.{learns}
-use Rattle.petal_rules.specs.Log.{commits}
-use Rattle.petal_rules.proofs.Tests.{by_test, same_or_apart, same_some}
+use Rattle.spec_rules.specs.Ballots.{on_prepare, on_accept}
+use Rattle.spec_rules.specs.Entries.{learns}
+use Rattle.spec_rules.specs.Log.{commits}
+use Rattle.spec_rules.proofs.Tests.{by_test, same_or_apart, same_some}
 use Rattle.law_log.specs.Logged.{IsSeenAt, IsLow}
-use Rattle.petal_paxos.proofs.Committed.{known_promise, known_accepted, known_here, known_elsewhere, acceptor_promise, acceptor_accepted}
-use Rattle.petal_paxos.proofs.Committed.{acceptor_chosen, inc_promise, inc_accepted, inc_chosen}
+use Rattle.spec_paxos.proofs.Committed.{known_promise, known_accepted, known_here, known_elsewhere, acceptor_promise, acceptor_accepted}
+use Rattle.spec_paxos.proofs.Committed.{acceptor_chosen, inc_promise, inc_accepted, inc_chosen}
 use Rattle.law_log.proofs.RunningLog.{RunningLog}
 use Rattle.law_log.proofs.Kept.{in_committed, same_votes}
 use Rattle.law_log.proofs.Lists.{put_here, put_away, put_at_here, put_at_beside, put_at_itself}

@@ -8,20 +8,20 @@ use Rattle.petal_command.specs.declared.pax.Pax.{Pax}
 use Rattle.petal_msg.specs.declared.body.Body.{Body}
 use Rattle.petal_msg.specs.declared.body.Body.TheVariants as body
 use Rattle.petal_msg.specs.declared.letter.Actor.{Actor}
-use Rattle.petal_paxos.specs.Acceptor.{Acceptor}
-use Rattle.petal_paxos.specs.Member.{In}
-use Rattle.petal_paxos.specs.Schedule.{handed, Vote, vote, Sent, sent, World, Event, Starts, Handed, Stops, Boots, Goes, keep, cast}
-use Rattle.petal_paxos.specs.Schedule.{learn, send, turn, happens, run, IsWanted}
-use Rattle.petal_paxos.specs.declared.phase.Phase.{Phase}
-use Rattle.petal_paxos.specs.declared.record.StateRecord.{StateRecord}
-use Rattle.petal_paxos.specs.declared.phase.Phase.TheVariants.{Idle, Collecting, Voting}
-use Rattle.petal_paxos.proofs.Members.{in_cons, in_here, in_there, put_at_cases}
-use Rattle.petal_rules.specs.Agreement.{IsTold, IsProposer, IsAskedFor, IsAbout}
-use Rattle.petal_rules.specs.Lists.{In as Among}
-use Rattle.petal_rules.specs.Log.{Log}
-use Rattle.petal_rules.specs.Server.{Post}
+use Rattle.spec_paxos.specs.Acceptor.{Acceptor}
+use Rattle.spec_paxos.specs.Member.{In}
+use Rattle.spec_paxos.specs.Schedule.{handed, Vote, vote, Sent, sent, World, Event, Starts, Handed, Stops, Boots, Goes, keep, cast}
+use Rattle.spec_paxos.specs.Schedule.{learn, send, turn, happens, run, IsWanted}
+use Rattle.spec_paxos.specs.declared.phase.Phase.{Phase}
+use Rattle.spec_paxos.specs.declared.record.StateRecord.{StateRecord}
+use Rattle.spec_paxos.specs.declared.phase.Phase.TheVariants.{Idle, Collecting, Voting}
+use Rattle.spec_paxos.proofs.Members.{in_cons, in_here, in_there, put_at_cases}
+use Rattle.spec_rules.specs.Agreement.{IsTold, IsProposer, IsAskedFor, IsAbout}
+use Rattle.spec_rules.specs.Lists.{In as Among}
+use Rattle.spec_rules.specs.Log.{Log}
+use Rattle.spec_rules.specs.Server.{Post}
 use Rattle.law_log.specs.Logged.{IsReached, IsLow, AreLow, IsSeenAt, IsBusyAs, IsBacked}
-use Rattle.petal_rules.proofs.Tests.{only}
+use Rattle.spec_rules.proofs.Tests.{only}
 use Rattle.law_log.proofs.Lists.{placed, put_here, put_away, put_at_away}
 
 -- ### Only one server's part changed

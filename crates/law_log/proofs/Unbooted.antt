@@ -3,21 +3,21 @@ use Rattle.std.proofs.Common.{◌≡◌, ◌≢◌, ℕ, List, [], ◌∷◌, re
 use Rattle.petal_msg.specs.declared.letter.Actor.{Actor}
 use Rattle.petal_msg.specs.declared.letter.Actor.TheVariants as actor
 use Rattle.script_lines.specs.declared.script.Script.{Script}
-use Rattle.petal_history.specs.Steps.{stepped, world_after}
-use Rattle.petal_history.specs.declared.record.Record.{Record}
-use Rattle.petal_rules.specs.Jobs.{Acted, here_of, is_log_job, is_overfull, job_done, works}
-use Rattle.petal_rules.specs.Lists.{In}
-use Rattle.petal_rules.specs.Server.{Here, Server}
-use Rattle.petal_rules.specs.State.{State}
-use Rattle.petal_rules.specs.World.{Setting, World, server_state, server_step, setting_of, start, step}
-use Rattle.petal_rules.specs.declared.job.Job.{Job}
-use Rattle.petal_rules.specs.declared.job.Job.TheVariants as job
-use Rattle.petal_rules.specs.declared.step.CommitEnd.TheVariants.{After}
-use Rattle.petal_rules.specs.declared.step.Step.{Step}
-use Rattle.petal_rules.specs.declared.step.Step.TheVariants.{Deliver, Work, StopIn, Boot}
-use Rattle.petal_rules.specs.declared.step.WorkEnd.{WorkEnd}
-use Rattle.petal_rules.specs.declared.step.WorkEnd.TheVariants as work_end
-use Rattle.petal_rules.proofs.Tests.{all_put, by_test}
+use Rattle.spec_history.specs.Steps.{stepped, world_after}
+use Rattle.spec_history.specs.declared.record.Record.{Record}
+use Rattle.spec_rules.specs.Jobs.{Acted, here_of, is_log_job, is_overfull, job_done, works}
+use Rattle.spec_rules.specs.Lists.{In}
+use Rattle.spec_rules.specs.Server.{Here, Server}
+use Rattle.spec_rules.specs.State.{State}
+use Rattle.spec_rules.specs.World.{Setting, World, server_state, server_step, setting_of, start, step}
+use Rattle.spec_rules.specs.declared.job.Job.{Job}
+use Rattle.spec_rules.specs.declared.job.Job.TheVariants as job
+use Rattle.spec_rules.specs.declared.step.CommitEnd.TheVariants.{After}
+use Rattle.spec_rules.specs.declared.step.Step.{Step}
+use Rattle.spec_rules.specs.declared.step.Step.TheVariants.{Deliver, Work, StopIn, Boot}
+use Rattle.spec_rules.specs.declared.step.WorkEnd.{WorkEnd}
+use Rattle.spec_rules.specs.declared.step.WorkEnd.TheVariants as work_end
+use Rattle.spec_rules.proofs.Tests.{all_put, by_test}
 use Rattle.law_log.specs.Requested.{NoneBoots}
 
 job_inc : (here : Here) (server : Server) (first : Job) (rest : List Job) → (job_done here server first rest).server.life.inc ≡ server.life.inc

@@ -1,7 +1,7 @@
 -- What is kept of a world is kept by what one server does.
-use Rattle.petal_rules.specs.declared.job.Job.{Job}
-use Rattle.petal_rules.specs.Jobs.{here_of}
-use Rattle.petal_rules.specs.Log.{LogDone}
+use Rattle.spec_rules.specs.declared.job.Job.{Job}
+use Rattle.spec_rules.specs.Jobs.{here_of}
+use Rattle.spec_rules.specs.Log.{LogDone}
 use Rattle.law_log.proofs.Facts.{IsFair}
 use Rattle.std.proofs.Common.{◌≡◌, ◌<◌, ◌≤◌, ◌+◌, ◌⊎◌, inl, inr, ℕ, true, false, List, [], ◌∷◌, ◌++◌, length, Some, None, refl, sym, ap, ◌∙◌, subst, arith}
 use Rattle.global_tables.specs.Link.{link_at}
@@ -13,24 +13,24 @@ use Rattle.petal_command.specs.declared.pax.Pax.{Pax}
 use Rattle.petal_msg.specs.declared.letter.Actor.{Actor}
 use Rattle.petal_msg.specs.declared.letter.Actor.TheVariants as actor
 use Rattle.petal_msg.specs.declared.letter.Letter.{Letter}
-use Rattle.petal_paxos.specs.Kept.{inc_of}
-use Rattle.petal_paxos.specs.Member.{In}
-use Rattle.petal_paxos.specs.Schedule.{Sent, sent, Event, run, begin, happens, IsWanted, Starts, Handed, Stops, Boots}
-use Rattle.petal_paxos.specs.Schedule as schedule
-use Rattle.petal_paxos.specs.declared.record.StateRecord.TheVariants.{Accepted}
-use Rattle.petal_rules.specs.Lists.{In as Among, put_at}
+use Rattle.spec_paxos.specs.Kept.{inc_of}
+use Rattle.spec_paxos.specs.Member.{In}
+use Rattle.spec_paxos.specs.Schedule.{Sent, sent, Event, run, begin, happens, IsWanted, Starts, Handed, Stops, Boots}
+use Rattle.spec_paxos.specs.Schedule as schedule
+use Rattle.spec_paxos.specs.declared.record.StateRecord.TheVariants.{Accepted}
+use Rattle.spec_rules.specs.Lists.{In as Among, put_at}
 use Rattle.petal_msg.specs.declared.copying.LinkId.{LinkId}
-use Rattle.petal_state.specs.Command.{state_after}
-use Rattle.petal_rules.specs.Draining.{has_held_write}
-use Rattle.petal_rules.specs.Fills.{fill_of, region_to_move}
-use Rattle.petal_rules.specs.Posts.{Post, Sender, letters_of}
-use Rattle.petal_rules.specs.Server.{Life, Own, Server, Here, Here}
-use Rattle.petal_rules.specs.State.{State, is_in}
-use Rattle.petal_rules.specs.declared.step.Step.{Step}
-use Rattle.petal_rules.specs.World.{Setting, World, devices, stamped, acts, server_state}
-use Rattle.petal_rules.specs.declared.job.Job.TheVariants as job
-use Rattle.petal_rules.proofs.ListLemmas.{in-append, in_later}
-use Rattle.petal_rules.proofs.Tests.{all_put_apart}
+use Rattle.spec_state.specs.Command.{state_after}
+use Rattle.spec_rules.specs.Draining.{has_held_write}
+use Rattle.spec_rules.specs.Fills.{fill_of, region_to_move}
+use Rattle.spec_rules.specs.Posts.{Post, Sender, letters_of}
+use Rattle.spec_rules.specs.Server.{Life, Own, Server, Here, Here}
+use Rattle.spec_rules.specs.State.{State, is_in}
+use Rattle.spec_rules.specs.declared.step.Step.{Step}
+use Rattle.spec_rules.specs.World.{Setting, World, devices, stamped, acts, server_state}
+use Rattle.spec_rules.specs.declared.job.Job.TheVariants as job
+use Rattle.spec_rules.proofs.ListLemmas.{in-append, in_later}
+use Rattle.spec_rules.proofs.Tests.{all_put_apart}
 use Rattle.law_log.specs.Logged.{Catches, IsCalledAnywhere, IsSeenAt, IsBusyAs, IsBacked, IsSaidBy, IsLogged, Logged}
 use Rattle.law_log.specs.Logged.{MayWant, Minded, Drains, Moves, Returns, Waits}
 use Rattle.law_log.specs.Requested.{HasStopped, IsCalledFor, IsOfLives, IsScripted}

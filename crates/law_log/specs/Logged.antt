@@ -12,19 +12,19 @@ use Rattle.petal_msg.specs.declared.letter.Actor.{Actor}
 use Rattle.petal_msg.specs.declared.letter.Actor.TheVariants as actor
 use Rattle.petal_msg.specs.declared.letter.Letter.{Letter}
 use Rattle.script_lines.specs.declared.request.Line.{Line}
-use Rattle.petal_paxos.specs.Kept.{acceptor_of, known_at, inc_of}
-use Rattle.petal_paxos.specs.Member.{In}
-use Rattle.petal_paxos.specs.Schedule as schedule
-use Rattle.petal_paxos.specs.declared.phase.Phase.{Phase}
-use Rattle.petal_paxos.specs.declared.record.StateRecord.{StateRecord}
-use Rattle.petal_paxos.specs.declared.record.StateRecord.TheVariants.{Accepted}
-use Rattle.petal_rules.specs.Agreement.{IsTold, IsProposer, IsAskedFor}
-use Rattle.petal_rules.specs.Clients.{Asked}
-use Rattle.petal_rules.specs.Lists.{In as Among}
-use Rattle.petal_rules.specs.Server.{Server}
-use Rattle.petal_rules.specs.World.{Setting, World, lines_of}
-use Rattle.petal_rules.specs.declared.job.Job.TheVariants as job
-use Rattle.petal_state.specs.Command.{may_join, state_after}
+use Rattle.spec_paxos.specs.Kept.{acceptor_of, known_at, inc_of}
+use Rattle.spec_paxos.specs.Member.{In}
+use Rattle.spec_paxos.specs.Schedule as schedule
+use Rattle.spec_paxos.specs.declared.phase.Phase.{Phase}
+use Rattle.spec_paxos.specs.declared.record.StateRecord.{StateRecord}
+use Rattle.spec_paxos.specs.declared.record.StateRecord.TheVariants.{Accepted}
+use Rattle.spec_rules.specs.Agreement.{IsTold, IsProposer, IsAskedFor}
+use Rattle.spec_rules.specs.Clients.{Asked}
+use Rattle.spec_rules.specs.Lists.{In as Among}
+use Rattle.spec_rules.specs.Server.{Server}
+use Rattle.spec_rules.specs.World.{Setting, World, lines_of}
+use Rattle.spec_rules.specs.declared.job.Job.TheVariants as job
+use Rattle.spec_state.specs.Command.{may_join, state_after}
 use Rattle.law_log.specs.Requested.{IsCaughtAt, IsCalledFor, IsMovedAt, IsReportAt}
 
 -- ### A schedule

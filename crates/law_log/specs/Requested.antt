@@ -10,21 +10,21 @@ use Rattle.petal_command.specs.declared.command.Command.{Command}
 use Rattle.petal_command.specs.declared.command.Command.TheVariants.{Join, Leave, Caught, Drained, Moved, Witness}
 use Rattle.script_lines.specs.declared.request.Line.{Line}
 use Rattle.petal_msg.specs.declared.copying.LinkId.{LinkId}
-pub use Rattle.petal_history.specs.Claims.{HasStopped}
-use Rattle.petal_history.specs.Claims.{IsPrefix}
-use Rattle.petal_history.specs.Steps.{world_after}
-use Rattle.petal_history.specs.declared.record.Record.{Record}
+pub use Rattle.spec_history.specs.Claims.{HasStopped}
+use Rattle.spec_history.specs.Claims.{IsPrefix}
+use Rattle.spec_history.specs.Steps.{world_after}
+use Rattle.spec_history.specs.declared.record.Record.{Record}
 use Rattle.law_state.specs.Started.{HasStarted, is_flagged}
-use Rattle.petal_state.specs.Command.{may_catch, state_after}
-use Rattle.petal_rules.specs.Lists.{In}
-use Rattle.petal_rules.specs.declared.step.Step.TheVariants.{Boot}
-use Rattle.petal_rules.specs.declared.step.WorkEnd.{WorkEnd}
-use Rattle.petal_rules.specs.Clients.{command_of}
-use Rattle.petal_rules.specs.Draining.{awaits, has_held_write}
-use Rattle.petal_rules.specs.Fills.{fill_of, region_to_move}
-use Rattle.petal_rules.specs.Server.{Server}
-use Rattle.petal_rules.specs.State.{is_in}
-use Rattle.petal_rules.specs.World.{Setting, World, chosen_log, lines_of, start}
+use Rattle.spec_state.specs.Command.{may_catch, state_after}
+use Rattle.spec_rules.specs.Lists.{In}
+use Rattle.spec_rules.specs.declared.step.Step.TheVariants.{Boot}
+use Rattle.spec_rules.specs.declared.step.WorkEnd.{WorkEnd}
+use Rattle.spec_rules.specs.Clients.{command_of}
+use Rattle.spec_rules.specs.Draining.{awaits, has_held_write}
+use Rattle.spec_rules.specs.Fills.{fill_of, region_to_move}
+use Rattle.spec_rules.specs.Server.{Server}
+use Rattle.spec_rules.specs.State.{is_in}
+use Rattle.spec_rules.specs.World.{Setting, World, chosen_log, lines_of, start}
 
 -- of how many of its lines each client has called: the command is that of one of them, or a Witness of it. The lines of a
 -- client are its requests, counted from 1

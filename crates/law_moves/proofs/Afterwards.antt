@@ -8,14 +8,14 @@ use Rattle.petal_command.specs.declared.command.Command.TheVariants.{Moved}
 use Rattle.petal_msg.specs.declared.operation.Pending.{Pending}
 use Rattle.petal_table.specs.Table.{at}
 use Rattle.script_lines.specs.declared.script.Script.{Script}
-use Rattle.petal_rules.specs.Server.{Pairs}
-use Rattle.petal_rules.specs.Store.{Chain, cell_cmp}
-use Rattle.petal_rules.specs.Writes.{is_clients}
-use Rattle.petal_rules.specs.World.{chosen_state}
-use Rattle.petal_history.specs.Claims.{Moves}
-use Rattle.petal_history.specs.Steps.{AreSteps}
-use Rattle.petal_history.specs.Sound.{IsSound}
-use Rattle.petal_history.specs.declared.record.Record.{Record}
+use Rattle.spec_rules.specs.Server.{Pairs}
+use Rattle.spec_rules.specs.Store.{Chain, cell_cmp}
+use Rattle.spec_rules.specs.Writes.{is_clients}
+use Rattle.spec_rules.specs.World.{chosen_state}
+use Rattle.spec_history.specs.Claims.{Moves}
+use Rattle.spec_history.specs.Steps.{AreSteps}
+use Rattle.spec_history.specs.Sound.{IsSound}
+use Rattle.spec_history.specs.declared.record.Record.{Record}
 use Rattle.law_state.specs.Homes.{stage_at}
 use Rattle.law_state.proofs.Steady.{log_below}
 use Rattle.law_log.proofs.Histories.{history_grows, history_is_firm}

@@ -15,13 +15,13 @@ use Rattle.petal_msg.specs.declared.operation.Ending.TheVariants.{Full, Written}
 use Rattle.petal_msg.specs.declared.operation.Far.TheVariants as far
 use Rattle.petal_msg.specs.declared.operation.Pending.{Pending}
 use Rattle.petal_msg.specs.declared.operation.Stage.{Stage}
-use Rattle.petal_rules.specs.Copies.{Entry, cell_holder, epochs_beyond}
-use Rattle.petal_rules.specs.Progress.{last_copy, with_last_copy}
-use Rattle.petal_rules.specs.State.{is_in, is_second, live}
-use Rattle.petal_rules.specs.Sweeping.{without_dead}
-use Rattle.petal_rules.specs.Store.{Chain, Store, Stored, chain_in, chains_with, version_of, without_entry}
-use Rattle.petal_rules.specs.Server.{Own, Here, Done}
-use Rattle.petal_rules.specs.Writes.{gives_back, pending_on, last_on, without_pending}
+use Rattle.spec_rules.specs.Copies.{Entry, cell_holder, epochs_beyond}
+use Rattle.spec_rules.specs.Progress.{last_copy, with_last_copy}
+use Rattle.spec_rules.specs.State.{is_in, is_second, live}
+use Rattle.spec_rules.specs.Sweeping.{without_dead}
+use Rattle.spec_rules.specs.Store.{Chain, Store, Stored, chain_in, chains_with, version_of, without_entry}
+use Rattle.spec_rules.specs.Server.{Own, Here, Done}
+use Rattle.spec_rules.specs.Writes.{gives_back, pending_on, last_on, without_pending}
 use Rattle.law_steps.specs.DidLead.{DidLead, Gives_up, Puts, Closes, Marks_alone, Puts_alone}
 use Rattle.law_steps.specs.DidLead.{Unmarks_alone, Closes_alone, Goes_on_dead, Taken}
 use Rattle.law_steps.specs.DidSecond.{DidSecond, Promises, Follows}

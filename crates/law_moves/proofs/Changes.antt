@@ -19,17 +19,17 @@ use Rattle.petal_msg.specs.declared.copying.Copying.{Copying}
 use Rattle.petal_msg.specs.declared.copying.LastCopy.{LastCopy}
 use Rattle.petal_msg.specs.declared.operation.Far.TheVariants as far
 use Rattle.petal_msg.specs.declared.operation.Pending.{Pending}
-use Rattle.petal_state.specs.CellState.{serves}
-use Rattle.petal_state.specs.Command.{is_alone, state_after}
-use Rattle.petal_rules.specs.Copies.{cell_holder}
-use Rattle.petal_rules.specs.Progress.{copying_on, last_copy}
-use Rattle.petal_rules.specs.Server.{Done, Own}
-use Rattle.petal_rules.specs.State.{id_of, is_alone_on, is_in, is_second, live}
-use Rattle.petal_rules.specs.Store.{Chain, Store, Stored, cell_cmp, chain_in, chains_with}
-use Rattle.petal_rules.specs.World.{Setting, World, chosen_state, kept, server_state}
-use Rattle.petal_rules.specs.Writes.{is_clients, last_on}
-use Rattle.petal_rules.proofs.Tests.{by_bool, none_some, number_itself, same_numbers, same_some, true_false}
-use Rattle.petal_history.specs.Claims.{IsPrefix}
+use Rattle.spec_state.specs.CellState.{serves}
+use Rattle.spec_state.specs.Command.{is_alone, state_after}
+use Rattle.spec_rules.specs.Copies.{cell_holder}
+use Rattle.spec_rules.specs.Progress.{copying_on, last_copy}
+use Rattle.spec_rules.specs.Server.{Done, Own}
+use Rattle.spec_rules.specs.State.{id_of, is_alone_on, is_in, is_second, live}
+use Rattle.spec_rules.specs.Store.{Chain, Store, Stored, cell_cmp, chain_in, chains_with}
+use Rattle.spec_rules.specs.World.{Setting, World, chosen_state, kept, server_state}
+use Rattle.spec_rules.specs.Writes.{is_clients, last_on}
+use Rattle.spec_rules.proofs.Tests.{by_bool, none_some, number_itself, same_numbers, same_some, true_false}
+use Rattle.spec_history.specs.Claims.{IsPrefix}
 use Rattle.law_log.proofs.Histories.{chosen_caught_was}
 use Rattle.law_state.specs.Below.{IsServing}
 use Rattle.law_state.specs.Homes.{stage_at}

@@ -10,15 +10,15 @@ use Rattle.petal_table.specs.Table.{at}
 use Rattle.petal_table.proofs.Rows.{at-empty}
 use Rattle.petal_msg.specs.declared.operation.Pending.{Pending}
 use Rattle.script_lines.specs.declared.script.Script.{Script}
-use Rattle.petal_state.specs.CellState.{serves}
-use Rattle.petal_rules.specs.Server.{Own, Pairs}
-use Rattle.petal_rules.specs.Store.{Chain, Store, cell_cmp, chain_in}
-use Rattle.petal_rules.specs.World.{blank_joins_in, kept, setting_of}
-use Rattle.petal_rules.specs.Writes.{is_clients}
-use Rattle.petal_rules.proofs.Tests.{by_bool, none_some, true_false}
-use Rattle.petal_history.specs.Steps.{AreSteps}
-use Rattle.petal_history.specs.Sound.{IsSound}
-use Rattle.petal_history.specs.declared.record.Record.{Record}
+use Rattle.spec_state.specs.CellState.{serves}
+use Rattle.spec_rules.specs.Server.{Own, Pairs}
+use Rattle.spec_rules.specs.Store.{Chain, Store, cell_cmp, chain_in}
+use Rattle.spec_rules.specs.World.{blank_joins_in, kept, setting_of}
+use Rattle.spec_rules.specs.Writes.{is_clients}
+use Rattle.spec_rules.proofs.Tests.{by_bool, none_some, true_false}
+use Rattle.spec_history.specs.Steps.{AreSteps}
+use Rattle.spec_history.specs.Sound.{IsSound}
+use Rattle.spec_history.specs.declared.record.Record.{Record}
 use Rattle.law_log.proofs.Histories.{history_grows}
 use Rattle.law_state.specs.Below.{IsServing}
 use Rattle.law_state.specs.Homes.{stage_at}
@@ -26,7 +26,7 @@ use Rattle.law_state.proofs.Roles.{secondary_is_one}
 use Rattle.law_steps.proofs.Fronts.{front_itself, front_long, front_on}
 use Rattle.law_steps.proofs.Records.{split_last}
 use Rattle.law_jobs.proofs.Runs.{At}
-use Rattle.law_stores.proofs.Ways.{before_last}
+use Rattle.law_copies.proofs.StoreWays.{before_last}
 use Rattle.law_copies.specs.Good.{AreTwins, pair_at}
 use Rattle.law_copies.specs.Pair.{AreCopies, Working, far}
 use Rattle.law_copies.specs.Visits.{IsLinked, WasThere, half, place_by}

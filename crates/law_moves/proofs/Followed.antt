@@ -11,14 +11,14 @@ use Rattle.petal_msg.specs.Kinds.{about, subject_of}
 use Rattle.petal_msg.specs.declared.body.Body.{Body}
 use Rattle.petal_msg.specs.declared.body.Body.TheVariants as body
 use Rattle.petal_msg.specs.declared.operation.Pending.{Pending}
-use Rattle.petal_state.specs.CellState.{serves}
-use Rattle.petal_rules.specs.Lists.{In}
-use Rattle.petal_rules.specs.Server.{Own, Pairs}
-use Rattle.petal_rules.specs.Store.{Chain, Store, cell_cmp, chain_in}
-use Rattle.petal_rules.specs.World.{chosen_log, counted}
-use Rattle.petal_rules.specs.Writes.{is_clients}
-use Rattle.petal_rules.proofs.Tests.{by_bool, none_some, same_some, some_or_none, true_false}
-use Rattle.petal_history.specs.declared.record.Record.{Record}
+use Rattle.spec_state.specs.CellState.{serves}
+use Rattle.spec_rules.specs.Lists.{In}
+use Rattle.spec_rules.specs.Server.{Own, Pairs}
+use Rattle.spec_rules.specs.Store.{Chain, Store, cell_cmp, chain_in}
+use Rattle.spec_rules.specs.World.{chosen_log, counted}
+use Rattle.spec_rules.specs.Writes.{is_clients}
+use Rattle.spec_rules.proofs.Tests.{by_bool, none_some, same_some, some_or_none, true_false}
+use Rattle.spec_history.specs.declared.record.Record.{Record}
 use Rattle.law_log.proofs.Histories.{history_grows, history_is_firm}
 use Rattle.law_state.specs.Below.{IsServing}
 use Rattle.law_state.specs.Homes.{stage_at}
@@ -27,7 +27,7 @@ use Rattle.law_steps.specs.Operations.{progress}
 use Rattle.law_steps.proofs.Fronts.{front_on}
 use Rattle.law_steps.proofs.Leading.{live_stage}
 use Rattle.law_steps.proofs.Records.{split_last}
-use Rattle.law_stores.proofs.Histories.{in_counts}
+use Rattle.law_copies.proofs.StoreHistories.{in_counts}
 use Rattle.law_jobs.proofs.Runs.{At}
 use Rattle.law_copies.specs.Good.{Good, pair_at}
 use Rattle.law_copies.specs.Pair.{AreCopies, Known as Tells, Working}

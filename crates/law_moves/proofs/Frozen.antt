@@ -4,13 +4,13 @@ use Rattle.std.proofs.Common.{◌≡◌, ◌≢◌, ◌≤◌, ◌⊎◌, ◌++�
 use Rattle.std.proofs.Common.{Option, Some, None, refl, ap, ◌∙◌, inl, inr, arith}
 use Rattle.petal_base.specs.declared.cell.Cell.{Cell}
 use Rattle.script_lines.specs.declared.script.Script.{Script}
-use Rattle.petal_rules.specs.State.{State, leaving}
-use Rattle.petal_rules.specs.Store.{Chain}
-use Rattle.petal_rules.specs.World.{Setting, World, begins_to_leave, chain_that_counts, chosen_log, chosen_state, frozen_by, setting_of}
-use Rattle.petal_rules.proofs.Tests.{both_true, by_bool, none_some, true_false}
-use Rattle.petal_history.specs.Steps.{AreSteps}
-use Rattle.petal_history.specs.Sound.{IsSound}
-use Rattle.petal_history.specs.declared.record.Record.{Record}
+use Rattle.spec_rules.specs.State.{State, leaving}
+use Rattle.spec_rules.specs.Store.{Chain}
+use Rattle.spec_rules.specs.World.{Setting, World, begins_to_leave, chain_that_counts, chosen_log, chosen_state, frozen_by, setting_of}
+use Rattle.spec_rules.proofs.Tests.{both_true, by_bool, none_some, true_false}
+use Rattle.spec_history.specs.Steps.{AreSteps}
+use Rattle.spec_history.specs.Sound.{IsSound}
+use Rattle.spec_history.specs.declared.record.Record.{Record}
 use Rattle.law_state.specs.Homes.{HasStage, stage_at}
 use Rattle.law_state.specs.Plain.{IsPlainLog}
 use Rattle.law_state.proofs.Steady.{log_below}

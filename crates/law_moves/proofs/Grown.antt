@@ -13,16 +13,16 @@ use Rattle.petal_command.specs.declared.command.Command.{Command}
 use Rattle.petal_command.specs.declared.command.Command.TheVariants.{Caught, Join, Leave}
 use Rattle.petal_table.specs.Table.{at}
 use Rattle.petal_table.proofs.Rows.{at-empty}
-use Rattle.petal_state.specs.CellState.{cell_link, serves}
+use Rattle.spec_state.specs.CellState.{cell_link, serves}
 use Rattle.petal_msg.specs.declared.copying.Progress.{Progress}
-use Rattle.petal_rules.specs.Server.{Copies, Own, Server, no_copies}
-use Rattle.petal_rules.specs.State.{State, id_of, link_cmp}
-use Rattle.petal_rules.specs.Store.{Chain, Store, chain_in}
-use Rattle.petal_rules.specs.World.{Setting, World, blank_joins_in, chosen_log, counted_by, kept_by}
-use Rattle.petal_rules.proofs.Tests.{by_bool, number_itself, same_or_apart, true_false}
-use Rattle.petal_history.specs.Claims.{IsPrefix}
-use Rattle.petal_history.specs.Steps.{AreSteps}
-use Rattle.petal_history.specs.declared.record.Record.{Record}
+use Rattle.spec_rules.specs.Server.{Copies, Own, Server, no_copies}
+use Rattle.spec_rules.specs.State.{State, id_of, link_cmp}
+use Rattle.spec_rules.specs.Store.{Chain, Store, chain_in}
+use Rattle.spec_rules.specs.World.{Setting, World, blank_joins_in, chosen_log, counted_by, kept_by}
+use Rattle.spec_rules.proofs.Tests.{by_bool, number_itself, same_or_apart, true_false}
+use Rattle.spec_history.specs.Claims.{IsPrefix}
+use Rattle.spec_history.specs.Steps.{AreSteps}
+use Rattle.spec_history.specs.declared.record.Record.{Record}
 use Rattle.law_log.specs.Requested.{WasStarted}
 use Rattle.law_log.proofs.Histories.{chosen_caught_was, history_grows, history_is_firm}
 use Rattle.law_state.specs.Below.{IsServing}
@@ -38,7 +38,7 @@ use Rattle.law_state.proofs.Steady.{front_plain, log_steady}
 use Rattle.law_state.proofs.Touching.{log_touched}
 use Rattle.law_steps.proofs.Fronts.{front_itself, front_long, front_more, front_on, one_front}
 use Rattle.law_steps.proofs.Records.{split_last}
-use Rattle.law_stores.proofs.Counts.{joined_where, stands_in}
+use Rattle.law_copies.proofs.EmptyJoins.{joined_where, stands_in}
 use Rattle.law_jobs.proofs.Runs.{At, before_part}
 use Rattle.law_copies.specs.Good.{Good}
 use Rattle.law_copies.specs.Visits.{AliveIn, IsLast, IsLinked, place_by}

@@ -10,20 +10,20 @@ use Rattle.petal_command.specs.declared.command.Command.{Command}
 use Rattle.petal_table.proofs.Rows.{at-empty}
 use Rattle.petal_msg.specs.declared.operation.Pending.{Pending}
 use Rattle.petal_table.specs.Table.{at}
-use Rattle.petal_state.specs.Command.{state_after}
-use Rattle.petal_state.specs.State.{start as first_state}
+use Rattle.spec_state.specs.Command.{state_after}
+use Rattle.spec_state.specs.State.{start as first_state}
 use Rattle.script_lines.specs.declared.script.Script.{Script}
-use Rattle.petal_history.specs.Claims.{IsPrefix}
-use Rattle.petal_history.specs.Steps.{AreSteps}
-use Rattle.petal_history.specs.Sound.{IsSound}
-use Rattle.petal_history.specs.declared.record.Record.{Record}
-use Rattle.petal_rules.specs.Lists.{In}
-use Rattle.petal_rules.specs.State.{id_of, link_cmp}
-use Rattle.petal_rules.specs.Store.{cell_cmp}
-use Rattle.petal_paxos.specs.Chosen.{chosen_from, vote_place}
-use Rattle.petal_rules.specs.World.{Setting, chosen_log, chosen_state, devices, setting_of, start}
-use Rattle.petal_rules.specs.Writes.{is_clients}
-use Rattle.petal_rules.proofs.Tests.{none_some}
+use Rattle.spec_history.specs.Claims.{IsPrefix}
+use Rattle.spec_history.specs.Steps.{AreSteps}
+use Rattle.spec_history.specs.Sound.{IsSound}
+use Rattle.spec_history.specs.declared.record.Record.{Record}
+use Rattle.spec_rules.specs.Lists.{In}
+use Rattle.spec_rules.specs.State.{id_of, link_cmp}
+use Rattle.spec_rules.specs.Store.{cell_cmp}
+use Rattle.spec_paxos.specs.Chosen.{chosen_from, vote_place}
+use Rattle.spec_rules.specs.World.{Setting, chosen_log, chosen_state, devices, setting_of, start}
+use Rattle.spec_rules.specs.Writes.{is_clients}
+use Rattle.spec_rules.proofs.Tests.{none_some}
 use Rattle.law_state.specs.Homes.{stage_at}
 use Rattle.law_steps.proofs.Records.{none_before_none, split_last}
 use Rattle.law_jobs.proofs.Runs.{by_run, run_of}

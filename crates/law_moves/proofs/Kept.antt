@@ -12,24 +12,24 @@ use Rattle.petal_table.proofs.Rows.{at_apart, at_same}
 use Rattle.petal_msg.specs.declared.body.Body.TheVariants as body
 use Rattle.petal_msg.specs.declared.operation.Far.TheVariants as far
 use Rattle.petal_msg.specs.declared.operation.Pending.{Pending}
-use Rattle.petal_state.specs.Command.{state_after}
-use Rattle.petal_rules.specs.Blanked.{BeforeBlank, kept_store}
-use Rattle.petal_rules.specs.Crossing.{crossed}
-use Rattle.petal_rules.specs.Server.{Own, Server}
-use Rattle.petal_rules.specs.State.{is_in, is_second, second}
-use Rattle.petal_rules.specs.Store.{Chain, Store, cell_cmp, chain_in}
-use Rattle.petal_rules.specs.World.{blank_joins_in, chosen_state, kept, kept_by, server_state}
-use Rattle.petal_rules.specs.Writes.{is_clients, last_on}
-use Rattle.petal_rules.proofs.Settled.{settling}
-use Rattle.petal_rules.proofs.Tests.{by_bool, is_the_one, number_itself, same_or_apart}
-use Rattle.petal_history.specs.Claims.{IsPrefix}
+use Rattle.spec_state.specs.Command.{state_after}
+use Rattle.spec_rules.specs.Blanked.{BeforeBlank, kept_store}
+use Rattle.spec_rules.specs.Crossing.{crossed}
+use Rattle.spec_rules.specs.Server.{Own, Server}
+use Rattle.spec_rules.specs.State.{is_in, is_second, second}
+use Rattle.spec_rules.specs.Store.{Chain, Store, cell_cmp, chain_in}
+use Rattle.spec_rules.specs.World.{blank_joins_in, chosen_state, kept, kept_by, server_state}
+use Rattle.spec_rules.specs.Writes.{is_clients, last_on}
+use Rattle.spec_rules.proofs.Settled.{settling}
+use Rattle.spec_rules.proofs.Tests.{by_bool, is_the_one, number_itself, same_or_apart}
+use Rattle.spec_history.specs.Claims.{IsPrefix}
 use Rattle.law_state.specs.Below.{IsServing}
 use Rattle.law_state.specs.Homes.{stage_at}
 use Rattle.law_state.proofs.Cells.{second_by}
 use Rattle.law_steps.specs.Happens.{Handled, own_place}
 use Rattle.law_steps.specs.Operations.{progress}
 use Rattle.law_steps.proofs.Fronts.{front_itself}
-use Rattle.law_stores.proofs.Jobs.{ballot_store}
+use Rattle.law_copies.proofs.StoreJobs.{ballot_store}
 use Rattle.law_epochs.proofs.Histories.{running_timely}
 use Rattle.law_moves.specs.Fills.{Has}
 use Rattle.law_moves.proofs.Changes.{Asked_put, IsPutOn, Own_put, Same, chain_so}

@@ -8,14 +8,14 @@ use Rattle.petal_table.specs.Table.{at}
 use Rattle.petal_msg.specs.declared.copying.LinkId.{LinkId}
 use Rattle.petal_msg.specs.declared.operation.Pending.{Pending}
 use Rattle.script_lines.specs.declared.script.Script.{Script}
-use Rattle.petal_history.specs.Claims.{IsPrefix}
-use Rattle.petal_history.specs.declared.record.Record.{Record}
-use Rattle.petal_rules.specs.Lists.{In}
-use Rattle.petal_rules.specs.State.{link_cmp}
-use Rattle.petal_rules.specs.Store.{Chain, cell_cmp, chain_in}
-use Rattle.petal_rules.specs.World.{Setting, World, chosen_log, chosen_state, setting_of}
-use Rattle.petal_rules.specs.Writes.{is_clients}
-use Rattle.petal_state.specs.Command.{state_after}
+use Rattle.spec_history.specs.Claims.{IsPrefix}
+use Rattle.spec_history.specs.declared.record.Record.{Record}
+use Rattle.spec_rules.specs.Lists.{In}
+use Rattle.spec_rules.specs.State.{link_cmp}
+use Rattle.spec_rules.specs.Store.{Chain, cell_cmp, chain_in}
+use Rattle.spec_rules.specs.World.{Setting, World, chosen_log, chosen_state, setting_of}
+use Rattle.spec_rules.specs.Writes.{is_clients}
+use Rattle.spec_state.specs.Command.{state_after}
 use Rattle.law_state.specs.Homes.{epoch_at, stage_at}
 use Rattle.law_steps.specs.Operations.{progress}
 use Rattle.law_jobs.proofs.Runs.{At}

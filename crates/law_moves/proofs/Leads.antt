@@ -12,15 +12,15 @@ use Rattle.petal_command.specs.declared.command.Command.{Command}
 use Rattle.petal_table.specs.Table.{at, put}
 use Rattle.petal_table.proofs.Rows.{at-empty, at_apart, at_same}
 use Rattle.petal_msg.specs.declared.operation.Pending.{Pending}
-use Rattle.petal_state.specs.CellState.{cell_link, row_lead}
-use Rattle.petal_rules.specs.Progress.{has_proposed}
-use Rattle.petal_rules.specs.Server.{Own}
-use Rattle.petal_rules.specs.State.{in_both, is_alone_on}
-use Rattle.petal_rules.specs.Store.{Chain, Store, cell_cmp, chain_in}
-use Rattle.petal_rules.specs.World.{chosen_state, kept, server_state, blank_joins_in}
-use Rattle.petal_rules.specs.Writes.{is_clients, pending_on}
-use Rattle.petal_rules.proofs.Tests.{by_bool, is_the_one, none_some, same_numbers, same_or_apart, same_some, true_false}
-use Rattle.petal_history.specs.Claims.{IsPrefix, one_put_ahead}
+use Rattle.spec_state.specs.CellState.{cell_link, row_lead}
+use Rattle.spec_rules.specs.Progress.{has_proposed}
+use Rattle.spec_rules.specs.Server.{Own}
+use Rattle.spec_rules.specs.State.{in_both, is_alone_on}
+use Rattle.spec_rules.specs.Store.{Chain, Store, cell_cmp, chain_in}
+use Rattle.spec_rules.specs.World.{chosen_state, kept, server_state, blank_joins_in}
+use Rattle.spec_rules.specs.Writes.{is_clients, pending_on}
+use Rattle.spec_rules.proofs.Tests.{by_bool, is_the_one, none_some, same_numbers, same_or_apart, same_some, true_false}
+use Rattle.spec_history.specs.Claims.{IsPrefix, one_put_ahead}
 use Rattle.law_state.specs.Below.{IsServing}
 use Rattle.law_state.specs.Homes.{stage_at}
 use Rattle.law_state.proofs.Alone.{alone_not_both, alone_row, so_both}

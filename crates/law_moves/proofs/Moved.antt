@@ -15,20 +15,20 @@ use Rattle.petal_command.specs.declared.command.Command.TheVariants.{Moved}
 use Rattle.petal_msg.specs.declared.letter.Letter.{Letter}
 use Rattle.petal_table.specs.Table.{at}
 use Rattle.script_lines.specs.declared.script.Script.{Script}
-use Rattle.petal_state.specs.CellState.{region_leaving, row_lead}
-use Rattle.petal_state.specs.Role.{is_the}
-use Rattle.petal_rules.specs.Fills.{next_fill, not_noted, region_to_move}
-use Rattle.petal_rules.specs.Lists.{In}
-use Rattle.petal_rules.specs.Server.{Own}
-use Rattle.petal_rules.specs.State.{State, is_in, link_named}
-use Rattle.petal_rules.specs.Store.{Chain, chain_in}
-use Rattle.petal_rules.specs.World.{Setting, World, chosen_log, chosen_state}
-use Rattle.petal_rules.proofs.ListLemmas.{in_later}
-use Rattle.petal_rules.proofs.Tests.{by_test, is_the_one, none_some, number_itself, same_some}
-use Rattle.petal_history.specs.Claims.{IsPrefix}
-use Rattle.petal_history.specs.Steps.{AreSteps}
-use Rattle.petal_history.specs.Sound.{IsSound}
-use Rattle.petal_history.specs.declared.record.Record.{Record}
+use Rattle.spec_state.specs.CellState.{region_leaving, row_lead}
+use Rattle.spec_state.specs.Role.{is_the}
+use Rattle.spec_rules.specs.Fills.{next_fill, not_noted, region_to_move}
+use Rattle.spec_rules.specs.Lists.{In}
+use Rattle.spec_rules.specs.Server.{Own}
+use Rattle.spec_rules.specs.State.{State, is_in, link_named}
+use Rattle.spec_rules.specs.Store.{Chain, chain_in}
+use Rattle.spec_rules.specs.World.{Setting, World, chosen_log, chosen_state}
+use Rattle.spec_rules.proofs.ListLemmas.{in_later}
+use Rattle.spec_rules.proofs.Tests.{by_test, is_the_one, none_some, number_itself, same_some}
+use Rattle.spec_history.specs.Claims.{IsPrefix}
+use Rattle.spec_history.specs.Steps.{AreSteps}
+use Rattle.spec_history.specs.Sound.{IsSound}
+use Rattle.spec_history.specs.declared.record.Record.{Record}
 use Rattle.law_state.specs.Below.{IsServing}
 use Rattle.law_state.specs.Firm.{Firm}
 use Rattle.law_state.proofs.Entries.{log_plain}

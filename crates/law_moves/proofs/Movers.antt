@@ -5,13 +5,13 @@ use Rattle.std.specs.Prelude.{option_and_then}
 use Rattle.petal_base.specs.Cells.{key_at}
 use Rattle.petal_base.specs.declared.cell.Cell.{Cell}
 use Rattle.petal_command.specs.declared.command.Command.{Command}
-use Rattle.petal_state.specs.CellState.{cell_link, row_lead, target}
-use Rattle.petal_rules.specs.Server.{Own}
-use Rattle.petal_rules.specs.State.{State, id_of}
-use Rattle.petal_rules.specs.Store.{chain_in}
-use Rattle.petal_rules.specs.World.{chosen_log, server_state}
-use Rattle.petal_rules.proofs.Tests.{is_the_one}
-use Rattle.petal_history.specs.Claims.{IsPrefix}
+use Rattle.spec_state.specs.CellState.{cell_link, row_lead, target}
+use Rattle.spec_rules.specs.Server.{Own}
+use Rattle.spec_rules.specs.State.{State, id_of}
+use Rattle.spec_rules.specs.Store.{chain_in}
+use Rattle.spec_rules.specs.World.{chosen_log, server_state}
+use Rattle.spec_rules.proofs.Tests.{is_the_one}
+use Rattle.spec_history.specs.Claims.{IsPrefix}
 use Rattle.law_state.specs.Below.{IsServing}
 use Rattle.law_state.specs.Homes.{stage_at}
 use Rattle.law_state.specs.Plain.{IsPlainLog}

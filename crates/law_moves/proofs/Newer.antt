@@ -8,18 +8,18 @@ use Rattle.petal_msg.specs.declared.letter.Letter.{Letter}
 use Rattle.petal_msg.specs.declared.operation.OpKind.TheVariants as kind
 use Rattle.petal_msg.specs.declared.operation.Pending.{Pending}
 use Rattle.petal_table.specs.Table.{Table, at}
-use Rattle.petal_state.specs.CellState.{source}
-use Rattle.petal_rules.specs.Blanked.{BeforeBlank}
-use Rattle.petal_rules.specs.Crossing.{crossed}
-use Rattle.petal_rules.specs.Lists.{In}
-use Rattle.petal_rules.specs.Server.{Own, Post, Server}
-use Rattle.petal_rules.specs.State.{State}
-use Rattle.petal_rules.specs.Store.{Chain, Store, cell_cmp}
-use Rattle.petal_rules.specs.Writes.{is_clients}
-use Rattle.petal_rules.specs.World.{World, blank_joins_in, chosen_log, chosen_state, kept, server_state, start}
-use Rattle.petal_rules.proofs.Settled.{settling}
-use Rattle.petal_rules.proofs.Tests.{all_put, by_bool, same_some, true_false}
-use Rattle.petal_history.specs.Claims.{IsPrefix}
+use Rattle.spec_state.specs.CellState.{source}
+use Rattle.spec_rules.specs.Blanked.{BeforeBlank}
+use Rattle.spec_rules.specs.Crossing.{crossed}
+use Rattle.spec_rules.specs.Lists.{In}
+use Rattle.spec_rules.specs.Server.{Own, Post, Server}
+use Rattle.spec_rules.specs.State.{State}
+use Rattle.spec_rules.specs.Store.{Chain, Store, cell_cmp}
+use Rattle.spec_rules.specs.Writes.{is_clients}
+use Rattle.spec_rules.specs.World.{World, blank_joins_in, chosen_log, chosen_state, kept, server_state, start}
+use Rattle.spec_rules.proofs.Settled.{settling}
+use Rattle.spec_rules.proofs.Tests.{all_put, by_bool, same_some, true_false}
+use Rattle.spec_history.specs.Claims.{IsPrefix}
 use Rattle.law_state.specs.Homes.{stage_at}
 use Rattle.law_state.proofs.Steady.{log_below}
 use Rattle.law_state.proofs.Twins.{log_comes}
@@ -32,7 +32,7 @@ use Rattle.law_steps.proofs.Coming.{next_comes}
 use Rattle.law_steps.proofs.Firms.{always_firm}
 use Rattle.law_steps.proofs.Fronts.{below_itself, front_itself, front_on}
 use Rattle.law_steps.proofs.Histories.{last_happens, own_plain, start_rests}
-use Rattle.law_stores.proofs.Jobs.{ballot_store}
+use Rattle.law_copies.proofs.StoreJobs.{ballot_store}
 use Rattle.law_copies.proofs.Places.{fronts_meet}
 use Rattle.law_epochs.proofs.Early.{kept_by}
 use Rattle.law_epochs.proofs.Present.{was_opened}

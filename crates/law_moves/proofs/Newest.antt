@@ -5,11 +5,11 @@ use Rattle.petal_base.specs.Cells.{cell_of, key_at}
 use Rattle.petal_base.specs.declared.cell.Cell.{Cell}
 use Rattle.petal_base.specs.declared.cell.Key.{Key}
 use Rattle.petal_command.specs.declared.command.Command.{Command}
-use Rattle.petal_state.specs.CellState.{source}
-use Rattle.petal_rules.specs.Store.{Chain, Store, chain_in}
-use Rattle.petal_rules.specs.World.{blank_joins_in, chosen_state, kept}
-use Rattle.petal_rules.proofs.Tests.{same_some}
-use Rattle.petal_history.specs.Claims.{HasNewer, IsFilledFrom, IsPrefix}
+use Rattle.spec_state.specs.CellState.{source}
+use Rattle.spec_rules.specs.Store.{Chain, Store, chain_in}
+use Rattle.spec_rules.specs.World.{blank_joins_in, chosen_state, kept}
+use Rattle.spec_rules.proofs.Tests.{same_some}
+use Rattle.spec_history.specs.Claims.{HasNewer, IsFilledFrom, IsPrefix}
 use Rattle.law_state.specs.Below.{IsServing}
 use Rattle.law_state.specs.Homes.{epoch_at, stage_at}
 use Rattle.law_state.proofs.Steady.{log_below}

@@ -4,14 +4,14 @@ use Rattle.petal_base.specs.Cells.{key_at}
 use Rattle.petal_base.specs.declared.cell.Cell.{Cell}
 use Rattle.petal_command.specs.declared.command.Command.{Command}
 use Rattle.petal_msg.specs.declared.letter.Letter.{Letter}
-use Rattle.petal_state.specs.CellState.{source}
-use Rattle.petal_state.specs.Command.{state_after}
-use Rattle.petal_rules.specs.Blanked.{BeforeBlank}
-use Rattle.petal_rules.specs.Lists.{In}
-use Rattle.petal_rules.specs.Store.{Chain}
-use Rattle.petal_rules.specs.World.{Setting, World, chosen_log, chosen_state, start}
-use Rattle.petal_rules.proofs.Tests.{none_some}
-use Rattle.petal_history.specs.Claims.{IsPrefix}
+use Rattle.spec_state.specs.CellState.{source}
+use Rattle.spec_state.specs.Command.{state_after}
+use Rattle.spec_rules.specs.Blanked.{BeforeBlank}
+use Rattle.spec_rules.specs.Lists.{In}
+use Rattle.spec_rules.specs.Store.{Chain}
+use Rattle.spec_rules.specs.World.{Setting, World, chosen_log, chosen_state, start}
+use Rattle.spec_rules.proofs.Tests.{none_some}
+use Rattle.spec_history.specs.Claims.{IsPrefix}
 use Rattle.law_state.specs.Homes.{stage_at}
 use Rattle.law_epochs.proofs.Within.{AreWithin, IsWithin, OfKey, none_within}
 use Rattle.law_moves.specs.Fills.{Has, WasFilled}

@@ -17,15 +17,15 @@ use Rattle.petal_base.specs.declared.cell.Cell.{Cell}
 use Rattle.petal_base.specs.declared.cell.Key.{Key}
 use Rattle.petal_table.specs.Table.{Table, at}
 use Rattle.petal_table.proofs.Rows.{at-empty}
-use Rattle.petal_rules.specs.Fills.{comes_before, comes_next, earlier, fill_left, fill_of, first_key, keys_in, keys_of, next_fill, region_to_move}
-use Rattle.petal_rules.specs.Lists.{In}
-use Rattle.petal_rules.specs.Server.{Own}
-use Rattle.petal_rules.specs.State.{State, is_on}
-use Rattle.petal_rules.specs.Store.{Chain, Stored, cell_cmp}
+use Rattle.spec_rules.specs.Fills.{comes_before, comes_next, earlier, fill_left, fill_of, first_key, keys_in, keys_of, next_fill, region_to_move}
+use Rattle.spec_rules.specs.Lists.{In}
+use Rattle.spec_rules.specs.Server.{Own}
+use Rattle.spec_rules.specs.State.{State, is_on}
+use Rattle.spec_rules.specs.Store.{Chain, Stored, cell_cmp}
 use Rattle.law_moves.specs.Left.{IsKept, IsKnown, IsNext, IsOurs, last_told}
-use Rattle.petal_rules.proofs.CellTables.{cell_cmp_same}
-use Rattle.petal_rules.proofs.ListLemmas.{in_former, in_later}
-use Rattle.petal_rules.proofs.Tests.{both_true, by_bool, by_test, none_some, number_itself, same_numbers, same_some, true_false}
+use Rattle.spec_rules.proofs.CellTables.{cell_cmp_same}
+use Rattle.spec_rules.proofs.ListLemmas.{in_former, in_later}
+use Rattle.spec_rules.proofs.Tests.{both_true, by_bool, by_test, none_some, number_itself, same_numbers, same_some, true_false}
 
 -- ### The order of keys
 

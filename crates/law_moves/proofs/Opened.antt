@@ -3,8 +3,8 @@ use Rattle.std.proofs.Common.{◌≡◌, ◌≤◌, ℕ, true, Some, length, ari
 use Rattle.petal_base.specs.declared.cell.Cell.{Cell}
 use Rattle.petal_table.specs.Table.{at}
 use Rattle.petal_msg.specs.declared.operation.Pending.{Pending}
-use Rattle.petal_rules.specs.Store.{cell_cmp}
-use Rattle.petal_rules.specs.Writes.{is_clients}
+use Rattle.spec_rules.specs.Store.{cell_cmp}
+use Rattle.spec_rules.specs.Writes.{is_clients}
 use Rattle.law_steps.proofs.Fronts.{front_long}
 use Rattle.law_epochs.proofs.Present.{opened_by, was_opened}
 use Rattle.law_epochs.proofs.Scenes.{Run, end_of}

@@ -12,12 +12,12 @@ use Rattle.petal_base.specs.Cells.{key_at}
 use Rattle.petal_base.specs.declared.cell.Cell.{Cell}
 use Rattle.petal_command.specs.declared.command.Command.{Command}
 use Rattle.petal_command.specs.declared.command.Command.TheVariants.{Moved}
-use Rattle.petal_state.specs.CellState.{cell_link, source}
-use Rattle.petal_state.specs.State.{links_of}
-use Rattle.petal_rules.specs.Store.{Chain}
-use Rattle.petal_rules.specs.World.{Setting, World, chosen_log}
-use Rattle.petal_rules.proofs.Tests.{both_true, none_some, same_numbers, some_or_none}
-use Rattle.petal_history.specs.Claims.{IsPrefix}
+use Rattle.spec_state.specs.CellState.{cell_link, source}
+use Rattle.spec_state.specs.State.{links_of}
+use Rattle.spec_rules.specs.Store.{Chain}
+use Rattle.spec_rules.specs.World.{Setting, World, chosen_log}
+use Rattle.spec_rules.proofs.Tests.{both_true, none_some, same_numbers, some_or_none}
+use Rattle.spec_history.specs.Claims.{IsPrefix}
 use Rattle.law_state.specs.Homes.{HasStage, stage_at}
 use Rattle.law_state.specs.Noted.{HasMovedIn}
 use Rattle.law_state.specs.Plain.{IsPlainLog}

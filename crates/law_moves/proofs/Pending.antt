@@ -12,16 +12,16 @@ use Rattle.petal_table.proofs.Rows.{at-empty}
 use Rattle.petal_msg.specs.declared.body.Body.TheVariants as body
 use Rattle.petal_msg.specs.declared.letter.Letter.{Letter}
 use Rattle.petal_msg.specs.declared.operation.Pending.{Pending}
-use Rattle.petal_state.specs.CellState.{cell_link, lead, row_lead}
-use Rattle.petal_rules.specs.Crossing.{crossed}
-use Rattle.petal_rules.specs.Progress.{has_proposed}
-use Rattle.petal_rules.specs.Server.{Own, Pairs, Server}
-use Rattle.petal_rules.specs.State.{is_in, leads_link}
-use Rattle.petal_rules.specs.Store.{Store, cell_cmp, chain_in}
-use Rattle.petal_rules.specs.World.{World, chosen_state, server_state}
-use Rattle.petal_rules.specs.Writes.{is_clients}
-use Rattle.petal_rules.proofs.Settled.{settling}
-use Rattle.petal_rules.proofs.Tests.{is_the_one, none_some, same_or_apart, true_false}
+use Rattle.spec_state.specs.CellState.{cell_link, lead, row_lead}
+use Rattle.spec_rules.specs.Crossing.{crossed}
+use Rattle.spec_rules.specs.Progress.{has_proposed}
+use Rattle.spec_rules.specs.Server.{Own, Pairs, Server}
+use Rattle.spec_rules.specs.State.{is_in, leads_link}
+use Rattle.spec_rules.specs.Store.{Store, cell_cmp, chain_in}
+use Rattle.spec_rules.specs.World.{World, chosen_state, server_state}
+use Rattle.spec_rules.specs.Writes.{is_clients}
+use Rattle.spec_rules.proofs.Settled.{settling}
+use Rattle.spec_rules.proofs.Tests.{is_the_one, none_some, same_or_apart, true_false}
 use Rattle.law_state.specs.Homes.{stage_at}
 use Rattle.law_steps.specs.Happens.{Handled, own_place}
 use Rattle.law_steps.specs.Operations.{IsStaged}

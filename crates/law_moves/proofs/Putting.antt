@@ -8,10 +8,10 @@ use Rattle.petal_table.specs.Table.{Table, at, put}
 use Rattle.petal_msg.specs.declared.body.Body.{Body}
 use Rattle.petal_msg.specs.declared.operation.Pending.{Pending}
 use Rattle.petal_msg.specs.declared.operation.Stage.{Stage}
-use Rattle.petal_rules.specs.Server.{Own, Here, Done}
-use Rattle.petal_rules.specs.Store.{Chain, Stored, cell_cmp, chain_in, chains_with}
-use Rattle.petal_rules.proofs.CellTables.{cell_apart, cell_same}
-use Rattle.petal_rules.proofs.Tests.{same_some}
+use Rattle.spec_rules.specs.Server.{Own, Here, Done}
+use Rattle.spec_rules.specs.Store.{Chain, Stored, cell_cmp, chain_in, chains_with}
+use Rattle.spec_rules.proofs.CellTables.{cell_apart, cell_same}
+use Rattle.spec_rules.proofs.Tests.{same_some}
 use Rattle.law_steps.specs.Did.{Did}
 use Rattle.law_steps.proofs.Restages.{IsSame, same_itself, same_on, stood}
 use Rattle.law_steps.proofs.Staged.{same_cell_or_apart}

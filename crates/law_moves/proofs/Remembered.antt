@@ -10,15 +10,15 @@ use Rattle.petal_command.specs.declared.command.Command.TheVariants.{Caught}
 use Rattle.petal_msg.specs.declared.copying.LinkId.{LinkId}
 use Rattle.petal_table.specs.Table.{Table, at, put}
 use Rattle.petal_table.proofs.Rows.{at-empty, at-where}
-use Rattle.petal_state.specs.Command.{after}
-use Rattle.petal_rules.specs.Crossing.{crossed, settled_by}
-use Rattle.petal_rules.specs.Returns.{holds_link, proposed}
-use Rattle.petal_rules.specs.Server.{Own, Server}
-use Rattle.petal_rules.specs.State.{State, id_of, link_cmp, link_named}
-use Rattle.petal_rules.specs.World.{chosen_log, server_state}
-use Rattle.petal_rules.proofs.Settled.{by_settled}
-use Rattle.petal_rules.proofs.Tests.{by_bool, none_some, same_some, true_false}
-use Rattle.petal_history.specs.Claims.{IsPrefix}
+use Rattle.spec_state.specs.Command.{after}
+use Rattle.spec_rules.specs.Crossing.{crossed, settled_by}
+use Rattle.spec_rules.specs.Returns.{holds_link, proposed}
+use Rattle.spec_rules.specs.Server.{Own, Server}
+use Rattle.spec_rules.specs.State.{State, id_of, link_cmp, link_named}
+use Rattle.spec_rules.specs.World.{chosen_log, server_state}
+use Rattle.spec_rules.proofs.Settled.{by_settled}
+use Rattle.spec_rules.proofs.Tests.{by_bool, none_some, same_some, true_false}
+use Rattle.spec_history.specs.Claims.{IsPrefix}
 use Rattle.law_log.proofs.Filling.{filled_beside, filled_here}
 use Rattle.law_log.proofs.Flags.{same_id}
 use Rattle.law_steps.specs.Happens.{Handled, own_place}

@@ -5,12 +5,12 @@ use Rattle.global_tables.specs.declared.link.LinkRow.{LinkRow}
 use Rattle.petal_base.specs.Cells.{cell_of, key_at}
 use Rattle.petal_base.specs.declared.cell.Cell.{Cell}
 use Rattle.petal_base.specs.declared.cell.Key.{Key}
-use Rattle.petal_state.specs.CellState.{cell_link, noted, source}
-use Rattle.petal_rules.specs.State.{State, authority, coming, leaving}
-use Rattle.petal_rules.specs.Store.{Chain, chain_in}
-use Rattle.petal_rules.specs.World.{chosen_state, kept}
-use Rattle.petal_rules.proofs.Tests.{by_bool, same_some}
-use Rattle.petal_history.specs.Claims.{HasNewer, IsFilledFrom, Matters, Moves}
+use Rattle.spec_state.specs.CellState.{cell_link, noted, source}
+use Rattle.spec_rules.specs.State.{State, authority, coming, leaving}
+use Rattle.spec_rules.specs.Store.{Chain, chain_in}
+use Rattle.spec_rules.specs.World.{chosen_state, kept}
+use Rattle.spec_rules.proofs.Tests.{by_bool, same_some}
+use Rattle.spec_history.specs.Claims.{HasNewer, IsFilledFrom, Matters, Moves}
 use Rattle.law_state.specs.Homes.{HasStage, stage_at}
 use Rattle.law_state.specs.Steady.{IsSteady}
 use Rattle.law_state.proofs.Entries.{log_plain}

@@ -13,14 +13,14 @@ use Rattle.petal_msg.specs.declared.operation.Far.TheVariants as far
 use Rattle.petal_msg.specs.declared.operation.OpKind.{OpKind}
 use Rattle.petal_msg.specs.declared.operation.OpKind.TheVariants as kind
 use Rattle.petal_msg.specs.declared.operation.Pending.{Pending}
-use Rattle.petal_rules.specs.Fills.{Moving}
-use Rattle.petal_rules.specs.Lists.{In}
-use Rattle.petal_rules.specs.Server.{Own, Here, Post, Done}
-use Rattle.petal_rules.specs.State.{first, in_both, is_alone_on}
-use Rattle.petal_rules.specs.Store.{cell_cmp}
-use Rattle.petal_rules.specs.Writes.{ended, ends, gives_back, old_lead, pending_on, tells, without_pending}
-use Rattle.petal_rules.proofs.CellTables.{cell_gone}
-use Rattle.petal_rules.proofs.Tests.{by_bool, true_false}
+use Rattle.spec_rules.specs.Fills.{Moving}
+use Rattle.spec_rules.specs.Lists.{In}
+use Rattle.spec_rules.specs.Server.{Own, Here, Post, Done}
+use Rattle.spec_rules.specs.State.{first, in_both, is_alone_on}
+use Rattle.spec_rules.specs.Store.{cell_cmp}
+use Rattle.spec_rules.specs.Writes.{ended, ends, gives_back, old_lead, pending_on, tells, without_pending}
+use Rattle.spec_rules.proofs.CellTables.{cell_gone}
+use Rattle.spec_rules.proofs.Tests.{by_bool, true_false}
 use Rattle.law_steps.specs.Operations.{answering, copying}
 use Rattle.law_steps.specs.Did.{Did, Ignores, Refuses, By_read, By_lead, By_second, By_holder, By_other, By_filler, By_sweep}
 use Rattle.law_steps.specs.DidFiller.{Is_filled, Is_out_of_slots}

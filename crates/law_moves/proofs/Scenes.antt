@@ -10,14 +10,14 @@ use Rattle.petal_table.specs.Table.{at}
 use Rattle.petal_msg.specs.declared.body.Body.TheVariants as body
 use Rattle.petal_msg.specs.declared.letter.Letter.{Letter}
 use Rattle.petal_msg.specs.declared.operation.Pending.{Pending}
-use Rattle.petal_state.specs.Command.{state_after}
-use Rattle.petal_rules.specs.Server.{Pairs}
-use Rattle.petal_rules.specs.State.{id_of, is_in, leads_link, link_named}
-use Rattle.petal_rules.specs.Store.{cell_cmp}
-use Rattle.petal_rules.specs.World.{Setting, World, chosen_log, chosen_state, server_state}
-use Rattle.petal_rules.specs.Writes.{is_clients, pending_on}
-use Rattle.petal_rules.specs.Fills.{region_to_move}
-use Rattle.petal_history.specs.Claims.{IsPrefix}
+use Rattle.spec_state.specs.Command.{state_after}
+use Rattle.spec_rules.specs.Server.{Pairs}
+use Rattle.spec_rules.specs.State.{id_of, is_in, leads_link, link_named}
+use Rattle.spec_rules.specs.Store.{cell_cmp}
+use Rattle.spec_rules.specs.World.{Setting, World, chosen_log, chosen_state, server_state}
+use Rattle.spec_rules.specs.Writes.{is_clients, pending_on}
+use Rattle.spec_rules.specs.Fills.{region_to_move}
+use Rattle.spec_history.specs.Claims.{IsPrefix}
 use Rattle.law_state.specs.Homes.{stage_at}
 use Rattle.law_copies.specs.Visits.{IsLinked, place_by}
 use Rattle.law_moves.specs.Fills.{IsFrozen, IsThere, WasFilled}

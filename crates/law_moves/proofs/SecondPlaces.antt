@@ -8,14 +8,14 @@ use Rattle.global_tables.specs.declared.link.LinkRow.{LinkRow}
 use Rattle.petal_base.specs.declared.cell.Cell.{Cell}
 use Rattle.petal_command.specs.declared.command.Command.{Command}
 use Rattle.petal_table.specs.Table.{at}
-use Rattle.petal_state.specs.CellState.{serves}
-use Rattle.petal_state.specs.State.{inc_of}
-use Rattle.petal_rules.specs.Server.{Own}
-use Rattle.petal_rules.specs.State.{is_in}
-use Rattle.petal_rules.specs.Store.{cell_cmp}
-use Rattle.petal_rules.specs.World.{counted, server_state}
-use Rattle.petal_rules.proofs.Tests.{same_some}
-use Rattle.petal_history.specs.Claims.{IsPrefix}
+use Rattle.spec_state.specs.CellState.{serves}
+use Rattle.spec_state.specs.State.{inc_of}
+use Rattle.spec_rules.specs.Server.{Own}
+use Rattle.spec_rules.specs.State.{is_in}
+use Rattle.spec_rules.specs.Store.{cell_cmp}
+use Rattle.spec_rules.specs.World.{counted, server_state}
+use Rattle.spec_rules.proofs.Tests.{same_some}
+use Rattle.spec_history.specs.Claims.{IsPrefix}
 use Rattle.law_state.specs.Homes.{stage_at}
 use Rattle.law_state.specs.Places.{StaysSo}
 use Rattle.law_state.specs.Rows.{ByBoth, ByNone, ByOne}

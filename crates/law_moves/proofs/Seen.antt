@@ -4,13 +4,13 @@ use Rattle.std.proofs.Common.{◌≡◌, ◌++◌, ℕ, true, if◌then◌else�
 use Rattle.std.specs.Prelude.{is_some}
 use Rattle.petal_base.specs.declared.cell.Cell.{Cell}
 use Rattle.script_lines.specs.declared.script.Script.{Script}
-use Rattle.petal_state.specs.State.{start as first_state}
-use Rattle.petal_history.specs.Steps.{AreSteps}
-use Rattle.petal_history.specs.Sound.{IsSound}
-use Rattle.petal_history.specs.declared.record.Record.{Record}
-use Rattle.petal_rules.specs.Server.{Own, Pairs}
-use Rattle.petal_rules.specs.World.{chosen_log, counted, setting_of, start}
-use Rattle.petal_rules.proofs.Tests.{by_bool, none_some, some_or_none, true_false}
+use Rattle.spec_state.specs.State.{start as first_state}
+use Rattle.spec_history.specs.Steps.{AreSteps}
+use Rattle.spec_history.specs.Sound.{IsSound}
+use Rattle.spec_history.specs.declared.record.Record.{Record}
+use Rattle.spec_rules.specs.Server.{Own, Pairs}
+use Rattle.spec_rules.specs.World.{chosen_log, counted, setting_of, start}
+use Rattle.spec_rules.proofs.Tests.{by_bool, none_some, some_or_none, true_false}
 use Rattle.law_state.proofs.Entries.{start_plain}
 use Rattle.law_state.proofs.Rows.{past_link}
 use Rattle.law_steps.proofs.Records.{none_before_none, split_last}

@@ -5,10 +5,10 @@ use Rattle.global_tables.specs.Link.{has_server}
 use Rattle.global_tables.specs.declared.link.LinkRow.{LinkRow}
 use Rattle.global_tables.specs.declared.link.LinkState.TheVariants.{Only}
 use Rattle.petal_base.specs.declared.cell.Cell.{Cell}
-use Rattle.petal_history.specs.Claims.{Matters}
-use Rattle.petal_state.specs.CellState.{cell_link, row_lead, serves}
-use Rattle.petal_rules.specs.State.{State, authority, first, lead, live, row_authority, second}
-use Rattle.petal_rules.proofs.Tests.{by_bool, none_some, number_itself, same_some}
+use Rattle.spec_history.specs.Claims.{Matters}
+use Rattle.spec_state.specs.CellState.{cell_link, row_lead, serves}
+use Rattle.spec_rules.specs.State.{State, authority, first, lead, live, row_authority, second}
+use Rattle.spec_rules.proofs.Tests.{by_bool, none_some, number_itself, same_some}
 use Rattle.law_state.specs.Below.{IsServing}
 use Rattle.law_state.specs.Rows.{ByBoth, ByNone, ByOne}
 use Rattle.law_state.specs.Steady.{IsSteady}

@@ -10,25 +10,25 @@ use Rattle.petal_msg.specs.declared.body.Body.{Body}
 use Rattle.petal_msg.specs.declared.body.Body.TheVariants as body
 use Rattle.petal_msg.specs.declared.letter.Letter.{Letter}
 use Rattle.script_lines.specs.declared.script.Script.{Script}
-use Rattle.petal_state.specs.Command.{state_after}
-use Rattle.petal_rules.specs.Blanked.{BeforeBlank}
-use Rattle.petal_rules.specs.Boots.{awake, blanked, raised}
-use Rattle.petal_rules.specs.Clients.{client_sender}
-use Rattle.petal_rules.specs.Crossing.{crossed, settled_by}
-use Rattle.petal_rules.specs.Jobs.{Acted, down_posts}
-use Rattle.petal_rules.specs.Lists.{In, put_at}
-use Rattle.petal_rules.specs.Log.{Log}
-use Rattle.petal_rules.specs.Returns.{proposed}
-use Rattle.petal_rules.specs.Server.{Done, Post, Sender, Server, letters_of, sender}
-use Rattle.petal_rules.specs.State.{State, is_in}
-use Rattle.petal_rules.specs.World.{World, blank_joins_in, kept, chosen_log, chosen_state, counted_by, server_state, stamped}
-use Rattle.petal_rules.specs.declared.step.Step.{Step}
-use Rattle.petal_rules.proofs.ListLemmas.{in-append, in_former, in_later, put_apart, put_same}
-use Rattle.petal_rules.proofs.Tests.{all_put, same_or_apart, true_false}
-use Rattle.petal_history.specs.Claims.{IsPrefix}
-use Rattle.petal_history.specs.Steps.{AreSteps}
-use Rattle.petal_history.specs.Sound.{IsSound}
-use Rattle.petal_history.specs.declared.record.Record.{Record}
+use Rattle.spec_state.specs.Command.{state_after}
+use Rattle.spec_rules.specs.Blanked.{BeforeBlank}
+use Rattle.spec_rules.specs.Boots.{awake, blanked, raised}
+use Rattle.spec_rules.specs.Clients.{client_sender}
+use Rattle.spec_rules.specs.Crossing.{crossed, settled_by}
+use Rattle.spec_rules.specs.Jobs.{Acted, down_posts}
+use Rattle.spec_rules.specs.Lists.{In, put_at}
+use Rattle.spec_rules.specs.Log.{Log}
+use Rattle.spec_rules.specs.Returns.{proposed}
+use Rattle.spec_rules.specs.Server.{Done, Post, Sender, Server, letters_of, sender}
+use Rattle.spec_rules.specs.State.{State, is_in}
+use Rattle.spec_rules.specs.World.{World, blank_joins_in, kept, chosen_log, chosen_state, counted_by, server_state, stamped}
+use Rattle.spec_rules.specs.declared.step.Step.{Step}
+use Rattle.spec_rules.proofs.ListLemmas.{in-append, in_former, in_later, put_apart, put_same}
+use Rattle.spec_rules.proofs.Tests.{all_put, same_or_apart, true_false}
+use Rattle.spec_history.specs.Claims.{IsPrefix}
+use Rattle.spec_history.specs.Steps.{AreSteps}
+use Rattle.spec_history.specs.Sound.{IsSound}
+use Rattle.spec_history.specs.declared.record.Record.{Record}
 use Rattle.law_state.specs.Firm.{Firm}
 use Rattle.law_state.proofs.Incarnations.{who_is_in}
 use Rattle.law_state.proofs.Steady.{front_plain, log_rev}
@@ -43,7 +43,7 @@ use Rattle.law_steps.proofs.Histories.{last_happens}
 use Rattle.law_steps.proofs.Letters.{said}
 use Rattle.law_steps.proofs.Sending.{turned_asks}
 use Rattle.law_jobs.proofs.Runs.{At, after, longer, run_of, since}
-use Rattle.law_stores.proofs.Ways.{before_last}
+use Rattle.law_copies.proofs.StoreWays.{before_last}
 use Rattle.law_copies.specs.Good.{Good}
 use Rattle.law_copies.proofs.Histories.{good_after, step_goes}
 use Rattle.law_epochs.proofs.Within.{asked_none, is_of_entries, logged_none}

@@ -6,15 +6,15 @@ use Rattle.std.specs.Prelude.{option_map}
 use Rattle.global_tables.specs.Region.{region_of}
 use Rattle.petal_base.specs.declared.cell.Cell.{Cell}
 use Rattle.petal_command.specs.declared.command.Command.{Command}
-use Rattle.petal_state.specs.CellState.{serves}
-use Rattle.petal_rules.specs.Blanked.{BeforeBlank, kept_store}
-use Rattle.petal_rules.specs.Server.{Server}
-use Rattle.petal_rules.specs.State.{is_in}
-use Rattle.petal_rules.specs.Store.{Chain, Store, chain_in}
-use Rattle.petal_rules.specs.World.{chosen_log, kept, kept_by}
-use Rattle.petal_rules.proofs.Tests.{by_bool, same_numbers, true_false}
-use Rattle.petal_history.specs.Claims.{IsPrefix}
-use Rattle.petal_history.specs.Steps.{AreSteps}
+use Rattle.spec_state.specs.CellState.{serves}
+use Rattle.spec_rules.specs.Blanked.{BeforeBlank, kept_store}
+use Rattle.spec_rules.specs.Server.{Server}
+use Rattle.spec_rules.specs.State.{is_in}
+use Rattle.spec_rules.specs.Store.{Chain, Store, chain_in}
+use Rattle.spec_rules.specs.World.{chosen_log, kept, kept_by}
+use Rattle.spec_rules.proofs.Tests.{by_bool, same_numbers, true_false}
+use Rattle.spec_history.specs.Claims.{IsPrefix}
+use Rattle.spec_history.specs.Steps.{AreSteps}
 use Rattle.law_log.proofs.Histories.{history_grows, history_is_firm, moved_was_wanted}
 use Rattle.law_state.specs.Below.{IsServing}
 use Rattle.law_state.specs.Homes.{stage_at}
@@ -23,9 +23,9 @@ use Rattle.law_state.proofs.Cells.{alone_authority, both_authority}
 use Rattle.law_state.proofs.Leaves.{either_true}
 use Rattle.law_state.proofs.Stages.{stage_most}
 use Rattle.law_steps.proofs.Fronts.{front_itself, front_on}
-use Rattle.law_stores.proofs.Histories.{in_counts}
+use Rattle.law_copies.proofs.StoreHistories.{in_counts}
 use Rattle.law_jobs.proofs.Runs.{At, before_part}
-use Rattle.law_stores.proofs.Ways.{before_last}
+use Rattle.law_copies.proofs.StoreWays.{before_last}
 use Rattle.law_copies.proofs.Later.{serves_alone}
 use Rattle.law_copies.proofs.Places.{at_most_or_above, fronts_meet}
 use Rattle.law_moves.specs.Still.{AreStill}

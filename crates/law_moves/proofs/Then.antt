@@ -6,15 +6,15 @@ use Rattle.petal_base.specs.declared.cell.Cell.{Cell}
 use Rattle.petal_command.specs.declared.command.Command.{Command}
 use Rattle.petal_table.specs.Table.{at}
 use Rattle.script_lines.specs.declared.script.Script.{Script}
-use Rattle.petal_state.specs.Command.{state_after}
-use Rattle.petal_rules.specs.State.{authority}
-use Rattle.petal_rules.specs.Store.{Chain, Store, Stored, chain_in}
-use Rattle.petal_rules.specs.World.{World, blank_joins_in, chosen_log, chosen_state, kept, setting_of}
-use Rattle.petal_rules.proofs.Tests.{none_some, same_or_apart, same_some, some_or_none, true_false}
-use Rattle.petal_history.specs.Claims.{IsPrefix}
-use Rattle.petal_history.specs.Steps.{AreSteps}
-use Rattle.petal_history.specs.Sound.{IsSound}
-use Rattle.petal_history.specs.declared.record.Record.{Record}
+use Rattle.spec_state.specs.Command.{state_after}
+use Rattle.spec_rules.specs.State.{authority}
+use Rattle.spec_rules.specs.Store.{Chain, Store, Stored, chain_in}
+use Rattle.spec_rules.specs.World.{World, blank_joins_in, chosen_log, chosen_state, kept, setting_of}
+use Rattle.spec_rules.proofs.Tests.{none_some, same_or_apart, same_some, some_or_none, true_false}
+use Rattle.spec_history.specs.Claims.{IsPrefix}
+use Rattle.spec_history.specs.Steps.{AreSteps}
+use Rattle.spec_history.specs.Sound.{IsSound}
+use Rattle.spec_history.specs.declared.record.Record.{Record}
 use Rattle.law_state.specs.Homes.{epoch_at, stage_at}
 use Rattle.law_state.proofs.Steady.{front_plain, log_below}
 use Rattle.law_log.proofs.Histories.{history_grows, history_is_firm}

@@ -13,21 +13,21 @@ use Rattle.petal_msg.specs.declared.letter.Letter.{Letter}
 use Rattle.petal_msg.specs.declared.operation.OpKind.TheVariants as kind
 use Rattle.petal_msg.specs.declared.operation.Pending.{Pending}
 use Rattle.petal_msg.specs.declared.operation.Stage.{Stage}
-use Rattle.petal_rules.specs.Blanked.{BeforeBlank, kept_store}
-use Rattle.petal_rules.specs.Server.{Server}
-use Rattle.petal_rules.specs.State.{is_in, leads_link}
-use Rattle.petal_rules.specs.Store.{Chain, Store, cell_cmp, chain_in}
-use Rattle.petal_rules.specs.World.{chosen_state, kept, kept_by, server_state}
-use Rattle.petal_rules.specs.Writes.{is_clients}
-use Rattle.petal_rules.proofs.Tests.{true_false}
-use Rattle.petal_history.specs.Claims.{IsPrefix}
+use Rattle.spec_rules.specs.Blanked.{BeforeBlank, kept_store}
+use Rattle.spec_rules.specs.Server.{Server}
+use Rattle.spec_rules.specs.State.{is_in, leads_link}
+use Rattle.spec_rules.specs.Store.{Chain, Store, cell_cmp, chain_in}
+use Rattle.spec_rules.specs.World.{chosen_state, kept, kept_by, server_state}
+use Rattle.spec_rules.specs.Writes.{is_clients}
+use Rattle.spec_rules.proofs.Tests.{true_false}
+use Rattle.spec_history.specs.Claims.{IsPrefix}
 use Rattle.law_state.specs.Below.{IsServing}
 use Rattle.law_state.specs.Homes.{stage_at}
 use Rattle.law_steps.specs.Happens.{Handled, own_place}
 use Rattle.law_steps.proofs.Fronts.{front_itself, front_on}
 use Rattle.law_steps.proofs.Leading.{stage_live}
 use Rattle.law_steps.proofs.Taking.{taking}
-use Rattle.law_stores.proofs.Histories.{in_counts}
+use Rattle.law_copies.proofs.StoreHistories.{in_counts}
 use Rattle.law_copies.proofs.Places.{at_most_or_above, fronts_meet}
 use Rattle.law_epochs.proofs.Within.{is_of_entries}
 use Rattle.law_moves.specs.Fills.{Has, IsFrozen, IsThere, WasFilled}

@@ -15,14 +15,14 @@ use Rattle.petal_command.specs.declared.command.Command.{Command}
 use Rattle.petal_msg.specs.declared.body.Body.TheVariants as body
 use Rattle.petal_msg.specs.declared.copying.LinkId.{LinkId}
 use Rattle.petal_table.specs.Table.{Table, at, put}
-use Rattle.petal_state.specs.CellState.{cell_link, move_region, owner, source, target}
-use Rattle.petal_rules.specs.Fills.{comes_before}
-use Rattle.petal_rules.specs.Server.{Own}
-use Rattle.petal_rules.specs.State.{State, id_of, link_cmp, link_named}
-use Rattle.petal_rules.specs.Store.{Chain, chain_in}
-use Rattle.petal_rules.specs.World.{chosen_log, server_state}
-use Rattle.petal_rules.proofs.Tests.{by_bool, none_some, number_itself, same_some, some_or_none}
-use Rattle.petal_history.specs.Claims.{IsPrefix}
+use Rattle.spec_state.specs.CellState.{cell_link, move_region, owner, source, target}
+use Rattle.spec_rules.specs.Fills.{comes_before}
+use Rattle.spec_rules.specs.Server.{Own}
+use Rattle.spec_rules.specs.State.{State, id_of, link_cmp, link_named}
+use Rattle.spec_rules.specs.Store.{Chain, chain_in}
+use Rattle.spec_rules.specs.World.{chosen_log, server_state}
+use Rattle.spec_rules.proofs.Tests.{by_bool, none_some, number_itself, same_some, some_or_none}
+use Rattle.spec_history.specs.Claims.{IsPrefix}
 use Rattle.law_state.specs.Firm.{Firm}
 use Rattle.law_state.specs.Homes.{new_stage, old_stage, stage_at, stage_by}
 use Rattle.law_state.specs.Plain.{IsPlainLog}

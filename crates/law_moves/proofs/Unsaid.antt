@@ -15,15 +15,15 @@ use Rattle.petal_table.proofs.Rows.{at-empty}
 use Rattle.petal_msg.specs.declared.body.Body.TheVariants as body
 use Rattle.petal_msg.specs.declared.letter.Letter.{Letter}
 use Rattle.petal_msg.specs.declared.operation.Pending.{Pending}
-use Rattle.petal_state.specs.CellState.{cell_link, row_lead}
-use Rattle.petal_rules.specs.Progress.{has_proposed}
-use Rattle.petal_rules.specs.Server.{Own, Pairs, Server}
-use Rattle.petal_rules.specs.State.{is_in, leads_link}
-use Rattle.petal_rules.specs.Store.{Store, cell_cmp, chain_in}
-use Rattle.petal_rules.specs.World.{World, blank_joins_in, chosen_log, server_state}
-use Rattle.petal_rules.proofs.Tests.{by_bool, is_the_one, same_numbers, same_or_apart, same_some, true_false}
-use Rattle.petal_history.specs.Claims.{IsPrefix}
-use Rattle.petal_history.specs.Steps.{AreSteps}
+use Rattle.spec_state.specs.CellState.{cell_link, row_lead}
+use Rattle.spec_rules.specs.Progress.{has_proposed}
+use Rattle.spec_rules.specs.Server.{Own, Pairs, Server}
+use Rattle.spec_rules.specs.State.{is_in, leads_link}
+use Rattle.spec_rules.specs.Store.{Store, cell_cmp, chain_in}
+use Rattle.spec_rules.specs.World.{World, blank_joins_in, chosen_log, server_state}
+use Rattle.spec_rules.proofs.Tests.{by_bool, is_the_one, same_numbers, same_or_apart, same_some, true_false}
+use Rattle.spec_history.specs.Claims.{IsPrefix}
+use Rattle.spec_history.specs.Steps.{AreSteps}
 use Rattle.law_state.specs.Homes.{stage_at}
 use Rattle.law_state.proofs.Cells.{IsHeldBy, IsInBoth, link_led_by}
 use Rattle.law_state.proofs.Leaves.{either_true}

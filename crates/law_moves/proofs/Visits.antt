@@ -8,15 +8,15 @@ use Rattle.petal_table.specs.Table.{at}
 use Rattle.petal_table.proofs.Rows.{at-empty}
 use Rattle.petal_msg.specs.declared.body.Body.TheVariants as body
 use Rattle.petal_msg.specs.declared.letter.Letter.{Letter}
-use Rattle.petal_rules.specs.Boots.{raised}
-use Rattle.petal_rules.specs.Crossing.{crossed}
-use Rattle.petal_rules.specs.Server.{Own, Pairs, Server}
-use Rattle.petal_rules.specs.Store.{cell_cmp}
-use Rattle.petal_rules.specs.World.{server_state}
-use Rattle.petal_rules.specs.Writes.{is_clients}
-use Rattle.petal_rules.proofs.Settled.{settling}
-use Rattle.petal_rules.proofs.Tests.{none_some, same_or_apart, true_false}
-use Rattle.petal_history.specs.declared.record.Record.{Record}
+use Rattle.spec_rules.specs.Boots.{raised}
+use Rattle.spec_rules.specs.Crossing.{crossed}
+use Rattle.spec_rules.specs.Server.{Own, Pairs, Server}
+use Rattle.spec_rules.specs.Store.{cell_cmp}
+use Rattle.spec_rules.specs.World.{server_state}
+use Rattle.spec_rules.specs.Writes.{is_clients}
+use Rattle.spec_rules.proofs.Settled.{settling}
+use Rattle.spec_rules.proofs.Tests.{none_some, same_or_apart, true_false}
+use Rattle.spec_history.specs.declared.record.Record.{Record}
 use Rattle.law_steps.specs.Happens.{Handled, own_place}
 use Rattle.law_steps.proofs.Filling.{Fills, Stood, Writes, did_come}
 use Rattle.law_steps.proofs.Histories.{proposed_pairs}

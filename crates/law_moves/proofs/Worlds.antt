@@ -7,14 +7,14 @@ use Rattle.global_tables.specs.declared.link.LinkState.TheVariants.{Both}
 use Rattle.petal_base.specs.declared.cell.Cell.{Cell}
 use Rattle.petal_command.specs.declared.command.Command.{Command}
 use Rattle.petal_command.specs.declared.command.Command.TheVariants.{Join}
-use Rattle.petal_state.specs.CellState.{cell_link, serves}
-use Rattle.petal_rules.specs.Blanked.{BeforeBlank, kept_store}
-use Rattle.petal_rules.specs.Server.{Own, Pairs}
-use Rattle.petal_rules.specs.State.{State, is_in}
-use Rattle.petal_rules.specs.Store.{Store}
-use Rattle.petal_rules.specs.World.{blank_joins_in, chosen_state, counted, kept, start}
-use Rattle.petal_rules.proofs.Tests.{by_test, same_numbers, same_some, true_false}
-use Rattle.petal_history.specs.Claims.{IsPrefix}
+use Rattle.spec_state.specs.CellState.{cell_link, serves}
+use Rattle.spec_rules.specs.Blanked.{BeforeBlank, kept_store}
+use Rattle.spec_rules.specs.Server.{Own, Pairs}
+use Rattle.spec_rules.specs.State.{State, is_in}
+use Rattle.spec_rules.specs.Store.{Store}
+use Rattle.spec_rules.specs.World.{blank_joins_in, chosen_state, counted, kept, start}
+use Rattle.spec_rules.proofs.Tests.{by_test, same_numbers, same_some, true_false}
+use Rattle.spec_history.specs.Claims.{IsPrefix}
 use Rattle.law_state.specs.Below.{IsBelow, IsServing, KeepsRoles}
 use Rattle.law_state.specs.Firm.{Firm}
 use Rattle.law_state.specs.Homes.{HasStage, stage_at}
@@ -31,10 +31,10 @@ use Rattle.law_steps.proofs.Coming.{stage_facts}
 use Rattle.law_steps.proofs.Firms.{always_firm}
 use Rattle.law_steps.proofs.Fronts.{front_itself}
 use Rattle.law_steps.proofs.Histories.{rests_after, runs_at, start_rests}
-use Rattle.law_stores.specs.Waiting.{IsOwn}
-use Rattle.law_stores.proofs.Counts.{after_front, stands_in}
-use Rattle.law_stores.proofs.Histories.{in_own, kept_after}
-use Rattle.law_stores.proofs.Ways.{stays_filled}
+use Rattle.law_copies.specs.Waiting.{IsOwn}
+use Rattle.law_copies.proofs.EmptyJoins.{after_front, stands_in}
+use Rattle.law_copies.proofs.StoreHistories.{in_own, kept_after}
+use Rattle.law_copies.proofs.StoreWays.{stays_filled}
 use Rattle.law_copies.specs.Good.{AreTwins, Good}
 use Rattle.law_copies.specs.Visits.{AliveIn, IsLast, IsLinked, WasThere, place_by}
 use Rattle.law_copies.proofs.Places.{places_up}

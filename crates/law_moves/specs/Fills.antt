@@ -14,15 +14,15 @@ use Rattle.petal_table.specs.Table.{at}
 use Rattle.petal_msg.specs.declared.body.Body.TheVariants as body
 use Rattle.petal_msg.specs.declared.letter.Letter.{Letter}
 use Rattle.petal_msg.specs.declared.operation.Pending.{Pending}
-use Rattle.petal_history.specs.Claims.{HasNewer, IsFilledFrom, IsPrefix}
-use Rattle.petal_rules.specs.Fills.{comes_before}
-use Rattle.petal_rules.specs.Lists.{In}
-use Rattle.petal_rules.specs.State.{id_of, is_in, link_cmp}
-use Rattle.petal_rules.specs.Store.{Chain, cell_cmp, chain_in}
-use Rattle.petal_rules.specs.World.{Setting, World, chosen_log, chosen_state, kept}
-use Rattle.petal_rules.specs.Writes.{is_clients}
-use Rattle.petal_state.specs.CellState.{cell_link, source, target}
-use Rattle.petal_state.specs.Command.{state_after}
+use Rattle.spec_history.specs.Claims.{HasNewer, IsFilledFrom, IsPrefix}
+use Rattle.spec_rules.specs.Fills.{comes_before}
+use Rattle.spec_rules.specs.Lists.{In}
+use Rattle.spec_rules.specs.State.{id_of, is_in, link_cmp}
+use Rattle.spec_rules.specs.Store.{Chain, cell_cmp, chain_in}
+use Rattle.spec_rules.specs.World.{Setting, World, chosen_log, chosen_state, kept}
+use Rattle.spec_rules.specs.Writes.{is_clients}
+use Rattle.spec_state.specs.CellState.{cell_link, source, target}
+use Rattle.spec_state.specs.Command.{state_after}
 use Rattle.law_state.specs.Below.{IsServing}
 use Rattle.law_state.specs.Homes.{stage_at}
 

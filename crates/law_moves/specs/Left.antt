@@ -7,11 +7,11 @@ use Rattle.petal_base.specs.Cells.{key_at}
 use Rattle.petal_base.specs.declared.cell.Cell.{Cell}
 use Rattle.petal_base.specs.declared.cell.Key.{Key}
 use Rattle.petal_table.specs.Table.{at}
-use Rattle.petal_rules.specs.Fills.{comes_before, comes_next, keys_in}
-use Rattle.petal_rules.specs.Lists.{In}
-use Rattle.petal_rules.specs.Server.{Own}
-use Rattle.petal_rules.specs.State.{State, id_of, is_on, link_cmp}
-use Rattle.petal_rules.specs.Store.{chain_in}
+use Rattle.spec_rules.specs.Fills.{comes_before, comes_next, keys_in}
+use Rattle.spec_rules.specs.Lists.{In}
+use Rattle.spec_rules.specs.Server.{Own}
+use Rattle.spec_rules.specs.State.{State, id_of, is_on, link_cmp}
+use Rattle.spec_rules.specs.Store.{chain_in}
 
 -- the store has an entry of this epoch
 abbrev pub IsKept : Own → Cell → ℕ → Type 0

@@ -2,11 +2,11 @@
 use Rattle.std.specs.Prelude.{◌≡◌, ◌≤◌, ℕ, true, List, Some, None}
 use Rattle.petal_base.specs.declared.cell.Cell.{Cell}
 use Rattle.petal_command.specs.declared.command.Command.{Command}
-use Rattle.petal_history.specs.Claims.{IsPrefix}
-use Rattle.petal_state.specs.Command.{state_after}
-use Rattle.petal_rules.specs.State.{is_in}
-use Rattle.petal_rules.specs.Store.{chain_in}
-use Rattle.petal_rules.specs.World.{Setting, World, chosen_log, chosen_state, kept}
+use Rattle.spec_history.specs.Claims.{IsPrefix}
+use Rattle.spec_state.specs.Command.{state_after}
+use Rattle.spec_rules.specs.State.{is_in}
+use Rattle.spec_rules.specs.Store.{chain_in}
+use Rattle.spec_rules.specs.World.{Setting, World, chosen_log, chosen_state, kept}
 use Rattle.law_state.specs.Below.{IsServing}
 use Rattle.law_state.specs.Homes.{stage_at}
 

@@ -6,15 +6,15 @@ use Rattle.global_tables.specs.Link.{has_server}
 use Rattle.global_tables.specs.declared.link.LinkRow.{LinkRow}
 use Rattle.global_tables.specs.declared.link.LinkState.TheVariants.{Both}
 use Rattle.petal_command.specs.declared.command.Command.{Command}
-use Rattle.petal_history.specs.Claims.{IsPrefix}
-use Rattle.petal_state.specs.CellState.{cell_link, serves}
-use Rattle.petal_state.specs.Command.{state_after}
-use Rattle.petal_state.specs.Place.{places_from}
-use Rattle.petal_state.specs.State.{start}
-use Rattle.petal_rules.specs.State.{State, is_in, is_alone_on}
-use Rattle.petal_rules.specs.Writes.{Wanted}
-use Rattle.petal_rules.specs.World.{Setting, World, server_state, chosen_log, chosen_state}
-use Rattle.petal_rules.proofs.Tests.{is_the_one, none_some, true_false}
+use Rattle.spec_history.specs.Claims.{IsPrefix}
+use Rattle.spec_state.specs.CellState.{cell_link, serves}
+use Rattle.spec_state.specs.Command.{state_after}
+use Rattle.spec_state.specs.Place.{places_from}
+use Rattle.spec_state.specs.State.{start}
+use Rattle.spec_rules.specs.State.{State, is_in, is_alone_on}
+use Rattle.spec_rules.specs.Writes.{Wanted}
+use Rattle.spec_rules.specs.World.{Setting, World, server_state, chosen_log, chosen_state}
+use Rattle.spec_rules.proofs.Tests.{is_the_one, none_some, true_false}
 use Rattle.law_state.specs.Firm.{Firm}
 use Rattle.law_state.specs.Homes.{stage_at}
 use Rattle.law_state.specs.Places.{StaysSo}

@@ -9,13 +9,13 @@ use Rattle.std.specs.declared.cmp.Ordering.TheVariants.{Less, Equal, Greater}
 use Rattle.petal_base.specs.declared.cell.Cell.{Cell}
 use Rattle.petal_table.specs.Table.{Table, at}
 use Rattle.petal_msg.specs.declared.operation.Pending.{Pending}
-use Rattle.petal_rules.specs.Draining.{has_held_write}
-use Rattle.petal_rules.specs.Server.{Own}
-use Rattle.petal_rules.specs.State.{State, held}
-use Rattle.petal_rules.specs.Store.{cell_cmp}
-use Rattle.petal_rules.specs.Writes.{is_clients, is_writes_held}
-use Rattle.petal_rules.proofs.CellTables.{cell_cmp_same}
-use Rattle.petal_rules.proofs.Tests.{by_bool, none_some, same_some}
+use Rattle.spec_rules.specs.Draining.{has_held_write}
+use Rattle.spec_rules.specs.Server.{Own}
+use Rattle.spec_rules.specs.State.{State, held}
+use Rattle.spec_rules.specs.Store.{cell_cmp}
+use Rattle.spec_rules.specs.Writes.{is_clients, is_writes_held}
+use Rattle.spec_rules.proofs.CellTables.{cell_cmp_same}
+use Rattle.spec_rules.proofs.Tests.{by_bool, none_some, same_some}
 
 tied : (r : Ordering) → is_eq r ≡ true → r ≡ Equal
 tied Less e = cc

@@ -3,13 +3,13 @@ use Rattle.std.proofs.Common.{◌≡◌, ◌≤◌, ◌+◌, ℕ, true, Some, le
 use Rattle.petal_base.specs.declared.cell.Cell.{Cell}
 use Rattle.petal_table.specs.Table.{at}
 use Rattle.petal_msg.specs.declared.operation.Pending.{Pending}
-use Rattle.petal_rules.specs.State.{State}
-use Rattle.petal_rules.specs.Store.{cell_cmp}
-use Rattle.petal_rules.specs.Server.{Own}
-use Rattle.petal_rules.specs.Writes.{Wanted, is_clients}
-use Rattle.petal_rules.specs.World.{Setting, World, server_state}
-use Rattle.petal_rules.proofs.Tests.{none_some}
-use Rattle.petal_history.specs.Claims.{IsPrefix}
+use Rattle.spec_rules.specs.State.{State}
+use Rattle.spec_rules.specs.Store.{cell_cmp}
+use Rattle.spec_rules.specs.Server.{Own}
+use Rattle.spec_rules.specs.Writes.{Wanted, is_clients}
+use Rattle.spec_rules.specs.World.{Setting, World, server_state}
+use Rattle.spec_rules.proofs.Tests.{none_some}
+use Rattle.spec_history.specs.Claims.{IsPrefix}
 use Rattle.law_steps.proofs.Histories.{own_plain}
 use Rattle.law_steps.proofs.Restages.{Was}
 use Rattle.law_requests.specs.Asked.{IsWrite}

@@ -11,23 +11,23 @@ use Rattle.petal_msg.specs.declared.operation.Finished.{Finished}
 use Rattle.petal_msg.specs.declared.operation.Pending.{Pending}
 use Rattle.petal_command.specs.declared.command.Command.{Command}
 use Rattle.petal_command.specs.declared.command.Command.TheVariants.{Join}
-use Rattle.petal_state.specs.Command.{state_after}
-use Rattle.petal_state.specs.declared.answer.Hold.TheVariants.{No, Writes, All}
+use Rattle.spec_state.specs.Command.{state_after}
+use Rattle.spec_state.specs.declared.answer.Hold.TheVariants.{No, Writes, All}
 use Rattle.script_lines.specs.declared.script.Script.{Script}
-use Rattle.petal_rules.specs.Lists.{In}
-use Rattle.petal_rules.specs.Draining.{has_held_write}
-use Rattle.petal_rules.specs.Log.{rev_of}
-use Rattle.petal_rules.specs.Server.{Server}
-use Rattle.petal_rules.specs.State.{Hold, State, held, is_in, is_lead}
-use Rattle.petal_rules.specs.Store.{cell_cmp}
-use Rattle.petal_rules.specs.Writes.{Wanted, is_clients, is_writes_held}
-use Rattle.petal_rules.specs.World.{Setting, World, start, setting_of, chosen_log, chosen_state, server_state}
-use Rattle.petal_rules.proofs.ListLemmas.{in_former}
-use Rattle.petal_rules.proofs.Tests.{both_true, by_bool, none_some, same_or_apart, true_false}
-use Rattle.petal_history.specs.Claims.{IsPrefix, Requests, IsOver, IsLateAt, HasFinished}
-use Rattle.petal_history.specs.Steps.{AreSteps, world_after}
-use Rattle.petal_history.specs.Sound.{IsSound}
-use Rattle.petal_history.specs.declared.record.Record.{Record}
+use Rattle.spec_rules.specs.Lists.{In}
+use Rattle.spec_rules.specs.Draining.{has_held_write}
+use Rattle.spec_rules.specs.Log.{rev_of}
+use Rattle.spec_rules.specs.Server.{Server}
+use Rattle.spec_rules.specs.State.{Hold, State, held, is_in, is_lead}
+use Rattle.spec_rules.specs.Store.{cell_cmp}
+use Rattle.spec_rules.specs.Writes.{Wanted, is_clients, is_writes_held}
+use Rattle.spec_rules.specs.World.{Setting, World, start, setting_of, chosen_log, chosen_state, server_state}
+use Rattle.spec_rules.proofs.ListLemmas.{in_former}
+use Rattle.spec_rules.proofs.Tests.{both_true, by_bool, none_some, same_or_apart, true_false}
+use Rattle.spec_history.specs.Claims.{IsPrefix, Requests, IsOver, IsLateAt, HasFinished}
+use Rattle.spec_history.specs.Steps.{AreSteps, world_after}
+use Rattle.spec_history.specs.Sound.{IsSound}
+use Rattle.spec_history.specs.declared.record.Record.{Record}
 use Rattle.law_state.specs.Firm.{Firm}
 use Rattle.law_state.proofs.Incarnations.{who_is_in}
 use Rattle.law_state.proofs.Steady.{front_plain}

@@ -14,14 +14,14 @@ use Rattle.script_lines.specs.Requests.{names}
 use Rattle.script_lines.specs.declared.request.Line.{Line}
 use Rattle.script_lines.specs.declared.request.Request.{Request}
 use Rattle.script_lines.specs.declared.request.Request.TheVariants as request
-use Rattle.petal_history.specs.Claims.{IsPrefix}
-use Rattle.petal_state.specs.CellState.{cell_asked}
-use Rattle.petal_rules.specs.Lists.{In}
-use Rattle.petal_rules.specs.State.{State, find}
-use Rattle.petal_rules.specs.Writes.{Wanted}
-use Rattle.petal_rules.specs.Clients.{Client, Asked}
-use Rattle.petal_rules.specs.World.{Setting}
-use Rattle.petal_rules.proofs.Tests.{same_some, true_false}
+use Rattle.spec_history.specs.Claims.{IsPrefix}
+use Rattle.spec_state.specs.CellState.{cell_asked}
+use Rattle.spec_rules.specs.Lists.{In}
+use Rattle.spec_rules.specs.State.{State, find}
+use Rattle.spec_rules.specs.Writes.{Wanted}
+use Rattle.spec_rules.specs.Clients.{Client, Asked}
+use Rattle.spec_rules.specs.World.{Setting}
+use Rattle.spec_rules.proofs.Tests.{same_some, true_false}
 use Rattle.law_state.specs.Plain.{IsPlainLog}
 use Rattle.law_steps.proofs.Fronts.{front_itself, front_long, front_on, front_within, one_front}
 use Rattle.law_requests.specs.Asked.{IsWrite, IsOpen, IsOpenFrom, HasItsWay, WasToldAt}

@@ -20,19 +20,19 @@ use Rattle.petal_msg.specs.declared.operation.Finished.{Finished}
 use Rattle.petal_msg.specs.declared.operation.OpKind.{OpKind}
 use Rattle.petal_msg.specs.declared.operation.OpKind.TheVariants as kind
 use Rattle.petal_msg.specs.declared.operation.Pending.{Pending}
-use Rattle.petal_history.specs.Claims.{IsPrefix}
-use Rattle.petal_state.specs.Command.{state_after}
-use Rattle.petal_rules.specs.Lists.{In}
-use Rattle.petal_rules.specs.Log.{rev_of}
-use Rattle.petal_rules.specs.State.{held, is_in, is_lead, live}
-use Rattle.petal_rules.specs.Store.{cell_cmp}
-use Rattle.petal_rules.specs.Fills.{fill_operation}
-use Rattle.petal_rules.specs.Server.{Own, Here, Post, Done}
-use Rattle.petal_rules.specs.Writes.{Wanted, acts, ends, gives_back, is_clients, is_writes_held, moved_as, next_stage, old_lead, operation}
-use Rattle.petal_rules.specs.Writes.{ended, finishes, pending_on, with_mark_at, without_pending}
-use Rattle.petal_rules.specs.World.{Setting, World}
-use Rattle.petal_rules.proofs.CellTables.{cell_same, cell_apart, cell_gone}
-use Rattle.petal_rules.proofs.Tests.{by_bool, by_test, none_some, same_or_apart, same_some, true_false}
+use Rattle.spec_history.specs.Claims.{IsPrefix}
+use Rattle.spec_state.specs.Command.{state_after}
+use Rattle.spec_rules.specs.Lists.{In}
+use Rattle.spec_rules.specs.Log.{rev_of}
+use Rattle.spec_rules.specs.State.{held, is_in, is_lead, live}
+use Rattle.spec_rules.specs.Store.{cell_cmp}
+use Rattle.spec_rules.specs.Fills.{fill_operation}
+use Rattle.spec_rules.specs.Server.{Own, Here, Post, Done}
+use Rattle.spec_rules.specs.Writes.{Wanted, acts, ends, gives_back, is_clients, is_writes_held, moved_as, next_stage, old_lead, operation}
+use Rattle.spec_rules.specs.Writes.{ended, finishes, pending_on, with_mark_at, without_pending}
+use Rattle.spec_rules.specs.World.{Setting, World}
+use Rattle.spec_rules.proofs.CellTables.{cell_same, cell_apart, cell_gone}
+use Rattle.spec_rules.proofs.Tests.{by_bool, by_test, none_some, same_or_apart, same_some, true_false}
 use Rattle.law_state.proofs.Steady.{log_rev}
 use Rattle.law_steps.specs.Operations.{done_to}
 use Rattle.law_steps.specs.DidLead.{DidLead, IsNew, Asks_for, Repeats, Is_full, Gives_up, Opens, Marks, Puts, Unmarks, Closes, Opens_alone, Marks_alone}

@@ -7,13 +7,13 @@ use Rattle.global_tables.specs.Link.{has_server, other_of}
 use Rattle.global_tables.specs.declared.link.LinkRow.{LinkRow}
 use Rattle.global_tables.specs.declared.link.LinkState.TheVariants.{Lost, Only}
 use Rattle.petal_command.specs.declared.command.Command.{Command}
-use Rattle.petal_history.specs.Claims.{IsPrefix}
-use Rattle.petal_state.specs.CellState.{cell_link, row_lead}
-use Rattle.petal_state.specs.Command.{state_after}
-use Rattle.petal_state.specs.Place.{places_from}
-use Rattle.petal_state.specs.State.{inc_of, is_up, start}
-use Rattle.petal_rules.specs.State.{State, lead, leaving, live, is_in, is_lead, is_alone_on}
-use Rattle.petal_rules.proofs.Tests.{by_bool, is_the_one, is_the_so, none_some, same_numbers, same_some, some_or_none, true_false}
+use Rattle.spec_history.specs.Claims.{IsPrefix}
+use Rattle.spec_state.specs.CellState.{cell_link, row_lead}
+use Rattle.spec_state.specs.Command.{state_after}
+use Rattle.spec_state.specs.Place.{places_from}
+use Rattle.spec_state.specs.State.{inc_of, is_up, start}
+use Rattle.spec_rules.specs.State.{State, lead, leaving, live, is_in, is_lead, is_alone_on}
+use Rattle.spec_rules.proofs.Tests.{by_bool, is_the_one, is_the_so, none_some, same_numbers, same_some, some_or_none, true_false}
 use Rattle.law_state.specs.Below.{HasLater, IsBelow}
 use Rattle.law_state.specs.Homes.{HasDied, HasStage, stage_at}
 use Rattle.law_state.specs.Places.{IsCaughtBy, StaysSo}

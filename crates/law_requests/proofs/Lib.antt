@@ -16,3 +16,4 @@ pub mod Turning
 pub mod Stepped
 pub mod Stepping
 pub mod Histories
+pub mod OpenedAfterReport

@@ -1,11 +1,11 @@
 -- What is known of incarnations goes on with each step of a server.
 use Rattle.std.proofs.Common.{◌≡◌, ◌≢◌, ◌≤◌, ◌<◌, ◌==◌, ℕ, true, if◌then◌else◌, ap, ◌∙◌, subst, sym, inl, inr, arith}
 use Rattle.global_tables.specs.declared.link.LinkRow.{LinkRow}
-use Rattle.petal_history.specs.Claims.{IsPrefix}
-use Rattle.petal_rules.specs.Server.{Server}
-use Rattle.petal_rules.specs.State.{id_of}
-use Rattle.petal_rules.specs.World.{World}
-use Rattle.petal_rules.proofs.Tests.{by_bool, number_itself, same_numbers, same_or_apart}
+use Rattle.spec_history.specs.Claims.{IsPrefix}
+use Rattle.spec_rules.specs.Server.{Server}
+use Rattle.spec_rules.specs.State.{id_of}
+use Rattle.spec_rules.specs.World.{World}
+use Rattle.spec_rules.proofs.Tests.{by_bool, number_itself, same_numbers, same_or_apart}
 use Rattle.law_state.specs.Started.{is_flagged}
 use Rattle.law_steps.proofs.Fronts.{front_on}
 use Rattle.law_requests.specs.Known.{Lives, AreLives, done_by, lives_after}

@@ -4,11 +4,11 @@ use Rattle.std.specs.Prelude.{unwrap_or}
 use Rattle.global_tables.specs.declared.link.LinkRow.{LinkRow}
 use Rattle.petal_msg.specs.declared.body.Body.{Body}
 use Rattle.petal_table.specs.Table.{at}
-use Rattle.petal_rules.specs.Log.{Log}
-use Rattle.petal_rules.specs.Progress.{no_progress, progress_on}
-use Rattle.petal_rules.specs.Server.{Own, Copies, Here, Done}
-use Rattle.petal_rules.specs.State.{id_of, link_cmp}
-use Rattle.petal_rules.specs.World.{Setting, World, server_state}
+use Rattle.spec_rules.specs.Log.{Log}
+use Rattle.spec_rules.specs.Progress.{no_progress, progress_on}
+use Rattle.spec_rules.specs.Server.{Own, Copies, Here, Done}
+use Rattle.spec_rules.specs.State.{id_of, link_cmp}
+use Rattle.spec_rules.specs.World.{Setting, World, server_state}
 use Rattle.law_state.specs.Started.{is_flagged}
 use Rattle.law_log.proofs.Catching.{kept_proposed}
 use Rattle.law_log.proofs.Flags.{same_caught}

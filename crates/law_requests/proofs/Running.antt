@@ -11,17 +11,17 @@ use Rattle.petal_command.specs.declared.command.Command.{Command}
 use Rattle.petal_command.specs.declared.command.Command.TheVariants.{Caught, Drained}
 use Rattle.petal_msg.specs.declared.operation.Pending.{Pending}
 use Rattle.petal_table.specs.Table.{at}
-use Rattle.petal_history.specs.Claims.{IsPrefix}
-use Rattle.petal_state.specs.CellState.{cell_link}
-use Rattle.petal_state.specs.Command.{state_after}
-use Rattle.petal_state.specs.Place.{places_from}
-use Rattle.petal_state.specs.State.{start}
-use Rattle.petal_rules.specs.Progress.{has_proposed}
-use Rattle.petal_rules.specs.State.{held, id_of, is_in, is_lead}
-use Rattle.petal_rules.specs.Store.{cell_cmp}
-use Rattle.petal_rules.specs.Writes.{Wanted, is_clients, is_writes_held}
-use Rattle.petal_rules.specs.World.{Setting, World, server_state, chosen_log, chosen_state}
-use Rattle.petal_rules.proofs.Tests.{by_bool, is_the_one, none_some, true_false}
+use Rattle.spec_history.specs.Claims.{IsPrefix}
+use Rattle.spec_state.specs.CellState.{cell_link}
+use Rattle.spec_state.specs.Command.{state_after}
+use Rattle.spec_state.specs.Place.{places_from}
+use Rattle.spec_state.specs.State.{start}
+use Rattle.spec_rules.specs.Progress.{has_proposed}
+use Rattle.spec_rules.specs.State.{held, id_of, is_in, is_lead}
+use Rattle.spec_rules.specs.Store.{cell_cmp}
+use Rattle.spec_rules.specs.Writes.{Wanted, is_clients, is_writes_held}
+use Rattle.spec_rules.specs.World.{Setting, World, server_state, chosen_log, chosen_state}
+use Rattle.spec_rules.proofs.Tests.{by_bool, is_the_one, none_some, true_false}
 use Rattle.law_state.specs.Below.{HasComeSecond}
 use Rattle.law_state.specs.Firm.{Firm}
 use Rattle.law_state.specs.Homes.{epoch_at, era_at, stage_at}

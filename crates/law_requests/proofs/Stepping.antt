@@ -11,20 +11,20 @@ use Rattle.petal_msg.specs.declared.letter.Actor.{Actor}
 use Rattle.petal_msg.specs.declared.letter.Actor.TheVariants as actor
 use Rattle.petal_msg.specs.declared.letter.Letter.{Letter}
 use Rattle.petal_msg.specs.declared.operation.Pending.{Pending}
-use Rattle.petal_history.specs.Claims.{IsPrefix}
-use Rattle.petal_rules.specs.Boots.{awake, blanked, raised, stays, wakes}
-use Rattle.petal_rules.specs.Jobs.{Acted, down_posts}
-use Rattle.petal_rules.specs.Lists.{In}
-use Rattle.petal_rules.specs.Log.{rev_of}
-use Rattle.petal_rules.specs.Server.{Post, Sender, sender, letters_of}
-use Rattle.petal_rules.specs.State.{State, servers_of}
-use Rattle.petal_rules.specs.Store.{cell_cmp}
-use Rattle.petal_rules.specs.Writes.{Wanted, is_clients}
-use Rattle.petal_rules.specs.World.{Setting, World, acts, reacts, server_state, stamped}
-use Rattle.petal_rules.specs.declared.step.Step.{Step}
-use Rattle.petal_rules.specs.declared.step.Step.TheVariants.{Blank}
-use Rattle.petal_rules.specs.Clients.{Reaction, client_sender}
-use Rattle.petal_rules.proofs.ListLemmas.{in_later}
+use Rattle.spec_history.specs.Claims.{IsPrefix}
+use Rattle.spec_rules.specs.Boots.{awake, blanked, raised, stays, wakes}
+use Rattle.spec_rules.specs.Jobs.{Acted, down_posts}
+use Rattle.spec_rules.specs.Lists.{In}
+use Rattle.spec_rules.specs.Log.{rev_of}
+use Rattle.spec_rules.specs.Server.{Post, Sender, sender, letters_of}
+use Rattle.spec_rules.specs.State.{State, servers_of}
+use Rattle.spec_rules.specs.Store.{cell_cmp}
+use Rattle.spec_rules.specs.Writes.{Wanted, is_clients}
+use Rattle.spec_rules.specs.World.{Setting, World, acts, reacts, server_state, stamped}
+use Rattle.spec_rules.specs.declared.step.Step.{Step}
+use Rattle.spec_rules.specs.declared.step.Step.TheVariants.{Blank}
+use Rattle.spec_rules.specs.Clients.{Reaction, client_sender}
+use Rattle.spec_rules.proofs.ListLemmas.{in_later}
 use Rattle.law_log.proofs.Proposing.{said_to_all}
 use Rattle.law_state.specs.Firm.{Firm}
 use Rattle.law_state.specs.Plain.{IsPlainLog}

@@ -7,14 +7,14 @@ use Rattle.global_tables.specs.declared.link.LinkRow.{LinkRow}
 use Rattle.global_tables.specs.Link.{has_server}
 use Rattle.global_tables.specs.declared.link.LinkState.TheVariants.{Both, Lost, Only}
 use Rattle.petal_command.specs.declared.command.Command.{Command}
-use Rattle.petal_history.specs.Claims.{IsPrefix}
-use Rattle.petal_state.specs.CellState.{cell_link}
-use Rattle.petal_state.specs.Command.{state_after}
-use Rattle.petal_state.specs.State.{is_up}
-use Rattle.petal_rules.specs.State.{State, lead, is_in, is_lead, primary, secondary, in_both, is_alone_on}
-use Rattle.petal_rules.specs.Writes.{Wanted}
-use Rattle.petal_rules.specs.World.{Setting, World, server_state, chosen_log, chosen_state}
-use Rattle.petal_rules.proofs.Tests.{by_bool, is_the_one, is_the_so, none_some, same_or_apart, same_some, true_false}
+use Rattle.spec_history.specs.Claims.{IsPrefix}
+use Rattle.spec_state.specs.CellState.{cell_link}
+use Rattle.spec_state.specs.Command.{state_after}
+use Rattle.spec_state.specs.State.{is_up}
+use Rattle.spec_rules.specs.State.{State, lead, is_in, is_lead, primary, secondary, in_both, is_alone_on}
+use Rattle.spec_rules.specs.Writes.{Wanted}
+use Rattle.spec_rules.specs.World.{Setting, World, server_state, chosen_log, chosen_state}
+use Rattle.spec_rules.proofs.Tests.{by_bool, is_the_one, is_the_so, none_some, same_or_apart, same_some, true_false}
 use Rattle.law_state.specs.Below.{HasLater}
 use Rattle.law_state.specs.Firm.{Firm}
 use Rattle.law_state.specs.Homes.{HasDied, stage_at}

@@ -17,19 +17,19 @@ use Rattle.script_lines.specs.declared.answer.Answer.TheVariants as answer
 use Rattle.script_lines.specs.declared.request.Line.{Line}
 use Rattle.script_lines.specs.declared.request.Pattern.{Pattern}
 use Rattle.script_lines.specs.declared.request.Request.TheVariants as request
-use Rattle.petal_state.specs.CellState.{cell_asked}
-use Rattle.petal_state.specs.Command.{state_after}
-use Rattle.petal_state.specs.declared.answer.DiskView.{DiskView}
-use Rattle.petal_history.specs.Claims.{IsPrefix}
-use Rattle.petal_rules.specs.Lists.{In}
+use Rattle.spec_state.specs.CellState.{cell_asked}
+use Rattle.spec_state.specs.Command.{state_after}
+use Rattle.spec_state.specs.declared.answer.DiskView.{DiskView}
+use Rattle.spec_history.specs.Claims.{IsPrefix}
+use Rattle.spec_rules.specs.Lists.{In}
 use Rattle.petal_command.specs.declared.command.Command.{Command}
-use Rattle.petal_rules.specs.State.{State, find, lead, is_in, is_lead}
-use Rattle.petal_rules.specs.Server.{Post}
-use Rattle.petal_rules.specs.Writes.{ended}
-use Rattle.petal_rules.specs.Clients.{Client, Asked, Reaction, Sight, is_read, is_write, command_of, refusal, write_refusal}
-use Rattle.petal_rules.specs.World.{Setting, World, lines_of, chosen_log}
-use Rattle.petal_rules.proofs.ListLemmas.{put_same}
-use Rattle.petal_rules.proofs.Tests.{by_bool, is_the_so, same_or_apart, same_some, some_or_none, none_some, true_false}
+use Rattle.spec_rules.specs.State.{State, find, lead, is_in, is_lead}
+use Rattle.spec_rules.specs.Server.{Post}
+use Rattle.spec_rules.specs.Writes.{ended}
+use Rattle.spec_rules.specs.Clients.{Client, Asked, Reaction, Sight, is_read, is_write, command_of, refusal, write_refusal}
+use Rattle.spec_rules.specs.World.{Setting, World, lines_of, chosen_log}
+use Rattle.spec_rules.proofs.ListLemmas.{put_same}
+use Rattle.spec_rules.proofs.Tests.{by_bool, is_the_so, same_or_apart, same_some, some_or_none, none_some, true_false}
 use Rattle.law_state.specs.Firm.{Firm}
 use Rattle.law_state.specs.Plain.{IsPlainLog}
 use Rattle.law_state.proofs.Ages.{in_once}

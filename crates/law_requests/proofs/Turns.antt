@@ -6,16 +6,16 @@ use Rattle.petal_msg.specs.declared.body.Body.{Body}
 use Rattle.petal_msg.specs.declared.operation.Pending.{Pending}
 use Rattle.petal_msg.specs.declared.letter.Actor.{Actor}
 use Rattle.petal_msg.specs.declared.letter.Letter.{Letter}
-use Rattle.petal_history.specs.Claims.{IsPrefix}
-use Rattle.petal_rules.specs.Lists.{In, put_at}
-use Rattle.petal_rules.specs.State.{is_in}
-use Rattle.petal_rules.specs.Server.{Post, letters_of}
-use Rattle.petal_rules.specs.Store.{cell_cmp}
-use Rattle.petal_rules.specs.Writes.{Wanted, is_clients}
-use Rattle.petal_rules.specs.Clients.{Client, Asked, Reaction, client_sender}
-use Rattle.petal_rules.specs.World.{Setting, World, reacts, server_state, stamped}
-use Rattle.petal_rules.proofs.ListLemmas.{in-append, in_later}
-use Rattle.petal_rules.proofs.Tests.{all_put}
+use Rattle.spec_history.specs.Claims.{IsPrefix}
+use Rattle.spec_rules.specs.Lists.{In, put_at}
+use Rattle.spec_rules.specs.State.{is_in}
+use Rattle.spec_rules.specs.Server.{Post, letters_of}
+use Rattle.spec_rules.specs.Store.{cell_cmp}
+use Rattle.spec_rules.specs.Writes.{Wanted, is_clients}
+use Rattle.spec_rules.specs.Clients.{Client, Asked, Reaction, client_sender}
+use Rattle.spec_rules.specs.World.{Setting, World, reacts, server_state, stamped}
+use Rattle.spec_rules.proofs.ListLemmas.{in-append, in_later}
+use Rattle.spec_rules.proofs.Tests.{all_put}
 use Rattle.law_steps.specs.Happens.{IsOnward}
 use Rattle.law_steps.proofs.Fronts.{front_itself, front_long, front_on, front_same}
 use Rattle.law_steps.proofs.Histories.{own_plain}

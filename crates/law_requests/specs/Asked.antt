@@ -8,11 +8,11 @@ use Rattle.script_lines.specs.declared.request.Request.TheVariants as request
 use Rattle.petal_msg.specs.declared.body.Body.TheVariants as body
 use Rattle.petal_msg.specs.declared.letter.Actor.TheVariants as actor
 use Rattle.petal_msg.specs.declared.letter.Letter.{Letter}
-use Rattle.petal_state.specs.CellState.{cell_asked}
-use Rattle.petal_state.specs.declared.answer.DiskView.{DiskView}
-use Rattle.petal_rules.specs.Lists.{In}
-use Rattle.petal_rules.specs.State.{State, find}
-use Rattle.petal_rules.specs.Clients.{Client, Asked, epoch_for}
+use Rattle.spec_state.specs.CellState.{cell_asked}
+use Rattle.spec_state.specs.declared.answer.DiskView.{DiskView}
+use Rattle.spec_rules.specs.Lists.{In}
+use Rattle.spec_rules.specs.State.{State, find}
+use Rattle.spec_rules.specs.Clients.{Client, Asked, epoch_for}
 use Rattle.law_steps.specs.Turned.{line_by}
 
 -- the client's line of this number asks for a write

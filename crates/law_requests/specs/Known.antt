@@ -11,15 +11,15 @@ use Rattle.petal_msg.specs.declared.letter.Actor.{Actor}
 use Rattle.petal_msg.specs.declared.letter.Actor.TheVariants as actor
 use Rattle.petal_msg.specs.declared.letter.Letter.{Letter}
 use Rattle.petal_msg.specs.declared.operation.Pending.{Pending}
-use Rattle.petal_history.specs.Claims.{IsPrefix}
-use Rattle.petal_state.specs.Command.{state_after}
-use Rattle.petal_rules.specs.Lists.{In}
-use Rattle.petal_rules.specs.State.{State, coming, held, lead, is_in, is_lead}
-use Rattle.petal_rules.specs.Store.{cell_cmp}
-use Rattle.petal_rules.specs.Server.{Own}
-use Rattle.petal_rules.specs.Writes.{Wanted, is_clients, is_writes_held}
-use Rattle.petal_rules.specs.Clients.{Client, Asked}
-use Rattle.petal_rules.specs.World.{Setting, World, chosen_log, server_state}
+use Rattle.spec_history.specs.Claims.{IsPrefix}
+use Rattle.spec_state.specs.Command.{state_after}
+use Rattle.spec_rules.specs.Lists.{In}
+use Rattle.spec_rules.specs.State.{State, coming, held, lead, is_in, is_lead}
+use Rattle.spec_rules.specs.Store.{cell_cmp}
+use Rattle.spec_rules.specs.Server.{Own}
+use Rattle.spec_rules.specs.Writes.{Wanted, is_clients, is_writes_held}
+use Rattle.spec_rules.specs.Clients.{Client, Asked}
+use Rattle.spec_rules.specs.World.{Setting, World, chosen_log, server_state}
 use Rattle.law_state.specs.Epochs.{epoch_at}
 use Rattle.law_steps.specs.Operations.{done_to}
 use Rattle.law_requests.specs.Asked.{IsWrite, IsRead, IsAsked, IsOpenFrom, HasItsWay, WasToldAt}

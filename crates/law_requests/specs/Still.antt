@@ -3,11 +3,11 @@ use Rattle.std.specs.Prelude.{◌≡◌, ◌≢◌, ℕ, true, false, Some}
 use Rattle.petal_base.specs.declared.cell.Cell.{Cell}
 use Rattle.petal_table.specs.Table.{at}
 use Rattle.petal_msg.specs.declared.operation.Pending.{Pending}
-use Rattle.petal_rules.specs.State.{is_in, lead, is_alone_on}
-use Rattle.petal_rules.specs.State as state
-use Rattle.petal_rules.specs.Store.{cell_cmp}
-use Rattle.petal_rules.specs.Writes.{is_clients}
-use Rattle.petal_rules.specs.World.{Setting, World, server_state, chosen_state}
+use Rattle.spec_rules.specs.State.{is_in, lead, is_alone_on}
+use Rattle.spec_rules.specs.State as state
+use Rattle.spec_rules.specs.Store.{cell_cmp}
+use Rattle.spec_rules.specs.Writes.{is_clients}
+use Rattle.spec_rules.specs.World.{Setting, World, server_state, chosen_state}
 use Rattle.law_requests.specs.Asked.{IsOpen}
 
 -- no server but this one holds the cell's link alone, by its own state

@@ -1,5 +1,6 @@
 //! The rule of requests: after every legal history, a request that its client has answered is pending at no running server,
-//! and its Write letters come too late, or are held, everywhere.
+//! and its Write letters come too late, or are held, everywhere; and what a server that has reported to a fence may have pending
+//! (`reports`).
 //!
 //! To the laws above it promises this and what goes with it: a client's request of a number follows from the script; a pending
 //! operation is of its client's write, which is open while its server runs, and whose cell that server has led since it opened the
@@ -8,10 +9,16 @@
 #![tactic(auto)]
 
 ghost use Rattle.std.specs.Prelude.{List};
-ghost use Rattle.petal_history.specs.Claims.{Requests};
+ghost use Rattle.spec_history.specs.Claims.{Requests};
 ghost use Rattle.law_state.specs.Histories.{AreSteps, IsSound, Record, Script, setting_of, start, world_after};
 ghost use Rattle.law_requests.specs.Known.{Asking};
 ghost use Rattle.law_requests.specs.Still.{AreOpen};
+
+mod reports;
+
+pub use reports::{
+    a_server_that_reported_writes_nothing, a_server_that_wants_to_report_writes_nothing,
+};
 
 /// After every legal history of a sound script, an answered request is pending at no running server, and its letters come too
 /// late, or are held: also where the server has started a ballot for the Caught of the cell's link.

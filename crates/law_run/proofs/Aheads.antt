@@ -3,7 +3,7 @@ use Rattle.std.proofs.Common.{◌≡◌, ◌+◌, Bool, true, false, Some, None,
 use Rattle.std.proofs.lemmas.Bool.{cases_lt}
 use Rattle.petal_table.specs.Table.{put}
 use Rattle.petal_msg.specs.declared.operation.Pending.{Pending}
-use Rattle.petal_history.specs.Claims.{one_put_ahead}
+use Rattle.spec_history.specs.Claims.{one_put_ahead}
 use Rattle.law_steps.specs.Operations.{progress}
 use Rattle.law_copies.specs.Pair.{AreCopies, IsAhead, Pair, PairOk, Working, far, number_of}
 

@@ -6,14 +6,14 @@ use Rattle.global_tables.specs.Map.{disk_of, tuple_of}
 use Rattle.global_tables.specs.declared.disk.DiskRow.{DiskRow}
 use Rattle.global_tables.specs.declared.disk.Move.{Move}
 use Rattle.global_tables.specs.declared.map.MapRow.{MapRow}
-use Rattle.petal_state.specs.CellState.{has_map, named_cell, owner, view_of}
-use Rattle.petal_state.specs.declared.answer.DiskView.{DiskView}
-use Rattle.petal_rules.specs.Lists.{In}
-use Rattle.petal_rules.specs.State.{State, authority, find}
-use Rattle.petal_rules.specs.Store.{bytes_of}
-use Rattle.petal_rules.specs.World.{Setting, World, chosen_state, counted}
-use Rattle.petal_rules.proofs.Tests.{by_bool, same_numbers, same_some, some_or_none}
-use Rattle.petal_history.specs.Contents.{content_at, content_where, entry_before, entry_of, has_content_at, has_content_where, old_cell}
+use Rattle.spec_state.specs.CellState.{has_map, named_cell, owner, view_of}
+use Rattle.spec_state.specs.declared.answer.DiskView.{DiskView}
+use Rattle.spec_rules.specs.Lists.{In}
+use Rattle.spec_rules.specs.State.{State, authority, find}
+use Rattle.spec_rules.specs.Store.{bytes_of}
+use Rattle.spec_rules.specs.World.{Setting, World, chosen_state, counted}
+use Rattle.spec_rules.proofs.Tests.{by_bool, same_numbers, same_some, some_or_none}
+use Rattle.spec_history.specs.Contents.{content_at, content_where, entry_before, entry_of, has_content_at, has_content_where, old_cell}
 use Rattle.law_state.specs.Below.{IsBelow}
 use Rattle.law_state.specs.Disks.{AreDisks}
 use Rattle.law_state.specs.Firm.{Firm}

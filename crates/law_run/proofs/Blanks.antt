@@ -8,22 +8,22 @@ use Rattle.petal_base.specs.declared.cell.Cell.{Cell}
 use Rattle.petal_table.specs.Table.{at}
 use Rattle.global_tables.specs.Disk.{disk_at}
 use Rattle.global_tables.specs.declared.disk.DiskRow.{DiskRow}
-use Rattle.petal_machine.specs.Machine.{Plain}
+use Rattle.spec_machine.specs.Machine.{Plain}
 use Rattle.petal_msg.specs.declared.operation.Pending.{Pending}
-use Rattle.petal_state.specs.CellState.{named_cell}
-use Rattle.petal_state.specs.Command.{state_after}
-use Rattle.petal_rules.specs.Blanked.{BeforeBlank, kept_store}
-use Rattle.petal_rules.specs.Boots.{blanked, stays}
-use Rattle.petal_rules.specs.Log.{state_in}
-use Rattle.petal_rules.specs.Server.{Server}
-use Rattle.petal_rules.specs.State.{authority, in_both}
-use Rattle.petal_rules.specs.Store.{Store, bytes_of, cell_cmp, chain_in, entry_at}
-use Rattle.petal_rules.specs.World.{Setting, World, acts, blank_joins_in, chosen_log, chosen_state, counted, kept}
-use Rattle.petal_rules.specs.declared.step.Step.TheVariants.{Blank}
-use Rattle.petal_rules.proofs.ListLemmas.{put_apart, put_same}
-use Rattle.petal_rules.proofs.Tests.{all_put_apart, number_itself, same_or_apart, true_false}
-use Rattle.petal_history.specs.Contents.{content_at, content_where, entry_by, entry_of, has_content_at, has_content_where, old_cell}
-use Rattle.petal_history.specs.Events.{change_by, freezes, freezes_on, makes, make_of, takes, told_with}
+use Rattle.spec_state.specs.CellState.{named_cell}
+use Rattle.spec_state.specs.Command.{state_after}
+use Rattle.spec_rules.specs.Blanked.{BeforeBlank, kept_store}
+use Rattle.spec_rules.specs.Boots.{blanked, stays}
+use Rattle.spec_rules.specs.Log.{state_in}
+use Rattle.spec_rules.specs.Server.{Server}
+use Rattle.spec_rules.specs.State.{authority, in_both}
+use Rattle.spec_rules.specs.Store.{Store, bytes_of, cell_cmp, chain_in, entry_at}
+use Rattle.spec_rules.specs.World.{Setting, World, acts, blank_joins_in, chosen_log, chosen_state, counted, kept}
+use Rattle.spec_rules.specs.declared.step.Step.TheVariants.{Blank}
+use Rattle.spec_rules.proofs.ListLemmas.{put_apart, put_same}
+use Rattle.spec_rules.proofs.Tests.{all_put_apart, number_itself, same_or_apart, true_false}
+use Rattle.spec_history.specs.Contents.{content_at, content_where, entry_by, entry_of, has_content_at, has_content_where, old_cell}
+use Rattle.spec_history.specs.Events.{change_by, freezes, freezes_on, makes, make_of, takes, told_with}
 use Rattle.law_state.specs.Firm.{Firm}
 use Rattle.law_steps.proofs.Serving.{chosen_same}
 use Rattle.law_copies.specs.Visits.{IsLinked}

@@ -1,14 +1,14 @@
 -- What a client's step has to show so that servers and clients stay tied to the plain machine.
 use Rattle.std.proofs.Common.{◌≡◌, ◌≢◌, ◌≤◌, ◌<◌, ◌+◌, ℕ, List, [], Bool, true, false, Some, refl, sym, ap, ◌∙◌, subst, ◌⊎◌, inl, inr, arith}
-use Rattle.petal_machine.specs.declared.event.Event.{Event}
+use Rattle.spec_machine.specs.declared.event.Event.{Event}
 use Rattle.std.specs.List.{flat_map}
-use Rattle.petal_rules.specs.Writes.{is_clients}
+use Rattle.spec_rules.specs.Writes.{is_clients}
 use Rattle.std.specs.Ordering.{nat_cmp}
 use Rattle.petal_base.specs.declared.cell.Cell.{Cell}
 use Rattle.std.specs.Prelude.{map}
 use Rattle.petal_table.specs.Table.{at}
 use Rattle.global_tables.specs.declared.disk.DiskRow.{DiskRow}
-use Rattle.petal_machine.specs.Machine.{Plain, disk_of, open_of}
+use Rattle.spec_machine.specs.Machine.{Plain, disk_of, open_of}
 use Rattle.petal_msg.specs.declared.body.Body.{Body}
 use Rattle.petal_msg.specs.declared.body.Body.TheVariants as body
 use Rattle.petal_msg.specs.declared.letter.Actor.{Actor}
@@ -18,21 +18,21 @@ use Rattle.petal_msg.specs.declared.operation.Ending.TheVariants as ending
 use Rattle.petal_msg.specs.declared.operation.Finished.{Finished}
 use Rattle.petal_msg.specs.declared.operation.Pending.{Pending}
 use Rattle.script_lines.specs.declared.request.Line.{Line}
-use Rattle.petal_rules.specs.Lists.{In}
-use Rattle.petal_rules.specs.Store.{Chain, cell_cmp, chain_in}
-use Rattle.petal_rules.specs.Server.{Post, letters_of}
-use Rattle.petal_rules.specs.Clients.{Client, Reaction, client_sender}
-use Rattle.petal_rules.specs.World.{Setting, World, reacts, stamped, chosen_state, counted, kept}
-use Rattle.petal_rules.proofs.ListLemmas.{in-append}
-use Rattle.petal_history.specs.Contents.{content_where, has_content_where}
-use Rattle.petal_history.specs.Events.{open_write, write_asked, change_by, freezes, takes, makes, make_of, look_of}
-use Rattle.petal_history.specs.declared.record.Record.{Record}
+use Rattle.spec_rules.specs.Lists.{In}
+use Rattle.spec_rules.specs.Store.{Chain, cell_cmp, chain_in}
+use Rattle.spec_rules.specs.Server.{Post, letters_of}
+use Rattle.spec_rules.specs.Clients.{Client, Reaction, client_sender}
+use Rattle.spec_rules.specs.World.{Setting, World, reacts, stamped, chosen_state, counted, kept}
+use Rattle.spec_rules.proofs.ListLemmas.{in-append}
+use Rattle.spec_history.specs.Contents.{content_where, has_content_where}
+use Rattle.spec_history.specs.Events.{open_write, write_asked, change_by, freezes, takes, makes, make_of, look_of}
+use Rattle.spec_history.specs.declared.record.Record.{Record}
 use Rattle.law_steps.specs.Operations.{done_to}
 use Rattle.law_steps.specs.Happens.{Heard}
 use Rattle.law_steps.specs.Turned.{Turned}
 use Rattle.law_steps.proofs.Letters.{said}
 use Rattle.law_steps.proofs.Sending.{is_ask, turned_asks}
-use Rattle.petal_rules.proofs.Tests.{true_false, all_put_apart}
+use Rattle.spec_rules.proofs.Tests.{true_false, all_put_apart}
 use Rattle.law_copies.specs.Pair.{owns_of}
 use Rattle.law_requests.specs.Asked.{IsOpen}
 use Rattle.law_requests.specs.Known.{Known, EndKnownAt, seen}

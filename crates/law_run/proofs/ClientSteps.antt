@@ -1,40 +1,40 @@
 -- What the machine is told of a client's step is allowed, and keeps it tied to the world.
 use Rattle.std.proofs.Common.{◌≡◌, ◌<◌, ◌+◌, ℕ, List, [], ◌∷◌, ◌++◌, Bool, true, false, Option, Some, None, refl, sym, ap}
 use Rattle.std.proofs.Common.{◌∙◌, subst, ◌⊎◌, inl, inr, arith, is_some}
-use Rattle.petal_state.specs.CellState.{cell_asked}
+use Rattle.spec_state.specs.CellState.{cell_asked}
 use Rattle.std.specs.List.{flat_map}
 use Rattle.std.specs.Prelude.{if◌then◌else◌, length}
-use Rattle.petal_machine.specs.declared.event.Event.{Event}
-use Rattle.petal_machine.specs.declared.event.Event.TheVariants.{Begin, End}
-use Rattle.petal_machine.specs.declared.event.Write.{Write}
-use Rattle.petal_machine.specs.declared.event.WriteEnd.{WriteEnd}
-use Rattle.petal_machine.specs.declared.event.WriteEnd.TheVariants as write_end
-use Rattle.petal_machine.specs.declared.state.Open.{Open}
-use Rattle.petal_machine.specs.Machine.{open_of}
-use Rattle.petal_machine.specs.Run.{Obeys, May, MayEnd, IsOpen as IsUnderWay, after, replay}
+use Rattle.spec_machine.specs.declared.event.Event.{Event}
+use Rattle.spec_machine.specs.declared.event.Event.TheVariants.{Begin, End}
+use Rattle.spec_machine.specs.declared.event.Write.{Write}
+use Rattle.spec_machine.specs.declared.event.WriteEnd.{WriteEnd}
+use Rattle.spec_machine.specs.declared.event.WriteEnd.TheVariants as write_end
+use Rattle.spec_machine.specs.declared.state.Open.{Open}
+use Rattle.spec_machine.specs.Machine.{open_of}
+use Rattle.spec_machine.specs.Run.{Obeys, May, MayEnd, IsOpen as IsUnderWay, after, replay}
 use Rattle.petal_msg.specs.declared.body.Body.TheVariants as body
 use Rattle.petal_msg.specs.declared.letter.Actor.TheVariants as actor
 use Rattle.petal_msg.specs.declared.operation.Ending.{Ending}
 use Rattle.petal_msg.specs.declared.operation.Ending.TheVariants as ending
 use Rattle.petal_command.specs.declared.command.Command.{Command}
-use Rattle.petal_state.specs.Command.{state_after}
-use Rattle.petal_state.specs.declared.answer.DiskView.{DiskView}
+use Rattle.spec_state.specs.Command.{state_after}
+use Rattle.spec_state.specs.declared.answer.DiskView.{DiskView}
 use Rattle.script_lines.specs.declared.answer.Answer.{Answer}
 use Rattle.script_lines.specs.declared.answer.Answer.TheVariants as answer
 use Rattle.script_lines.specs.declared.request.Line.{Line}
 use Rattle.script_lines.specs.declared.request.Request.{Request}
 use Rattle.script_lines.specs.declared.request.Request.TheVariants as request
-use Rattle.petal_rules.specs.State.{State, find, lead}
-use Rattle.petal_rules.specs.Writes.{ended}
-use Rattle.petal_rules.specs.Clients.{Client, Asked, Reaction, answers, Sight, is_read, is_write, command_of, refusal, write_refusal}
-use Rattle.petal_rules.specs.World.{World, reacts, next_line}
-use Rattle.petal_rules.proofs.ListLemmas.{put_same}
-use Rattle.petal_history.specs.Events as events
-use Rattle.petal_history.specs.Events.{open_write, write_asked, write_by, begun, end_by, end_of, change_by, freezes, takes, makes, looks, told_with}
+use Rattle.spec_rules.specs.State.{State, find, lead}
+use Rattle.spec_rules.specs.Writes.{ended}
+use Rattle.spec_rules.specs.Clients.{Client, Asked, Reaction, answers, Sight, is_read, is_write, command_of, refusal, write_refusal}
+use Rattle.spec_rules.specs.World.{World, reacts, next_line}
+use Rattle.spec_rules.proofs.ListLemmas.{put_same}
+use Rattle.spec_history.specs.Events as events
+use Rattle.spec_history.specs.Events.{open_write, write_asked, write_by, begun, end_by, end_of, change_by, freezes, takes, makes, looks, told_with}
 use Rattle.law_steps.specs.Happens.{Heard}
 use Rattle.law_steps.specs.Turned.{StaysOpen, IsCalled, OnlySays, IsReason, By_verdict, By_witness, IsJudged, Goes_on, Begins, Reads, Ends, Shown, Judges}
 use Rattle.law_steps.specs.Turned.{IsSeenAs, Stops_it, Stops_at, Fails_it, Starts_it, Blanks_it, Has_no_space, Is_settled, answer_of, Is_told}
-use Rattle.petal_rules.proofs.Tests.{by_bool, same_some, none_some}
+use Rattle.spec_rules.proofs.Tests.{by_bool, same_some, none_some}
 use Rattle.law_requests.specs.Asked.{IsOpen}
 use Rattle.law_run.specs.Onward.{held_in, is_held, Seat}
 use Rattle.law_run.specs.Follow.{Follow}

@@ -2,15 +2,15 @@
 use Rattle.std.proofs.Common.{◌≡◌, ◌<◌, ℕ, Bool, List, true, Some, sym, ap, ◌∙◌, subst, ◌⊎◌, inl, inr}
 use Rattle.global_tables.specs.Disk.{named}
 use Rattle.global_tables.specs.declared.disk.DiskRow.{DiskRow}
-use Rattle.petal_machine.specs.declared.event.Event.{Event}
-use Rattle.petal_machine.specs.declared.event.Write.{Write}
-use Rattle.petal_machine.specs.Machine.{Plain, content, disk_of, open_of}
-use Rattle.petal_machine.specs.Run.{IsOpen as IsUnderWay, Obeys, replay}
-use Rattle.petal_rules.specs.Lists.{In}
-use Rattle.petal_rules.specs.World.{chosen_state, counted}
-use Rattle.petal_rules.proofs.Tests.{none_some, same_some}
-use Rattle.petal_history.specs.Contents.{content_at, content_where, has_content_at, has_content_where}
-use Rattle.petal_history.specs.Events.{Change, change_by, before_step, blocks_in, had_content, open_write, takes}
+use Rattle.spec_machine.specs.declared.event.Event.{Event}
+use Rattle.spec_machine.specs.declared.event.Write.{Write}
+use Rattle.spec_machine.specs.Machine.{Plain, content, disk_of, open_of}
+use Rattle.spec_machine.specs.Run.{IsOpen as IsUnderWay, Obeys, replay}
+use Rattle.spec_rules.specs.Lists.{In}
+use Rattle.spec_rules.specs.World.{chosen_state, counted}
+use Rattle.spec_rules.proofs.Tests.{none_some, same_some}
+use Rattle.spec_history.specs.Contents.{content_at, content_where, has_content_at, has_content_where}
+use Rattle.spec_history.specs.Events.{Change, change_by, before_step, blocks_in, had_content, open_write, takes}
 use Rattle.law_run.specs.Onward.{held_in, Onward, Seat}
 use Rattle.law_run.specs.Follow.{Stores}
 use Rattle.law_run.proofs.Along.{rows_in, disks_now}

@@ -11,13 +11,13 @@ use Rattle.petal_msg.specs.Kinds.{about}
 use Rattle.petal_msg.specs.declared.body.Body.{Body}
 use Rattle.petal_msg.specs.declared.body.Body.TheVariants as body
 use Rattle.petal_msg.specs.declared.copying.LastCopy.{LastCopy}
-use Rattle.petal_history.specs.Claims.{IsPrefix}
-use Rattle.petal_rules.specs.Copies.{epochs_beyond}
-use Rattle.petal_rules.specs.Server.{Own}
-use Rattle.petal_rules.specs.State.{State, authority, id_of, live}
-use Rattle.petal_rules.specs.Store.{Chain}
-use Rattle.petal_rules.specs.World.{chosen_log, chosen_state, kept, server_state}
-use Rattle.petal_rules.proofs.Tests.{by_bool, none_some, same_numbers, same_some}
+use Rattle.spec_history.specs.Claims.{IsPrefix}
+use Rattle.spec_rules.specs.Copies.{epochs_beyond}
+use Rattle.spec_rules.specs.Server.{Own}
+use Rattle.spec_rules.specs.State.{State, authority, id_of, live}
+use Rattle.spec_rules.specs.Store.{Chain}
+use Rattle.spec_rules.specs.World.{chosen_log, chosen_state, kept, server_state}
+use Rattle.spec_rules.proofs.Tests.{by_bool, none_some, same_numbers, same_some}
 use Rattle.law_state.specs.Rows.{IsLater}
 use Rattle.law_state.specs.Started.{is_flagged}
 use Rattle.law_state.proofs.Caughts.{alone_by}

@@ -1,13 +1,13 @@
 -- The stores that count: each server's own, or the one from before its device was made blank.
 use Rattle.std.proofs.Common.{◌≡◌, ℕ, true, false, Option, Some, None, refl, ◌&&◌, not, Bool, ap, ◌∙◌}
-use Rattle.petal_rules.specs.World.{Setting, World, begins_to_leave, chain_that_counts, chosen_log, chosen_state, frozen_by}
-use Rattle.petal_rules.specs.State.{leaving}
-use Rattle.petal_state.specs.Command.{state_after}
+use Rattle.spec_rules.specs.World.{Setting, World, begins_to_leave, chain_that_counts, chosen_log, chosen_state, frozen_by}
+use Rattle.spec_rules.specs.State.{leaving}
+use Rattle.spec_state.specs.Command.{state_after}
 use Rattle.petal_base.specs.declared.cell.Cell.{Cell}
 use Rattle.std.specs.Prelude.{◌==◌, if◌then◌else◌}
-use Rattle.petal_rules.specs.Blanked.{BeforeBlank, kept_store}
-use Rattle.petal_rules.specs.Store.{Store}
-use Rattle.petal_rules.proofs.Tests.{by_test}
+use Rattle.spec_rules.specs.Blanked.{BeforeBlank, kept_store}
+use Rattle.spec_rules.specs.Store.{Store}
+use Rattle.spec_rules.proofs.Tests.{by_test}
 
 -- what is so of a server's store, and of the one from before its blank, is so of the one that counts
 pub of_kept : (So : Store → Type 0) (joins : ℕ) (before : Option BeforeBlank) (store : Store) → So store

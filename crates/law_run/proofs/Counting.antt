@@ -2,10 +2,10 @@
 use Rattle.std.proofs.Common.{◌≡◌, ◌==◌, ℕ, true, Some, sym, ap, ◌∙◌, inl, inr}
 use Rattle.petal_base.specs.declared.cell.Cell.{Cell}
 use Rattle.global_tables.specs.Link.{has_server}
-use Rattle.petal_state.specs.CellState.{serves}
-use Rattle.petal_rules.specs.State.{State, authority}
-use Rattle.petal_rules.specs.World.{Setting, World, chosen_state}
-use Rattle.petal_rules.proofs.Tests.{none_some, number_itself, same_some}
+use Rattle.spec_state.specs.CellState.{serves}
+use Rattle.spec_rules.specs.State.{State, authority}
+use Rattle.spec_rules.specs.World.{Setting, World, chosen_state}
+use Rattle.spec_rules.proofs.Tests.{none_some, number_itself, same_some}
 use Rattle.law_state.specs.Below.{IsServing}
 use Rattle.law_state.specs.Firm.{Firm}
 use Rattle.law_state.specs.Rows.{ByBoth, ByOne, ByNone}

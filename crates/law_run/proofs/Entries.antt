@@ -9,9 +9,9 @@ use Rattle.std.specs.Map.{lookup}
 use Rattle.std.specs.Ordering.{is_eq, match_ordering, nat_cmp}
 use Rattle.petal_table.specs.Table.{at, put}
 use Rattle.petal_table.proofs.Rows.{at_same}
-use Rattle.petal_rules.specs.Lists.{In}
-use Rattle.petal_rules.specs.Store.{Chain, Stored, entry_at, or_else, version_of}
-use Rattle.petal_rules.proofs.Tests.{none_some, same_some}
+use Rattle.spec_rules.specs.Lists.{In}
+use Rattle.spec_rules.specs.Store.{Chain, Stored, entry_at, or_else, version_of}
+use Rattle.spec_rules.proofs.Tests.{none_some, same_some}
 use Rattle.law_steps.specs.Ready.{IsRising}
 
 over : (a b : ℕ) → b < a → nat_le a b ≡ false

@@ -7,12 +7,12 @@ use Rattle.petal_command.specs.declared.command.Command.TheVariants.{Join}
 use Rattle.global_tables.specs.Link.{has_server, other_of}
 use Rattle.global_tables.specs.declared.link.LinkRow.{LinkRow}
 use Rattle.global_tables.specs.declared.link.LinkState.TheVariants.{Only}
-use Rattle.petal_state.specs.CellState.{serves}
-use Rattle.petal_history.specs.Claims.{IsPrefix}
-use Rattle.petal_rules.specs.Server.{Own}
-use Rattle.petal_rules.specs.State.{id_of}
-use Rattle.petal_rules.specs.World.{chosen_state}
-use Rattle.petal_rules.proofs.Tests.{true_false}
+use Rattle.spec_state.specs.CellState.{serves}
+use Rattle.spec_history.specs.Claims.{IsPrefix}
+use Rattle.spec_rules.specs.Server.{Own}
+use Rattle.spec_rules.specs.State.{id_of}
+use Rattle.spec_rules.specs.World.{chosen_state}
+use Rattle.spec_rules.proofs.Tests.{true_false}
 use Rattle.law_state.specs.Joins.{HasJoinedSince}
 use Rattle.law_state.specs.Places.{IsCaughtStill}
 use Rattle.law_state.specs.Plain.{IsPlainLog}

@@ -6,13 +6,13 @@ use Rattle.petal_base.specs.declared.cell.Cell.{Cell}
 use Rattle.petal_base.specs.declared.cell.Key.{Key}
 use Rattle.petal_table.specs.Table.{at}
 use Rattle.global_tables.specs.declared.disk.DiskRow.{DiskRow}
-use Rattle.petal_history.specs.Claims.{HasNewer, IsFilledFrom}
-use Rattle.petal_history.specs.Contents.{old_cell}
-use Rattle.petal_state.specs.CellState.{has_map, source}
-use Rattle.petal_rules.specs.Lists.{In}
-use Rattle.petal_rules.specs.State.{State, authority}
-use Rattle.petal_rules.specs.Store.{Chain, chain_in}
-use Rattle.petal_rules.specs.World.{chosen_log, chosen_state, kept}
+use Rattle.spec_history.specs.Claims.{HasNewer, IsFilledFrom}
+use Rattle.spec_history.specs.Contents.{old_cell}
+use Rattle.spec_state.specs.CellState.{has_map, source}
+use Rattle.spec_rules.specs.Lists.{In}
+use Rattle.spec_rules.specs.State.{State, authority}
+use Rattle.spec_rules.specs.Store.{Chain, chain_in}
+use Rattle.spec_rules.specs.World.{chosen_log, chosen_state, kept}
 use Rattle.law_state.specs.Below.{IsServing}
 use Rattle.law_state.specs.Homes.{stage_at}
 use Rattle.law_steps.specs.Ready.{IsRising}

@@ -5,19 +5,19 @@ use Rattle.std.specs.List.{flat_map, range_with_len}
 use Rattle.petal_base.specs.declared.cell.Cell.{Cell}
 use Rattle.petal_command.specs.declared.command.Command.{Command}
 use Rattle.petal_command.specs.declared.command.Command.TheVariants.{Caught}
-use Rattle.petal_paxos.specs.Chosen.{vote_place, chosen_from}
-use Rattle.petal_state.specs.Command.{state_after}
+use Rattle.spec_paxos.specs.Chosen.{vote_place, chosen_from}
+use Rattle.spec_state.specs.Command.{state_after}
 use Rattle.script_lines.specs.declared.script.Script.{Script}
-use Rattle.petal_rules.specs.Lists.{In}
-use Rattle.petal_rules.specs.State.{State, is_in}
-use Rattle.petal_rules.specs.Server.{Own}
-use Rattle.petal_rules.specs.World.{Setting, World, blank_joins_in, counted, start, setting_of}
-use Rattle.petal_rules.specs.World.{server_state, chosen_log, chosen_state, devices}
-use Rattle.petal_rules.proofs.Tests.{by_test, none_some, same_some}
-use Rattle.petal_history.specs.Claims.{IsPrefix}
-use Rattle.petal_history.specs.Steps.{Follows, AreSteps, stepped, world_after}
-use Rattle.petal_history.specs.Sound.{IsSound}
-use Rattle.petal_history.specs.declared.record.Record.{Record}
+use Rattle.spec_rules.specs.Lists.{In}
+use Rattle.spec_rules.specs.State.{State, is_in}
+use Rattle.spec_rules.specs.Server.{Own}
+use Rattle.spec_rules.specs.World.{Setting, World, blank_joins_in, counted, start, setting_of}
+use Rattle.spec_rules.specs.World.{server_state, chosen_log, chosen_state, devices}
+use Rattle.spec_rules.proofs.Tests.{by_test, none_some, same_some}
+use Rattle.spec_history.specs.Claims.{IsPrefix}
+use Rattle.spec_history.specs.Steps.{Follows, AreSteps, stepped, world_after}
+use Rattle.spec_history.specs.Sound.{IsSound}
+use Rattle.spec_history.specs.declared.record.Record.{Record}
 use Rattle.law_state.specs.Firm.{Firm}
 use Rattle.law_state.specs.Plain.{IsPlainLog}
 use Rattle.law_state.specs.Steady.{IsSteady}
@@ -28,8 +28,8 @@ use Rattle.law_steps.specs.Happens.{Happens}
 use Rattle.law_steps.specs.Ready.{Ready}
 use Rattle.law_steps.proofs.Histories.{rests_next, happens, world_more}
 use Rattle.law_steps.specs.Waking.{AllMayWake}
-use Rattle.law_stores.specs.Waiting.{IsOwn}
-use Rattle.law_stores.proofs.Histories.{in_counts, in_own}
+use Rattle.law_copies.specs.Waiting.{IsOwn}
+use Rattle.law_copies.proofs.StoreHistories.{in_counts, in_own}
 use Rattle.law_copies.specs.Good.{Good}
 use Rattle.law_copies.specs.Visits.{is_at, place_by}
 use Rattle.law_copies.proofs.Histories.{KeepsOn, start_good, start_visits, step_goes}

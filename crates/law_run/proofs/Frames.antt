@@ -6,30 +6,30 @@ use Rattle.global_tables.specs.declared.link.LinkState.TheVariants.{Both}
 use Rattle.petal_base.specs.declared.cell.Cell.{Cell}
 use Rattle.petal_table.specs.Table.{at}
 use Rattle.petal_table.proofs.Rows.{at-empty}
-use Rattle.petal_machine.specs.Machine.{Plain}
+use Rattle.spec_machine.specs.Machine.{Plain}
 use Rattle.petal_msg.specs.declared.body.Body.TheVariants as body
 use Rattle.petal_msg.specs.declared.letter.Actor.TheVariants as actor
 use Rattle.petal_msg.specs.declared.letter.Letter.{Letter}
 use Rattle.petal_msg.specs.declared.operation.Ending.TheVariants as ending
 use Rattle.petal_msg.specs.declared.operation.Finished.{Finished}
 use Rattle.petal_msg.specs.declared.operation.Pending.{Pending}
-use Rattle.petal_state.specs.CellState.{serves}
-use Rattle.petal_rules.specs.Lists.{In}
-use Rattle.petal_rules.specs.Log.{state_in}
-use Rattle.petal_rules.specs.State.{authority, in_both}
-use Rattle.petal_rules.specs.Store.{Chain, Store, cell_cmp, chain_in}
-use Rattle.petal_rules.specs.Server.{Own, Pairs, Server, no_pairs}
-use Rattle.petal_rules.specs.Writes.{is_clients}
-use Rattle.petal_rules.specs.World.{chosen_log, chosen_state, kept, server_state}
-use Rattle.petal_rules.proofs.ListLemmas.{in-append, put_same, put_apart}
-use Rattle.petal_rules.proofs.Tests.{none_some, same_or_apart, same_some}
-use Rattle.petal_history.specs.Claims.{IsPrefix}
-use Rattle.petal_history.specs.Events.{open_write}
+use Rattle.spec_state.specs.CellState.{serves}
+use Rattle.spec_rules.specs.Lists.{In}
+use Rattle.spec_rules.specs.Log.{state_in}
+use Rattle.spec_rules.specs.State.{authority, in_both}
+use Rattle.spec_rules.specs.Store.{Chain, Store, cell_cmp, chain_in}
+use Rattle.spec_rules.specs.Server.{Own, Pairs, Server, no_pairs}
+use Rattle.spec_rules.specs.Writes.{is_clients}
+use Rattle.spec_rules.specs.World.{chosen_log, chosen_state, kept, server_state}
+use Rattle.spec_rules.proofs.ListLemmas.{in-append, put_same, put_apart}
+use Rattle.spec_rules.proofs.Tests.{none_some, same_or_apart, same_some}
+use Rattle.spec_history.specs.Claims.{IsPrefix}
+use Rattle.spec_history.specs.Events.{open_write}
 use Rattle.law_state.proofs.Alone.{both_row, so_both}
 use Rattle.law_state.proofs.Roles.{secondary_is_one}
 use Rattle.law_steps.proofs.Fronts.{front_itself}
 use Rattle.law_steps.proofs.Histories.{own_steady}
-use Rattle.law_stores.specs.Waiting.{IsOwn}
+use Rattle.law_copies.specs.Waiting.{IsOwn}
 use Rattle.law_copies.specs.Pair.{owns_of}
 use Rattle.law_copies.specs.Visits.{IsLinked, place_by, AliveIn}
 use Rattle.law_copies.proofs.Places.{linked_between, one_row, places_up, rows_later}

@@ -10,16 +10,16 @@ use Rattle.std.proofs.Math.Seq.{drop-append_seam}
 use Rattle.global_tables.specs.Disk.{disk_at}
 use Rattle.global_tables.specs.declared.disk.DiskRow.{DiskRow}
 use Rattle.global_tables.specs.declared.disk.Snapshot.{Snapshot}
-use Rattle.petal_machine.specs.declared.event.Event.{Event}
-use Rattle.petal_machine.specs.declared.event.Event.TheVariants.{Begin, End, Freeze, Look, Make, Take}
-use Rattle.petal_machine.specs.declared.state.PlainDisk.{PlainDisk}
-use Rattle.petal_machine.specs.declared.state.PlainSnapshot.{PlainSnapshot}
-use Rattle.petal_machine.specs.Machine.{Plain, disk_of, is_named, same_bytes, with_disk}
-use Rattle.petal_machine.specs.Run.{Obeys, after, frozen, replay, written}
-use Rattle.petal_rules.specs.Lists.{In}
-use Rattle.petal_rules.proofs.Tests.{by_bool, nat_lists_same, true_false}
-use Rattle.petal_history.specs.Claims.{Holds}
-use Rattle.petal_history.specs.Events.{freeze_of, snapshots_of}
+use Rattle.spec_machine.specs.declared.event.Event.{Event}
+use Rattle.spec_machine.specs.declared.event.Event.TheVariants.{Begin, End, Freeze, Look, Make, Take}
+use Rattle.spec_machine.specs.declared.state.PlainDisk.{PlainDisk}
+use Rattle.spec_machine.specs.declared.state.PlainSnapshot.{PlainSnapshot}
+use Rattle.spec_machine.specs.Machine.{Plain, disk_of, is_named, same_bytes, with_disk}
+use Rattle.spec_machine.specs.Run.{Obeys, after, frozen, replay, written}
+use Rattle.spec_rules.specs.Lists.{In}
+use Rattle.spec_rules.proofs.Tests.{by_bool, nat_lists_same, true_false}
+use Rattle.spec_history.specs.Claims.{Holds}
+use Rattle.spec_history.specs.Events.{freeze_of, snapshots_of}
 use Rattle.law_state.specs.Tables.{IsRowAt}
 use Rattle.law_state.proofs.Places.{find_front, get_front, get_in, text_itself}
 use Rattle.law_run.specs.Onward.{IsMindful, Onward}

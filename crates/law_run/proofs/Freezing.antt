@@ -8,21 +8,21 @@ use Rattle.std.proofs.lemmas.Option.{slice_get_within}
 use Rattle.petal_base.specs.Block.{zero_block}
 use Rattle.global_tables.specs.Disk.{disk_at, is_disk, named, same_name}
 use Rattle.petal_base.specs.declared.cell.Cell.{Cell}
-use Rattle.petal_state.specs.CellState.{has_map, named_cell}
+use Rattle.spec_state.specs.CellState.{has_map, named_cell}
 use Rattle.global_tables.specs.declared.disk.DiskRow.{DiskRow}
 use Rattle.global_tables.specs.declared.disk.Snapshot.{Snapshot}
-use Rattle.petal_machine.specs.declared.event.Event.{Event}
-use Rattle.petal_machine.specs.Machine.{Plain, disk_of}
-use Rattle.petal_machine.specs.Run.{Obeys, replay}
-use Rattle.petal_rules.specs.Lists.{In}
-use Rattle.petal_rules.specs.State.{State, authority}
-use Rattle.petal_rules.specs.Store.{Chain, Stored, bytes_of, chain_in, entry_at}
-use Rattle.petal_rules.specs.World.{chosen_state, counted, kept}
-use Rattle.petal_rules.proofs.ListLemmas.{in-append, in_former, in_later}
-use Rattle.petal_rules.proofs.Tests.{by_bool, nat_lists_same, same_numbers, some_or_none, same_some}
-use Rattle.petal_history.specs.Claims.{AreSnapshots, Holds}
-use Rattle.petal_history.specs.Contents.{content_at, entry_before, entry_by, entry_of, first_entry, has_content_at, old_cell}
-use Rattle.petal_history.specs.Events.{make_of, snapshots_of, told_with}
+use Rattle.spec_machine.specs.declared.event.Event.{Event}
+use Rattle.spec_machine.specs.Machine.{Plain, disk_of}
+use Rattle.spec_machine.specs.Run.{Obeys, replay}
+use Rattle.spec_rules.specs.Lists.{In}
+use Rattle.spec_rules.specs.State.{State, authority}
+use Rattle.spec_rules.specs.Store.{Chain, Stored, bytes_of, chain_in, entry_at}
+use Rattle.spec_rules.specs.World.{chosen_state, counted, kept}
+use Rattle.spec_rules.proofs.ListLemmas.{in-append, in_former, in_later}
+use Rattle.spec_rules.proofs.Tests.{by_bool, nat_lists_same, same_numbers, some_or_none, same_some}
+use Rattle.spec_history.specs.Claims.{AreSnapshots, Holds}
+use Rattle.spec_history.specs.Contents.{content_at, entry_before, entry_by, entry_of, first_entry, has_content_at, old_cell}
+use Rattle.spec_history.specs.Events.{make_of, snapshots_of, told_with}
 use Rattle.law_state.specs.Disks.{AreDisks}
 use Rattle.law_state.specs.Homes.{epoch_at, stage_at}
 use Rattle.law_state.specs.Tables.{IsLaterDisk, IsPlainState}

@@ -8,14 +8,14 @@ use Rattle.petal_command.specs.declared.command.Command.TheVariants.{Join, Leave
 use Rattle.global_tables.specs.Link.{blanked_state, has_server, other_of, row_blanked}
 use Rattle.global_tables.specs.declared.link.LinkRow.{LinkRow}
 use Rattle.global_tables.specs.declared.link.LinkState.TheVariants.{Lost, Only}
-use Rattle.petal_state.specs.CellState.{cell_link, serves}
-use Rattle.petal_state.specs.Command.{after, state_after}
-use Rattle.petal_state.specs.Place.{touches}
-use Rattle.petal_state.specs.State.{start}
-use Rattle.petal_rules.specs.Blanked.{blank_joins_from}
-use Rattle.petal_rules.specs.State.{State}
-use Rattle.petal_rules.proofs.Tests.{by_bool, none_some, same_or_apart}
-use Rattle.petal_history.specs.Claims.{IsPrefix}
+use Rattle.spec_state.specs.CellState.{cell_link, serves}
+use Rattle.spec_state.specs.Command.{after, state_after}
+use Rattle.spec_state.specs.Place.{touches}
+use Rattle.spec_state.specs.State.{start}
+use Rattle.spec_rules.specs.Blanked.{blank_joins_from}
+use Rattle.spec_rules.specs.State.{State}
+use Rattle.spec_rules.proofs.Tests.{by_bool, none_some, same_or_apart}
+use Rattle.spec_history.specs.Claims.{IsPrefix}
 use Rattle.law_state.specs.Below.{HasLater}
 use Rattle.law_state.specs.Joins.{HasJoinedSince}
 use Rattle.law_state.specs.Places.{By_leave, By_join, By_caught, IsCaughtStill, row_joined}
@@ -26,7 +26,7 @@ use Rattle.law_state.proofs.Grown.{one_before}
 use Rattle.law_state.proofs.Steady.{front_plain, log_below, log_steady}
 use Rattle.law_state.proofs.Touching.{log_touched}
 use Rattle.law_steps.proofs.Fronts.{front_more, front_on}
-use Rattle.law_stores.proofs.Counts.{joined_where}
+use Rattle.law_copies.proofs.EmptyJoins.{joined_where}
 
 -- ### Where it joined
 

@@ -1,7 +1,7 @@
 -- What a job of a cell's first server, or of its only one, leaves pending and finished: the write of what is put where it counts, or is closed,
 -- has had its bytes.
 use Rattle.std.proofs.Common.{◌≡◌, ◌≢◌, ◌≤◌, ◌+◌, ℕ, Bool, true, false, Some, refl, sym, ap, ◌∙◌, subst, inl, inr, Option, None}
-use Rattle.petal_rules.specs.Fills.{fill_operation}
+use Rattle.spec_rules.specs.Fills.{fill_operation}
 use Rattle.petal_msg.specs.declared.operation.OpKind.TheVariants as kind
 use Rattle.petal_msg.specs.declared.operation.OpKind.{OpKind}
 use Rattle.std.specs.Ordering.{nat_cmp}
@@ -12,20 +12,20 @@ use Rattle.petal_base.specs.declared.cell.Key.{Key}
 use Rattle.petal_base.specs.Cells.{cell_of}
 use Rattle.petal_table.specs.Table.{Table, at, put}
 use Rattle.petal_table.proofs.Rows.{at_same, at_apart}
-use Rattle.petal_machine.specs.Machine.{Plain}
+use Rattle.spec_machine.specs.Machine.{Plain}
 use Rattle.petal_msg.specs.declared.body.Body.TheVariants as body
 use Rattle.petal_msg.specs.declared.operation.Ending.{Ending}
 use Rattle.petal_msg.specs.declared.operation.Ending.TheVariants as ending
 use Rattle.petal_msg.specs.declared.operation.Finished.{Finished}
 use Rattle.petal_msg.specs.declared.operation.Pending.{Pending}
 use Rattle.petal_msg.specs.declared.operation.Stage.{Stage}
-use Rattle.petal_rules.specs.State.{authority, in_both, is_alone_on}
-use Rattle.petal_rules.specs.Store.{Chain, Store, Stored, cell_cmp, chain_in, chains_with, version_of}
-use Rattle.petal_rules.specs.Server.{Own, Done}
-use Rattle.petal_rules.specs.Writes.{operation, puts, with_reserved, with_paired, with_mark_at, is_clients, gives_back, ends, without_pending}
-use Rattle.petal_rules.specs.World.{chosen_state, kept}
-use Rattle.petal_rules.proofs.CellTables.{cell_same, cell_apart}
-use Rattle.petal_rules.proofs.Tests.{same_or_apart, same_some, true_false}
+use Rattle.spec_rules.specs.State.{authority, in_both, is_alone_on}
+use Rattle.spec_rules.specs.Store.{Chain, Store, Stored, cell_cmp, chain_in, chains_with, version_of}
+use Rattle.spec_rules.specs.Server.{Own, Done}
+use Rattle.spec_rules.specs.Writes.{operation, puts, with_reserved, with_paired, with_mark_at, is_clients, gives_back, ends, without_pending}
+use Rattle.spec_rules.specs.World.{chosen_state, kept}
+use Rattle.spec_rules.proofs.CellTables.{cell_same, cell_apart}
+use Rattle.spec_rules.proofs.Tests.{same_or_apart, same_some, true_false}
 use Rattle.law_state.proofs.Alone.{alone_not_both, so_both}
 use Rattle.law_state.proofs.Roles.{secondary_is_one}
 use Rattle.law_steps.specs.Operations.{answering, putting}

@@ -1,16 +1,16 @@
 -- What a step leaves of a server: its operations, its entries, or both.
 use Rattle.std.proofs.Common.{◌≡◌, ◌<◌, ℕ, [], true, refl, sym, ap, ◌∙◌, subst, inl, inr, arith}
-use Rattle.petal_state.specs.Command.{state_after}
-use Rattle.petal_rules.specs.Boots.{blanked}
-use Rattle.petal_rules.specs.Crossing.{crossed}
-use Rattle.petal_rules.specs.Jobs.{Acted}
-use Rattle.petal_rules.specs.Log.{Log, state_in}
-use Rattle.petal_rules.specs.Server.{Own, Pairs, Server, Done, no_pairs, stopped}
-use Rattle.petal_rules.specs.State.{State, is_in}
-use Rattle.petal_rules.specs.World.{Setting, World, server_state}
-use Rattle.petal_rules.specs.declared.step.Step.{Step}
-use Rattle.petal_rules.proofs.Settled.{settling}
-use Rattle.petal_rules.proofs.Tests.{all_put_apart}
+use Rattle.spec_state.specs.Command.{state_after}
+use Rattle.spec_rules.specs.Boots.{blanked}
+use Rattle.spec_rules.specs.Crossing.{crossed}
+use Rattle.spec_rules.specs.Jobs.{Acted}
+use Rattle.spec_rules.specs.Log.{Log, state_in}
+use Rattle.spec_rules.specs.Server.{Own, Pairs, Server, Done, no_pairs, stopped}
+use Rattle.spec_rules.specs.State.{State, is_in}
+use Rattle.spec_rules.specs.World.{Setting, World, server_state}
+use Rattle.spec_rules.specs.declared.step.Step.{Step}
+use Rattle.spec_rules.proofs.Settled.{settling}
+use Rattle.spec_rules.proofs.Tests.{all_put_apart}
 use Rattle.law_steps.specs.Happens.{served, Happens, Serves, Blanks, Turns, Serving, Goes, Ends, Stays, Wakes, Fails, Worked}
 use Rattle.law_steps.specs.Happens.{By_job, By_ballot, By_entry, own_place}
 use Rattle.law_requests.proofs.Stepping.{proposed_pairs}

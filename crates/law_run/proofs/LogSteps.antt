@@ -5,24 +5,24 @@ use Rattle.petal_command.specs.declared.command.Command.{Command}
 use Rattle.petal_msg.specs.Kinds.{subject_of}
 use Rattle.petal_msg.specs.declared.letter.Actor.TheVariants as actor
 use Rattle.petal_msg.specs.declared.letter.Letter.{Letter}
-use Rattle.petal_rules.specs.Ballots.{first_wanted, starts}
-use Rattle.petal_rules.specs.Boots.{awake, boots, raised, stays, wakes}
-use Rattle.petal_rules.specs.Entries.{applies}
-use Rattle.petal_rules.specs.Lists.{In}
-use Rattle.petal_rules.specs.Log.{LogDone, known, next_place, rev_of}
-use Rattle.petal_rules.specs.Server.{Server, Here, Sender, letters_of, no_pairs, sender}
-use Rattle.petal_rules.specs.State.{State, servers_of}
-use Rattle.petal_rules.specs.Jobs.{Acted, here_of, works, job_done, crossing, entered, worked, stops, is_overfull, is_log_job}
-use Rattle.petal_rules.specs.Jobs.{voter_of, wanted_by, does, log_does, down_posts}
-use Rattle.petal_rules.specs.World.{server_step, stamped}
-use Rattle.petal_rules.specs.declared.job.Job.{Job}
-use Rattle.petal_rules.specs.declared.job.Job.TheVariants as job
-use Rattle.petal_rules.specs.declared.step.CommitEnd.TheVariants.{Before, After}
-use Rattle.petal_rules.specs.declared.step.Step.{Step}
-use Rattle.petal_rules.specs.declared.step.Step.TheVariants.{Deliver, Work, StopIn, Boot}
-use Rattle.petal_rules.specs.declared.step.WorkEnd.{WorkEnd}
-use Rattle.petal_rules.specs.declared.step.WorkEnd.TheVariants as work_end
-use Rattle.petal_rules.proofs.Tests.{by_test}
+use Rattle.spec_rules.specs.Ballots.{first_wanted, starts}
+use Rattle.spec_rules.specs.Boots.{awake, boots, raised, stays, wakes}
+use Rattle.spec_rules.specs.Entries.{applies}
+use Rattle.spec_rules.specs.Lists.{In}
+use Rattle.spec_rules.specs.Log.{LogDone, known, next_place, rev_of}
+use Rattle.spec_rules.specs.Server.{Server, Here, Sender, letters_of, no_pairs, sender}
+use Rattle.spec_rules.specs.State.{State, servers_of}
+use Rattle.spec_rules.specs.Jobs.{Acted, here_of, works, job_done, crossing, entered, worked, stops, is_overfull, is_log_job}
+use Rattle.spec_rules.specs.Jobs.{voter_of, wanted_by, does, log_does, down_posts}
+use Rattle.spec_rules.specs.World.{server_step, stamped}
+use Rattle.spec_rules.specs.declared.job.Job.{Job}
+use Rattle.spec_rules.specs.declared.job.Job.TheVariants as job
+use Rattle.spec_rules.specs.declared.step.CommitEnd.TheVariants.{Before, After}
+use Rattle.spec_rules.specs.declared.step.Step.{Step}
+use Rattle.spec_rules.specs.declared.step.Step.TheVariants.{Deliver, Work, StopIn, Boot}
+use Rattle.spec_rules.specs.declared.step.WorkEnd.{WorkEnd}
+use Rattle.spec_rules.specs.declared.step.WorkEnd.TheVariants as work_end
+use Rattle.spec_rules.proofs.Tests.{by_test}
 use Rattle.law_steps.specs.Happens.{without_rev}
 use Rattle.law_steps.proofs.LogJobs.{LogFrame, letter_frame_of, start_frame_of, applied_entry, applied_none}
 use Rattle.law_requests.proofs.Stepping.{proposed_pairs}

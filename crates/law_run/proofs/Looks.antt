@@ -1,12 +1,12 @@
 -- A read looks where its data are sent: whoever accepts them later had asked for this.
-use Rattle.petal_history.specs.Claims.{IsPrefix}
-use Rattle.petal_rules.specs.World.{chosen_log, Setting, World, step, client_state, MayActor}
+use Rattle.spec_history.specs.Claims.{IsPrefix}
+use Rattle.spec_rules.specs.World.{chosen_log, Setting, World, step, client_state, MayActor}
 use Rattle.std.proofs.Common.{◌≡◌, ◌==◌, ◌&&◌, ℕ, zero, suc, List, [], ◌∷◌, Bool, true, false, Option, Some, None, refl, sym, ap, ◌∙◌, subst, ◌⊎◌, inl, inr}
 use Rattle.std.specs.Prelude.{slice_get, if◌then◌else◌}
-use Rattle.petal_machine.specs.declared.event.Event.{Event}
-use Rattle.petal_machine.specs.declared.event.Event.TheVariants.{Look}
-use Rattle.petal_machine.specs.Machine.{Plain}
-use Rattle.petal_machine.specs.Run.{MayLook, Obeys, after, replay}
+use Rattle.spec_machine.specs.declared.event.Event.{Event}
+use Rattle.spec_machine.specs.declared.event.Event.TheVariants.{Look}
+use Rattle.spec_machine.specs.Machine.{Plain}
+use Rattle.spec_machine.specs.Run.{MayLook, Obeys, after, replay}
 use Rattle.petal_msg.specs.declared.body.Body.{Body}
 use Rattle.petal_msg.specs.declared.body.Body.TheVariants as body
 use Rattle.petal_msg.specs.declared.letter.Actor.{Actor}
@@ -16,17 +16,17 @@ use Rattle.script_lines.specs.declared.answer.Answer.TheVariants as answer
 use Rattle.script_lines.specs.declared.request.Line.{Line}
 use Rattle.script_lines.specs.declared.request.Request.{Request}
 use Rattle.script_lines.specs.declared.request.Request.TheVariants as request
-use Rattle.petal_rules.specs.Lists.{In}
-use Rattle.petal_rules.specs.State.{State}
-use Rattle.petal_rules.specs.Clients.{Client, Asked, heard, hears, hears_any, hears_of, counts, is_read}
-use Rattle.petal_rules.specs.declared.step.Step.{Step}
-use Rattle.petal_rules.specs.declared.step.Step.TheVariants.{Deliver}
-use Rattle.petal_rules.proofs.ListLemmas.{in_later, in-append}
-use Rattle.petal_history.specs.Events.{accepted, accepts, data_line, first_of, same_name, look_by, look_for, look_of}
-use Rattle.petal_history.specs.Steps.{AreStepsFrom, stepped}
-use Rattle.petal_history.specs.declared.record.Record.{Record}
+use Rattle.spec_rules.specs.Lists.{In}
+use Rattle.spec_rules.specs.State.{State}
+use Rattle.spec_rules.specs.Clients.{Client, Asked, heard, hears, hears_any, hears_of, counts, is_read}
+use Rattle.spec_rules.specs.declared.step.Step.{Step}
+use Rattle.spec_rules.specs.declared.step.Step.TheVariants.{Deliver}
+use Rattle.spec_rules.proofs.ListLemmas.{in_later, in-append}
+use Rattle.spec_history.specs.Events.{accepted, accepts, data_line, first_of, same_name, look_by, look_for, look_of}
+use Rattle.spec_history.specs.Steps.{AreStepsFrom, stepped}
+use Rattle.spec_history.specs.declared.record.Record.{Record}
 use Rattle.law_steps.specs.Turned.{line_by}
-use Rattle.petal_rules.proofs.Tests.{by_test, by_bool, both_true, same_some, none_some, same_numbers, true_false}
+use Rattle.spec_rules.proofs.Tests.{by_test, by_bool, both_true, same_some, none_some, same_numbers, true_false}
 use Rattle.law_run.specs.Onward.{IsMindful, Onward}
 use Rattle.law_run.specs.Follow.{Ground}
 use Rattle.law_run.proofs.Machine.{disks_after, after_mindful, look_onward, onward_itself, onward_joined}
@@ -110,11 +110,11 @@ module _ (setting : Setting) (state : State) where
       let tests = both_true (counts asked rev seq) (is_read asked.request) t in
       let same = both_true (seq == asked.seq) (rev == asked.rev) tests.0 in
       let given : Some asked.line ≡ Some number =
-      sym (ap (λ b. data_line (if b then Rattle.petal_rules.specs.Clients.answers client asked
-      (answer.Data bytes) else Rattle.petal_rules.specs.Clients.rests client).answer) t) ∙ e in
+      sym (ap (λ b. data_line (if b then Rattle.spec_rules.specs.Clients.answers client asked
+      (answer.Data bytes) else Rattle.spec_rules.specs.Clients.rests client).answer) t) ∙ e in
       (same_numbers seq asked.seq same.0, same_some given))
-      (λ f. none_some (ap (λ b. data_line (if b then Rattle.petal_rules.specs.Clients.answers client asked
-      (answer.Data bytes) else Rattle.petal_rules.specs.Clients.rests client).answer) f) e)
+      (λ f. none_some (ap (λ b. data_line (if b then Rattle.spec_rules.specs.Clients.answers client asked
+      (answer.Data bytes) else Rattle.spec_rules.specs.Clients.rests client).answer) f) e)
 
   open_accepts : (w : World) → Ground setting state w → (own : State) (letter : Letter) (seq : ℕ) (bytes : List ℕ) (number c : ℕ) (o : Option Asked)
       → (w.clients c).asked ≡ o → letter.to ≡ actor.Client c → letter.body ≡ body.Data seq bytes

@@ -10,17 +10,17 @@ use Rattle.petal_base.specs.Block.{zero_block}
 use Rattle.petal_table.specs.Table.{Table, put}
 use Rattle.petal_table.proofs.Rows.{at_same, at_apart}
 use Rattle.global_tables.specs.declared.disk.DiskRow.{DiskRow}
-use Rattle.petal_machine.specs.declared.event.Event.{Event}
-use Rattle.petal_machine.specs.declared.event.Event.TheVariants.{Make, Begin, Take, End, Look}
-use Rattle.petal_machine.specs.declared.event.Write.{Write}
-use Rattle.petal_machine.specs.declared.event.WriteEnd.{WriteEnd}
-use Rattle.petal_machine.specs.declared.state.PlainDisk.{PlainDisk}
-use Rattle.petal_machine.specs.declared.state.Open.{Open}
-use Rattle.petal_machine.specs.Machine.{Plain, same_bytes, is_named, content, disk_of, open_of, is_of, but_of, stands, has_content, remembers, with_disk}
-use Rattle.petal_machine.specs.Run.{IsOpen, Obeys, after, changed, written, replay}
-use Rattle.petal_rules.specs.Lists.{In}
-use Rattle.petal_rules.proofs.Tests.{by_bool, same_or_apart, same_some, none_some, some_or_none, same_numbers, number_itself, nat_lists_same, true_false}
-use Rattle.petal_history.specs.Claims.{AreSnapshots, Holds}
+use Rattle.spec_machine.specs.declared.event.Event.{Event}
+use Rattle.spec_machine.specs.declared.event.Event.TheVariants.{Make, Begin, Take, End, Look}
+use Rattle.spec_machine.specs.declared.event.Write.{Write}
+use Rattle.spec_machine.specs.declared.event.WriteEnd.{WriteEnd}
+use Rattle.spec_machine.specs.declared.state.PlainDisk.{PlainDisk}
+use Rattle.spec_machine.specs.declared.state.Open.{Open}
+use Rattle.spec_machine.specs.Machine.{Plain, same_bytes, is_named, content, disk_of, open_of, is_of, but_of, stands, has_content, remembers, with_disk}
+use Rattle.spec_machine.specs.Run.{IsOpen, Obeys, after, changed, written, replay}
+use Rattle.spec_rules.specs.Lists.{In}
+use Rattle.spec_rules.proofs.Tests.{by_bool, same_or_apart, same_some, none_some, some_or_none, same_numbers, number_itself, nat_lists_same, true_false}
+use Rattle.spec_history.specs.Claims.{AreSnapshots, Holds}
 use Rattle.law_run.specs.Onward.{IsMindful, held_in, Onward, Seat}
 
 pub Obeys-append : (m : Plain) (es fs : List Event) → Obeys m es → Obeys (replay m es) fs → Obeys m (es ++ fs)

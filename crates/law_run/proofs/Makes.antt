@@ -7,17 +7,17 @@ use Rattle.petal_base.specs.Block.{zero_block}
 use Rattle.petal_table.proofs.Rows.{at-empty}
 use Rattle.global_tables.specs.Disk.{named, same_name}
 use Rattle.global_tables.specs.declared.disk.DiskRow.{DiskRow}
-use Rattle.petal_machine.specs.declared.event.Event.{Event}
-use Rattle.petal_machine.specs.declared.event.Event.TheVariants.{Make}
-use Rattle.petal_machine.specs.Machine.{Plain, content}
-use Rattle.petal_machine.specs.Run.{Obeys, after, replay}
-use Rattle.petal_rules.specs.Lists.{In}
-use Rattle.petal_rules.specs.World.{Setting, World}
-use Rattle.petal_rules.proofs.ListLemmas.{in-append}
-use Rattle.petal_rules.proofs.Tests.{by_bool, none_some, some_or_none, true_false}
-use Rattle.petal_history.specs.Claims.{AreSnapshots, Holds}
-use Rattle.petal_history.specs.Contents.{content_at, has_content_at}
-use Rattle.petal_history.specs.Events.{make_of}
+use Rattle.spec_machine.specs.declared.event.Event.{Event}
+use Rattle.spec_machine.specs.declared.event.Event.TheVariants.{Make}
+use Rattle.spec_machine.specs.Machine.{Plain, content}
+use Rattle.spec_machine.specs.Run.{Obeys, after, replay}
+use Rattle.spec_rules.specs.Lists.{In}
+use Rattle.spec_rules.specs.World.{Setting, World}
+use Rattle.spec_rules.proofs.ListLemmas.{in-append}
+use Rattle.spec_rules.proofs.Tests.{by_bool, none_some, some_or_none, true_false}
+use Rattle.spec_history.specs.Claims.{AreSnapshots, Holds}
+use Rattle.spec_history.specs.Contents.{content_at, has_content_at}
+use Rattle.spec_history.specs.Events.{make_of}
 use Rattle.law_state.proofs.Rows.{AreFresh}
 use Rattle.law_state.proofs.Places.{find_front, find_after, get_in, none_find, text_itself}
 use Rattle.law_run.specs.Onward.{Onward}

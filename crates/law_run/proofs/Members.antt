@@ -11,9 +11,9 @@ use Rattle.std.specs.BTreeMap.{is_at}
 use Rattle.std.specs.Map.{lookup}
 use Rattle.petal_table.specs.Table.{Table, at, put}
 use Rattle.petal_table.proofs.Rows.{at_same, at_apart}
-use Rattle.petal_rules.specs.Lists.{In}
-use Rattle.petal_rules.proofs.ListLemmas.{in_former, in_later}
-use Rattle.petal_rules.proofs.Tests.{none_some, same_or_apart}
+use Rattle.spec_rules.specs.Lists.{In}
+use Rattle.spec_rules.proofs.ListLemmas.{in_former, in_later}
+use Rattle.spec_rules.proofs.Tests.{none_some, same_or_apart}
 
 pub into_map : {A B : Type 0} (f : A → B) (xs : List A) (x : A) → In x xs → In (f x) (map f xs)
 unfolding In

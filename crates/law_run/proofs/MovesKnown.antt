@@ -10,21 +10,21 @@ use Rattle.petal_command.specs.declared.command.Command.TheVariants.{Drained}
 use Rattle.petal_msg.specs.declared.letter.Actor.{Actor}
 use Rattle.petal_msg.specs.declared.letter.Actor.TheVariants as actor
 use Rattle.petal_msg.specs.declared.operation.Pending.{Pending}
-use Rattle.petal_state.specs.Command.{state_after}
+use Rattle.spec_state.specs.Command.{state_after}
 use Rattle.petal_table.specs.Table.{at}
 use Rattle.law_steps.specs.Ready.{IsRising}
 use Rattle.script_lines.specs.declared.script.Script.{Script}
-use Rattle.petal_rules.specs.Reads.{is_all_held}
-use Rattle.petal_rules.specs.Server.{Pairs}
-use Rattle.petal_rules.specs.State.{State, held, is_in, authority}
-use Rattle.petal_rules.specs.Store.{Chain, cell_cmp, chain_in}
-use Rattle.petal_rules.specs.World.{Setting, World, begins_to_leave, chain_that_counts, chosen_log, chosen_state, kept, server_state, setting_of, start, step}
-use Rattle.petal_rules.specs.declared.step.Step.{Step}
-use Rattle.petal_rules.proofs.Tests.{none_some, same_some, true_false}
-use Rattle.petal_history.specs.Claims.{IsPrefix}
-use Rattle.petal_history.specs.Steps.{AreSteps, stepped}
-use Rattle.petal_history.specs.Sound.{IsSound}
-use Rattle.petal_history.specs.declared.record.Record.{Record}
+use Rattle.spec_rules.specs.Reads.{is_all_held}
+use Rattle.spec_rules.specs.Server.{Pairs}
+use Rattle.spec_rules.specs.State.{State, held, is_in, authority}
+use Rattle.spec_rules.specs.Store.{Chain, cell_cmp, chain_in}
+use Rattle.spec_rules.specs.World.{Setting, World, begins_to_leave, chain_that_counts, chosen_log, chosen_state, kept, server_state, setting_of, start, step}
+use Rattle.spec_rules.specs.declared.step.Step.{Step}
+use Rattle.spec_rules.proofs.Tests.{none_some, same_some, true_false}
+use Rattle.spec_history.specs.Claims.{IsPrefix}
+use Rattle.spec_history.specs.Steps.{AreSteps, stepped}
+use Rattle.spec_history.specs.Sound.{IsSound}
+use Rattle.spec_history.specs.declared.record.Record.{Record}
 use Rattle.law_log.proofs.Histories.{history_is_firm}
 use Rattle.law_state.specs.Firm.{Firm}
 use Rattle.law_state.specs.Homes.{stage_at}

@@ -8,15 +8,15 @@ use Rattle.global_tables.specs.declared.disk.DiskRow.{DiskRow}
 use Rattle.global_tables.specs.declared.disk.Move.{Move}
 use Rattle.global_tables.specs.declared.disk.RegionState.{RegionState}
 use Rattle.global_tables.specs.declared.disk.RegionState.TheVariants.{Old, Fenced, New}
-use Rattle.petal_state.specs.CellState.{cell_asked, has_map, is_fenced, map_asked, move_region, named_cell, named_map, old_map}
-use Rattle.petal_state.specs.CellState.{read_cell, read_map, region_at, view_of}
-use Rattle.petal_state.specs.State.{leaves}
-use Rattle.petal_state.specs.declared.answer.DiskView.{DiskView}
-use Rattle.petal_rules.specs.State.{State, authority}
-use Rattle.petal_rules.specs.Store.{Stored}
-use Rattle.petal_rules.specs.World.{World}
-use Rattle.petal_rules.proofs.Tests.{by_bool, number_itself, same_numbers, true_false}
-use Rattle.petal_history.specs.Contents.{entry_at_home, entry_before, entry_of, first_entry, has_at_home, home_of, old_cell}
+use Rattle.spec_state.specs.CellState.{cell_asked, has_map, is_fenced, map_asked, move_region, named_cell, named_map, old_map}
+use Rattle.spec_state.specs.CellState.{read_cell, read_map, region_at, view_of}
+use Rattle.spec_state.specs.State.{leaves}
+use Rattle.spec_state.specs.declared.answer.DiskView.{DiskView}
+use Rattle.spec_rules.specs.State.{State, authority}
+use Rattle.spec_rules.specs.Store.{Stored}
+use Rattle.spec_rules.specs.World.{World}
+use Rattle.spec_rules.proofs.Tests.{by_bool, number_itself, same_numbers, true_false}
+use Rattle.spec_history.specs.Contents.{entry_at_home, entry_before, entry_of, first_entry, has_at_home, home_of, old_cell}
 use Rattle.law_state.specs.Homes.{new_stage, old_stage, stage_under}
 
 -- ### Contents

@@ -4,22 +4,22 @@ use Rattle.petal_msg.specs.declared.letter.Actor.{Actor}
 use Rattle.petal_msg.specs.declared.letter.Actor.TheVariants as actor
 use Rattle.petal_msg.specs.declared.letter.Letter.{Letter}
 use Rattle.script_lines.specs.declared.script.Script.{Script}
-use Rattle.petal_rules.specs.Boots.{awake, blanked, raised, stays, wakes}
-use Rattle.petal_rules.specs.Log.{rev_of}
-use Rattle.petal_rules.specs.Lists.{In}
-use Rattle.petal_rules.specs.State.{State}
-use Rattle.petal_rules.specs.Server.{Post, Sender, letters_of, sender}
-use Rattle.petal_rules.specs.Clients.{client_sender}
-use Rattle.petal_rules.specs.Jobs.{Acted}
-use Rattle.petal_rules.specs.World.{Setting, World, stamped, clock_of, start, setting_of, acts, reacts}
-use Rattle.petal_rules.specs.declared.step.Step.{Step}
-use Rattle.petal_rules.specs.declared.step.Step.TheVariants.{Blank}
-use Rattle.petal_rules.proofs.ListLemmas.{in-append, put_same}
-use Rattle.petal_history.specs.Events.{same_actor, same_name}
+use Rattle.spec_rules.specs.Boots.{awake, blanked, raised, stays, wakes}
+use Rattle.spec_rules.specs.Log.{rev_of}
+use Rattle.spec_rules.specs.Lists.{In}
+use Rattle.spec_rules.specs.State.{State}
+use Rattle.spec_rules.specs.Server.{Post, Sender, letters_of, sender}
+use Rattle.spec_rules.specs.Clients.{client_sender}
+use Rattle.spec_rules.specs.Jobs.{Acted}
+use Rattle.spec_rules.specs.World.{Setting, World, stamped, clock_of, start, setting_of, acts, reacts}
+use Rattle.spec_rules.specs.declared.step.Step.{Step}
+use Rattle.spec_rules.specs.declared.step.Step.TheVariants.{Blank}
+use Rattle.spec_rules.proofs.ListLemmas.{in-append, put_same}
+use Rattle.spec_history.specs.Events.{same_actor, same_name}
 use Rattle.law_steps.specs.Happens.{Happens, Serves, Blanks, Turns, Serving, Goes, Ends, Stays, Wakes, Fails, served_so}
 use Rattle.law_steps.specs.Happens.{stopped_so, shown_so, without_rev, own_place}
 use Rattle.law_steps.proofs.Letters.{said}
-use Rattle.petal_rules.proofs.Tests.{both_true, same_numbers, all_put}
+use Rattle.spec_rules.proofs.Tests.{both_true, same_numbers, all_put}
 use Rattle.law_run.specs.Follow.{Named}
 
 pub one_actor : (a b : Actor) → same_actor a b ≡ true → a ≡ b

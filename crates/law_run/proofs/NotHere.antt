@@ -1,6 +1,6 @@
 -- A server that says that the new map has nothing: what the old map answers then is what the machine has.
-use Rattle.petal_history.specs.Contents.{old_cell, entry_of}
-use Rattle.petal_history.specs.Claims.{IsPrefix}
+use Rattle.spec_history.specs.Contents.{old_cell, entry_of}
+use Rattle.spec_history.specs.Claims.{IsPrefix}
 use Rattle.law_state.specs.Tables.{IsPlainState}
 use Rattle.law_state.specs.Disks.{AreDisks}
 use Rattle.law_steps.specs.Ready.{IsRising}
@@ -14,19 +14,19 @@ use Rattle.petal_msg.specs.declared.body.Body.{Body}
 use Rattle.petal_msg.specs.declared.body.Body.TheVariants as body
 use Rattle.petal_msg.specs.declared.letter.Actor.TheVariants as actor
 use Rattle.petal_msg.specs.declared.letter.Letter.{Letter}
-use Rattle.petal_state.specs.CellState.{cell_asked, has_map, named_cell, source}
-use Rattle.petal_state.specs.Command.{state_after}
+use Rattle.spec_state.specs.CellState.{cell_asked, has_map, named_cell, source}
+use Rattle.spec_state.specs.Command.{state_after}
 use Rattle.petal_table.specs.Table.{at}
 use Rattle.script_lines.specs.declared.request.Line.{Line}
 use Rattle.script_lines.specs.declared.request.Request.TheVariants as request
-use Rattle.petal_rules.specs.Clients.{epoch_for}
-use Rattle.petal_rules.specs.Lists.{In}
-use Rattle.petal_rules.specs.State.{State, coming, is_lead, leaving, find}
-use Rattle.petal_rules.specs.Store.{Chain, Store, Stored, bytes_of, cell_cmp, chain_in, entry_at}
-use Rattle.petal_rules.specs.World.{chosen_log, chosen_state, counted, kept, server_state, World}
-use Rattle.petal_rules.proofs.Tests.{by_bool, none_some, same_some, true_false}
-use Rattle.petal_history.specs.Events.{NotThere, look_for, look_for_data, look_of, old_data}
-use Rattle.petal_history.specs.Steps.{AreStepsFrom}
+use Rattle.spec_rules.specs.Clients.{epoch_for}
+use Rattle.spec_rules.specs.Lists.{In}
+use Rattle.spec_rules.specs.State.{State, coming, is_lead, leaving, find}
+use Rattle.spec_rules.specs.Store.{Chain, Store, Stored, bytes_of, cell_cmp, chain_in, entry_at}
+use Rattle.spec_rules.specs.World.{chosen_log, chosen_state, counted, kept, server_state, World}
+use Rattle.spec_rules.proofs.Tests.{by_bool, none_some, same_some, true_false}
+use Rattle.spec_history.specs.Events.{NotThere, look_for, look_for_data, look_of, old_data}
+use Rattle.spec_history.specs.Steps.{AreStepsFrom}
 use Rattle.law_state.specs.Homes.{HasStage, epoch_at, stage_at}
 use Rattle.law_state.proofs.Disks.{log_disks}
 use Rattle.law_state.proofs.Entries.{log_plain}

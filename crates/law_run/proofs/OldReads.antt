@@ -8,23 +8,23 @@ use Rattle.petal_msg.specs.declared.body.Body.TheVariants as body
 use Rattle.petal_msg.specs.declared.letter.Actor.{Actor}
 use Rattle.petal_msg.specs.declared.letter.Actor.TheVariants as actor
 use Rattle.petal_msg.specs.declared.letter.Letter.{Letter}
-use Rattle.petal_rules.specs.Boots.{awake, raised}
-use Rattle.petal_rules.specs.Jobs.{Acted, down_posts}
-use Rattle.petal_rules.specs.Log.{rev_of}
-use Rattle.petal_rules.specs.Lists.{In}
-use Rattle.petal_rules.specs.Server.{Done, Post, Sender, letters_of, sender}
-use Rattle.petal_rules.specs.State.{State, leaving, servers_of}
-use Rattle.petal_rules.specs.Store.{chain_in, entry_at, bytes_of}
-use Rattle.petal_rules.specs.World.{Setting, World, acts, chosen_log, chosen_state, server_state, server_step, stamped}
-use Rattle.petal_rules.specs.World.{step, MayActor, begins_to_leave, chain_that_counts}
-use Rattle.petal_rules.specs.declared.step.Step.{Step}
-use Rattle.petal_rules.specs.declared.step.Step.TheVariants.{Blank}
-use Rattle.petal_rules.proofs.ListLemmas.{in_former}
-use Rattle.petal_rules.proofs.Tests.{both_true, by_bool, by_test, none_some, same_numbers, same_some, true_false}
-use Rattle.petal_history.specs.Claims.{IsPrefix}
-use Rattle.petal_history.specs.Events.{NotThere, accepted, data_among, data_of, first_data, old_data, reads_old, same_actor, turns}
-use Rattle.petal_history.specs.Steps.{AreStepsFrom, stepped}
-use Rattle.petal_history.specs.declared.record.Record.{Record}
+use Rattle.spec_rules.specs.Boots.{awake, raised}
+use Rattle.spec_rules.specs.Jobs.{Acted, down_posts}
+use Rattle.spec_rules.specs.Log.{rev_of}
+use Rattle.spec_rules.specs.Lists.{In}
+use Rattle.spec_rules.specs.Server.{Done, Post, Sender, letters_of, sender}
+use Rattle.spec_rules.specs.State.{State, leaving, servers_of}
+use Rattle.spec_rules.specs.Store.{chain_in, entry_at, bytes_of}
+use Rattle.spec_rules.specs.World.{Setting, World, acts, chosen_log, chosen_state, server_state, server_step, stamped}
+use Rattle.spec_rules.specs.World.{step, MayActor, begins_to_leave, chain_that_counts}
+use Rattle.spec_rules.specs.declared.step.Step.{Step}
+use Rattle.spec_rules.specs.declared.step.Step.TheVariants.{Blank}
+use Rattle.spec_rules.proofs.ListLemmas.{in_former}
+use Rattle.spec_rules.proofs.Tests.{both_true, by_bool, by_test, none_some, same_numbers, same_some, true_false}
+use Rattle.spec_history.specs.Claims.{IsPrefix}
+use Rattle.spec_history.specs.Events.{NotThere, accepted, data_among, data_of, first_data, old_data, reads_old, same_actor, turns}
+use Rattle.spec_history.specs.Steps.{AreStepsFrom, stepped}
+use Rattle.spec_history.specs.declared.record.Record.{Record}
 use Rattle.law_state.specs.Firm.{Firm}
 use Rattle.law_state.specs.Homes.{epoch_at, stage_at}
 use Rattle.law_state.specs.Steady.{IsSteady}

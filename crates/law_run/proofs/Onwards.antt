@@ -1,9 +1,9 @@
 -- The machine goes on while no write begins or ends: what was tied to it stays tied.
 use Rattle.std.proofs.Common.{List}
 use Rattle.global_tables.specs.declared.disk.DiskRow.{DiskRow}
-use Rattle.petal_machine.specs.Machine.{Plain}
-use Rattle.petal_rules.specs.World.{Setting, World}
-use Rattle.petal_history.specs.Events.{open_write}
+use Rattle.spec_machine.specs.Machine.{Plain}
+use Rattle.spec_rules.specs.World.{Setting, World}
+use Rattle.spec_history.specs.Events.{open_write}
 use Rattle.law_run.specs.Onward.{Onward}
 use Rattle.law_run.specs.Follow.{Follow, Stores}
 use Rattle.law_run.proofs.Machine.{seat_onward, held_onward}

@@ -11,11 +11,11 @@ use Rattle.std.specs.declared.cmp.Ordering.TheVariants.{Less, Equal, Greater}
 use Rattle.std.specs.Ordering.{is_eq, nat_cmp}
 use Rattle.petal_table.specs.Table.{at, put}
 use Rattle.petal_table.proofs.Rows.{at_apart, at_same}
-use Rattle.petal_rules.specs.Lists.{In}
-use Rattle.petal_rules.specs.Store.{Chain, Stored, bytes_of, entry_at, or_else}
-use Rattle.petal_rules.proofs.Tests.{by_bool, none_some, same_or_apart, same_some, some_or_none, true_false}
-use Rattle.petal_history.specs.Claims.{HasNewer}
-use Rattle.petal_history.specs.Contents.{first_entry}
+use Rattle.spec_rules.specs.Lists.{In}
+use Rattle.spec_rules.specs.Store.{Chain, Stored, bytes_of, entry_at, or_else}
+use Rattle.spec_rules.proofs.Tests.{by_bool, none_some, same_or_apart, same_some, some_or_none, true_false}
+use Rattle.spec_history.specs.Claims.{HasNewer}
+use Rattle.spec_history.specs.Contents.{first_entry}
 use Rattle.law_moves.specs.Fills.{Has}
 use Rattle.law_steps.specs.Ready.{IsRising}
 use Rattle.law_steps.proofs.Tables.{at_row, put_rises}

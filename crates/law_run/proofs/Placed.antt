@@ -2,17 +2,17 @@
 use Rattle.std.proofs.Common.{Some, ap, false, refl, subst, sym, ℕ, ◌<◌, ◌∙◌, ◌≡◌}
 use Rattle.petal_base.specs.declared.cell.Cell.{Cell}
 use Rattle.global_tables.specs.declared.disk.DiskRow.{DiskRow}
-use Rattle.petal_state.specs.CellState.{cell_asked, named_cell}
-use Rattle.petal_machine.specs.declared.event.Write.{Write}
+use Rattle.spec_state.specs.CellState.{cell_asked, named_cell}
+use Rattle.spec_machine.specs.declared.event.Write.{Write}
 use Rattle.petal_msg.specs.declared.operation.Pending.{Pending}
 use Rattle.script_lines.specs.Pattern.{pattern_block}
 use Rattle.script_lines.specs.declared.request.Line.{Line}
 use Rattle.script_lines.specs.declared.request.Request.TheVariants as request
-use Rattle.petal_rules.specs.Lists.{In}
-use Rattle.petal_rules.specs.World.{chosen_state, counted}
-use Rattle.petal_history.specs.Events.{blocks_in, open_write, write_asked, write_by}
+use Rattle.spec_rules.specs.Lists.{In}
+use Rattle.spec_rules.specs.World.{chosen_state, counted}
+use Rattle.spec_history.specs.Events.{blocks_in, open_write, write_asked, write_by}
 use Rattle.law_steps.specs.Turned.{line_by}
-use Rattle.petal_rules.proofs.Tests.{same_some}
+use Rattle.spec_rules.proofs.Tests.{same_some}
 use Rattle.law_requests.specs.Asked.{IsOpen, IsWrite}
 use Rattle.law_run.proofs.Along.{rows_in, disks_now, found_row, plain_now}
 use Rattle.law_run.proofs.Named.{asked_named}

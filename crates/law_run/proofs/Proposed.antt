@@ -9,21 +9,21 @@ use Rattle.petal_table.specs.Table.{at}
 use Rattle.global_tables.specs.Link.{other_of}
 use Rattle.global_tables.specs.declared.link.LinkRow.{LinkRow}
 use Rattle.petal_command.specs.declared.command.Command.{Command}
-use Rattle.petal_state.specs.CellState.{cell_link}
-use Rattle.petal_state.specs.Command.{is_alone, state_after}
+use Rattle.spec_state.specs.CellState.{cell_link}
+use Rattle.spec_state.specs.Command.{is_alone, state_after}
 use Rattle.script_lines.specs.declared.script.Script.{Script}
-use Rattle.petal_rules.specs.Progress.{copying_on, has_proposed}
-use Rattle.petal_state.specs.State.{inc_of}
-use Rattle.petal_rules.specs.Server.{Own, Server}
-use Rattle.petal_rules.specs.State.{State, id_of, is_in, live}
-use Rattle.petal_rules.specs.Store.{Store, cell_cmp, chain_in}
-use Rattle.petal_rules.specs.World.{Setting, World, chosen_log, chosen_state, counted, server_state, setting_of, start}
-use Rattle.petal_rules.proofs.Tests.{both_true, none_some, same_numbers, same_or_apart, some_or_none, true_false}
-use Rattle.petal_history.specs.Claims.{AreCaughtUp, AreInAsThen, CopiesStayEqual, CopiesWaitEqual, HasAppliedNone, HasEqualCopies, IsCatching}
-use Rattle.petal_history.specs.Claims.{IsPrefix, is_at_work, place_in}
-use Rattle.petal_history.specs.Steps.{AreSteps, world_after}
-use Rattle.petal_history.specs.Sound.{IsSound}
-use Rattle.petal_history.specs.declared.record.Record.{Record}
+use Rattle.spec_rules.specs.Progress.{copying_on, has_proposed}
+use Rattle.spec_state.specs.State.{inc_of}
+use Rattle.spec_rules.specs.Server.{Own, Server}
+use Rattle.spec_rules.specs.State.{State, id_of, is_in, live}
+use Rattle.spec_rules.specs.Store.{Store, cell_cmp, chain_in}
+use Rattle.spec_rules.specs.World.{Setting, World, chosen_log, chosen_state, counted, server_state, setting_of, start}
+use Rattle.spec_rules.proofs.Tests.{both_true, none_some, same_numbers, same_or_apart, some_or_none, true_false}
+use Rattle.spec_history.specs.Claims.{AreCaughtUp, AreInAsThen, CopiesStayEqual, CopiesWaitEqual, HasAppliedNone, HasEqualCopies, IsCatching}
+use Rattle.spec_history.specs.Claims.{IsPrefix, is_at_work, place_in}
+use Rattle.spec_history.specs.Steps.{AreSteps, world_after}
+use Rattle.spec_history.specs.Sound.{IsSound}
+use Rattle.spec_history.specs.declared.record.Record.{Record}
 use Rattle.law_log.proofs.Histories.{history_agrees, history_grows, history_is_firm}
 use Rattle.law_requests.proofs.Histories.{asking_along}
 use Rattle.law_state.specs.Homes.{HasDied}

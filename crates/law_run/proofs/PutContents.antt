@@ -4,7 +4,7 @@ use Rattle.std.proofs.Common.{◌≡◌, ◌≢◌, ◌<◌, ℕ, true, Some, is
 use Rattle.std.proofs.Common.{Bool, List, Option, None, false, refl, arith}
 use Rattle.std.specs.Prelude.{option_and_then}
 use Rattle.law_steps.proofs.Staged.{same_cell_or_apart}
-use Rattle.petal_rules.specs.Lists.{In}
+use Rattle.spec_rules.specs.Lists.{In}
 use Rattle.law_moves.specs.Fills.{IsFrozen}
 use Rattle.law_state.specs.Homes.{stage_at, epoch_at}
 use Rattle.law_state.specs.Tables.{IsPlainState}
@@ -19,19 +19,19 @@ use Rattle.petal_base.specs.declared.cell.Key.{Key}
 use Rattle.petal_base.specs.Cells.{cell_of}
 use Rattle.petal_table.specs.Table.{at, put}
 use Rattle.global_tables.specs.declared.disk.DiskRow.{DiskRow}
-use Rattle.petal_machine.specs.Machine.{Plain}
-use Rattle.petal_machine.specs.Run.{replay}
+use Rattle.spec_machine.specs.Machine.{Plain}
+use Rattle.spec_machine.specs.Run.{replay}
 use Rattle.petal_msg.specs.declared.operation.Pending.{Pending}
-use Rattle.petal_state.specs.CellState.{named_cell}
-use Rattle.petal_state.specs.Command.{state_after}
-use Rattle.petal_rules.specs.State.{State, authority}
-use Rattle.petal_rules.specs.Store.{Chain, Store, Stored, cell_cmp, chain_in, chains_with, entry_at, bytes_of}
-use Rattle.petal_rules.specs.World.{blank_joins_in, chosen_log, chosen_state, counted, kept}
-use Rattle.petal_rules.proofs.CellTables.{cell_same}
-use Rattle.petal_history.specs.Contents.{entry_before, entry_by, entry_of, first_entry, old_cell}
-use Rattle.petal_history.specs.Events.{change_by}
+use Rattle.spec_state.specs.CellState.{named_cell}
+use Rattle.spec_state.specs.Command.{state_after}
+use Rattle.spec_rules.specs.State.{State, authority}
+use Rattle.spec_rules.specs.Store.{Chain, Store, Stored, cell_cmp, chain_in, chains_with, entry_at, bytes_of}
+use Rattle.spec_rules.specs.World.{blank_joins_in, chosen_log, chosen_state, counted, kept}
+use Rattle.spec_rules.proofs.CellTables.{cell_same}
+use Rattle.spec_history.specs.Contents.{entry_before, entry_by, entry_of, first_entry, old_cell}
+use Rattle.spec_history.specs.Events.{change_by}
 use Rattle.law_steps.specs.Ready.{IsRising}
-use Rattle.law_stores.specs.Waiting.{IsOwn}
+use Rattle.law_copies.specs.Waiting.{IsOwn}
 use Rattle.law_copies.specs.Visits.{AliveIn}
 use Rattle.law_jobs.proofs.ChainsApart.{chain_apart, chain_put}
 use Rattle.law_run.specs.Onward.{is_held, Onward}

@@ -2,26 +2,26 @@
 use Rattle.std.proofs.Common.{◌≡◌, ℕ, true, Some, sym, ap, ◌∙◌, subst, inl, inr}
 use Rattle.std.proofs.Common.{None, false, arith}
 use Rattle.law_steps.proofs.Coming.{stage_facts}
-use Rattle.petal_rules.specs.Writes.{is_clients}
+use Rattle.spec_rules.specs.Writes.{is_clients}
 use Rattle.law_state.specs.Homes.{stage_at, epoch_at}
 use Rattle.std.specs.Ordering.{nat_cmp}
 use Rattle.petal_base.specs.declared.cell.Cell.{Cell}
 use Rattle.petal_base.specs.Cells.{cell_of}
 use Rattle.petal_table.specs.Table.{at}
-use Rattle.petal_machine.specs.Machine.{Plain}
-use Rattle.petal_machine.specs.Run.{replay}
+use Rattle.spec_machine.specs.Machine.{Plain}
+use Rattle.spec_machine.specs.Run.{replay}
 use Rattle.petal_msg.specs.declared.operation.Pending.{Pending}
-use Rattle.petal_state.specs.CellState.{named_cell}
-use Rattle.petal_rules.specs.State.{authority}
-use Rattle.petal_rules.specs.Store.{Stored, cell_cmp, chain_in, chains_with}
-use Rattle.petal_rules.specs.World.{chosen_log, counted}
-use Rattle.petal_rules.proofs.Tests.{same_or_apart, same_some, some_or_none, none_some, by_bool, true_false}
+use Rattle.spec_state.specs.CellState.{named_cell}
+use Rattle.spec_rules.specs.State.{authority}
+use Rattle.spec_rules.specs.Store.{Stored, cell_cmp, chain_in, chains_with}
+use Rattle.spec_rules.specs.World.{chosen_log, counted}
+use Rattle.spec_rules.proofs.Tests.{same_or_apart, same_some, some_or_none, none_some, by_bool, true_false}
 use Rattle.law_state.specs.Below.{IsSecondary}
 use Rattle.law_state.proofs.Cells.{both_authority, alone_authority}
 use Rattle.law_state.proofs.Roles.{log_roles}
 use Rattle.law_steps.proofs.Fronts.{front_on}
 use Rattle.law_steps.proofs.Histories.{runs_now}
-use Rattle.law_stores.specs.Waiting.{IsOwn}
+use Rattle.law_copies.specs.Waiting.{IsOwn}
 use Rattle.law_copies.specs.Visits.{IsLinked, place_by, AliveIn}
 use Rattle.law_jobs.proofs.ChainsApart.{chain_apart}
 use Rattle.law_copies.proofs.Places.{one_row, dead_not}

@@ -4,27 +4,27 @@ use Rattle.std.proofs.Common.{None, Result, Ok, Err, refl, sym, ap, ◌∙◌, s
 use Rattle.std.specs.Prelude.{is_some, nat_le}
 use Rattle.std.proofs.lemmas.Bool.Decides.{nat_tests}
 use Rattle.petal_base.specs.Tuple.{is_tuple, tuple_of}
-use Rattle.script_words.specs.Words.{Word, ◌>>=◌, is_word, or_else, front_word, no_word, one_word, two_words, three_words, four_words}
-use Rattle.script_words.specs.Number.{number_of}
-use Rattle.script_words.specs.Fields.{a_name, a_block, a_byte, a_tuple, a_server, a_call, a_device, a_kind, in_limits, numbers_of, version_of}
+use Rattle.petal_script.specs.Words.{Word, ◌>>=◌, is_word, or_else, front_word, no_word, one_word, two_words, three_words, four_words}
+use Rattle.petal_script.specs.Number.{number_of}
+use Rattle.petal_script.specs.Fields.{a_name, a_block, a_byte, a_tuple, a_server, a_call, a_device, a_kind, in_limits, numbers_of, version_of}
 use Rattle.petal_script.specs.Client.{spread_of, disk_of, move_of, filled_of, halves_of, write_by, write_of, read_of, snap_of, client_request}
 use Rattle.petal_script.specs.Operator.{stop_at, stop_of, fault_of, boot_of, operator_request}
 use Rattle.petal_script.specs.Script.{TextLine, script_of, text_lines, lines_after, first_line, servers_line, net_line}
-use Rattle.script_words.specs.Text.{pieces, words_of}
+use Rattle.petal_script.specs.Text.{pieces, words_of}
 use Rattle.law_script.specs.Laws.{Does, skipped, nets, waits, asks, Asks, line_at, Follows}
 use Rattle.law_script.proofs.Doing.{is_accepted}
-use Rattle.script_words.specs.declared.cause.Cause.{Cause}
-use Rattle.script_words.specs.declared.cause.Cause.TheVariants.{BadNumber, BadTuple}
+use Rattle.petal_script.specs.declared.cause.Cause.{Cause}
+use Rattle.petal_script.specs.declared.cause.Cause.TheVariants.{BadNumber, BadTuple}
 use Rattle.script_lines.specs.declared.request.Line.{Line}
 use Rattle.script_lines.specs.declared.request.Pattern.{Pattern}
 use Rattle.script_lines.specs.declared.request.Pattern.TheVariants as pattern
 use Rattle.script_lines.specs.declared.request.Request.{Request}
 use Rattle.script_lines.specs.declared.request.Request.TheVariants as request
 use Rattle.script_lines.specs.declared.script.Script.{Script}
-use Rattle.petal_rules.specs.Lists.{In}
-use Rattle.petal_rules.proofs.ListLemmas.{in-append}
-use Rattle.petal_history.specs.Sound.{IsSound}
-use Rattle.petal_rules.proofs.Tests.{by_test, both_true}
+use Rattle.spec_rules.specs.Lists.{In}
+use Rattle.spec_rules.proofs.ListLemmas.{in-append}
+use Rattle.spec_history.specs.Sound.{IsSound}
+use Rattle.spec_rules.proofs.Tests.{by_test, both_true}
 
 -- what holds of each result that is no fault
 abbrev EachOk : {A : Type 0} → (A → Type 0) → Result A Cause → Type 0

@@ -2,8 +2,8 @@
 use Rattle.std.proofs.Common.{◌≡◌, ◌≤◌, ◌==◌, ℕ, List, Bool, true, Option, Some, None, is_some, refl, sym, ap}
 use Rattle.std.proofs.Common.{◌∙◌, subst, inl, inr, arith, false}
 use Rattle.std.proofs.lemmas.Bool.{cases_lt}
-use Rattle.petal_state.specs.CellState.{has_map, named_cell, serves}
-use Rattle.petal_rules.specs.Reads.{is_all_held}
+use Rattle.spec_state.specs.CellState.{has_map, named_cell, serves}
+use Rattle.spec_rules.specs.Reads.{is_all_held}
 use Rattle.global_tables.specs.declared.link.LinkState.TheVariants.{Both}
 use Rattle.law_state.specs.Firm.{Firm}
 use Rattle.law_state.specs.Tables.{IsPlainState}
@@ -18,13 +18,13 @@ use Rattle.petal_table.specs.Table.{at}
 use Rattle.global_tables.specs.declared.disk.DiskRow.{DiskRow}
 use Rattle.global_tables.specs.declared.link.LinkRow.{LinkRow}
 use Rattle.script_lines.specs.declared.request.Line.{Line}
-use Rattle.petal_rules.specs.Lists.{In}
-use Rattle.petal_rules.specs.State.{authority, is_in, is_lead, readable, coming, held, leads_link, leaving, live}
-use Rattle.petal_rules.specs.Store.{Store, cell_cmp, chain_in, entry_at, bytes_of, Stored}
-use Rattle.petal_rules.specs.Server.{Own}
-use Rattle.petal_rules.specs.World.{counted}
-use Rattle.petal_rules.proofs.Tests.{by_bool, is_the_so, same_numbers, same_some, true_false}
-use Rattle.petal_history.specs.Contents.{entry_before, entry_by, entry_of, old_cell}
+use Rattle.spec_rules.specs.Lists.{In}
+use Rattle.spec_rules.specs.State.{authority, is_in, is_lead, readable, coming, held, leads_link, leaving, live}
+use Rattle.spec_rules.specs.Store.{Store, cell_cmp, chain_in, entry_at, bytes_of, Stored}
+use Rattle.spec_rules.specs.Server.{Own}
+use Rattle.spec_rules.specs.World.{counted}
+use Rattle.spec_rules.proofs.Tests.{by_bool, is_the_so, same_numbers, same_some, true_false}
+use Rattle.spec_history.specs.Contents.{entry_before, entry_by, entry_of, old_cell}
 use Rattle.law_state.specs.Below.{IsServing}
 use Rattle.law_state.proofs.Cells.{alone_authority, both_authority, both_leads, dead_reader}
 use Rattle.law_state.proofs.Leaves.{either_true}

@@ -2,12 +2,12 @@
 use Rattle.petal_msg.specs.declared.body.Body.{Body}
 use Rattle.petal_msg.specs.declared.body.Body.TheVariants as body
 use Rattle.petal_msg.specs.declared.letter.Actor.TheVariants as actor
-use Rattle.petal_state.specs.CellState.{serves, cell_asked, has_map, view_of}
-use Rattle.petal_rules.specs.State.{is_in, leaving, readable, State, snapshot}
-use Rattle.petal_rules.specs.Store.{Store, chain_in}
-use Rattle.petal_rules.specs.World.{server_state, Setting, World, chosen_log, chosen_state}
-use Rattle.petal_rules.proofs.Tests.{number_itself, none_some, same_some, some_or_none}
-use Rattle.petal_history.specs.Events.{asks_old, job_asks_old, reads_old}
+use Rattle.spec_state.specs.CellState.{serves, cell_asked, has_map, view_of}
+use Rattle.spec_rules.specs.State.{is_in, leaving, readable, State, snapshot}
+use Rattle.spec_rules.specs.Store.{Store, chain_in}
+use Rattle.spec_rules.specs.World.{server_state, Setting, World, chosen_log, chosen_state}
+use Rattle.spec_rules.proofs.Tests.{number_itself, none_some, same_some, some_or_none}
+use Rattle.spec_history.specs.Events.{asks_old, job_asks_old, reads_old}
 use Rattle.law_state.specs.Below.{IsServing, HasLaterView, IsBelow}
 use Rattle.law_state.proofs.Cells.{read_by}
 use Rattle.law_steps.specs.Happens.{Handled}
@@ -25,15 +25,15 @@ use Rattle.petal_command.specs.declared.command.Command.{Command}
 use Rattle.global_tables.specs.Disk.{disk_at, snapshot_named}
 use Rattle.global_tables.specs.declared.disk.DiskRow.{DiskRow}
 use Rattle.global_tables.specs.declared.disk.Snapshot.{Snapshot}
-use Rattle.petal_machine.specs.Run.{MayLook}
-use Rattle.petal_machine.specs.declared.state.PlainDisk.{PlainDisk}
-use Rattle.petal_machine.specs.declared.state.PlainSnapshot.{PlainSnapshot}
-use Rattle.petal_state.specs.Command.{state_after}
-use Rattle.petal_state.specs.declared.answer.DiskView.{DiskView}
+use Rattle.spec_machine.specs.Run.{MayLook}
+use Rattle.spec_machine.specs.declared.state.PlainDisk.{PlainDisk}
+use Rattle.spec_machine.specs.declared.state.PlainSnapshot.{PlainSnapshot}
+use Rattle.spec_state.specs.Command.{state_after}
+use Rattle.spec_state.specs.declared.answer.DiskView.{DiskView}
 use Rattle.script_lines.specs.declared.request.Line.{Line}
-use Rattle.petal_rules.specs.Clients.{epoch_for}
-use Rattle.petal_rules.specs.Lists.{In}
-use Rattle.petal_history.specs.Claims.{Holds, IsPrefix}
+use Rattle.spec_rules.specs.Clients.{epoch_for}
+use Rattle.spec_rules.specs.Lists.{In}
+use Rattle.spec_history.specs.Claims.{Holds, IsPrefix}
 use Rattle.law_state.specs.Disks.{AreDisks}
 use Rattle.law_state.specs.Firm.{Firm}
 use Rattle.law_state.specs.Homes.{epoch_at}

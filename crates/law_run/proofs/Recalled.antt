@@ -1,8 +1,8 @@
 -- Of what a server has had at the places that count, each operation that was pending is so still, or was known of at an incarnation
 -- that has ended.
 use Rattle.std.proofs.Common.{◌≡◌, ◌<◌, ℕ, true, Some, refl, sym, ap, ◌∙◌, subst, inl, inr, arith, ◌≤◌, List, ◌⊎◌}
-use Rattle.petal_state.specs.Command.{state_after}
-use Rattle.petal_rules.specs.Writes.{is_clients}
+use Rattle.spec_state.specs.Command.{state_after}
+use Rattle.spec_rules.specs.Writes.{is_clients}
 use Rattle.law_steps.proofs.Coming.{stage_facts}
 use Rattle.law_state.specs.Homes.{HasStage}
 use Rattle.global_tables.specs.declared.link.LinkRow.{LinkRow}
@@ -11,14 +11,14 @@ use Rattle.petal_base.specs.declared.cell.Cell.{Cell}
 use Rattle.petal_command.specs.declared.command.Command.{Command}
 use Rattle.petal_table.specs.Table.{at}
 use Rattle.petal_msg.specs.declared.operation.Pending.{Pending}
-use Rattle.petal_state.specs.CellState.{cell_link, lead, serves}
-use Rattle.petal_history.specs.Claims.{IsPrefix}
-use Rattle.petal_history.specs.declared.record.Record.{Record}
-use Rattle.petal_rules.specs.Server.{Own, Pairs}
-use Rattle.petal_rules.specs.State.{State, is_in, is_lead}
-use Rattle.petal_rules.specs.Store.{cell_cmp}
-use Rattle.petal_rules.specs.World.{Setting, World, chosen_log, counted, server_state}
-use Rattle.petal_rules.proofs.Tests.{by_test, is_the_one, number_itself, same_some}
+use Rattle.spec_state.specs.CellState.{cell_link, lead, serves}
+use Rattle.spec_history.specs.Claims.{IsPrefix}
+use Rattle.spec_history.specs.declared.record.Record.{Record}
+use Rattle.spec_rules.specs.Server.{Own, Pairs}
+use Rattle.spec_rules.specs.State.{State, is_in, is_lead}
+use Rattle.spec_rules.specs.Store.{cell_cmp}
+use Rattle.spec_rules.specs.World.{Setting, World, chosen_log, counted, server_state}
+use Rattle.spec_rules.proofs.Tests.{by_test, is_the_one, number_itself, same_some}
 use Rattle.law_state.specs.Firm.{Firm}
 use Rattle.law_state.specs.Steady.{IsSteady}
 use Rattle.law_state.proofs.Cells.{led_by}

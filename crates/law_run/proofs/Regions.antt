@@ -7,13 +7,13 @@ use Rattle.std.specs.Prelude.{if◌then◌else◌, option_and_then, option_map}
 use Rattle.petal_base.specs.declared.cell.Cell.{Cell}
 use Rattle.global_tables.specs.Disk.{disk_at}
 use Rattle.global_tables.specs.declared.disk.DiskRow.{DiskRow}
-use Rattle.petal_state.specs.CellState.{has_map, named_cell}
-use Rattle.petal_rules.specs.Lists.{In}
-use Rattle.petal_rules.specs.State.{authority, leaving}
-use Rattle.petal_rules.specs.Store.{Chain, Stored, bytes_of, chain_in, entry_at}
-use Rattle.petal_rules.specs.World.{begins_to_leave, chain_that_counts, counted, kept}
-use Rattle.petal_rules.proofs.Tests.{by_bool, none_some, same_some, true_false}
-use Rattle.petal_history.specs.Contents.{content_at, entry_before, entry_by, entry_of, first_entry, has_content_at, old_cell}
+use Rattle.spec_state.specs.CellState.{has_map, named_cell}
+use Rattle.spec_rules.specs.Lists.{In}
+use Rattle.spec_rules.specs.State.{authority, leaving}
+use Rattle.spec_rules.specs.Store.{Chain, Stored, bytes_of, chain_in, entry_at}
+use Rattle.spec_rules.specs.World.{begins_to_leave, chain_that_counts, counted, kept}
+use Rattle.spec_rules.proofs.Tests.{by_bool, none_some, same_some, true_false}
+use Rattle.spec_history.specs.Contents.{content_at, entry_before, entry_by, entry_of, first_entry, has_content_at, old_cell}
 use Rattle.law_state.specs.Disks.{AreDisks}
 use Rattle.law_state.specs.Homes.{HasStage, stage_at}
 use Rattle.law_state.specs.Tables.{IsPlainState}

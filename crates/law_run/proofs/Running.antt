@@ -6,38 +6,38 @@ use Rattle.std.specs.Ordering.{nat_cmp}
 use Rattle.petal_table.proofs.Rows.{at-empty}
 use Rattle.global_tables.specs.declared.disk.DiskRow.{DiskRow}
 use Rattle.petal_command.specs.declared.command.Command.{Command}
-use Rattle.petal_machine.specs.declared.event.Event.{Event}
-use Rattle.petal_machine.specs.Machine.{Plain, blank}
-use Rattle.petal_machine.specs.Run.{Obeys, replay}
+use Rattle.spec_machine.specs.declared.event.Event.{Event}
+use Rattle.spec_machine.specs.Machine.{Plain, blank}
+use Rattle.spec_machine.specs.Run.{Obeys, replay}
 use Rattle.petal_msg.specs.declared.letter.Actor.{Actor}
 use Rattle.petal_msg.specs.declared.letter.Actor.TheVariants as actor
-use Rattle.petal_state.specs.Command.{state_after}
+use Rattle.spec_state.specs.Command.{state_after}
 use Rattle.script_lines.specs.declared.script.Script.{Script}
-use Rattle.petal_rules.specs.Lists.{In}
-use Rattle.petal_rules.specs.State.{State}
-use Rattle.petal_rules.specs.Store.{cell_cmp}
-use Rattle.petal_rules.specs.World.{Setting, World, acts, reacts, step, start, setting_of, server_step, client_step, next_line}
-use Rattle.petal_rules.specs.World.{server_state, client_state, chosen_log, MayActor}
-use Rattle.petal_rules.specs.declared.step.Step.{Step}
-use Rattle.petal_rules.specs.declared.step.Step.TheVariants.{Blank, Call}
-use Rattle.petal_rules.proofs.Tests.{none_some}
-use Rattle.petal_history.specs.Claims.{AreHeld, IsPrefix, Law, SnapshotsStay, machine_after}
-use Rattle.petal_history.specs.Events.{begins, ended, ends, open_write, change_by, freezes, takes, makes, told, told_from}
-use Rattle.petal_history.specs.Events.{told_with, joined, events_of, IsRunOf, look_of}
-use Rattle.petal_history.specs.Steps.{Follows, AreSteps, AreStepsFrom, stepped}
-use Rattle.petal_history.specs.Sound.{IsSound}
-use Rattle.petal_history.specs.declared.record.Record.{Record}
+use Rattle.spec_rules.specs.Lists.{In}
+use Rattle.spec_rules.specs.State.{State}
+use Rattle.spec_rules.specs.Store.{cell_cmp}
+use Rattle.spec_rules.specs.World.{Setting, World, acts, reacts, step, start, setting_of, server_step, client_step, next_line}
+use Rattle.spec_rules.specs.World.{server_state, client_state, chosen_log, MayActor}
+use Rattle.spec_rules.specs.declared.step.Step.{Step}
+use Rattle.spec_rules.specs.declared.step.Step.TheVariants.{Blank, Call}
+use Rattle.spec_rules.proofs.Tests.{none_some}
+use Rattle.spec_history.specs.Claims.{AreHeld, IsPrefix, Law, SnapshotsStay, machine_after}
+use Rattle.spec_history.specs.Events.{begins, ended, ends, open_write, change_by, freezes, takes, makes, told, told_from}
+use Rattle.spec_history.specs.Events.{told_with, joined, events_of, IsRunOf, look_of}
+use Rattle.spec_history.specs.Steps.{Follows, AreSteps, AreStepsFrom, stepped}
+use Rattle.spec_history.specs.Sound.{IsSound}
+use Rattle.spec_history.specs.declared.record.Record.{Record}
 use Rattle.law_state.specs.Moments.{IsMoment}
 use Rattle.law_state.specs.Plain.{IsPlainLog}
 use Rattle.law_steps.proofs.Histories.{own_steady, front_legal}
 use Rattle.law_steps.proofs.Serving.{server_serves}
 use Rattle.law_steps.proofs.Turning.{is_call, client_turns}
 use Rattle.law_jobs.proofs.Runs.{At, Run, after, at_moment, before_part, firm_in, firm_then, follows_in, grown_then, longer, run_of, setting_in, stepped_in}
-use Rattle.law_stores.proofs.Histories.{always_empty}
+use Rattle.law_copies.proofs.StoreHistories.{always_empty}
 use Rattle.law_copies.proofs.First.{marks_first}
 use Rattle.law_copies.proofs.Rules.{copies_after, covered_after}
 use Rattle.law_requests.proofs.Histories.{requests_after}
-use Rattle.law_reports.proofs.Reports.{reports_hold}
+use Rattle.law_requests.proofs.OpenedAfterReport.{reports_hold}
 use Rattle.law_log.proofs.Histories.{history_agrees, history_grows, out_has_stopped}
 use Rattle.law_run.specs.Follow.{Follow, Ground}
 use Rattle.law_moves.proofs.Afterwards.{rule_after}

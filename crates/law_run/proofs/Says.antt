@@ -4,7 +4,7 @@ use Rattle.std.specs.Prelude.{map, filter, not, ◌==◌}
 use Rattle.std.specs.List.{range_with_len}
 use Rattle.std.specs.Ordering.{nat_cmp}
 use Rattle.petal_table.specs.Table.{at}
-use Rattle.petal_machine.specs.Machine.{Plain}
+use Rattle.spec_machine.specs.Machine.{Plain}
 use Rattle.petal_base.specs.Cells.{cell_of}
 use Rattle.petal_msg.specs.Kinds.{Subject, Answered, Glanced, Refused, about, is_logged, is_refused, subject_of}
 use Rattle.petal_msg.specs.declared.body.Body.{Body}
@@ -17,14 +17,14 @@ use Rattle.petal_msg.specs.declared.operation.Ending.TheVariants as ending
 use Rattle.petal_msg.specs.declared.operation.OpKind.{OpKind}
 use Rattle.petal_msg.specs.declared.operation.OpKind.TheVariants as kind
 use Rattle.petal_msg.specs.declared.operation.Pending.{Pending}
-use Rattle.petal_rules.specs.Ballots.{post_of}
-use Rattle.petal_rules.specs.Jobs.{down_posts}
-use Rattle.petal_rules.specs.Lists.{In}
-use Rattle.petal_rules.specs.Server.{Own, Here, Post, Sender, Done, letters_of, post_to}
-use Rattle.petal_rules.specs.State.{second}
-use Rattle.petal_rules.specs.Writes.{ended, ends, gives_back, is_clients, old_lead, without_pending}
-use Rattle.petal_rules.specs.World.{stamped}
-use Rattle.petal_rules.proofs.Tests.{same_some, true_false}
+use Rattle.spec_rules.specs.Ballots.{post_of}
+use Rattle.spec_rules.specs.Jobs.{down_posts}
+use Rattle.spec_rules.specs.Lists.{In}
+use Rattle.spec_rules.specs.Server.{Own, Here, Post, Sender, Done, letters_of, post_to}
+use Rattle.spec_rules.specs.State.{second}
+use Rattle.spec_rules.specs.Writes.{ended, ends, gives_back, is_clients, old_lead, without_pending}
+use Rattle.spec_rules.specs.World.{stamped}
+use Rattle.spec_rules.proofs.Tests.{same_some, true_false}
 use Rattle.law_steps.specs.DidLead.{DidLead, Asks, An_entry_to_move, Of_the_log, Asks_for, Repeats, Is_full}
 use Rattle.law_steps.specs.DidLead.{Gives_up, Opens, Closes, Closes_alone}
 use Rattle.law_steps.specs.DidLead.{Opens_fill, Has_fill, Has_no_room, Goes_on_dead}

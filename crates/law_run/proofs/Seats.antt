@@ -12,15 +12,15 @@ use Rattle.petal_table.proofs.Rows.{at-empty}
 use Rattle.petal_msg.specs.Kinds.{about}
 use Rattle.petal_msg.specs.declared.body.Body.{Body}
 use Rattle.petal_msg.specs.declared.operation.Pending.{Pending}
-use Rattle.petal_state.specs.CellState.{lead, serves}
-use Rattle.petal_history.specs.Claims.{IsPrefix}
-use Rattle.petal_rules.specs.Server.{Own}
-use Rattle.petal_rules.specs.State.{authority, in_both, is_alone_on, is_in, is_lead, is_second, live, second}
-use Rattle.petal_rules.specs.Progress.{has_proposed}
-use Rattle.petal_rules.specs.Store.{Store, cell_cmp, chain_in}
-use Rattle.petal_rules.specs.World.{Setting, blank_joins_in, chosen_log, chosen_state, kept, server_state}
-use Rattle.petal_rules.specs.Writes.{is_clients}
-use Rattle.petal_rules.proofs.Tests.{by_bool, is_the_one, none_some, true_false}
+use Rattle.spec_state.specs.CellState.{lead, serves}
+use Rattle.spec_history.specs.Claims.{IsPrefix}
+use Rattle.spec_rules.specs.Server.{Own}
+use Rattle.spec_rules.specs.State.{authority, in_both, is_alone_on, is_in, is_lead, is_second, live, second}
+use Rattle.spec_rules.specs.Progress.{has_proposed}
+use Rattle.spec_rules.specs.Store.{Store, cell_cmp, chain_in}
+use Rattle.spec_rules.specs.World.{Setting, blank_joins_in, chosen_log, chosen_state, kept, server_state}
+use Rattle.spec_rules.specs.Writes.{is_clients}
+use Rattle.spec_rules.proofs.Tests.{by_bool, is_the_one, none_some, true_false}
 use Rattle.law_state.specs.Homes.{HasStage, stage_at}
 use Rattle.law_state.specs.Plain.{IsPlainLog}
 use Rattle.law_state.proofs.Alone.{alone_not_both, both_row, so_alone, so_both}

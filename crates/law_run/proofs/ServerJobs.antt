@@ -8,16 +8,16 @@ use Rattle.global_tables.specs.declared.link.LinkState.TheVariants.{Both, Only}
 use Rattle.petal_base.specs.declared.cell.Cell.{Cell}
 use Rattle.petal_base.specs.Cells.{cell_of}
 use Rattle.petal_table.specs.Table.{at}
-use Rattle.petal_machine.specs.Machine.{Plain}
+use Rattle.spec_machine.specs.Machine.{Plain}
 use Rattle.petal_msg.specs.declared.operation.Ending.TheVariants as ending
 use Rattle.petal_msg.specs.declared.operation.Finished.{Finished}
 use Rattle.petal_msg.specs.declared.operation.Pending.{Pending}
-use Rattle.petal_rules.specs.State.{is_lead, is_second, live}
-use Rattle.petal_rules.specs.Store.{Chain, Store, cell_cmp, chain_in}
-use Rattle.petal_rules.specs.Server.{Own, Done, Pairs}
-use Rattle.petal_rules.specs.Writes.{is_clients}
-use Rattle.petal_rules.specs.World.{chosen_state, kept}
-use Rattle.petal_rules.proofs.Tests.{is_the_one, same_some, true_false}
+use Rattle.spec_rules.specs.State.{is_lead, is_second, live}
+use Rattle.spec_rules.specs.Store.{Chain, Store, cell_cmp, chain_in}
+use Rattle.spec_rules.specs.Server.{Own, Done, Pairs}
+use Rattle.spec_rules.specs.Writes.{is_clients}
+use Rattle.spec_rules.specs.World.{chosen_state, kept}
+use Rattle.spec_rules.proofs.Tests.{is_the_one, same_some, true_false}
 use Rattle.law_state.specs.Steady.{IsSteady}
 use Rattle.law_state.proofs.Cells.{led_by, second_by}
 use Rattle.law_steps.specs.DidSecond.{DidSecond, Follows}
@@ -28,7 +28,7 @@ use Rattle.law_steps.proofs.CopyFrames.{of_holder, of_other}
 use Rattle.law_steps.proofs.Histories.{own_steady}
 use Rattle.law_steps.proofs.Staged.{same_cell_or_apart}
 use Rattle.law_steps.proofs.Subjects.{of_read, of_second, of_filler, of_sweep}
-use Rattle.law_stores.specs.Waiting.{IsOwn}
+use Rattle.law_copies.specs.Waiting.{IsOwn}
 use Rattle.law_copies.specs.Pair.{owns_of}
 use Rattle.law_copies.specs.Visits.{AliveIn}
 use Rattle.law_jobs.proofs.ChainsApart.{chain_apart}

@@ -4,34 +4,34 @@ use Rattle.law_run.proofs.NotHere.{not_here_told}
 use Rattle.law_steps.specs.DidRead.{Not_here, Shows}
 use Rattle.law_run.proofs.Shows.{AreCalm, data_of, show_told}
 use Rattle.law_run.proofs.Steps.{LooksTold, Next, ServerStep, ServerTold, ServesAt, after_step, kept_here, later_world, letters, new, quiet_looks}
-use Rattle.petal_history.specs.Steps.{AreStepsFrom}
-use Rattle.petal_state.specs.CellState.{named_cell}
+use Rattle.spec_history.specs.Steps.{AreStepsFrom}
+use Rattle.spec_state.specs.CellState.{named_cell}
 use Rattle.std.proofs.Common.{◌≡◌, ◌+◌, ℕ, List, [], true, Some, refl, sym, ap, ◌∙◌, subst, inl, ◌||◌, false, Option, None}
 use Rattle.std.specs.Prelude.{is_some}
 use Rattle.petal_base.specs.declared.cell.Cell.{Cell}
 use Rattle.petal_table.specs.Table.{at}
-use Rattle.petal_machine.specs.Machine.{Plain}
+use Rattle.spec_machine.specs.Machine.{Plain}
 use Rattle.petal_msg.specs.declared.body.Body.{Body}
 use Rattle.petal_msg.specs.declared.body.Body.TheVariants as body
 use Rattle.petal_msg.specs.declared.letter.Actor.TheVariants as actor
 use Rattle.petal_msg.specs.declared.letter.Letter.{Letter}
 use Rattle.petal_msg.specs.declared.operation.Pending.{Pending}
 use Rattle.script_lines.specs.declared.request.Line.{Line}
-use Rattle.petal_rules.specs.Boots.{awake, raised}
+use Rattle.spec_rules.specs.Boots.{awake, raised}
 use Rattle.petal_command.specs.declared.command.Command.{Command}
-use Rattle.petal_rules.specs.Crossing.{crossed, settled_by}
-use Rattle.petal_rules.specs.Jobs.{Acted, down_posts}
-use Rattle.petal_rules.specs.Lists.{In}
-use Rattle.petal_rules.specs.Log.{Log, rev_of}
-use Rattle.petal_rules.specs.Server.{Own, Pairs, Here, Post, Sender, Done, sender, letters_of}
-use Rattle.petal_rules.specs.State.{servers_of}
-use Rattle.petal_rules.specs.Progress.{copying_on}
-use Rattle.petal_rules.specs.Store.{Store, cell_cmp, chain_in}
-use Rattle.petal_rules.specs.Writes.{is_under_way}
-use Rattle.petal_rules.specs.World.{World, stamped, chosen_log, server_state}
-use Rattle.petal_rules.specs.declared.job.Job.{Job}
-use Rattle.petal_rules.proofs.Settled.{IsSettling, settling}
-use Rattle.petal_rules.proofs.Tests.{true_false}
+use Rattle.spec_rules.specs.Crossing.{crossed, settled_by}
+use Rattle.spec_rules.specs.Jobs.{Acted, down_posts}
+use Rattle.spec_rules.specs.Lists.{In}
+use Rattle.spec_rules.specs.Log.{Log, rev_of}
+use Rattle.spec_rules.specs.Server.{Own, Pairs, Here, Post, Sender, Done, sender, letters_of}
+use Rattle.spec_rules.specs.State.{servers_of}
+use Rattle.spec_rules.specs.Progress.{copying_on}
+use Rattle.spec_rules.specs.Store.{Store, cell_cmp, chain_in}
+use Rattle.spec_rules.specs.Writes.{is_under_way}
+use Rattle.spec_rules.specs.World.{World, stamped, chosen_log, server_state}
+use Rattle.spec_rules.specs.declared.job.Job.{Job}
+use Rattle.spec_rules.proofs.Settled.{IsSettling, settling}
+use Rattle.spec_rules.proofs.Tests.{true_false}
 use Rattle.law_steps.specs.Did.{Did, By_read}
 use Rattle.law_steps.specs.Happens.{Handled, Worked, By_job, By_ballot, By_entry, IsSeated, Serving, Goes, Ends, Stays, Wakes, Fails}
 use Rattle.law_steps.specs.Happens.{own_place, without_rev, served_so, stopped_so}

@@ -2,11 +2,11 @@
 use Rattle.std.proofs.Common.{◌≡◌, ℕ, List, [], ◌∷◌, ◌++◌, true, Option, Some, None, refl, sym, ap}
 use Rattle.std.proofs.Common.{◌∙◌, subst, inl, inr, arith, false}
 use Rattle.std.specs.List.{flat_map}
-use Rattle.petal_state.specs.CellState.{has_map}
+use Rattle.spec_state.specs.CellState.{has_map}
 use Rattle.law_state.specs.Homes.{epoch_at}
 use Rattle.law_steps.specs.DidRead.{IsReadable}
-use Rattle.petal_machine.specs.declared.event.Event.{Event}
-use Rattle.petal_machine.specs.Machine.{Plain}
+use Rattle.spec_machine.specs.declared.event.Event.{Event}
+use Rattle.spec_machine.specs.Machine.{Plain}
 use Rattle.law_run.specs.Follow.{Follow}
 use Rattle.law_run.specs.Onward.{IsMindful}
 use Rattle.law_run.proofs.Machine.{onward_itself}
@@ -17,21 +17,21 @@ use Rattle.petal_base.specs.declared.cell.Cell.{Cell}
 use Rattle.petal_command.specs.declared.command.Command.{Command}
 use Rattle.petal_table.specs.Table.{at}
 use Rattle.global_tables.specs.declared.disk.DiskRow.{DiskRow}
-use Rattle.petal_machine.specs.Run.{MayLook}
+use Rattle.spec_machine.specs.Run.{MayLook}
 use Rattle.petal_msg.specs.declared.body.Body.{Body}
 use Rattle.petal_msg.specs.declared.body.Body.TheVariants as body
 use Rattle.petal_msg.specs.declared.letter.Actor.TheVariants as actor
 use Rattle.petal_msg.specs.declared.letter.Letter.{Letter}
-use Rattle.petal_state.specs.Command.{state_after}
+use Rattle.spec_state.specs.Command.{state_after}
 use Rattle.script_lines.specs.declared.request.Line.{Line}
 use Rattle.script_lines.specs.declared.request.Request.TheVariants as request
-use Rattle.petal_rules.specs.Lists.{In}
-use Rattle.petal_rules.specs.State.{is_lead, readable, coming, leaving}
-use Rattle.petal_rules.specs.Store.{cell_cmp, Chain, chain_in, entry_at, bytes_of}
-use Rattle.petal_rules.specs.World.{chosen_log}
-use Rattle.petal_rules.proofs.ListLemmas.{in-append}
-use Rattle.petal_rules.proofs.Tests.{by_bool}
-use Rattle.petal_history.specs.Events.{look_for, look_of, accepted}
+use Rattle.spec_rules.specs.Lists.{In}
+use Rattle.spec_rules.specs.State.{is_lead, readable, coming, leaving}
+use Rattle.spec_rules.specs.Store.{cell_cmp, Chain, chain_in, entry_at, bytes_of}
+use Rattle.spec_rules.specs.World.{chosen_log}
+use Rattle.spec_rules.proofs.ListLemmas.{in-append}
+use Rattle.spec_rules.proofs.Tests.{by_bool}
+use Rattle.spec_history.specs.Events.{look_for, look_of, accepted}
 use Rattle.law_steps.specs.Happens.{Handled, own_place}
 use Rattle.law_run.proofs.Along.{HasDisk, disk_here, disks_now, plain_now, rows_in}
 use Rattle.law_run.proofs.Looks.{AllLooks, Looked, looked, Accepts, letter_looks}

@@ -6,14 +6,14 @@ use Rattle.std.proofs.lemmas.List.{append-nil, length-append}
 use Rattle.global_tables.specs.Disk.{same_name, snapshot_named}
 use Rattle.global_tables.specs.declared.disk.DiskRow.{DiskRow}
 use Rattle.global_tables.specs.declared.disk.Snapshot.{Snapshot}
-use Rattle.petal_machine.specs.declared.event.Event.{Event}
-use Rattle.petal_machine.specs.declared.state.PlainSnapshot.{PlainSnapshot}
-use Rattle.petal_machine.specs.Machine.{Plain, content, disk_of, is_snap_named}
-use Rattle.petal_machine.specs.Run.{Obeys, after, changed, frozen, replay}
-use Rattle.petal_rules.specs.Lists.{In}
-use Rattle.petal_rules.proofs.Tests.{by_bool, nat_lists_same, none_some, same_some}
-use Rattle.petal_history.specs.Claims.{AreSnapshots, Holds}
-use Rattle.petal_history.specs.Events.{freeze_of}
+use Rattle.spec_machine.specs.declared.event.Event.{Event}
+use Rattle.spec_machine.specs.declared.state.PlainSnapshot.{PlainSnapshot}
+use Rattle.spec_machine.specs.Machine.{Plain, content, disk_of, is_snap_named}
+use Rattle.spec_machine.specs.Run.{Obeys, after, changed, frozen, replay}
+use Rattle.spec_rules.specs.Lists.{In}
+use Rattle.spec_rules.proofs.Tests.{by_bool, nat_lists_same, none_some, same_some}
+use Rattle.spec_history.specs.Claims.{AreSnapshots, Holds}
+use Rattle.spec_history.specs.Events.{freeze_of}
 use Rattle.law_run.specs.Onward.{IsMindful, Onward}
 use Rattle.law_run.proofs.Machine.{after_mindful, disks_after, onward_by, onward_itself, onward_joined, opened_after, with_apart, with_same}
 

@@ -7,28 +7,28 @@ use Rattle.std.specs.Cmp.{nat_cmp_total}
 use Rattle.petal_msg.specs.declared.letter.Actor.TheVariants as actor
 use Rattle.petal_base.specs.declared.cell.Cell.{Cell}
 use Rattle.global_tables.specs.declared.disk.DiskRow.{DiskRow}
-use Rattle.petal_machine.specs.declared.event.Event.{Event}
-use Rattle.petal_machine.specs.Machine.{Plain}
-use Rattle.petal_machine.specs.Run.{Obeys, replay}
+use Rattle.spec_machine.specs.declared.event.Event.{Event}
+use Rattle.spec_machine.specs.Machine.{Plain}
+use Rattle.spec_machine.specs.Run.{Obeys, replay}
 use Rattle.petal_msg.specs.declared.letter.Letter.{Letter}
 use Rattle.petal_command.specs.declared.command.Command.{Command}
-use Rattle.petal_state.specs.Command.{state_after}
-use Rattle.petal_rules.specs.Blanked.{kept_store}
-use Rattle.petal_rules.specs.Lists.{In}
-use Rattle.petal_rules.specs.Log.{Log}
-use Rattle.petal_rules.specs.State.{State, authority}
-use Rattle.petal_rules.specs.Store.{Chain, Store, chain_in, entry_at}
-use Rattle.petal_rules.specs.Server.{Done, Here, Own, Server}
-use Rattle.petal_rules.specs.Jobs.{Acted}
-use Rattle.petal_rules.specs.World.{Setting, World, acts, before_blanks, begins_to_leave, blank_joins_in, chain_that_counts, counted, counted_by, server_state}
-use Rattle.petal_rules.specs.World.{kept, kept_by, stamped, chosen_log, chosen_state}
-use Rattle.petal_rules.specs.declared.step.Step.{Step}
-use Rattle.petal_rules.proofs.ListLemmas.{put_same, put_apart}
-use Rattle.petal_rules.proofs.Tests.{all_put, by_test, none_some, same_or_apart, same_some}
-use Rattle.petal_history.specs.Claims.{IsPrefix}
-use Rattle.petal_history.specs.Contents.{entry_by}
-use Rattle.petal_history.specs.Events.{change_by, freezes, takes, makes, look_of, told_with}
-use Rattle.petal_history.specs.declared.record.Record.{Record}
+use Rattle.spec_state.specs.Command.{state_after}
+use Rattle.spec_rules.specs.Blanked.{kept_store}
+use Rattle.spec_rules.specs.Lists.{In}
+use Rattle.spec_rules.specs.Log.{Log}
+use Rattle.spec_rules.specs.State.{State, authority}
+use Rattle.spec_rules.specs.Store.{Chain, Store, chain_in, entry_at}
+use Rattle.spec_rules.specs.Server.{Done, Here, Own, Server}
+use Rattle.spec_rules.specs.Jobs.{Acted}
+use Rattle.spec_rules.specs.World.{Setting, World, acts, before_blanks, begins_to_leave, blank_joins_in, chain_that_counts, counted, counted_by, server_state}
+use Rattle.spec_rules.specs.World.{kept, kept_by, stamped, chosen_log, chosen_state}
+use Rattle.spec_rules.specs.declared.step.Step.{Step}
+use Rattle.spec_rules.proofs.ListLemmas.{put_same, put_apart}
+use Rattle.spec_rules.proofs.Tests.{all_put, by_test, none_some, same_or_apart, same_some}
+use Rattle.spec_history.specs.Claims.{IsPrefix}
+use Rattle.spec_history.specs.Contents.{entry_by}
+use Rattle.spec_history.specs.Events.{change_by, freezes, takes, makes, look_of, told_with}
+use Rattle.spec_history.specs.declared.record.Record.{Record}
 use Rattle.law_state.specs.Below.{IsBelow}
 use Rattle.law_state.specs.Firm.{Firm}
 use Rattle.law_state.specs.Homes.{epoch_at, stage_at}
@@ -38,7 +38,7 @@ use Rattle.law_steps.specs.Happens.{By_ballot, By_entry, By_job, Ends, Fails, Go
 use Rattle.law_steps.proofs.Fronts.{front_itself, front_same}
 use Rattle.law_steps.proofs.Tables.{at_row}
 use Rattle.law_steps.specs.Waking.{AllMayWake}
-use Rattle.law_stores.specs.Waiting.{IsOwn}
+use Rattle.law_copies.specs.Waiting.{IsOwn}
 use Rattle.law_copies.specs.Good.{Good}
 use Rattle.law_copies.specs.Pair.{owns_of}
 use Rattle.law_copies.specs.Visits.{Visits}

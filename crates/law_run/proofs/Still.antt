@@ -3,16 +3,16 @@ use Rattle.std.proofs.Common.{◌≡◌, ◌<◌, ℕ, List, true, Some, sym, ap
 use Rattle.std.specs.Prelude.{slice_get}
 use Rattle.global_tables.specs.declared.disk.DiskRow.{DiskRow}
 use Rattle.global_tables.specs.declared.disk.Snapshot.{Snapshot}
-use Rattle.petal_machine.specs.declared.event.Event.{Event}
-use Rattle.petal_machine.specs.declared.state.PlainDisk.{PlainDisk}
-use Rattle.petal_machine.specs.declared.state.PlainSnapshot.{PlainSnapshot}
-use Rattle.petal_machine.specs.Machine.{Plain, content, disk_of}
-use Rattle.petal_machine.specs.Run.{replay}
-use Rattle.petal_rules.specs.Lists.{In}
-use Rattle.petal_rules.specs.World.{Setting, World, chosen_log, chosen_state}
-use Rattle.petal_rules.proofs.Tests.{same_some}
-use Rattle.petal_history.specs.Claims.{Holds, IsPrefix, IsStill}
-use Rattle.petal_history.specs.Contents.{content_at, has_content_at}
+use Rattle.spec_machine.specs.declared.event.Event.{Event}
+use Rattle.spec_machine.specs.declared.state.PlainDisk.{PlainDisk}
+use Rattle.spec_machine.specs.declared.state.PlainSnapshot.{PlainSnapshot}
+use Rattle.spec_machine.specs.Machine.{Plain, content, disk_of}
+use Rattle.spec_machine.specs.Run.{replay}
+use Rattle.spec_rules.specs.Lists.{In}
+use Rattle.spec_rules.specs.World.{Setting, World, chosen_log, chosen_state}
+use Rattle.spec_rules.proofs.Tests.{same_some}
+use Rattle.spec_history.specs.Claims.{Holds, IsPrefix, IsStill}
+use Rattle.spec_history.specs.Contents.{content_at, has_content_at}
 use Rattle.law_state.specs.Firm.{Firm}
 use Rattle.law_state.specs.Tables.{IsRowAt}
 use Rattle.law_state.proofs.Places.{get_front, get_in, get_within}

@@ -7,20 +7,20 @@ use Rattle.std.proofs.lemmas.Cmp.{nat_list_eq_equiv}
 use Rattle.petal_base.specs.declared.cell.Cell.{Cell}
 use Rattle.petal_table.specs.Table.{at}
 use Rattle.global_tables.specs.declared.disk.DiskRow.{DiskRow}
-use Rattle.petal_machine.specs.declared.event.Event.{Event}
-use Rattle.petal_machine.specs.declared.event.Event.TheVariants.{Take}
-use Rattle.petal_machine.specs.declared.event.Write.{Write}
-use Rattle.petal_machine.specs.Machine.{same_bytes}
+use Rattle.spec_machine.specs.declared.event.Event.{Event}
+use Rattle.spec_machine.specs.declared.event.Event.TheVariants.{Take}
+use Rattle.spec_machine.specs.declared.event.Write.{Write}
+use Rattle.spec_machine.specs.Machine.{same_bytes}
 use Rattle.script_lines.specs.declared.request.Request.{Request}
 use Rattle.script_lines.specs.declared.request.Request.TheVariants as request
-use Rattle.petal_rules.specs.Lists.{In}
-use Rattle.petal_rules.specs.Store.{Chain, cell_cmp}
-use Rattle.petal_rules.specs.Clients.{Asked}
-use Rattle.petal_rules.specs.World.{World}
-use Rattle.petal_rules.proofs.CellTables.{cell_cmp_same}
-use Rattle.petal_history.specs.Events.{Change, before_step, after_step, had_content, has_content_next, open_write, write_by, write_asked, blocks_of, blocks_in}
-use Rattle.petal_history.specs.Events.{changed_blocks, is_changed, writes_so, taker, taken, takes_on, takes, all_there, with_first}
-use Rattle.petal_rules.proofs.Tests.{by_bool, true_false, both_true, same_numbers, number_itself, nat_lists_same, none_some, same_some}
+use Rattle.spec_rules.specs.Lists.{In}
+use Rattle.spec_rules.specs.Store.{Chain, cell_cmp}
+use Rattle.spec_rules.specs.Clients.{Asked}
+use Rattle.spec_rules.specs.World.{World}
+use Rattle.spec_rules.proofs.CellTables.{cell_cmp_same}
+use Rattle.spec_history.specs.Events.{Change, before_step, after_step, had_content, has_content_next, open_write, write_by, write_asked, blocks_of, blocks_in}
+use Rattle.spec_history.specs.Events.{changed_blocks, is_changed, writes_so, taker, taken, takes_on, takes, all_there, with_first}
+use Rattle.spec_rules.proofs.Tests.{by_bool, true_false, both_true, same_numbers, number_itself, nat_lists_same, none_some, same_some}
 use Rattle.law_steps.proofs.Asking.{in_flat_map}
 use Rattle.law_run.proofs.Members.{all_empty, into_map, of_map, into_flat_map, into_range, into_filter, of_filter, none_pass}
 use Rattle.law_run.proofs.Members.{into_filter_map, of_filter_map, found_one, row_at, key_at, put_key}

@@ -4,7 +4,7 @@ use Rattle.std.proofs.Common.{◌≡◌, ◌<◌, ◌+◌, ◌==◌, ◌++◌, �
 use Rattle.std.proofs.Common.{inl, inr, arith, ◌≢◌, ◌≤◌, length}
 use Rattle.std.specs.Ordering.{nat_cmp}
 use Rattle.law_steps.proofs.Coming.{stage_facts}
-use Rattle.petal_rules.specs.Writes.{is_clients}
+use Rattle.spec_rules.specs.Writes.{is_clients}
 use Rattle.law_moves.specs.Timely.{IsTimely}
 use Rattle.law_moves.specs.Fills.{IsFrozen}
 use Rattle.law_state.specs.Homes.{stage_at, epoch_at}
@@ -15,14 +15,14 @@ use Rattle.petal_table.specs.Table.{at, put}
 use Rattle.global_tables.specs.declared.link.LinkRow.{LinkRow}
 use Rattle.global_tables.specs.declared.link.LinkState.TheVariants.{Both, Lost, Only}
 use Rattle.petal_msg.specs.declared.operation.Pending.{Pending}
-use Rattle.petal_state.specs.CellState.{serves}
-use Rattle.petal_rules.specs.State.{authority, is_alone_on, live}
-use Rattle.petal_rules.specs.Store.{Chain, Store, Stored, cell_cmp, chain_in, entry_at, version_of}
-use Rattle.petal_rules.specs.Server.{Own}
-use Rattle.petal_rules.specs.World.{counted, counted_by, kept}
-use Rattle.petal_rules.proofs.Tests.{by_bool, none_some, number_itself, same_numbers, same_or_apart, some_or_none}
-use Rattle.petal_history.specs.Claims.{one_put_ahead}
-use Rattle.petal_history.specs.Contents.{entry_by, entry_of}
+use Rattle.spec_state.specs.CellState.{serves}
+use Rattle.spec_rules.specs.State.{authority, is_alone_on, live}
+use Rattle.spec_rules.specs.Store.{Chain, Store, Stored, cell_cmp, chain_in, entry_at, version_of}
+use Rattle.spec_rules.specs.Server.{Own}
+use Rattle.spec_rules.specs.World.{counted, counted_by, kept}
+use Rattle.spec_rules.proofs.Tests.{by_bool, none_some, number_itself, same_numbers, same_or_apart, some_or_none}
+use Rattle.spec_history.specs.Claims.{one_put_ahead}
+use Rattle.spec_history.specs.Contents.{entry_by, entry_of}
 use Rattle.law_state.specs.Places.{IsCaughtStill}
 use Rattle.law_state.specs.Plain.{IsPlainLog}
 use Rattle.law_state.specs.Rows.{ByBoth, ByOne, ByNone, IsLater}

@@ -4,7 +4,7 @@ use Rattle.std.proofs.Common.{◌≡◌, ◌+◌, ℕ, Bool, true, false, Some, 
 use Rattle.std.proofs.Common.{inl, inr, arith, ◌≤◌, ◌&&◌, ◌||◌, Option}
 use Rattle.std.specs.Ordering.{nat_cmp}
 use Rattle.petal_base.specs.Cells.{cell_of}
-use Rattle.petal_rules.specs.Writes.{is_clients}
+use Rattle.spec_rules.specs.Writes.{is_clients}
 use Rattle.law_state.specs.Homes.{stage_at}
 use Rattle.law_state.specs.Tables.{IsPlainState}
 use Rattle.law_state.specs.Disks.{AreDisks}
@@ -17,20 +17,20 @@ use Rattle.std.specs.Prelude.{option_and_then}
 use Rattle.petal_base.specs.declared.cell.Cell.{Cell}
 use Rattle.petal_table.specs.Table.{at, put}
 use Rattle.global_tables.specs.declared.disk.DiskRow.{DiskRow}
-use Rattle.petal_machine.specs.Run.{replay}
+use Rattle.spec_machine.specs.Run.{replay}
 use Rattle.petal_msg.specs.Kinds.{subject_of}
 use Rattle.petal_msg.specs.declared.letter.Letter.{Letter}
 use Rattle.petal_msg.specs.declared.operation.Pending.{Pending}
-use Rattle.petal_state.specs.CellState.{has_map, named_cell}
-use Rattle.petal_rules.specs.Lists.{In}
-use Rattle.petal_rules.specs.State.{authority}
-use Rattle.petal_rules.specs.Store.{Store, Stored, cell_cmp, chain_in, entry_at, bytes_of}
-use Rattle.petal_rules.specs.Server.{Server}
-use Rattle.petal_rules.specs.World.{counted, kept}
-use Rattle.petal_rules.proofs.Tests.{all_put_apart, by_bool, none_some, same_some, true_false}
-use Rattle.petal_history.specs.Claims.{one_put_ahead}
-use Rattle.petal_history.specs.Contents.{entry_before, entry_by, entry_of, first_entry, old_cell}
-use Rattle.petal_history.specs.Events.{change_by}
+use Rattle.spec_state.specs.CellState.{has_map, named_cell}
+use Rattle.spec_rules.specs.Lists.{In}
+use Rattle.spec_rules.specs.State.{authority}
+use Rattle.spec_rules.specs.Store.{Store, Stored, cell_cmp, chain_in, entry_at, bytes_of}
+use Rattle.spec_rules.specs.Server.{Server}
+use Rattle.spec_rules.specs.World.{counted, kept}
+use Rattle.spec_rules.proofs.Tests.{all_put_apart, by_bool, none_some, same_some, true_false}
+use Rattle.spec_history.specs.Claims.{one_put_ahead}
+use Rattle.spec_history.specs.Contents.{entry_before, entry_by, entry_of, first_entry, old_cell}
+use Rattle.spec_history.specs.Events.{change_by}
 use Rattle.law_state.proofs.Alone.{so_both}
 use Rattle.law_steps.proofs.Fronts.{front_itself}
 use Rattle.law_steps.proofs.Histories.{own_below}

@@ -10,32 +10,32 @@ use Rattle.global_tables.specs.Disk.{named}
 use Rattle.global_tables.specs.declared.disk.DiskRow.{DiskRow}
 use Rattle.global_tables.specs.declared.link.LinkRow.{LinkRow}
 use Rattle.global_tables.specs.declared.link.LinkState.TheVariants.{Both}
-use Rattle.petal_machine.specs.Machine.{Plain, disk_of, open_of}
+use Rattle.spec_machine.specs.Machine.{Plain, disk_of, open_of}
 use Rattle.petal_msg.specs.declared.body.Body.TheVariants as body
 use Rattle.petal_msg.specs.declared.letter.Actor.TheVariants as actor
 use Rattle.petal_msg.specs.declared.letter.Letter.{Letter}
 use Rattle.petal_msg.specs.declared.operation.Ending.TheVariants as ending
 use Rattle.petal_msg.specs.declared.operation.Finished.{Finished}
 use Rattle.petal_msg.specs.declared.operation.Pending.{Pending}
-use Rattle.petal_state.specs.Command.{state_after}
-use Rattle.petal_rules.specs.Lists.{In}
-use Rattle.petal_rules.specs.Reads.{is_all_held}
-use Rattle.petal_rules.specs.State.{State, authority, held, in_both, is_in}
-use Rattle.petal_rules.specs.Server.{Own, Pairs}
-use Rattle.petal_rules.specs.Store.{Chain, Stored, cell_cmp, chain_in}
-use Rattle.petal_rules.specs.World.{Setting, World, blank_joins_in, clock_of, server_state, start, chosen_log, chosen_state, counted, kept}
-use Rattle.petal_rules.specs.Writes.{is_clients}
-use Rattle.petal_history.specs.Claims.{Holds, IsPrefix}
-use Rattle.petal_history.specs.Contents.{content_at, has_content_at}
-use Rattle.petal_history.specs.Events.{open_write, same_name}
-use Rattle.petal_history.specs.Steps.{world_after}
-use Rattle.petal_history.specs.declared.record.Record.{Record}
+use Rattle.spec_state.specs.Command.{state_after}
+use Rattle.spec_rules.specs.Lists.{In}
+use Rattle.spec_rules.specs.Reads.{is_all_held}
+use Rattle.spec_rules.specs.State.{State, authority, held, in_both, is_in}
+use Rattle.spec_rules.specs.Server.{Own, Pairs}
+use Rattle.spec_rules.specs.Store.{Chain, Stored, cell_cmp, chain_in}
+use Rattle.spec_rules.specs.World.{Setting, World, blank_joins_in, clock_of, server_state, start, chosen_log, chosen_state, counted, kept}
+use Rattle.spec_rules.specs.Writes.{is_clients}
+use Rattle.spec_history.specs.Claims.{Holds, IsPrefix}
+use Rattle.spec_history.specs.Contents.{content_at, has_content_at}
+use Rattle.spec_history.specs.Events.{open_write, same_name}
+use Rattle.spec_history.specs.Steps.{world_after}
+use Rattle.spec_history.specs.declared.record.Record.{Record}
 use Rattle.law_state.specs.Homes.{epoch_at, stage_at}
 use Rattle.law_log.specs.Requested.{WasStarted}
 use Rattle.law_steps.specs.Operations.{progress}
 use Rattle.law_steps.specs.Ready.{IsRising, Ready}
 use Rattle.law_steps.specs.Waking.{AllMayWake}
-use Rattle.law_stores.specs.Waiting.{IsOwn}
+use Rattle.law_copies.specs.Waiting.{IsOwn}
 use Rattle.law_copies.specs.Good.{Good}
 use Rattle.law_copies.specs.Pair.{owns_of}
 use Rattle.law_copies.specs.Visits.{IsLast, IsLinked, Visits, WasThere, place_by}

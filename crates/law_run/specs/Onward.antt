@@ -1,8 +1,8 @@
 -- How the writes that are under way in the plain machine go on.
 use Rattle.std.specs.Prelude.{◌≡◌, ℕ, Bool, true, false, Option, Some, None}
-use Rattle.petal_machine.specs.declared.event.Write.{Write}
-use Rattle.petal_machine.specs.declared.state.Open.{Open}
-use Rattle.petal_machine.specs.Machine.{Plain, open_of, stands}
+use Rattle.spec_machine.specs.declared.event.Write.{Write}
+use Rattle.spec_machine.specs.declared.state.Open.{Open}
+use Rattle.spec_machine.specs.Machine.{Plain, open_of, stands}
 
 -- a write whose block has its bytes is remembered to have had them
 abbrev pub IsMindful : Plain → Type 0

@@ -7,8 +7,8 @@
 
 ghost use Rattle.std.specs.Prelude.{◌≡◌, ℕ, List, Ok};
 ghost use Rattle.petal_script.specs.Script.{script_of};
-ghost use Rattle.petal_history.specs.Claims.{AreHeld, Keeps, Law, machine_after};
-ghost use Rattle.petal_history.specs.Events.{IsRunOf, events_of};
+ghost use Rattle.spec_history.specs.Claims.{AreHeld, Keeps, Law, machine_after};
+ghost use Rattle.spec_history.specs.Events.{IsRunOf, events_of};
 ghost use Rattle.law_state.specs.Histories.{AreSteps, IsSound, Record, Script, setting_of, start, world_after};
 
 /// What the machine is told of a legal history of a sound script is a run of it: each event is allowed where it is told.

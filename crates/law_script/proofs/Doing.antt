@@ -3,8 +3,8 @@ use Rattle.std.proofs.Common.{◌≡◌, ℕ, ◌+◌, Bool, true, false, not, �
 use Rattle.std.proofs.Common.{None, Result, Ok, Err, ◌⊎◌, inl, inr, cond, codes, nat_lt}
 use Rattle.std.specs.List.{list_all}
 use Rattle.std.specs.Char.{is_ascii}
-use Rattle.script_words.specs.Text.{words_of}
-use Rattle.script_words.specs.Words.{Word, is_word, ◌>>=◌, front_word, no_word}
+use Rattle.petal_script.specs.Text.{words_of}
+use Rattle.petal_script.specs.Words.{Word, is_word, ◌>>=◌, front_word, no_word}
 use Rattle.petal_script.specs.Client.{client_request}
 use Rattle.petal_script.specs.Operator.{operator_request}
 use Rattle.script_lines.specs.declared.script.Script.{Script}
@@ -12,8 +12,8 @@ use Rattle.petal_script.specs.Script.{TextLine, script_of, text_lines, first_lin
 use Rattle.petal_script.specs.Script.{client_of, is_skipped, too_many, no_majority}
 use Rattle.law_script.specs.Laws.{Does, skipped, nets, waits, asks, Asks, line_at, Taken, Follows, IsAccepted}
 use Rattle.law_script.proofs.Firsts.{is_script}
-use Rattle.script_words.specs.declared.cause.Cause.{Cause}
-use Rattle.script_words.specs.declared.cause.Cause.TheVariants.{NotAscii, TooLong, BadLine, TooMany, NoMajority}
+use Rattle.petal_script.specs.declared.cause.Cause.{Cause}
+use Rattle.petal_script.specs.declared.cause.Cause.TheVariants.{NotAscii, TooLong, BadLine, TooMany, NoMajority}
 use Rattle.script_lines.specs.declared.request.Request.{Request}
 
 bind_ok : {A B : Type 0} (r : Result A Cause) (f : A → Result B Cause) (y : B) → (r >>= f) ≡ Ok y → (x : A) × (r ≡ Ok x) × (f x ≡ Ok y)

@@ -7,10 +7,10 @@ use Rattle.std.specs.Char.{is_ascii}
 use Rattle.std.proofs.lemmas.Bool.{cases_Bool, ne_eqb}
 use Rattle.petal_base.specs.Name.{is_name}
 use Rattle.petal_base.specs.Tuple.{is_tuple, tuple_of}
-use Rattle.script_words.specs.Text.{words_of}
-use Rattle.script_words.specs.Number.{is_number, value}
-use Rattle.script_words.specs.Words.{Word, ◌>>=◌, or_else, is_word, no_word, one_word, two_words, three_words, four_words}
-use Rattle.script_words.specs.Fields.{a_name, in_limits, a_server, a_call, numbers_of, a_tuple, version_by, version_of}
+use Rattle.petal_script.specs.Text.{words_of}
+use Rattle.petal_script.specs.Number.{is_number, value}
+use Rattle.petal_script.specs.Words.{Word, ◌>>=◌, or_else, is_word, no_word, one_word, two_words, three_words, four_words}
+use Rattle.petal_script.specs.Fields.{a_name, in_limits, a_server, a_call, numbers_of, a_tuple, version_by, version_of}
 use Rattle.petal_script.specs.Client.{spread_of, disk_of, move_of, filled_of, halves_of, write_of, read_of, snap_of, client_request}
 use Rattle.petal_script.specs.Operator.{stop_at, stop_of, fault_of, boot_of, operator_request}
 use Rattle.petal_script.specs.Script.{TextLine, is_skipped, is_client, servers_line, net_line, adds, later_line, first_line}
@@ -28,8 +28,8 @@ use Rattle.script_lines.specs.declared.request.Line.{Line}
 use Rattle.script_lines.specs.declared.request.Request.{Request}
 use Rattle.script_lines.specs.declared.request.Pattern.{Pattern}
 use Rattle.script_lines.specs.declared.request.Pattern.TheVariants.{Fill, Ramp}
-use Rattle.script_words.specs.declared.cause.Cause.{Cause}
-use Rattle.script_words.specs.declared.cause.Cause.TheVariants.{NotAscii, TooLong, NoServersLine, BadLine, BadName, BadNumber, BadTuple, TooMany, NoMajority}
+use Rattle.petal_script.specs.declared.cause.Cause.{Cause}
+use Rattle.petal_script.specs.declared.cause.Cause.TheVariants.{NotAscii, TooLong, NoServersLine, BadLine, BadName, BadNumber, BadTuple, TooMany, NoMajority}
 
 -- ### Steps
 

@@ -3,13 +3,13 @@ use Rattle.std.proofs.Common.{◌≡◌, ◌≢◌, ℕ, zero, suc, ◌+◌, ◌
 use Rattle.std.proofs.Common.{arith, Option, Some, None, Result, Ok, Err, ◌⊎◌, inl, inr, ◌↔◌}
 use Rattle.std.proofs.lemmas.Bool.{cases_eq, eq-eqb, ne_eqb}
 use Rattle.std.specs.List.{onto_first}
-use Rattle.script_words.specs.Text.{pieces, without_end}
-pub use Rattle.script_words.proofs.Pieces.{concat-pieces}
+use Rattle.petal_script.specs.Text.{pieces, without_end}
+pub use Rattle.petal_script.proofs.Pieces.{concat-pieces}
 use Rattle.script_lines.specs.declared.script.Script.{Script}
 use Rattle.petal_script.specs.Script.{lines_after, TextLine, Refusal, line_verdict, script_from, script_of, text_lines, goes_on, ended}
 use Rattle.law_script.specs.Laws.{Taken, IsFirstRefused, IsWithoutLines, IsPiece, AreLines}
-use Rattle.script_words.specs.declared.cause.Cause.{Cause}
-use Rattle.script_words.specs.declared.cause.Cause.TheVariants.{NoServersLine}
+use Rattle.petal_script.specs.declared.cause.Cause.{Cause}
+use Rattle.petal_script.specs.declared.cause.Cause.TheVariants.{NoServersLine}
 
 -- with a state before the lines
 record RefusedFrom (lines : List TextLine) (start : Option Script) (r : Refusal) : Type 0 where

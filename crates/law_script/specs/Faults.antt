@@ -5,18 +5,18 @@ use Rattle.std.specs.List.{list_all, list_any, position}
 use Rattle.std.specs.Char.{is_ascii}
 use Rattle.petal_base.specs.Name.{is_name}
 use Rattle.petal_base.specs.Tuple.{is_tuple}
-use Rattle.script_words.specs.Text.{words_of}
-use Rattle.script_words.specs.Number.{is_number, value}
-use Rattle.script_words.specs.Words.{Word, is_word}
-use Rattle.script_words.specs.Fields.{numbers_of}
+use Rattle.petal_script.specs.Text.{words_of}
+use Rattle.petal_script.specs.Number.{is_number, value}
+use Rattle.petal_script.specs.Words.{Word, is_word}
+use Rattle.petal_script.specs.Fields.{numbers_of}
 use Rattle.petal_script.specs.Client.{client_request}
 use Rattle.petal_script.specs.Operator.{operator_request}
 use Rattle.petal_script.specs.Script.{TextLine, is_skipped, is_client, too_many, no_majority}
 use Rattle.script_lines.specs.declared.script.Script.{Script}
 use Rattle.script_lines.specs.declared.request.Line.{Line}
 use Rattle.script_lines.specs.declared.request.Request.{Request}
-use Rattle.script_words.specs.declared.cause.Cause.{Cause}
-use Rattle.script_words.specs.declared.cause.Cause.TheVariants.{NotAscii, TooLong, NoServersLine, BadLine, BadName, BadNumber, BadTuple, TooMany, NoMajority}
+use Rattle.petal_script.specs.declared.cause.Cause.{Cause}
+use Rattle.petal_script.specs.declared.cause.Cause.TheVariants.{NotAscii, TooLong, NoServersLine, BadLine, BadName, BadNumber, BadTuple, TooMany, NoMajority}
 
 -- ### The forms of lines
 

@@ -1,13 +1,13 @@
 -- What holds of every text, in words that stand above the reading line by line.
 use Rattle.std.specs.Prelude.{◌≡◌, ◌≢◌, ℕ, ◌+◌, ◌-◌, ◌<◌, List, [], ◌∷◌, ◌++◌, length, get_or, Option, None, Ok, Err, ◌⊎◌, codes, true, false}
 use Rattle.std.specs.List.{AllByRecursion}
-use Rattle.script_words.specs.Text.{words_of}
-use Rattle.script_words.specs.Words.{Word, is_word}
+use Rattle.petal_script.specs.Text.{words_of}
+use Rattle.petal_script.specs.Words.{Word, is_word}
 use Rattle.petal_script.specs.Client.{client_request}
 use Rattle.petal_script.specs.Operator.{operator_request}
 use Rattle.script_lines.specs.declared.script.Script.{Script}
 use Rattle.petal_script.specs.Script.{TextLine, Refusal, line_verdict, is_skipped, client_of, first_line, net_line, too_many, no_majority}
-use Rattle.script_words.specs.declared.cause.Cause.TheVariants.{NoServersLine}
+use Rattle.petal_script.specs.declared.cause.Cause.TheVariants.{NoServersLine}
 use Rattle.script_lines.specs.declared.request.Request.{Request}
 use Rattle.script_lines.specs.declared.request.Line.{Line}
 

@@ -7,7 +7,7 @@
 ghost use Rattle.std.specs.Prelude.{slice_get, ◌≡◌, Option, ◌↔◌, ◌⊎◌, ◌<◌, ◌+◌, ℕ, List, None, Some, Ok, Err, length};
 ghost use Rattle.std.specs.List.{concat, find, flat_map};
 ghost use Rattle.script_lines.specs.Contents.{runs, run_bytes, AreLongest};
-ghost use Rattle.script_words.specs.Text.{pieces};
+ghost use Rattle.petal_script.specs.Text.{pieces};
 ghost use Rattle.script_lines.specs.declared.script.Script.{Script};
 ghost use Rattle.petal_script.specs.Script.{TextLine, Refusal, script_of, text_lines, line_verdict};
 ghost use Rattle.law_script.specs.Faults.{told, has_fault, in_order};

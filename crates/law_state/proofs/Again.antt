@@ -11,15 +11,15 @@ use Rattle.global_tables.specs.declared.link.LinkState.TheVariants.{Both, Only, 
 use Rattle.global_tables.specs.Link.{has_server, is_link, left_state, link_at, other_of, row_left}
 use Rattle.petal_command.specs.declared.command.Command.{Command}
 use Rattle.petal_command.specs.declared.command.Command.TheVariants.{Join, Leave, Caught, MakeDisk, Snap, StartMove, Drained, Moved, Witness}
-use Rattle.petal_history.specs.Claims.{IsPrefix}
-use Rattle.petal_state.specs.CellState.{cell_link, owner}
-use Rattle.petal_state.specs.Command.{act, after, may_catch, may_join, state_after}
-use Rattle.petal_state.specs.Place.{places_from, touches}
-use Rattle.petal_state.specs.State.{inc_of, is_up, is_up_as, start}
-use Rattle.petal_rules.specs.Lists.{In}
-use Rattle.petal_rules.specs.State.{State, is_in}
-use Rattle.petal_rules.proofs.ListLemmas.{in_later}
-use Rattle.petal_rules.proofs.Tests.{both_true, by_bool, none_some, same_numbers, same_some, true_false}
+use Rattle.spec_history.specs.Claims.{IsPrefix}
+use Rattle.spec_state.specs.CellState.{cell_link, owner}
+use Rattle.spec_state.specs.Command.{act, after, may_catch, may_join, state_after}
+use Rattle.spec_state.specs.Place.{places_from, touches}
+use Rattle.spec_state.specs.State.{inc_of, is_up, is_up_as, start}
+use Rattle.spec_rules.specs.Lists.{In}
+use Rattle.spec_rules.specs.State.{State, is_in}
+use Rattle.spec_rules.proofs.ListLemmas.{in_later}
+use Rattle.spec_rules.proofs.Tests.{both_true, by_bool, none_some, same_numbers, same_some, true_false}
 use Rattle.law_state.specs.Below.{HasLater}
 use Rattle.law_state.specs.Homes.{HasDied}
 use Rattle.law_state.specs.Places.{IsCaughtBy, IsCaughtIn, IsCaughtSince, IsCaughtStill, IsHeldStill, IsLostIn, By_caught, By_join, By_leave, StaysSo}

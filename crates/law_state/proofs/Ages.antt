@@ -6,10 +6,10 @@ use Rattle.std.proofs.lemmas.Bool.Decides.{nat_tests}
 use Rattle.global_tables.specs.declared.fence.Member.{Member}
 use Rattle.global_tables.specs.declared.fence.Member.TheVariants as member
 use Rattle.global_tables.specs.View.{is_in, inc_in}
-use Rattle.petal_state.specs.Command.{may_join}
-use Rattle.petal_state.specs.State.{inc_of, is_up, is_up_as}
-use Rattle.petal_rules.specs.State.{State}
-use Rattle.petal_rules.proofs.Tests.{by_bool, same_numbers, number_itself, true_false}
+use Rattle.spec_state.specs.Command.{may_join}
+use Rattle.spec_state.specs.State.{inc_of, is_up, is_up_as}
+use Rattle.spec_rules.specs.State.{State}
+use Rattle.spec_rules.proofs.Tests.{by_bool, same_numbers, number_itself, true_false}
 use Rattle.law_state.specs.Ages.{age, age_of}
 
 in_by : (o : Option Member) (inc : ℕ) → option_map_or (λ present. present == inc) (option_and_then inc_in o) false ≡ true → age o ≡ inc + inc + 1

@@ -8,13 +8,13 @@ use Rattle.global_tables.specs.Link.{has_server}
 use Rattle.global_tables.specs.declared.link.LinkState.{LinkState}
 use Rattle.global_tables.specs.declared.link.LinkState.TheVariants.{Both, Only, Lost}
 use Rattle.petal_command.specs.declared.command.Command.{Command}
-use Rattle.petal_state.specs.CellState.{cell_link, serves}
-use Rattle.petal_state.specs.Command.{after, is_alone}
-use Rattle.petal_state.specs.Place.{touches}
-use Rattle.petal_state.specs.State.{is_up, is_up_as}
-use Rattle.petal_rules.specs.Crossing.{touches_cell}
-use Rattle.petal_rules.specs.State.{State, live, lead, is_lead, row_in_both, in_both, first, second, primary, secondary, is_alone_on}
-use Rattle.petal_rules.proofs.Tests.{by_bool, true_false, none_some, same_some, same_numbers, number_itself, some_or_none, is_the_one}
+use Rattle.spec_state.specs.CellState.{cell_link, serves}
+use Rattle.spec_state.specs.Command.{after, is_alone}
+use Rattle.spec_state.specs.Place.{touches}
+use Rattle.spec_state.specs.State.{is_up, is_up_as}
+use Rattle.spec_rules.specs.Crossing.{touches_cell}
+use Rattle.spec_rules.specs.State.{State, live, lead, is_lead, row_in_both, in_both, first, second, primary, secondary, is_alone_on}
+use Rattle.spec_rules.proofs.Tests.{by_bool, true_false, none_some, same_some, same_numbers, number_itself, some_or_none, is_the_one}
 use Rattle.law_state.specs.Places.{By_caught, By_join, By_leave}
 use Rattle.law_state.specs.Rows.{IsServed, IsServedBy, ByBoth, ByNone, ByOne, IsLater}
 use Rattle.law_state.specs.Homes.{HasDied}

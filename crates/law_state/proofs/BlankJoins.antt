@@ -3,12 +3,12 @@ use Rattle.std.proofs.Common.{◌≡◌, ◌≤◌, ◌<◌, ◌+◌, ◌++◌, 
 use Rattle.std.specs.Prelude.{fold, slice_get}
 use Rattle.petal_command.specs.declared.command.Command.{Command}
 use Rattle.petal_command.specs.declared.command.Command.TheVariants.{Join}
-use Rattle.petal_history.specs.Claims.{IsPrefix}
-use Rattle.petal_state.specs.Command.{after, may_join, state_after}
-use Rattle.petal_state.specs.State.{start}
-use Rattle.petal_rules.specs.Blanked.{blank_joins_from, joins_blank}
-use Rattle.petal_rules.specs.State.{State}
-use Rattle.petal_rules.proofs.Tests.{both_true, by_bool, number_itself, same_numbers, true_false}
+use Rattle.spec_history.specs.Claims.{IsPrefix}
+use Rattle.spec_state.specs.Command.{after, may_join, state_after}
+use Rattle.spec_state.specs.State.{start}
+use Rattle.spec_rules.specs.Blanked.{blank_joins_from, joins_blank}
+use Rattle.spec_rules.specs.State.{State}
+use Rattle.spec_rules.proofs.Tests.{both_true, by_bool, number_itself, same_numbers, true_false}
 use Rattle.law_state.specs.Joins.{CountsJoins, HasJoinedSince}
 use Rattle.law_state.proofs.Touching.{counted}
 

@@ -6,12 +6,12 @@ use Rattle.global_tables.specs.declared.link.LinkState.{LinkState}
 use Rattle.global_tables.specs.declared.link.LinkState.TheVariants.{Both, Only, Lost}
 use Rattle.global_tables.specs.Link.{is_link, has_server, link_at, other_of, row_caught}
 use Rattle.global_tables.specs.Link as links
-use Rattle.petal_state.specs.CellState.{serves}
+use Rattle.spec_state.specs.CellState.{serves}
 use Rattle.petal_command.specs.declared.command.Command.TheVariants.{Caught}
-use Rattle.petal_state.specs.Command.{act, is_alone, may_catch}
-use Rattle.petal_state.specs.Place.{touches}
-use Rattle.petal_state.specs.State.{State, is_up, is_up_as}
-use Rattle.petal_rules.proofs.Tests.{by_bool, by_test, both_true, number_itself, same_numbers, same_some, true_false}
+use Rattle.spec_state.specs.Command.{act, is_alone, may_catch}
+use Rattle.spec_state.specs.Place.{touches}
+use Rattle.spec_state.specs.State.{State, is_up, is_up_as}
+use Rattle.spec_rules.proofs.Tests.{by_bool, by_test, both_true, number_itself, same_numbers, same_some, true_false}
 use Rattle.law_state.specs.Ages.{age_of}
 use Rattle.law_state.specs.Rows.{IsHeldOn, IsLater, IsLostOn, IsServed, IsServedBy, IsServedOn, ByBoth, ByNone, ByOne}
 use Rattle.law_state.specs.Tables.{IsPlainState}

@@ -6,10 +6,10 @@ use Rattle.petal_base.specs.declared.cell.Cell.{Cell}
 use Rattle.global_tables.specs.declared.link.LinkRow.{LinkRow}
 use Rattle.global_tables.specs.declared.link.LinkState.TheVariants.{Both, Only, Lost}
 use Rattle.global_tables.specs.Link.{has_server}
-use Rattle.petal_state.specs.State.{is_up}
-use Rattle.petal_state.specs.CellState.{live, leaving, cell_link, row_lead, state_lead, serves}
-use Rattle.petal_rules.specs.State.{State, lead, both, in_both, first, second, authority, readable, row_in_both, row_authority}
-use Rattle.petal_rules.proofs.Tests.{by_bool, both_true, none_some, same_some, same_numbers, some_or_none, true_false}
+use Rattle.spec_state.specs.State.{is_up}
+use Rattle.spec_state.specs.CellState.{live, leaving, cell_link, row_lead, state_lead, serves}
+use Rattle.spec_rules.specs.State.{State, lead, both, in_both, first, second, authority, readable, row_in_both, row_authority}
+use Rattle.spec_rules.proofs.Tests.{by_bool, both_true, none_some, same_some, same_numbers, some_or_none, true_false}
 use Rattle.law_state.specs.Rows.{ByBoth, ByNone, ByOne}
 use Rattle.law_state.specs.Steady.{IsLinked, IsSteady}
 

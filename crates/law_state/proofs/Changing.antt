@@ -5,9 +5,9 @@ use Rattle.global_tables.specs.declared.fence.Member.{Member}
 use Rattle.global_tables.specs.declared.link.LinkRow.{LinkRow}
 use Rattle.global_tables.specs.Link.{is_link, link_at}
 use Rattle.global_tables.specs.View.{View, last_inc}
-use Rattle.petal_rules.specs.Lists.{In}
-use Rattle.petal_rules.specs.State.{State}
-use Rattle.petal_rules.proofs.Tests.{both_true, same_numbers}
+use Rattle.spec_rules.specs.Lists.{In}
+use Rattle.spec_rules.specs.State.{State}
+use Rattle.spec_rules.proofs.Tests.{both_true, same_numbers}
 use Rattle.law_state.specs.Ages.{age_of}
 use Rattle.law_state.specs.Homes.{stage_at}
 use Rattle.law_state.specs.Rows.{IsHeldOn, IsLater, IsLostOn, IsServed, IsServedOn}

@@ -13,14 +13,14 @@ use Rattle.global_tables.specs.declared.fence.Member.TheVariants as member
 use Rattle.petal_command.specs.declared.command.Command.{Command}
 use Rattle.petal_command.specs.declared.command.Command.TheVariants.{Join, Leave, Caught, MakeDisk, Snap, StartMove, Drained, Moved, Witness}
 use Rattle.global_tables.specs.declared.disk.Verdict.TheVariants as Verdict
-use Rattle.petal_state.specs.CellState.{has_map, owner}
-use Rattle.petal_state.specs.Command.{act, after, is_new, may_join, state_after, with_disk}
-use Rattle.petal_state.specs.State.{is_up, is_up_as, latest, start, told}
-use Rattle.petal_rules.specs.Lists.{In}
-use Rattle.petal_rules.specs.State.{State}
-use Rattle.petal_rules.proofs.Tests.{by_bool, by_test, same_some, same_numbers, same_or_apart, number_itself, some_or_none, nat_lists_same, true_false}
-use Rattle.petal_history.specs.Claims.{IsPrefix}
-use Rattle.petal_rules.proofs.ListLemmas.{in_later}
+use Rattle.spec_state.specs.CellState.{has_map, owner}
+use Rattle.spec_state.specs.Command.{act, after, is_new, may_join, state_after, with_disk}
+use Rattle.spec_state.specs.State.{is_up, is_up_as, latest, start, told}
+use Rattle.spec_rules.specs.Lists.{In}
+use Rattle.spec_rules.specs.State.{State}
+use Rattle.spec_rules.proofs.Tests.{by_bool, by_test, same_some, same_numbers, same_or_apart, number_itself, some_or_none, nat_lists_same, true_false}
+use Rattle.spec_history.specs.Claims.{IsPrefix}
+use Rattle.spec_rules.proofs.ListLemmas.{in_later}
 use Rattle.law_state.specs.Disks.{AreDisks, AreInOrOut}
 use Rattle.law_state.specs.Plain.{IsPlain, IsPlainLog}
 use Rattle.law_state.specs.Steady.{HasLink}

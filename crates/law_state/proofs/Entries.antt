@@ -11,12 +11,12 @@ use Rattle.global_tables.specs.Disk.{named}
 use Rattle.global_tables.specs.View.{last_inc}
 use Rattle.petal_command.specs.declared.command.Command.{Command}
 use Rattle.petal_command.specs.declared.command.Command.TheVariants.{Join, Leave, Caught, MakeDisk, Snap, StartMove, Drained, Moved, Witness}
-use Rattle.petal_state.specs.State.{start, latest, told, is_up_as}
-use Rattle.petal_state.specs.Fence.{settled}
-use Rattle.petal_state.specs.Command.{act, after, is_new, may_join, with_disk, with_fence, with_move, state_after}
-use Rattle.petal_rules.specs.Lists.{In}
-use Rattle.petal_rules.specs.State.{State}
-use Rattle.petal_rules.proofs.Tests.{by_test, none_some, same_some}
+use Rattle.spec_state.specs.State.{start, latest, told, is_up_as}
+use Rattle.spec_state.specs.Fence.{settled}
+use Rattle.spec_state.specs.Command.{act, after, is_new, may_join, with_disk, with_fence, with_move, state_after}
+use Rattle.spec_rules.specs.Lists.{In}
+use Rattle.spec_rules.specs.State.{State}
+use Rattle.spec_rules.proofs.Tests.{by_test, none_some, same_some}
 use Rattle.law_state.specs.Plain.{IsPlain, IsPlainLog}
 use Rattle.law_state.specs.Tables.{IsPlainState}
 use Rattle.law_state.proofs.Fences.{Acted, acts_not, renumbered, untabled}

@@ -15,12 +15,12 @@ use Rattle.global_tables.specs.declared.disk.RegionState.TheVariants.{Fenced, Ne
 use Rattle.global_tables.specs.declared.fence.FenceKind.{FenceKind}
 use Rattle.global_tables.specs.declared.fence.FenceKind.TheVariants.{Region, Whole}
 use Rattle.global_tables.specs.declared.map.MapRow.{MapRow}
-use Rattle.petal_state.specs.declared.answer.Hold.{Hold}
-use Rattle.petal_state.specs.declared.answer.Hold.TheVariants.{All, No, Writes}
-use Rattle.petal_state.specs.CellState.{has_map, holds, is_of, live, live_under, owner}
-use Rattle.petal_state.specs.State.{leaves}
-use Rattle.petal_rules.specs.State.{State}
-use Rattle.petal_rules.proofs.Tests.{both_true, by_bool, none_some, same_some, some_or_none, true_false}
+use Rattle.spec_state.specs.declared.answer.Hold.{Hold}
+use Rattle.spec_state.specs.declared.answer.Hold.TheVariants.{All, No, Writes}
+use Rattle.spec_state.specs.CellState.{has_map, holds, is_of, live, live_under, owner}
+use Rattle.spec_state.specs.State.{leaves}
+use Rattle.spec_rules.specs.State.{State}
+use Rattle.spec_rules.proofs.Tests.{both_true, by_bool, none_some, same_some, some_or_none, true_false}
 use Rattle.law_state.specs.Homes.{epoch_at, era_by, new_stage, stage_at, stage_of}
 use Rattle.law_state.proofs.Fences.{Acted, IsUnsettled}
 use Rattle.law_state.proofs.Homes.{has_stage, row_or_none}

@@ -19,11 +19,11 @@ use Rattle.global_tables.specs.declared.link.LinkRow.{LinkRow}
 use Rattle.global_tables.specs.Disk.{disk_at, snapshot_named}
 use Rattle.global_tables.specs.Link.{link_at}
 use Rattle.global_tables.specs.View.{View, awaiting, following, first_waiting, head, is_in, queued, ready, reported, servers_in, stands_in}
-use Rattle.petal_state.specs.Command.{with_fence}
-use Rattle.petal_state.specs.State.{is_up}
-use Rattle.petal_rules.specs.Draining.{awaits}
-use Rattle.petal_rules.specs.State.{State}
-use Rattle.petal_rules.proofs.Tests.{both_true, by_bool, none_some, same_numbers, same_some, true_false}
+use Rattle.spec_state.specs.Command.{with_fence}
+use Rattle.spec_state.specs.State.{is_up}
+use Rattle.spec_rules.specs.Draining.{awaits}
+use Rattle.spec_rules.specs.State.{State}
+use Rattle.spec_rules.proofs.Tests.{both_true, by_bool, none_some, same_numbers, same_some, true_false}
 use Rattle.law_state.specs.Homes.{stage_at}
 pub use Rattle.law_state.specs.Tables.{AreQueued, IsUnsettled}
 use Rattle.law_state.specs.Tables.{IsForRegion, IsForSnapshot, IsLinkOf, HasLinkOf, IsFence, IsGrown, IsPlainState, IsShape, Of_disk, Of_region}

@@ -7,7 +7,7 @@ use Rattle.global_tables.specs.Link.{has_server, link_at}
 use Rattle.global_tables.specs.declared.disk.DiskRow.{DiskRow}
 use Rattle.global_tables.specs.declared.link.LinkRow.{LinkRow}
 use Rattle.global_tables.specs.declared.link.LinkState.TheVariants.{Both, Only, Lost}
-use Rattle.petal_rules.specs.State.{State}
+use Rattle.spec_rules.specs.State.{State}
 use Rattle.law_state.specs.Ages.{age, age_of}
 use Rattle.law_state.specs.Rows.{GoesOn, IsBetween, IsHeldOn, IsLater, IsServedOn}
 use Rattle.law_state.specs.Homes.{stage_at, stage_of}

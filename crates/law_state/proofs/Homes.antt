@@ -12,11 +12,11 @@ use Rattle.global_tables.specs.declared.disk.Move.{Move}
 use Rattle.global_tables.specs.declared.disk.RegionState.{RegionState}
 use Rattle.global_tables.specs.declared.disk.RegionState.TheVariants.{Old, Fenced, New}
 use Rattle.global_tables.specs.declared.map.MapRow.{MapRow}
-use Rattle.petal_state.specs.CellState.{cell_link, comes_under, coming, has_map, is_fenced, leaving, live, live_new, live_old, live_under}
-use Rattle.petal_state.specs.CellState.{move_region, owner, row_lead, source, source_in, target}
-use Rattle.petal_state.specs.State.{leaves, mover}
-use Rattle.petal_rules.specs.State.{State, is_lead, is_the, lead}
-use Rattle.petal_rules.proofs.Tests.{by_bool, number_itself, same_numbers, some_or_none, true_false}
+use Rattle.spec_state.specs.CellState.{cell_link, comes_under, coming, has_map, is_fenced, leaving, live, live_new, live_old, live_under}
+use Rattle.spec_state.specs.CellState.{move_region, owner, row_lead, source, source_in, target}
+use Rattle.spec_state.specs.State.{leaves, mover}
+use Rattle.spec_rules.specs.State.{State, is_lead, is_the, lead}
+use Rattle.spec_rules.proofs.Tests.{by_bool, number_itself, same_numbers, some_or_none, true_false}
 use Rattle.law_state.specs.Homes.{HasStage, HasTwin, era_by, new_stage, old_stage, stage_at, stage_of, stage_under}
 use Rattle.law_state.specs.Tables.{HasHome, IsRowAt}
 use Rattle.law_state.proofs.Owners.{home, home_of, kept_by, left_by, mover_is, no_home, owner_is, stage_in, stage_is}

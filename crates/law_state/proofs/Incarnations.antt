@@ -11,13 +11,13 @@ use Rattle.global_tables.specs.declared.fence.Member.{Member}
 use Rattle.global_tables.specs.declared.fence.Member.TheVariants as member
 use Rattle.petal_command.specs.declared.command.Command.{Command}
 use Rattle.petal_command.specs.declared.command.Command.TheVariants.{Join, Leave, Caught, MakeDisk, Snap, StartMove, Drained, Moved, Witness}
-use Rattle.petal_state.specs.Command.{act, after, is_new, may_join, state_after, with_disk}
-use Rattle.petal_state.specs.State.{is_up_as, latest, start, told}
-use Rattle.petal_rules.specs.Lists.{In}
-use Rattle.petal_rules.specs.State.{State}
-use Rattle.petal_rules.proofs.ListLemmas.{in_former, in_later}
-use Rattle.petal_rules.proofs.Tests.{by_bool, by_test, number_itself, same_numbers, same_or_apart, true_false}
-use Rattle.petal_history.specs.Claims.{IsPrefix}
+use Rattle.spec_state.specs.Command.{act, after, is_new, may_join, state_after, with_disk}
+use Rattle.spec_state.specs.State.{is_up_as, latest, start, told}
+use Rattle.spec_rules.specs.Lists.{In}
+use Rattle.spec_rules.specs.State.{State}
+use Rattle.spec_rules.proofs.ListLemmas.{in_former, in_later}
+use Rattle.spec_rules.proofs.Tests.{by_bool, by_test, number_itself, same_numbers, same_or_apart, true_false}
+use Rattle.spec_history.specs.Claims.{IsPrefix}
 use Rattle.law_state.specs.Ages.{age, age_of}
 use Rattle.law_state.specs.Disks.{HasJoined}
 use Rattle.law_state.specs.Joins.{HasJoinedSince}

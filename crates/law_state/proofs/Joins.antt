@@ -14,10 +14,10 @@ use Rattle.global_tables.specs.Link.{blanked_state, has_server}
 use Rattle.global_tables.specs.Link as links
 use Rattle.global_tables.specs.View.{is_in, inc_in, last_inc}
 use Rattle.global_tables.specs.View as view
-use Rattle.petal_state.specs.CellState.{serves}
-use Rattle.petal_state.specs.Command.{may_join}
-use Rattle.petal_state.specs.State.{State, inc_of, is_up, is_up_as}
-use Rattle.petal_rules.proofs.Tests.{by_bool, same_some, same_or_apart, same_numbers, true_false}
+use Rattle.spec_state.specs.CellState.{serves}
+use Rattle.spec_state.specs.Command.{may_join}
+use Rattle.spec_state.specs.State.{State, inc_of, is_up, is_up_as}
+use Rattle.spec_rules.proofs.Tests.{by_bool, same_some, same_or_apart, same_numbers, true_false}
 use Rattle.law_state.specs.Ages.{age, age_of}
 use Rattle.law_state.specs.Places.{IsHeldStill, row_joined}
 use Rattle.law_state.specs.Rows.{IsBetween, IsHeldOn, IsLater, IsLostOn, IsServed, IsServedBy, IsServedOn, ByBoth, ByNone, ByOne}

@@ -13,9 +13,9 @@ use Rattle.global_tables.specs.Link.{is_link, has_server, other_of, left_state, 
 use Rattle.global_tables.specs.Link as links
 use Rattle.global_tables.specs.View.{is_in, inc_in, last_inc, out_of, servers_in}
 use Rattle.global_tables.specs.View as view
-use Rattle.petal_state.specs.CellState.{serves}
-use Rattle.petal_state.specs.State.{State, inc_of, is_up, is_up_as}
-use Rattle.petal_rules.proofs.Tests.{by_bool, by_test, same_some, same_or_apart, same_numbers, number_itself, true_false}
+use Rattle.spec_state.specs.CellState.{serves}
+use Rattle.spec_state.specs.State.{State, inc_of, is_up, is_up_as}
+use Rattle.spec_rules.proofs.Tests.{by_bool, by_test, same_some, same_or_apart, same_numbers, number_itself, true_false}
 use Rattle.law_state.specs.Ages.{age, age_of}
 use Rattle.law_state.specs.Rows.{IsHeldOn, IsLostOn, IsServed, IsServedOn, IsBetween, IsLater, ByBoth, ByNone, ByOne}
 use Rattle.law_state.specs.Tables.{IsPlainState}

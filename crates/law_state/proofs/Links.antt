@@ -13,9 +13,9 @@ use Rattle.global_tables.specs.declared.link.LinkRow.{LinkRow}
 use Rattle.global_tables.specs.Link.{is_link, link_at, new_row, new_rows, new_state, row_between}
 use Rattle.global_tables.specs.Link.{is_up as stands_up}
 use Rattle.global_tables.specs.View.{is_in}
-use Rattle.petal_state.specs.State.{State, is_up, ups}
-use Rattle.petal_rules.specs.Lists.{In}
-use Rattle.petal_rules.proofs.Tests.{by_bool, both_true, same_or_apart, not_true, true_false, same_numbers, number_itself}
+use Rattle.spec_state.specs.State.{State, is_up, ups}
+use Rattle.spec_rules.specs.Lists.{In}
+use Rattle.spec_rules.proofs.Tests.{by_bool, both_true, same_or_apart, not_true, true_false, same_numbers, number_itself}
 use Rattle.law_state.specs.Rows.{IsServed, ByBoth, ByOne}
 use Rattle.law_state.proofs.Ages.{out_not}
 use Rattle.law_state.proofs.Places.{find_none, in_get}

@@ -11,13 +11,13 @@ use Rattle.global_tables.specs.declared.map.MapRow.{MapRow}
 use Rattle.global_tables.specs.Link.{is_link, link_at, new_row, new_rows}
 use Rattle.global_tables.specs.Map.{tuple_of, added, disk_of}
 use Rattle.global_tables.specs.Disk.{is_disk, named, same_name}
-use Rattle.petal_state.specs.CellState.{owner}
-use Rattle.petal_state.specs.State.{leaves, ups}
-use Rattle.petal_state.specs.Command.{with_disk}
-use Rattle.petal_rules.specs.Lists.{In}
-use Rattle.petal_rules.specs.State.{State}
-use Rattle.petal_rules.proofs.ListLemmas.{in-append}
-use Rattle.petal_rules.proofs.Tests.{none_some, number_itself, same_some, some_or_none, true_false}
+use Rattle.spec_state.specs.CellState.{owner}
+use Rattle.spec_state.specs.State.{leaves, ups}
+use Rattle.spec_state.specs.Command.{with_disk}
+use Rattle.spec_rules.specs.Lists.{In}
+use Rattle.spec_rules.specs.State.{State}
+use Rattle.spec_rules.proofs.ListLemmas.{in-append}
+use Rattle.spec_rules.proofs.Tests.{none_some, number_itself, same_some, some_or_none, true_false}
 use Rattle.law_state.specs.Tables.{HasHome, HasLaterDisk, HasLinkOf, IsFence, IsPlainState, IsRowAt, Of_disk, Of_region}
 use Rattle.law_state.specs.Ages.{age_of}
 use Rattle.law_state.proofs.Ages.{no_less}

@@ -22,13 +22,13 @@ use Rattle.global_tables.specs.Link.{dropped, is_link, link_at}
 use Rattle.global_tables.specs.Map.{disk_of, tuple_of}
 use Rattle.global_tables.specs.Region.{region_of}
 use Rattle.petal_command.specs.declared.command.Command.TheVariants.{Moved, StartMove}
-use Rattle.petal_state.specs.CellState.{has_map, is_fenced, move_region, owner}
-use Rattle.petal_state.specs.Command.{act, after_region, is_new, move_begun, move_of, move_target, moved_by, note, with_fence, with_move}
-use Rattle.petal_state.specs.State.{latest, leaves, links_of, mover, told}
-use Rattle.petal_rules.specs.Lists.{In}
-use Rattle.petal_rules.specs.State.{State}
-use Rattle.petal_rules.proofs.Tests.{both_true, by_bool, by_test, none_some, not_true, number_itself, same_numbers}
-use Rattle.petal_rules.proofs.Tests.{same_or_apart, same_some, some_or_none, true_false}
+use Rattle.spec_state.specs.CellState.{has_map, is_fenced, move_region, owner}
+use Rattle.spec_state.specs.Command.{act, after_region, is_new, move_begun, move_of, move_target, moved_by, note, with_fence, with_move}
+use Rattle.spec_state.specs.State.{latest, leaves, links_of, mover, told}
+use Rattle.spec_rules.specs.Lists.{In}
+use Rattle.spec_rules.specs.State.{State}
+use Rattle.spec_rules.proofs.Tests.{both_true, by_bool, by_test, none_some, not_true, number_itself, same_numbers}
+use Rattle.spec_rules.proofs.Tests.{same_or_apart, same_some, some_or_none, true_false}
 use Rattle.law_state.specs.Ages.{age_of}
 use Rattle.law_state.specs.Homes.{new_stage, stage_under}
 use Rattle.law_state.specs.Tables.{HasHome, HasLaterDisk, HasLinkOf, IsGone, IsLaterDisk, IsMove}

@@ -9,11 +9,11 @@ use Rattle.global_tables.specs.declared.disk.Move.{Move}
 use Rattle.global_tables.specs.declared.disk.RegionState.{RegionState}
 use Rattle.global_tables.specs.declared.disk.RegionState.TheVariants.{Old, Fenced, New}
 use Rattle.petal_base.specs.declared.cell.Cell.{Cell}
-use Rattle.petal_state.specs.CellState.{cell_asked, has_map, map_asked, move_region, region_at, view_of}
-use Rattle.petal_state.specs.State.{leaves}
-use Rattle.petal_state.specs.declared.answer.DiskView.{DiskView}
-use Rattle.petal_rules.specs.State.{State, find}
-use Rattle.petal_rules.proofs.Tests.{by_bool, number_itself, same_numbers, true_false}
+use Rattle.spec_state.specs.CellState.{cell_asked, has_map, map_asked, move_region, region_at, view_of}
+use Rattle.spec_state.specs.State.{leaves}
+use Rattle.spec_state.specs.declared.answer.DiskView.{DiskView}
+use Rattle.spec_rules.specs.State.{State, find}
+use Rattle.spec_rules.proofs.Tests.{by_bool, number_itself, same_numbers, true_false}
 use Rattle.law_state.specs.Homes.{epoch_at, new_stage, old_stage, stage_at, stage_of, stage_under}
 use Rattle.law_state.specs.Tables.{IsPlainState}
 use Rattle.law_state.proofs.Owners.{disk_at_is, epoch_in, epoch_is, home, map_made, stage_in, stage_is}

@@ -21,15 +21,15 @@ use Rattle.global_tables.specs.declared.fence.FenceKind.TheVariants.{Region}
 use Rattle.global_tables.specs.declared.map.MapRow.{MapRow}
 use Rattle.petal_command.specs.declared.command.Command.{Command}
 use Rattle.petal_command.specs.declared.command.Command.TheVariants.{Join, Leave, Caught, MakeDisk, Snap, StartMove, Drained, Moved, Witness}
-use Rattle.petal_history.specs.Claims.{IsPrefix}
-use Rattle.petal_state.specs.CellState.{is_fenced, move_region, noted_in, source}
-use Rattle.petal_state.specs.CellState.{noted as is_noted}
-use Rattle.petal_state.specs.Command.{act, after, is_new, may_join, state_after, with_disk, with_fence, with_move}
-use Rattle.petal_state.specs.Fence.{settled}
-use Rattle.petal_state.specs.State.{is_up_as, latest, leaves, links_of, mover, start, told}
-use Rattle.petal_rules.specs.Lists.{In}
-use Rattle.petal_rules.specs.State.{State}
-use Rattle.petal_rules.proofs.Tests.{both_true, by_bool, by_test, none_some, number_itself, same_numbers, same_or_apart, same_some, some_or_none, true_false}
+use Rattle.spec_history.specs.Claims.{IsPrefix}
+use Rattle.spec_state.specs.CellState.{is_fenced, move_region, noted_in, source}
+use Rattle.spec_state.specs.CellState.{noted as is_noted}
+use Rattle.spec_state.specs.Command.{act, after, is_new, may_join, state_after, with_disk, with_fence, with_move}
+use Rattle.spec_state.specs.Fence.{settled}
+use Rattle.spec_state.specs.State.{is_up_as, latest, leaves, links_of, mover, start, told}
+use Rattle.spec_rules.specs.Lists.{In}
+use Rattle.spec_rules.specs.State.{State}
+use Rattle.spec_rules.proofs.Tests.{both_true, by_bool, by_test, none_some, number_itself, same_numbers, same_or_apart, same_some, some_or_none, true_false}
 use Rattle.law_state.specs.Homes.{new_stage, old_stage, stage_at, stage_of}
 use Rattle.law_state.specs.Noted.{HasMovedIn}
 use Rattle.law_state.specs.Plain.{IsPlain, IsPlainLog}

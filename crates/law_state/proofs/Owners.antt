@@ -8,10 +8,10 @@ use Rattle.global_tables.specs.Map.{disk_of}
 use Rattle.global_tables.specs.declared.disk.DiskRow.{DiskRow}
 use Rattle.global_tables.specs.declared.disk.Move.{Move}
 use Rattle.global_tables.specs.declared.map.MapRow.{MapRow}
-use Rattle.petal_state.specs.CellState.{has_map, owner}
-use Rattle.petal_state.specs.State.{leaves, mover}
-use Rattle.petal_rules.specs.State.{State}
-use Rattle.petal_rules.proofs.Tests.{by_bool, none_some, number_itself, same_numbers, same_some, some_or_none, true_false}
+use Rattle.spec_state.specs.CellState.{has_map, owner}
+use Rattle.spec_state.specs.State.{leaves, mover}
+use Rattle.spec_rules.specs.State.{State}
+use Rattle.spec_rules.proofs.Tests.{by_bool, none_some, number_itself, same_numbers, same_some, some_or_none, true_false}
 use Rattle.law_state.specs.Homes.{epoch_at, stage_at, stage_by, stage_of, stage_under}
 use Rattle.law_state.specs.Tables.{HasHome, HasLaterDisk, IsRowAt}
 use Rattle.law_state.proofs.Places.{find_here, find_none}

@@ -22,12 +22,12 @@ use Rattle.global_tables.specs.Link.{link_at}
 use Rattle.global_tables.specs.Map.{tuple_of}
 use Rattle.global_tables.specs.Region.{link_of, region_of}
 use Rattle.global_tables.specs.View.{View, following, inc_in, passed, ready, servers_in}
-use Rattle.petal_state.specs.CellState.{cell_link, has_map}
-use Rattle.petal_state.specs.Fence.{confirmed, effect, let_through, settled}
-use Rattle.petal_state.specs.State.{inc_of, is_up_as, latest, leaves, told}
-use Rattle.petal_state.proofs.Passing.{length-following, settled_none, settled_one, view-effect}
-use Rattle.petal_rules.specs.State.{State}
-use Rattle.petal_rules.proofs.Tests.{by_bool, by_test, nat_lists_same, same_some, some_or_none, true_false}
+use Rattle.spec_state.specs.CellState.{cell_link, has_map}
+use Rattle.spec_state.specs.Fence.{confirmed, effect, let_through, settled}
+use Rattle.spec_state.specs.State.{inc_of, is_up_as, latest, leaves, told}
+use Rattle.spec_state.proofs.Passing.{length-following, settled_none, settled_one, view-effect}
+use Rattle.spec_rules.specs.State.{State}
+use Rattle.spec_rules.proofs.Tests.{by_bool, by_test, nat_lists_same, same_some, some_or_none, true_false}
 use Rattle.law_state.specs.Homes.{stage_of}
 use Rattle.law_state.specs.Tables.{IsForRegion, IsForSnapshot, IsLaterDisk, IsMove, IsRowAt, Of_disk, Of_region}
 use Rattle.law_state.proofs.Ages.{no_less}

@@ -3,8 +3,8 @@ use Rattle.std.proofs.Common.{◌≡◌, ◌≢◌, ℕ, zero, suc, ◌<◌, ◌
 use Rattle.std.proofs.Common.{refl, sym, ap, ◌∙◌, subst, ◌⊎◌, inl, inr, arith}
 use Rattle.std.specs.Prelude.{find, map, slice_get, slice_set, option_map, replicate, nat_eq}
 use Rattle.std.specs.Cmp.Lexicographic.{pointwise}
-use Rattle.petal_rules.specs.Lists.{In}
-use Rattle.petal_rules.proofs.Tests.{by_bool, none_some, same_some, number_itself}
+use Rattle.spec_rules.specs.Lists.{In}
+use Rattle.spec_rules.proofs.Tests.{by_bool, none_some, same_some, number_itself}
 
 pub get_front : {A : Type 0} (xs ys : List A) (i : ℕ) (x : A) → slice_get xs i ≡ Some x → slice_get (xs ++ ys) i ≡ Some x
 get_front [] ys i x e = none_some refl e

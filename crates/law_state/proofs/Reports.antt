@@ -19,21 +19,21 @@ use Rattle.global_tables.specs.View.{View, awaiting, head, passed, queued, ready
 use Rattle.global_tables.specs.View as view
 use Rattle.petal_command.specs.declared.command.Command.{Command}
 use Rattle.petal_command.specs.declared.command.Command.TheVariants.{Join, Leave, Caught, MakeDisk, Snap, StartMove, Drained, Moved, Witness}
-use Rattle.petal_history.specs.Claims.{IsPrefix}
-use Rattle.petal_state.specs.declared.answer.Hold.{Hold}
-use Rattle.petal_state.specs.declared.answer.Hold.TheVariants.{All, No, Writes}
-use Rattle.petal_state.specs.CellState.{holds, is_of}
-use Rattle.petal_state.specs.Command.{act, after, is_head, is_new, may_join, state_after, with_disk, with_fence, with_move}
-use Rattle.petal_state.specs.Fence.{settled}
-use Rattle.petal_state.specs.State.{is_up, is_up_as, latest, links_of, start, told}
-use Rattle.petal_state.proofs.Passing.{settled_none, settled_one, view-effect}
-use Rattle.petal_rules.specs.Draining.{awaits}
-use Rattle.petal_rules.specs.Lists.{In}
-use Rattle.petal_rules.specs.Reads.{is_all_held}
-use Rattle.petal_rules.specs.State.{State, held, is_in}
-use Rattle.petal_rules.specs.Writes.{is_writes_held}
-use Rattle.petal_rules.proofs.ListLemmas.{in_later}
-use Rattle.petal_rules.proofs.Tests.{by_bool, by_test, number_itself, same_numbers, same_or_apart, same_some, some_or_none, true_false}
+use Rattle.spec_history.specs.Claims.{IsPrefix}
+use Rattle.spec_state.specs.declared.answer.Hold.{Hold}
+use Rattle.spec_state.specs.declared.answer.Hold.TheVariants.{All, No, Writes}
+use Rattle.spec_state.specs.CellState.{holds, is_of}
+use Rattle.spec_state.specs.Command.{act, after, is_head, is_new, may_join, state_after, with_disk, with_fence, with_move}
+use Rattle.spec_state.specs.Fence.{settled}
+use Rattle.spec_state.specs.State.{is_up, is_up_as, latest, links_of, start, told}
+use Rattle.spec_state.proofs.Passing.{settled_none, settled_one, view-effect}
+use Rattle.spec_rules.specs.Draining.{awaits}
+use Rattle.spec_rules.specs.Lists.{In}
+use Rattle.spec_rules.specs.Reads.{is_all_held}
+use Rattle.spec_rules.specs.State.{State, held, is_in}
+use Rattle.spec_rules.specs.Writes.{is_writes_held}
+use Rattle.spec_rules.proofs.ListLemmas.{in_later}
+use Rattle.spec_rules.proofs.Tests.{by_bool, by_test, number_itself, same_numbers, same_or_apart, same_some, some_or_none, true_false}
 use Rattle.law_state.specs.Epochs.{HasReported, HasReportedBy}
 use Rattle.law_state.specs.Homes.{epoch_at, era_at, new_stage, old_stage, stage_at, stage_of}
 use Rattle.law_state.specs.Plain.{IsPlain, IsPlainLog}

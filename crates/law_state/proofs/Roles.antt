@@ -7,12 +7,12 @@ use Rattle.global_tables.specs.declared.link.LinkRow.{LinkRow}
 use Rattle.global_tables.specs.declared.link.LinkState.TheVariants.{Only}
 use Rattle.global_tables.specs.Link.{has_server}
 use Rattle.petal_command.specs.declared.command.Command.{Command}
-use Rattle.petal_state.specs.CellState.{cell_link, row_lead, serves}
-use Rattle.petal_state.specs.Command.{state_after}
-use Rattle.petal_state.specs.State.{is_up}
-use Rattle.petal_rules.specs.State.{State, is_in, leads_link}
-use Rattle.petal_rules.proofs.Tests.{by_bool, is_the_one, is_the_so, none_some, number_itself, same_numbers, same_or_apart, true_false}
-use Rattle.petal_history.specs.Claims.{IsPrefix}
+use Rattle.spec_state.specs.CellState.{cell_link, row_lead, serves}
+use Rattle.spec_state.specs.Command.{state_after}
+use Rattle.spec_state.specs.State.{is_up}
+use Rattle.spec_rules.specs.State.{State, is_in, leads_link}
+use Rattle.spec_rules.proofs.Tests.{by_bool, is_the_one, is_the_so, none_some, number_itself, same_numbers, same_or_apart, true_false}
+use Rattle.spec_history.specs.Claims.{IsPrefix}
 use Rattle.law_state.specs.Ages.{age_of}
 use Rattle.law_state.specs.Plain.{IsPlainLog}
 use Rattle.law_state.specs.Rows.{IsLater, ByBoth, ByNone, ByOne}

@@ -11,9 +11,9 @@ use Rattle.global_tables.specs.declared.disk.RegionState.TheVariants.{Old}
 use Rattle.global_tables.specs.declared.fence.Fence.{Fence}
 use Rattle.global_tables.specs.Disk.{change, disk_at, is_disk, snapshot_named}
 use Rattle.global_tables.specs.Map.{disk_of}
-use Rattle.petal_state.specs.CellState.{has_map, owner}
-use Rattle.petal_rules.specs.State.{State}
-use Rattle.petal_rules.proofs.Tests.{by_bool, none_some, number_itself, same_numbers, same_or_apart, same_some, true_false}
+use Rattle.spec_state.specs.CellState.{has_map, owner}
+use Rattle.spec_rules.specs.State.{State}
+use Rattle.spec_rules.proofs.Tests.{by_bool, none_some, number_itself, same_numbers, same_or_apart, same_some, true_false}
 use Rattle.law_state.specs.Tables.{HasHome, HasLaterDisk, IsFence, IsForRegion, IsForSnapshot, IsLaterDisk}
 use Rattle.law_state.specs.Tables.{IsRowAt, IsShape, Of_disk, Of_region}
 use Rattle.law_state.proofs.Fences.{Acted, AreQueued, IsUnsettled, link_kept, snapshot_on, region_on}

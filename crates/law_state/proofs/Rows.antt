@@ -7,14 +7,14 @@ use Rattle.petal_base.specs.declared.cell.Cell.{Cell}
 use Rattle.global_tables.specs.declared.disk.DiskRow.{DiskRow}
 use Rattle.global_tables.specs.Disk.{named, same_name}
 use Rattle.global_tables.specs.Map.{disk_of}
-use Rattle.petal_state.specs.declared.answer.DiskView.{DiskView}
-use Rattle.petal_rules.specs.Lists.{In}
-use Rattle.petal_rules.specs.State.{State}
-use Rattle.petal_state.specs.CellState.{cell_link, has_map}
-use Rattle.petal_state.specs.State.{leaves}
+use Rattle.spec_state.specs.declared.answer.DiskView.{DiskView}
+use Rattle.spec_rules.specs.Lists.{In}
+use Rattle.spec_rules.specs.State.{State}
+use Rattle.spec_state.specs.CellState.{cell_link, has_map}
+use Rattle.spec_state.specs.State.{leaves}
 use Rattle.global_tables.specs.declared.link.LinkRow.{LinkRow}
-use Rattle.petal_rules.specs.State as rules
-use Rattle.petal_rules.proofs.Tests.{none_some, number_itself, same_some, some_or_none, nat_lists_same}
+use Rattle.spec_rules.specs.State as rules
+use Rattle.spec_rules.proofs.Tests.{none_some, number_itself, same_some, some_or_none, nat_lists_same}
 use Rattle.law_state.specs.Tables.{IsGrown, IsLaterDisk, IsPlainState}
 use Rattle.law_state.proofs.Owners.{disk_on, map_made, no_owner}
 use Rattle.law_state.proofs.Places.{found_at, get_in, get_last, get_within, in_get}

@@ -12,10 +12,10 @@ use Rattle.global_tables.specs.Disk.{disk_at, is_disk, named, same_name, snapsho
 use Rattle.global_tables.specs.View.{first_waiting, head}
 use Rattle.global_tables.specs.View as view
 use Rattle.petal_command.specs.declared.command.Command.TheVariants.{Drained, Snap}
-use Rattle.petal_state.specs.State.{is_up_as, latest, told}
-use Rattle.petal_state.specs.Command.{act, is_head, is_new, is_taken, snap_target, snapped, takes, with_fence}
-use Rattle.petal_rules.specs.State.{State}
-use Rattle.petal_rules.proofs.Tests.{both_true, by_test, none_some, number_itself, same_numbers, same_some, true_false}
+use Rattle.spec_state.specs.State.{is_up_as, latest, told}
+use Rattle.spec_state.specs.Command.{act, is_head, is_new, is_taken, snap_target, snapped, takes, with_fence}
+use Rattle.spec_rules.specs.State.{State}
+use Rattle.spec_rules.proofs.Tests.{both_true, by_test, none_some, number_itself, same_numbers, same_some, true_false}
 use Rattle.law_state.specs.Tables.{IsPlainState, Of_disk}
 use Rattle.law_state.proofs.Fences.{Acted, AreQueued, fence_kept, head_queued, head_reported, queued_on, requeued}
 use Rattle.law_state.proofs.Fences.{requeued_reported, waits_before, waits_present}

@@ -11,10 +11,10 @@ use Rattle.global_tables.specs.declared.disk.DiskRow.{DiskRow}
 use Rattle.global_tables.specs.declared.disk.Move.{Move}
 use Rattle.global_tables.specs.declared.disk.RegionState.{RegionState}
 use Rattle.global_tables.specs.declared.disk.RegionState.TheVariants.{Old, Fenced, New}
-use Rattle.petal_state.specs.CellState.{is_fenced, move_region, owner}
-use Rattle.petal_state.specs.State.{leaves}
-use Rattle.petal_rules.specs.State.{State}
-use Rattle.petal_rules.proofs.Tests.{by_test, same_or_apart, some_or_none, true_false}
+use Rattle.spec_state.specs.CellState.{is_fenced, move_region, owner}
+use Rattle.spec_state.specs.State.{leaves}
+use Rattle.spec_rules.specs.State.{State}
+use Rattle.spec_rules.proofs.Tests.{by_test, same_or_apart, some_or_none, true_false}
 use Rattle.law_state.specs.Homes.{new_stage, old_stage, stage_at, stage_by, stage_of, stage_under}
 use Rattle.law_state.specs.Tables.{IsShape}
 use Rattle.law_state.proofs.Places.{get_replicate, get_set_beside, get_set_here}

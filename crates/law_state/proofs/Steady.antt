@@ -20,17 +20,17 @@ use Rattle.global_tables.specs.Map.{tuple_of}
 use Rattle.global_tables.specs.Region.{link_of, region_of}
 use Rattle.global_tables.specs.View.{inc_in}
 use Rattle.petal_command.specs.declared.command.Command.{Command}
-use Rattle.petal_state.specs.declared.answer.DiskView.{DiskView}
-use Rattle.petal_state.specs.State.{leaves, start}
-use Rattle.petal_state.specs.CellState.{cell_asked, cell_link, has_map, is_fenced, live_new, live_old, live_under, map_asked}
-use Rattle.petal_state.specs.CellState.{move_region, owner, region_at, view_of}
-use Rattle.petal_state.specs.Command.{after, state_after}
-use Rattle.petal_rules.specs.Lists.{In}
-use Rattle.petal_rules.proofs.ListLemmas.{in_former, in_later}
-use Rattle.petal_rules.specs.State.{State, live, servers_of, snapshot, is_in}
-use Rattle.petal_rules.specs.State as rules
-use Rattle.petal_rules.proofs.Tests.{by_bool, none_some, same_some, some_or_none, same_numbers, number_itself, nat_lists_same, true_false}
-use Rattle.petal_history.specs.Claims.{IsPrefix}
+use Rattle.spec_state.specs.declared.answer.DiskView.{DiskView}
+use Rattle.spec_state.specs.State.{leaves, start}
+use Rattle.spec_state.specs.CellState.{cell_asked, cell_link, has_map, is_fenced, live_new, live_old, live_under, map_asked}
+use Rattle.spec_state.specs.CellState.{move_region, owner, region_at, view_of}
+use Rattle.spec_state.specs.Command.{after, state_after}
+use Rattle.spec_rules.specs.Lists.{In}
+use Rattle.spec_rules.proofs.ListLemmas.{in_former, in_later}
+use Rattle.spec_rules.specs.State.{State, live, servers_of, snapshot, is_in}
+use Rattle.spec_rules.specs.State as rules
+use Rattle.spec_rules.proofs.Tests.{by_bool, none_some, same_some, some_or_none, same_numbers, number_itself, nat_lists_same, true_false}
+use Rattle.spec_history.specs.Claims.{IsPrefix}
 use Rattle.law_state.specs.Plain.{IsPlainLog}
 use Rattle.law_state.specs.Steady.{HasLink, IsLinked, IsSteady}
 use Rattle.law_state.specs.Below.{HasLaterView, IsBelow}

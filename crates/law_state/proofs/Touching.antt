@@ -17,15 +17,15 @@ use Rattle.global_tables.specs.Map.{tuple_of}
 use Rattle.global_tables.specs.Region.{link_of}
 use Rattle.petal_command.specs.declared.command.Command.{Command}
 use Rattle.petal_command.specs.declared.command.Command.TheVariants.{Join, Leave, Caught, MakeDisk, Snap, StartMove, Drained, Moved, Witness}
-use Rattle.petal_state.specs.CellState.{cell_link, owner}
-use Rattle.petal_state.specs.Command.{act, after, is_new, may_join, with_disk, with_fence, with_move, state_after}
-use Rattle.petal_state.specs.Place.{touches, places_from}
-use Rattle.petal_state.specs.State.{inc_of, is_up, is_up_as, latest, start, told, ups}
-use Rattle.petal_rules.specs.Lists.{In}
-use Rattle.petal_rules.specs.State.{State}
-use Rattle.petal_rules.proofs.ListLemmas.{in_later}
-use Rattle.petal_rules.proofs.Tests.{both_true, by_bool, by_test, none_some, number_itself, same_numbers, same_or_apart, some_or_none, true_false}
-use Rattle.petal_history.specs.Claims.{IsPrefix}
+use Rattle.spec_state.specs.CellState.{cell_link, owner}
+use Rattle.spec_state.specs.Command.{act, after, is_new, may_join, with_disk, with_fence, with_move, state_after}
+use Rattle.spec_state.specs.Place.{touches, places_from}
+use Rattle.spec_state.specs.State.{inc_of, is_up, is_up_as, latest, start, told, ups}
+use Rattle.spec_rules.specs.Lists.{In}
+use Rattle.spec_rules.specs.State.{State}
+use Rattle.spec_rules.proofs.ListLemmas.{in_later}
+use Rattle.spec_rules.proofs.Tests.{both_true, by_bool, by_test, none_some, number_itself, same_numbers, same_or_apart, some_or_none, true_false}
+use Rattle.spec_history.specs.Claims.{IsPrefix}
 use Rattle.law_state.specs.Places.{IsReseated, IsTouchedBy, By_caught, By_join, By_leave, StaysSo, row_joined}
 use Rattle.law_state.specs.Plain.{IsPlain, IsPlainLog}
 use Rattle.law_state.specs.Homes.{HasDied}

@@ -2,7 +2,7 @@
 use Rattle.std.specs.Prelude.{ℕ, ◌+◌, Option, Some, None, slice_get}
 use Rattle.global_tables.specs.declared.fence.Member.{Member}
 use Rattle.global_tables.specs.declared.fence.Member.TheVariants as member
-use Rattle.petal_rules.specs.State.{State}
+use Rattle.spec_rules.specs.State.{State}
 
 abbrev pub age : Option Member → ℕ
 age None = 0

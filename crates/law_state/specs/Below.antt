@@ -5,10 +5,10 @@ use Rattle.petal_base.specs.declared.cell.Cell.{Cell}
 use Rattle.global_tables.specs.Link.{has_server}
 use Rattle.global_tables.specs.declared.link.LinkRow.{LinkRow}
 use Rattle.global_tables.specs.declared.link.LinkState.TheVariants.{Both, Only}
-use Rattle.petal_state.specs.declared.answer.DiskView.{DiskView}
-use Rattle.petal_state.specs.CellState.{cell_link, serves}
-use Rattle.petal_state.specs.State.{is_up}
-use Rattle.petal_rules.specs.State.{State, find, is_in, leads_link, snapshot}
+use Rattle.spec_state.specs.declared.answer.DiskView.{DiskView}
+use Rattle.spec_state.specs.CellState.{cell_link, serves}
+use Rattle.spec_state.specs.State.{is_up}
+use Rattle.spec_rules.specs.State.{State, find, is_in, leads_link, snapshot}
 use Rattle.law_state.specs.Ages.{age_of}
 use Rattle.law_state.specs.Homes.{HasDied, epoch_at, era_at, stage_at}
 use Rattle.law_state.specs.Rows.{GoesOn}

@@ -4,12 +4,12 @@ use Rattle.petal_base.specs.declared.cell.Cell.{Cell}
 use Rattle.global_tables.specs.Disk.{disk_at, named, snapshot_named}
 use Rattle.global_tables.specs.declared.disk.DiskRow.{DiskRow}
 use Rattle.global_tables.specs.declared.disk.Snapshot.{Snapshot}
-use Rattle.petal_state.specs.CellState.{cell_link, has_map, owner}
-use Rattle.petal_state.specs.State.{is_up}
+use Rattle.spec_state.specs.CellState.{cell_link, has_map, owner}
+use Rattle.spec_state.specs.State.{is_up}
 use Rattle.petal_command.specs.declared.command.Command.{Command}
 use Rattle.petal_command.specs.declared.command.Command.TheVariants.{Join}
-use Rattle.petal_rules.specs.Lists.{In}
-use Rattle.petal_rules.specs.State.{State, is_in, servers_of}
+use Rattle.spec_rules.specs.Lists.{In}
+use Rattle.spec_rules.specs.State.{State, is_in, servers_of}
 use Rattle.law_state.specs.Steady.{HasLink}
 
 -- each disk is found by its number and by its name, and owns its map and the one that it leaves; two disks have no map in common; each snapshot

@@ -3,11 +3,11 @@ use Rattle.std.specs.Prelude.{◌≡◌, ◌++◌, ℕ, Bool, true, List, [], �
 use Rattle.petal_base.specs.declared.cell.Cell.{Cell}
 use Rattle.petal_command.specs.declared.command.Command.{Command}
 use Rattle.petal_command.specs.declared.command.Command.TheVariants.{Drained}
-use Rattle.petal_history.specs.Claims.{IsPrefix}
-use Rattle.petal_state.specs.Command.{state_after}
-use Rattle.petal_state.specs.declared.answer.Hold.{Hold}
-use Rattle.petal_rules.specs.State.{held, is_in}
-use Rattle.petal_rules.specs.Writes.{is_writes_held}
+use Rattle.spec_history.specs.Claims.{IsPrefix}
+use Rattle.spec_state.specs.Command.{state_after}
+use Rattle.spec_state.specs.declared.answer.Hold.{Hold}
+use Rattle.spec_rules.specs.State.{held, is_in}
+use Rattle.spec_rules.specs.Writes.{is_writes_held}
 pub use Rattle.law_state.specs.Homes.{epoch_at, era_at}
 
 -- after this front of the log stands the server's report to the active fence, by which such a hold of the cell is so there; and the server

@@ -1,12 +1,12 @@
 -- What the laws of pairs, requests and the run know of the agreed log.
 use Rattle.std.specs.Prelude.{◌≡◌, ◌⊎◌, ◌++◌, ℕ, true, false, List, [], ◌∷◌, length}
-use Rattle.petal_history.specs.Claims.{IsPrefix}
+use Rattle.spec_history.specs.Claims.{IsPrefix}
 use Rattle.petal_command.specs.declared.command.Command.{Command}
 use Rattle.petal_command.specs.declared.command.Command.TheVariants.{Caught}
-use Rattle.petal_state.specs.Command.{state_after}
-use Rattle.petal_rules.specs.State.{is_in}
-use Rattle.petal_rules.specs.World.{Setting, World, chosen_log, chosen_state}
-use Rattle.petal_rules.specs.Lists.{In}
+use Rattle.spec_state.specs.Command.{state_after}
+use Rattle.spec_rules.specs.State.{is_in}
+use Rattle.spec_rules.specs.World.{Setting, World, chosen_log, chosen_state}
+use Rattle.spec_rules.specs.Lists.{In}
 use Rattle.law_state.specs.Plain.{IsPlainLog}
 use Rattle.law_state.specs.Started.{HasStarted, is_caught}
 

@@ -8,8 +8,8 @@ use Rattle.global_tables.specs.declared.disk.DiskRow.{DiskRow}
 use Rattle.global_tables.specs.declared.disk.RegionState.{RegionState}
 use Rattle.global_tables.specs.declared.disk.RegionState.TheVariants.{Old, Fenced, New}
 use Rattle.petal_base.specs.declared.cell.Cell.{Cell}
-use Rattle.petal_state.specs.CellState.{cell_link, coming, has_map, leaving, live, move_region, owner, source, target}
-use Rattle.petal_rules.specs.State.{State, is_lead, leads_link}
+use Rattle.spec_state.specs.CellState.{cell_link, coming, has_map, leaving, live, move_region, owner, source, target}
+use Rattle.spec_rules.specs.State.{State, is_lead, leads_link}
 
 -- a cell of the disk's map: its region is still at the old one, on its way, or there
 abbrev pub new_stage : RegionState → ℕ

@@ -2,10 +2,10 @@
 use Rattle.std.specs.Prelude.{◌≡◌, ◌⊎◌, ◌+◌, ◌++◌, ℕ, Bool, List, [], ◌∷◌, true, slice_get}
 use Rattle.petal_command.specs.declared.command.Command.{Command}
 use Rattle.petal_command.specs.declared.command.Command.TheVariants.{Join}
-use Rattle.petal_history.specs.Claims.{IsPrefix}
-use Rattle.petal_state.specs.Command.{may_join, state_after}
-use Rattle.petal_state.specs.State.{start}
-use Rattle.petal_rules.specs.Blanked.{blank_joins_from}
+use Rattle.spec_history.specs.Claims.{IsPrefix}
+use Rattle.spec_state.specs.Command.{may_join, state_after}
+use Rattle.spec_state.specs.State.{start}
+use Rattle.spec_rules.specs.Blanked.{blank_joins_from}
 
 -- after this front of the log the server, which was Out, joins as this incarnation
 pub record HasJoinedSince (servers : ℕ) (front whole : List Command) (n inc : ℕ) (blank : Bool) : Type 0 where

@@ -1,6 +1,6 @@
 -- A moment of a history: one of its records, with those before it and those after it.
 use Rattle.std.specs.Prelude.{◌≡◌, ◌++◌, List, ◌∷◌}
-use Rattle.petal_history.specs.declared.record.Record.{Record}
+use Rattle.spec_history.specs.declared.record.Record.{Record}
 
 pub record IsMoment (records : List Record) : Type 0 where
   pub front : List Record

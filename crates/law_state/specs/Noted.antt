@@ -4,8 +4,8 @@ use Rattle.global_tables.specs.Region.{region_of}
 use Rattle.petal_base.specs.declared.cell.Cell.{Cell}
 use Rattle.petal_command.specs.declared.command.Command.{Command}
 use Rattle.petal_command.specs.declared.command.Command.TheVariants.{Moved}
-use Rattle.petal_history.specs.Claims.{IsPrefix}
-use Rattle.petal_state.specs.Command.{state_after}
+use Rattle.spec_history.specs.Claims.{IsPrefix}
+use Rattle.spec_state.specs.Command.{state_after}
 use Rattle.law_state.specs.Homes.{stage_at}
 
 -- a Moved of the link for the region of this cell of the old map, while the region was on its way

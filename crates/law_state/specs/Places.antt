@@ -7,12 +7,12 @@ use Rattle.global_tables.specs.declared.link.LinkState.{LinkState}
 use Rattle.global_tables.specs.declared.link.LinkState.TheVariants.{Both, Only}
 use Rattle.petal_command.specs.declared.command.Command.{Command}
 use Rattle.petal_command.specs.declared.command.Command.TheVariants.{Join, Leave, Caught}
-use Rattle.petal_history.specs.Claims.{IsPrefix}
-use Rattle.petal_state.specs.CellState.{cell_link}
-use Rattle.petal_state.specs.Command.{after, may_join, state_after}
-use Rattle.petal_state.specs.Place.{places_from}
-use Rattle.petal_state.specs.State.{inc_of, is_up_as, start}
-use Rattle.petal_rules.specs.State.{State}
+use Rattle.spec_history.specs.Claims.{IsPrefix}
+use Rattle.spec_state.specs.CellState.{cell_link}
+use Rattle.spec_state.specs.Command.{after, may_join, state_after}
+use Rattle.spec_state.specs.Place.{places_from}
+use Rattle.spec_state.specs.State.{inc_of, is_up_as, start}
+use Rattle.spec_rules.specs.State.{State}
 
 -- the cell has the same row, and its two servers are In, with the same incarnations, or Out, as before
 pub record StaysSo (cell : Cell) (row : LinkRow) (earlier later : State) : Type 0 where

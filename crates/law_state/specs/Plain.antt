@@ -3,7 +3,7 @@ use Rattle.std.specs.Prelude.{◌≡◌, ℕ, true, List, ⊤}
 use Rattle.petal_base.specs.Tuple.{is_tuple}
 use Rattle.petal_command.specs.declared.command.Command.{Command}
 use Rattle.petal_command.specs.declared.command.Command.TheVariants.{Join, Leave, Caught, MakeDisk, Snap, StartMove, Drained, Moved, Witness}
-use Rattle.petal_rules.specs.Lists.{In}
+use Rattle.spec_rules.specs.Lists.{In}
 
 -- a command that makes a disk, or begins a move, has a tuple of so many servers
 abbrev pub IsPlain : (servers : ℕ) → Command → Type 0

@@ -6,8 +6,8 @@ use Rattle.petal_command.specs.declared.command.Command.TheVariants.{Caught}
 use Rattle.petal_msg.specs.declared.copying.LinkId.{LinkId}
 use Rattle.petal_msg.specs.declared.copying.Progress.{Progress}
 use Rattle.petal_table.specs.Table.{at}
-use Rattle.petal_rules.specs.Server.{Own, Server}
-use Rattle.petal_rules.specs.State.{link_cmp}
+use Rattle.spec_rules.specs.Server.{Own, Server}
+use Rattle.spec_rules.specs.State.{link_cmp}
 
 abbrev pub is_caught : Command → Bool
 is_caught (Caught of link holder inc other other_inc) = true

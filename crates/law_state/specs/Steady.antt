@@ -2,9 +2,9 @@
 use Rattle.std.specs.Prelude.{◌≡◌, ◌≢◌, ◌<◌, ℕ, Bool, List, Some, None, true, false}
 use Rattle.petal_base.specs.declared.cell.Cell.{Cell}
 use Rattle.global_tables.specs.declared.link.LinkRow.{LinkRow}
-use Rattle.petal_state.specs.declared.answer.DiskView.{DiskView}
-use Rattle.petal_state.specs.CellState.{cell_asked, cell_link}
-use Rattle.petal_rules.specs.State.{State, find, live, servers_of}
+use Rattle.spec_state.specs.declared.answer.DiskView.{DiskView}
+use Rattle.spec_state.specs.CellState.{cell_asked, cell_link}
+use Rattle.spec_rules.specs.State.{State, find, live, servers_of}
 use Rattle.law_state.specs.Rows.{IsServed}
 
 -- the link of a cell is between two servers, and served

@@ -16,11 +16,11 @@ use Rattle.global_tables.specs.declared.map.MapRow.{MapRow}
 use Rattle.global_tables.specs.Link.{link_at}
 use Rattle.global_tables.specs.Map.{disk_of, tuple_of}
 use Rattle.global_tables.specs.View.{head, last_inc}
-use Rattle.petal_state.specs.CellState.{owner}
-use Rattle.petal_state.specs.State.{is_up, leaves}
-use Rattle.petal_rules.specs.Draining.{awaits}
-use Rattle.petal_rules.specs.Lists.{In}
-use Rattle.petal_rules.specs.State.{State}
+use Rattle.spec_state.specs.CellState.{owner}
+use Rattle.spec_state.specs.State.{is_up, leaves}
+use Rattle.spec_rules.specs.Draining.{awaits}
+use Rattle.spec_rules.specs.Lists.{In}
+use Rattle.spec_rules.specs.State.{State}
 use Rattle.law_state.specs.Ages.{age_of}
 use Rattle.law_state.specs.Homes.{stage_at, stage_of}
 use Rattle.law_state.specs.Rows.{GoesOn, IsServed}

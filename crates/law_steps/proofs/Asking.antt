@@ -17,20 +17,20 @@ use Rattle.petal_msg.specs.declared.operation.Action.{Action}
 use Rattle.petal_msg.specs.declared.operation.Action.TheVariants as action
 use Rattle.petal_msg.specs.declared.operation.Pending.{Pending}
 use Rattle.petal_msg.specs.declared.operation.Stage.{Stage}
-use Rattle.petal_rules.specs.Ballots.{ballot_posts, ask_posts}
-use Rattle.petal_rules.specs.Copies.{copy_awaited, copy_posts, copy_stage, next_copy, page_asked, page_for, page_posts, sends_entry}
-use Rattle.petal_rules.specs.Fills.{fill_posts, fills_row}
-use Rattle.petal_rules.specs.Progress.{copying_on, has_proposed}
-use Rattle.petal_rules.specs.Lists.{In}
-use Rattle.petal_rules.specs.Server.{Post, post_to}
-use Rattle.petal_rules.specs.State.{in_both, is_in, leads_link, live, other_in, second}
-use Rattle.petal_rules.specs.Store.{Stored, cell_cmp, chain_in, epochs_of, mark_left}
-use Rattle.petal_rules.specs.Writes.{pending_on, both_action, alone_action, next_stage}
-use Rattle.petal_rules.specs.Jobs.{voter_of}
-use Rattle.petal_rules.specs.Jobs.{tick_posts, sent_again, copies_again, awaited}
-use Rattle.petal_rules.proofs.ListLemmas.{in-append}
-use Rattle.petal_rules.proofs.CellTables.{cell_cmp_total}
-use Rattle.petal_rules.proofs.Tests.{by_test, by_bool, not_true, only, true_false}
+use Rattle.spec_rules.specs.Ballots.{ballot_posts, ask_posts}
+use Rattle.spec_rules.specs.Copies.{copy_awaited, copy_posts, copy_stage, next_copy, page_asked, page_for, page_posts, sends_entry}
+use Rattle.spec_rules.specs.Fills.{fill_posts, fills_row}
+use Rattle.spec_rules.specs.Progress.{copying_on, has_proposed}
+use Rattle.spec_rules.specs.Lists.{In}
+use Rattle.spec_rules.specs.Server.{Post, post_to}
+use Rattle.spec_rules.specs.State.{in_both, is_in, leads_link, live, other_in, second}
+use Rattle.spec_rules.specs.Store.{Stored, cell_cmp, chain_in, epochs_of, mark_left}
+use Rattle.spec_rules.specs.Writes.{pending_on, both_action, alone_action, next_stage}
+use Rattle.spec_rules.specs.Jobs.{voter_of}
+use Rattle.spec_rules.specs.Jobs.{tick_posts, sent_again, copies_again, awaited}
+use Rattle.spec_rules.proofs.ListLemmas.{in-append}
+use Rattle.spec_rules.proofs.CellTables.{cell_cmp_total}
+use Rattle.spec_rules.proofs.Tests.{by_test, by_bool, not_true, only, true_false}
 use Rattle.law_steps.specs.Operations.{IsStaged, Waiting, Putting, Copying, Answering, waiting, putting, copying, answering}
 use Rattle.law_steps.specs.DidLead.{Asks, A_trim, A_copied_entry, A_page, An_entry_to_move, Of_the_log, other_on}
 use Rattle.law_steps.specs.Happens.{IsSeated}

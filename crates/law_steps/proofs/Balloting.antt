@@ -7,20 +7,20 @@ use Rattle.petal_command.specs.declared.command.Command.{Command}
 use Rattle.petal_command.specs.declared.command.Command.TheVariants.{Caught}
 use Rattle.petal_msg.specs.declared.copying.NextCopy.{NextCopy}
 use Rattle.petal_msg.specs.declared.copying.NextCopy.TheVariants.{Ask, Block, Wait, Nothing}
-use Rattle.petal_rules.specs.Ballots.{first_wanted, is_due, own_leave, wanted, with_leave}
-use Rattle.petal_rules.specs.Copies.{next_copy}
-use Rattle.petal_rules.specs.Draining.{draining}
-use Rattle.petal_rules.specs.Fills.{moving}
-use Rattle.petal_rules.specs.Returns.{caught_links, is_nothing, own_join, returning}
-use Rattle.petal_rules.specs.Lists.{In}
-use Rattle.petal_rules.specs.Log.{Log, Voter, rev_of, state_in}
-use Rattle.petal_rules.specs.Server.{Own, Here}
-use Rattle.petal_rules.specs.State.{id_of, is_in}
-use Rattle.petal_state.specs.State.{inc_of}
-use Rattle.petal_rules.specs.Jobs.{voter_of}
-use Rattle.petal_rules.specs.Jobs.{own_wants, wanted_by}
-use Rattle.petal_rules.proofs.ListLemmas.{in-append}
-use Rattle.petal_rules.proofs.Tests.{by_test, true_false}
+use Rattle.spec_rules.specs.Ballots.{first_wanted, is_due, own_leave, wanted, with_leave}
+use Rattle.spec_rules.specs.Copies.{next_copy}
+use Rattle.spec_rules.specs.Draining.{draining}
+use Rattle.spec_rules.specs.Fills.{moving}
+use Rattle.spec_rules.specs.Returns.{caught_links, is_nothing, own_join, returning}
+use Rattle.spec_rules.specs.Lists.{In}
+use Rattle.spec_rules.specs.Log.{Log, Voter, rev_of, state_in}
+use Rattle.spec_rules.specs.Server.{Own, Here}
+use Rattle.spec_rules.specs.State.{id_of, is_in}
+use Rattle.spec_state.specs.State.{inc_of}
+use Rattle.spec_rules.specs.Jobs.{voter_of}
+use Rattle.spec_rules.specs.Jobs.{own_wants, wanted_by}
+use Rattle.spec_rules.proofs.ListLemmas.{in-append}
+use Rattle.spec_rules.proofs.Tests.{by_test, true_false}
 use Rattle.law_state.specs.Started.{is_caught}
 use Rattle.law_state.proofs.Entries.{log_plain}
 use Rattle.law_state.proofs.Steady.{front_plain}

@@ -13,17 +13,17 @@ use Rattle.petal_base.specs.declared.cell.Cell.{Cell}
 use Rattle.petal_base.specs.declared.cell.Key.{Key}
 use Rattle.petal_base.specs.Cells.{cell_of, key_at}
 use Rattle.petal_command.specs.declared.command.Command.{Command}
-use Rattle.petal_state.specs.CellState.{cell_link, is_fenced, leaving, move_region, noted, region_leaving, region_on_way, row_lead, target}
-use Rattle.petal_state.specs.Command.{state_after}
-use Rattle.petal_state.specs.Role.{is_the}
-use Rattle.petal_state.specs.State.{mover}
-use Rattle.petal_rules.specs.Fills.{comes_before, comes_next, earlier, first_key, keys_in, keys_of, next_fill, not_noted, region_to_move}
-use Rattle.petal_rules.specs.Lists.{In}
-use Rattle.petal_rules.specs.Server.{Own, Here, Post}
-use Rattle.petal_rules.specs.State.{State, coming, id_of, is_on, link_cmp}
-use Rattle.petal_rules.specs.Store.{Chain}
+use Rattle.spec_state.specs.CellState.{cell_link, is_fenced, leaving, move_region, noted, region_leaving, region_on_way, row_lead, target}
+use Rattle.spec_state.specs.Command.{state_after}
+use Rattle.spec_state.specs.Role.{is_the}
+use Rattle.spec_state.specs.State.{mover}
+use Rattle.spec_rules.specs.Fills.{comes_before, comes_next, earlier, first_key, keys_in, keys_of, next_fill, not_noted, region_to_move}
+use Rattle.spec_rules.specs.Lists.{In}
+use Rattle.spec_rules.specs.Server.{Own, Here, Post}
+use Rattle.spec_rules.specs.State.{State, coming, id_of, is_on, link_cmp}
+use Rattle.spec_rules.specs.Store.{Chain}
 use Rattle.petal_table.specs.Table.{at}
-use Rattle.petal_rules.proofs.Tests.{both_true, by_test, none_some, number_itself, same_numbers, same_some, true_false}
+use Rattle.spec_rules.proofs.Tests.{both_true, by_test, none_some, number_itself, same_numbers, same_some, true_false}
 use Rattle.law_log.proofs.Lists.{kept_among}
 use Rattle.law_state.specs.Homes.{HasStage, stage_at}
 use Rattle.law_state.specs.Plain.{IsPlainLog}

@@ -12,15 +12,15 @@ use Rattle.petal_msg.specs.declared.copying.LastCopy.{LastCopy}
 use Rattle.petal_msg.specs.declared.copying.LinkId.{LinkId}
 use Rattle.petal_msg.specs.declared.copying.Progress.{Progress}
 use Rattle.petal_msg.specs.declared.letter.Letter.{Letter}
-use Rattle.petal_state.specs.CellState.{cell_link}
-use Rattle.petal_rules.specs.Copies.{begins_copy, mend_after, page_wanted, with_copied, with_page}
-use Rattle.petal_rules.specs.Lists.{In}
-use Rattle.petal_rules.specs.Progress.{progress_on, with_last_copy, with_progress, without_copying}
-use Rattle.petal_rules.specs.Server.{Own, Pairs, Here, Post, Done}
-use Rattle.petal_rules.specs.Store.{cell_cmp, chain_in, epochs_of}
-use Rattle.petal_rules.specs.declared.job.Job.TheVariants as job
-use Rattle.petal_rules.proofs.CellTables.{cell_cmp_total}
-use Rattle.petal_rules.proofs.Tests.{by_test}
+use Rattle.spec_state.specs.CellState.{cell_link}
+use Rattle.spec_rules.specs.Copies.{begins_copy, mend_after, page_wanted, with_copied, with_page}
+use Rattle.spec_rules.specs.Lists.{In}
+use Rattle.spec_rules.specs.Progress.{progress_on, with_last_copy, with_progress, without_copying}
+use Rattle.spec_rules.specs.Server.{Own, Pairs, Here, Post, Done}
+use Rattle.spec_rules.specs.Store.{cell_cmp, chain_in, epochs_of}
+use Rattle.spec_rules.specs.declared.job.Job.TheVariants as job
+use Rattle.spec_rules.proofs.CellTables.{cell_cmp_total}
+use Rattle.spec_rules.proofs.Tests.{by_test}
 use Rattle.law_log.proofs.Flags.{caught_put}
 use Rattle.law_steps.specs.Ready.{IsRising}
 use Rattle.law_steps.proofs.Tables.{put_rises, without_rises}

@@ -11,13 +11,13 @@ use Rattle.petal_msg.specs.declared.operation.Action.TheVariants as action
 use Rattle.petal_msg.specs.declared.operation.Ending.TheVariants.{Written, Full}
 use Rattle.petal_msg.specs.declared.operation.OpKind.TheVariants as kind
 use Rattle.petal_msg.specs.declared.operation.Pending.{Pending}
-use Rattle.petal_rules.specs.Fills.{Moving, fill_operation}
-use Rattle.petal_rules.specs.Lists.{In}
-use Rattle.petal_rules.specs.Server.{Own, Here, Pairs, Post, Done}
-use Rattle.petal_rules.specs.Store.{cell_cmp}
-use Rattle.petal_rules.specs.Writes.{gives_back, next_stage, operation, with_mark_at, without_pending}
-use Rattle.petal_rules.proofs.CellTables.{cell_apart, cell_same}
-use Rattle.petal_rules.proofs.Tests.{by_bool, same_some, true_false}
+use Rattle.spec_rules.specs.Fills.{Moving, fill_operation}
+use Rattle.spec_rules.specs.Lists.{In}
+use Rattle.spec_rules.specs.Server.{Own, Here, Pairs, Post, Done}
+use Rattle.spec_rules.specs.Store.{cell_cmp}
+use Rattle.spec_rules.specs.Writes.{gives_back, next_stage, operation, with_mark_at, without_pending}
+use Rattle.spec_rules.proofs.CellTables.{cell_apart, cell_same}
+use Rattle.spec_rules.proofs.Tests.{by_bool, same_some, true_false}
 use Rattle.law_steps.specs.Did.{Did, Ignores, Refuses, By_read, By_lead, By_second, By_holder, By_other, By_filler, By_sweep}
 use Rattle.law_steps.specs.DidFiller.{Is_filled, Is_out_of_slots}
 use Rattle.law_steps.specs.DidLead.{DidLead, Asks, An_entry_to_move, Of_the_log, Asks_for, Repeats, Is_full}

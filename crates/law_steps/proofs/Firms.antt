@@ -1,10 +1,10 @@
 -- By the law of the log, each world on the way of a legal history is firm, and what is chosen stays chosen.
 use Rattle.std.specs.Prelude.{List}
 use Rattle.script_lines.specs.declared.script.Script.{Script}
-use Rattle.petal_rules.specs.World.{setting_of, start}
-use Rattle.petal_history.specs.Steps.{AreSteps}
-use Rattle.petal_history.specs.Sound.{IsSound}
-use Rattle.petal_history.specs.declared.record.Record.{Record}
+use Rattle.spec_rules.specs.World.{setting_of, start}
+use Rattle.spec_history.specs.Steps.{AreSteps}
+use Rattle.spec_history.specs.Sound.{IsSound}
+use Rattle.spec_history.specs.declared.record.Record.{Record}
 use Rattle.law_log.proofs.Histories.{history_is_firm, history_grows}
 use Rattle.law_steps.specs.Ready.{AreFirm}
 use Rattle.law_steps.proofs.Histories.{firm_way}

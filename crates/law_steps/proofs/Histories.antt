@@ -8,28 +8,28 @@ use Rattle.petal_msg.specs.declared.operation.Pending.{Pending}
 use Rattle.petal_msg.specs.declared.letter.Actor.{Actor}
 use Rattle.petal_msg.specs.declared.letter.Actor.TheVariants as actor
 use Rattle.script_lines.specs.declared.script.Script.{Script}
-use Rattle.petal_state.specs.Command.{state_after}
-use Rattle.petal_history.specs.Claims.{IsPrefix, Grows}
-use Rattle.petal_history.specs.Steps.{Follows, AreSteps, AreStepsFrom, stepped, world_after}
-use Rattle.petal_history.specs.declared.record.Record.{Record}
-use Rattle.petal_rules.specs.Lists.{In}
-use Rattle.petal_rules.specs.Clients.{Client}
-use Rattle.petal_rules.specs.Log.{Log, state_in}
-use Rattle.petal_rules.specs.Server.{Own, Pairs, Server, Done}
-use Rattle.petal_rules.specs.Boots.{awake, blanked, raised, stays, wakes}
-use Rattle.petal_rules.specs.Crossing.{crossed, settled_by}
-use Rattle.petal_rules.specs.Returns.{proposed}
-use Rattle.petal_rules.specs.Progress.{has_proposed}
-use Rattle.petal_rules.specs.State.{State, is_in}
-use Rattle.petal_rules.specs.Store.{cell_cmp}
-use Rattle.petal_rules.specs.Jobs.{Acted}
-use Rattle.petal_rules.specs.World.{Setting, World, acts, reacts, step, server_step, client_step, next_line, received, clock_of, server_state}
-use Rattle.petal_rules.specs.World.{client_state, chosen_log, chosen_state, setting_of, start, MayServer, MayActor}
-use Rattle.petal_rules.specs.declared.step.Step.{Step}
-use Rattle.petal_rules.specs.declared.step.Step.TheVariants.{Blank}
-use Rattle.petal_rules.proofs.ListLemmas.{in_later, put_same}
-use Rattle.petal_rules.proofs.Settled.{by_settled, settling}
-use Rattle.petal_rules.proofs.Tests.{all_put, none_some, true_false}
+use Rattle.spec_state.specs.Command.{state_after}
+use Rattle.spec_history.specs.Claims.{IsPrefix, Grows}
+use Rattle.spec_history.specs.Steps.{Follows, AreSteps, AreStepsFrom, stepped, world_after}
+use Rattle.spec_history.specs.declared.record.Record.{Record}
+use Rattle.spec_rules.specs.Lists.{In}
+use Rattle.spec_rules.specs.Clients.{Client}
+use Rattle.spec_rules.specs.Log.{Log, state_in}
+use Rattle.spec_rules.specs.Server.{Own, Pairs, Server, Done}
+use Rattle.spec_rules.specs.Boots.{awake, blanked, raised, stays, wakes}
+use Rattle.spec_rules.specs.Crossing.{crossed, settled_by}
+use Rattle.spec_rules.specs.Returns.{proposed}
+use Rattle.spec_rules.specs.Progress.{has_proposed}
+use Rattle.spec_rules.specs.State.{State, is_in}
+use Rattle.spec_rules.specs.Store.{cell_cmp}
+use Rattle.spec_rules.specs.Jobs.{Acted}
+use Rattle.spec_rules.specs.World.{Setting, World, acts, reacts, step, server_step, client_step, next_line, received, clock_of, server_state}
+use Rattle.spec_rules.specs.World.{client_state, chosen_log, chosen_state, setting_of, start, MayServer, MayActor}
+use Rattle.spec_rules.specs.declared.step.Step.{Step}
+use Rattle.spec_rules.specs.declared.step.Step.TheVariants.{Blank}
+use Rattle.spec_rules.proofs.ListLemmas.{in_later, put_same}
+use Rattle.spec_rules.proofs.Settled.{by_settled, settling}
+use Rattle.spec_rules.proofs.Tests.{all_put, none_some, true_false}
 use Rattle.law_state.specs.Below.{IsBelow}
 use Rattle.law_state.specs.Firm.{Firm}
 use Rattle.law_state.specs.Plain.{IsPlainLog}

@@ -3,13 +3,13 @@ use Rattle.std.proofs.Common.{◌≡◌, true, false, refl, sym, ap, subst, inl,
 use Rattle.std.specs.Prelude.{not}
 use Rattle.petal_msg.specs.Kinds.{Copied, Paired, Subject, is_logged}
 use Rattle.petal_msg.specs.declared.letter.Letter.{Letter}
-use Rattle.petal_rules.specs.Lists.{In}
-use Rattle.petal_rules.specs.Server.{Own, Here, Done, silent}
-use Rattle.petal_rules.specs.State.{is_in}
-use Rattle.petal_rules.specs.Jobs.{does}
-use Rattle.petal_rules.specs.declared.job.Job.{Job}
-use Rattle.petal_rules.specs.declared.job.Job.TheVariants as job
-use Rattle.petal_rules.proofs.Tests.{by_test, by_bool, true_false}
+use Rattle.spec_rules.specs.Lists.{In}
+use Rattle.spec_rules.specs.Server.{Own, Here, Done, silent}
+use Rattle.spec_rules.specs.State.{is_in}
+use Rattle.spec_rules.specs.Jobs.{does}
+use Rattle.spec_rules.specs.declared.job.Job.{Job}
+use Rattle.spec_rules.specs.declared.job.Job.TheVariants as job
+use Rattle.spec_rules.proofs.Tests.{by_test, by_bool, true_false}
 use Rattle.law_steps.specs.Happens.{IsSeated, LeavesAll}
 use Rattle.law_steps.specs.Happens.{is_between}
 

@@ -9,18 +9,18 @@ use Rattle.petal_msg.specs.declared.letter.Actor.{Actor}
 use Rattle.petal_msg.specs.declared.letter.Actor.TheVariants as actor
 use Rattle.petal_msg.specs.declared.letter.Letter.{Letter}
 use Rattle.petal_msg.specs.declared.operation.Pending.{Pending}
-use Rattle.petal_rules.specs.State.{is_in, is_second}
-use Rattle.petal_rules.specs.Server.{Own, Here, Done}
-use Rattle.petal_rules.specs.Copies.{copies_on}
-use Rattle.petal_rules.specs.Progress.{copying_on, has_proposed}
-use Rattle.petal_rules.specs.Writes.{goes_on, pending_on, on_reserve, on_reserved, on_pair_full, on_replicate, on_replicated}
-use Rattle.petal_rules.specs.Jobs.{handles, at_other_rev, wrong_rev, is_from_in, does}
-use Rattle.petal_rules.specs.declared.job.Job.{Job}
-use Rattle.petal_rules.specs.declared.job.Job.TheVariants as job
+use Rattle.spec_rules.specs.State.{is_in, is_second}
+use Rattle.spec_rules.specs.Server.{Own, Here, Done}
+use Rattle.spec_rules.specs.Copies.{copies_on}
+use Rattle.spec_rules.specs.Progress.{copying_on, has_proposed}
+use Rattle.spec_rules.specs.Writes.{goes_on, pending_on, on_reserve, on_reserved, on_pair_full, on_replicate, on_replicated}
+use Rattle.spec_rules.specs.Jobs.{handles, at_other_rev, wrong_rev, is_from_in, does}
+use Rattle.spec_rules.specs.declared.job.Job.{Job}
+use Rattle.spec_rules.specs.declared.job.Job.TheVariants as job
 use Rattle.law_state.specs.Steady.{IsSteady}
 use Rattle.law_steps.specs.Operations.{IsStaged}
 use Rattle.law_steps.specs.Did.{Did, Ignores, Refuses}
-use Rattle.petal_rules.proofs.Tests.{by_test, same_numbers}
+use Rattle.spec_rules.proofs.Tests.{by_test, same_numbers}
 use Rattle.law_steps.proofs.InvertRead.{did_read}
 use Rattle.law_steps.proofs.InvertLead.{not_false, did_fill, did_next, did_write, did_reserved, did_pair_full, did_replicated}
 use Rattle.law_steps.proofs.InvertFiller.{did_filled, did_fill_full}

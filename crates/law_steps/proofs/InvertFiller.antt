@@ -12,14 +12,14 @@ use Rattle.petal_base.specs.Cells.{cell_of, key_at}
 use Rattle.petal_table.specs.Table.{at}
 use Rattle.petal_msg.specs.declared.body.Body.{Body}
 use Rattle.petal_msg.specs.declared.body.Body.TheVariants as body
-use Rattle.petal_state.specs.CellState.{cell_link, source, target}
-use Rattle.petal_rules.specs.Fills.{fill_left, fill_of, fills_row, hears_fill_full, hears_filled, is_next, link_before, next_fill}
-use Rattle.petal_rules.specs.Fills.{on_fill_full, on_filled, region_to_move, sends_key, sends_moving}
-use Rattle.petal_rules.specs.Lists.{In}
-use Rattle.petal_rules.specs.Server.{Own, Here, Post, Done, post_to}
-use Rattle.petal_rules.specs.State.{State, is_in, lead}
-use Rattle.petal_rules.specs.Store.{Stored, chain_in}
-use Rattle.petal_rules.proofs.Tests.{both_true, by_test, none_some, same_numbers, true_false}
+use Rattle.spec_state.specs.CellState.{cell_link, source, target}
+use Rattle.spec_rules.specs.Fills.{fill_left, fill_of, fills_row, hears_fill_full, hears_filled, is_next, link_before, next_fill}
+use Rattle.spec_rules.specs.Fills.{on_fill_full, on_filled, region_to_move, sends_key, sends_moving}
+use Rattle.spec_rules.specs.Lists.{In}
+use Rattle.spec_rules.specs.Server.{Own, Here, Post, Done, post_to}
+use Rattle.spec_rules.specs.State.{State, is_in, lead}
+use Rattle.spec_rules.specs.Store.{Stored, chain_in}
+use Rattle.spec_rules.proofs.Tests.{both_true, by_test, none_some, same_numbers, true_false}
 use Rattle.law_state.proofs.Places.{found_at}
 use Rattle.law_log.proofs.Lists.{among_at}
 use Rattle.law_steps.specs.Did.{Did, Ignores, By_filler}

@@ -16,17 +16,17 @@ use Rattle.petal_msg.specs.declared.copying.Copying.{Copying}
 use Rattle.petal_msg.specs.declared.copying.LinkId.{LinkId}
 use Rattle.petal_msg.specs.declared.copying.NextCopy.{NextCopy}
 use Rattle.petal_msg.specs.declared.copying.NextCopy.TheVariants.{Ask, Block, Wait, Nothing}
-use Rattle.petal_rules.specs.Copies.{begins_copy, blocks_left, catches_up, cell_at, copies_on, copies_with, copy_acts, copy_stage, goes_for, hears_hello}
-use Rattle.petal_rules.specs.Copies.{hears_page, hears_sync_full, hears_synced, hears_trimmed, idle_mark, is_link_under_way, is_syncing, least, mends}
-use Rattle.petal_rules.specs.Copies.{mends_found, mends_row, next_block, next_copy, on_hello, on_sync_full, on_synced, on_trimmed, same_block}
-use Rattle.petal_rules.specs.Copies.{sends_entry, takes_mark, tidies}
-use Rattle.petal_rules.specs.Progress.{copying_on, progress_on, with_copying}
-use Rattle.petal_rules.specs.Server.{Own, Here, Done}
-use Rattle.petal_rules.specs.State.{State, link_named, other_in}
-use Rattle.petal_rules.specs.Store.{chain_in, mark_left}
-use Rattle.petal_rules.specs.Writes.{is_under_way}
-use Rattle.petal_rules.proofs.CellTables.{cell_same}
-use Rattle.petal_rules.proofs.Tests.{both_true, by_test, not_true, same_numbers}
+use Rattle.spec_rules.specs.Copies.{begins_copy, blocks_left, catches_up, cell_at, copies_on, copies_with, copy_acts, copy_stage, goes_for, hears_hello}
+use Rattle.spec_rules.specs.Copies.{hears_page, hears_sync_full, hears_synced, hears_trimmed, idle_mark, is_link_under_way, is_syncing, least, mends}
+use Rattle.spec_rules.specs.Copies.{mends_found, mends_row, next_block, next_copy, on_hello, on_sync_full, on_synced, on_trimmed, same_block}
+use Rattle.spec_rules.specs.Copies.{sends_entry, takes_mark, tidies}
+use Rattle.spec_rules.specs.Progress.{copying_on, progress_on, with_copying}
+use Rattle.spec_rules.specs.Server.{Own, Here, Done}
+use Rattle.spec_rules.specs.State.{State, link_named, other_in}
+use Rattle.spec_rules.specs.Store.{chain_in, mark_left}
+use Rattle.spec_rules.specs.Writes.{is_under_way}
+use Rattle.spec_rules.proofs.CellTables.{cell_same}
+use Rattle.spec_rules.proofs.Tests.{both_true, by_test, not_true, same_numbers}
 use Rattle.law_state.proofs.Places.{get_within}
 use Rattle.law_steps.specs.Did.{Did, Ignores, By_holder}
 use Rattle.law_steps.specs.DidHolder.{CopyStep, Asks_to_trim, Sends, Unmarks_copied, Closes_copy, IsHeldWith, IsSynced, first_copy, Copy_as_is, Copy_trimmed}

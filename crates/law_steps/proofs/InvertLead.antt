@@ -14,18 +14,18 @@ use Rattle.petal_msg.specs.declared.operation.Action.TheVariants as action
 use Rattle.petal_msg.specs.declared.operation.Finished.{Finished}
 use Rattle.petal_msg.specs.declared.operation.Pending.{Pending}
 use Rattle.petal_msg.specs.declared.operation.Stage.{Stage}
-use Rattle.petal_rules.specs.Fills.{Moving, fill_operation, has_epoch, hears_fill, on_fill, opens_fill}
-use Rattle.petal_rules.specs.Lists.{In}
-use Rattle.petal_rules.specs.Progress.{copying_on, has_proposed}
-use Rattle.petal_rules.specs.State.{held, second, is_in, is_lead, leads_link, live, in_both}
-use Rattle.petal_rules.specs.Store.{chain_in, free_of}
-use Rattle.petal_rules.specs.Server.{Own, Here, Post, Done, post_to, says}
-use Rattle.petal_rules.specs.Writes.{Wanted, Older, Again, Newer, standing, next_stage, both_action, alone_action, acts, goes_on, goes_on_with}
-use Rattle.petal_rules.specs.Writes.{pending_on, with_pending, with_reserved, with_paired, with_opened, opened, operation, opens, takes, takes_newer}
-use Rattle.petal_rules.specs.Writes.{is_kept_back, is_under_way, is_writes_held, is_pending_for, is_reserving, is_replicating, hears_reserved}
-use Rattle.petal_rules.specs.Writes.{hears_pair_full, hears_replicated, on_write}
-use Rattle.petal_rules.specs.Reads.{said}
-use Rattle.petal_rules.proofs.CellTables.{cell_same}
+use Rattle.spec_rules.specs.Fills.{Moving, fill_operation, has_epoch, hears_fill, on_fill, opens_fill}
+use Rattle.spec_rules.specs.Lists.{In}
+use Rattle.spec_rules.specs.Progress.{copying_on, has_proposed}
+use Rattle.spec_rules.specs.State.{held, second, is_in, is_lead, leads_link, live, in_both}
+use Rattle.spec_rules.specs.Store.{chain_in, free_of}
+use Rattle.spec_rules.specs.Server.{Own, Here, Post, Done, post_to, says}
+use Rattle.spec_rules.specs.Writes.{Wanted, Older, Again, Newer, standing, next_stage, both_action, alone_action, acts, goes_on, goes_on_with}
+use Rattle.spec_rules.specs.Writes.{pending_on, with_pending, with_reserved, with_paired, with_opened, opened, operation, opens, takes, takes_newer}
+use Rattle.spec_rules.specs.Writes.{is_kept_back, is_under_way, is_writes_held, is_pending_for, is_reserving, is_replicating, hears_reserved}
+use Rattle.spec_rules.specs.Writes.{hears_pair_full, hears_replicated, on_write}
+use Rattle.spec_rules.specs.Reads.{said}
+use Rattle.spec_rules.proofs.CellTables.{cell_same}
 use Rattle.law_state.specs.Steady.{IsSteady}
 use Rattle.law_state.proofs.Links.{either_false}
 use Rattle.law_steps.specs.Operations.{IsStaged, AtRest, Waiting, Putting, Copying, Answering, waiting, putting, copying, answering, done_to}
@@ -33,7 +33,7 @@ use Rattle.law_steps.specs.DidLead.{Asks_for, Repeats, Is_full, Opens, Marks, Pu
 use Rattle.law_steps.specs.DidLead.{Unmarks_alone, Closes_alone, Opens_fill, Opens_fill_alone, Has_fill, Has_no_room, Goes_on_dead, Asks, A_slot}
 use Rattle.law_steps.specs.DidLead.{A_copy, IsNew, IsNewFill, Taken, As_it_is, As_told, IsIdleFill}
 use Rattle.law_steps.specs.Did.{Did, Ignores, Refuses, For_a_write, By_copy_for_a_write, A_write, By_lead}
-use Rattle.petal_rules.proofs.Tests.{by_test, by_bool, both_true, not_true, true_false, same_numbers, only}
+use Rattle.spec_rules.proofs.Tests.{by_test, by_bool, both_true, not_true, true_false, same_numbers, only}
 use Rattle.law_steps.proofs.Busy.{busy_not_held, busy_seq, held_not_busy, held_seq}
 use Rattle.law_steps.proofs.Leading.{lead_links, link_alone}
 

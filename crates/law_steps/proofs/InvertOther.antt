@@ -9,14 +9,14 @@ use Rattle.petal_msg.specs.declared.body.Body.{Body}
 use Rattle.petal_msg.specs.declared.body.Body.TheVariants as body
 use Rattle.petal_msg.specs.declared.copying.LastCopy.{LastCopy}
 use Rattle.petal_msg.specs.declared.copying.LinkId.{LinkId}
-use Rattle.petal_rules.specs.Copies.{Entry, answers_page, cell_holder, epochs_beyond, hears_entry, hears_sync, hears_trim, hears_trim_of, on_hello_ask, on_sync}
-use Rattle.petal_rules.specs.Copies.{on_trim, puts_entry, trims_again, trims_first, trims_for, trims_newly, trims_on}
-use Rattle.petal_rules.specs.Progress.{last_copy, with_last_copy}
-use Rattle.petal_rules.specs.Server.{Own, Here, Done}
-use Rattle.petal_rules.specs.State.{link_named}
-use Rattle.petal_rules.specs.Store.{free_of}
-use Rattle.petal_rules.proofs.CellTables.{cell_same}
-use Rattle.petal_rules.proofs.Tests.{by_test, none_some, same_numbers, same_some}
+use Rattle.spec_rules.specs.Copies.{Entry, answers_page, cell_holder, epochs_beyond, hears_entry, hears_sync, hears_trim, hears_trim_of, on_hello_ask, on_sync}
+use Rattle.spec_rules.specs.Copies.{on_trim, puts_entry, trims_again, trims_first, trims_for, trims_newly, trims_on}
+use Rattle.spec_rules.specs.Progress.{last_copy, with_last_copy}
+use Rattle.spec_rules.specs.Server.{Own, Here, Done}
+use Rattle.spec_rules.specs.State.{link_named}
+use Rattle.spec_rules.specs.Store.{free_of}
+use Rattle.spec_rules.proofs.CellTables.{cell_same}
+use Rattle.spec_rules.proofs.Tests.{by_test, none_some, same_numbers, same_some}
 use Rattle.law_steps.specs.Did.{Did, Ignores, By_other}
 use Rattle.law_steps.specs.DidOther.{Replies, TrimStep, Is_trimmed, Drops_entry, IsOfCopy, first_last, Answers_page, Is_copied_to}
 use Rattle.law_steps.specs.DidOther.{Goes_on_trimming, Puts_entry, Has_entry, Has_no_slot}

@@ -10,14 +10,14 @@ use Rattle.petal_msg.specs.declared.body.Body.TheVariants as body
 use Rattle.petal_msg.specs.declared.operation.Far.{Far}
 use Rattle.petal_msg.specs.declared.operation.Far.TheVariants as far
 use Rattle.petal_msg.specs.declared.operation.LastOp.{LastOp}
-use Rattle.petal_rules.specs.State.{is_second}
-use Rattle.petal_rules.specs.Store.{free_of}
-use Rattle.petal_rules.specs.Server.{Own, Here, Done}
-use Rattle.petal_rules.specs.Writes.{hears_reserve, hears_replicate, reserves, follows_once, has_slot, last_on}
+use Rattle.spec_rules.specs.State.{is_second}
+use Rattle.spec_rules.specs.Store.{free_of}
+use Rattle.spec_rules.specs.Server.{Own, Here, Done}
+use Rattle.spec_rules.specs.Writes.{hears_reserve, hears_replicate, reserves, follows_once, has_slot, last_on}
 use Rattle.law_steps.specs.Operations.{progress}
 use Rattle.law_steps.specs.DidSecond.{Sets_apart, Promises, Declines, Follows}
 use Rattle.law_steps.specs.Did.{Did, Ignores, By_second}
-use Rattle.petal_rules.proofs.Tests.{by_test, true_false, same_numbers, same_some, none_some}
+use Rattle.spec_rules.proofs.Tests.{by_test, true_false, same_numbers, same_some, none_some}
 use Rattle.law_steps.proofs.InvertLead.{no_free}
 
 newer_op : (last : LastOp) (number : ℕ) → nat_lt number last.op ≡ false → (number == last.op) ≡ false → last.op < number

@@ -5,11 +5,11 @@ use Rattle.petal_base.specs.declared.cell.Cell.{Cell}
 use Rattle.petal_msg.specs.declared.body.Body.{Body}
 use Rattle.petal_msg.specs.declared.dead.Dead.{Dead}
 use Rattle.petal_msg.specs.declared.dead.Dead.TheVariants as dead
-use Rattle.petal_rules.specs.Server.{Own, Here}
-use Rattle.petal_rules.specs.State.{State, is_in, live}
-use Rattle.petal_rules.specs.Store.{Chain, Store}
-use Rattle.petal_rules.specs.Sweeping.{dead_in, dead_key, dead_mark, next_dead, sweeps, sweeps_with}
-use Rattle.petal_rules.proofs.Tests.{by_test, none_some, same_some}
+use Rattle.spec_rules.specs.Server.{Own, Here}
+use Rattle.spec_rules.specs.State.{State, is_in, live}
+use Rattle.spec_rules.specs.Store.{Chain, Store}
+use Rattle.spec_rules.specs.Sweeping.{dead_in, dead_key, dead_mark, next_dead, sweeps, sweeps_with}
+use Rattle.spec_rules.proofs.Tests.{by_test, none_some, same_some}
 use Rattle.law_steps.specs.Did.{Did, Ignores, By_sweep}
 use Rattle.law_steps.specs.DidSweep.{Sweeps, cell_swept}
 

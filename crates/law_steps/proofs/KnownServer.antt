@@ -1,9 +1,9 @@
 -- A server of a world in which all rests, before a step of it.
 use Rattle.std.proofs.Common.{ℕ}
 use Rattle.petal_msg.specs.declared.body.Body.{Body}
-use Rattle.petal_rules.specs.Log.{Log}
-use Rattle.petal_rules.specs.Server.{Here, Own, Server}
-use Rattle.petal_rules.specs.World.{Setting, World, server_state}
+use Rattle.spec_rules.specs.Log.{Log}
+use Rattle.spec_rules.specs.Server.{Here, Own, Server}
+use Rattle.spec_rules.specs.World.{Setting, World, server_state}
 use Rattle.law_state.specs.Firm.{Firm}
 use Rattle.law_state.specs.Steady.{IsSteady}
 use Rattle.law_steps.specs.Happens.{Handled, own_place}

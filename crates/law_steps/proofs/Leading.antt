@@ -11,12 +11,12 @@ use Rattle.global_tables.specs.declared.link.LinkRow.{LinkRow}
 use Rattle.global_tables.specs.declared.link.LinkState.{LinkState}
 use Rattle.global_tables.specs.declared.link.LinkState.TheVariants.{Both, Only, Lost}
 use Rattle.petal_base.specs.declared.cell.Cell.{Cell}
-use Rattle.petal_state.specs.CellState.{cell_link, live_new, live_old, live_under, move_region, owner, row_lead, state_lead}
-use Rattle.petal_state.specs.Command.{is_alone}
-use Rattle.petal_state.specs.Role.{is_the, row_in_both}
-use Rattle.petal_state.specs.State.{is_up}
-use Rattle.petal_rules.specs.State.{State, in_both, is_alone_on, is_lead, leads_link, leaving, live, second}
-use Rattle.petal_rules.proofs.Tests.{by_test, true_false}
+use Rattle.spec_state.specs.CellState.{cell_link, live_new, live_old, live_under, move_region, owner, row_lead, state_lead}
+use Rattle.spec_state.specs.Command.{is_alone}
+use Rattle.spec_state.specs.Role.{is_the, row_in_both}
+use Rattle.spec_state.specs.State.{is_up}
+use Rattle.spec_rules.specs.State.{State, in_both, is_alone_on, is_lead, leads_link, leaving, live, second}
+use Rattle.spec_rules.proofs.Tests.{by_test, true_false}
 use Rattle.law_state.specs.Homes.{new_stage, old_stage, stage_at, stage_by}
 
 -- ### The lead

@@ -3,9 +3,9 @@ use Rattle.std.proofs.Common.{◌≡◌, ℕ, ◌+◌, List, [], ◌∷◌, Opti
 use Rattle.petal_msg.specs.declared.body.Body.{Body}
 use Rattle.petal_msg.specs.declared.letter.Actor.{Actor}
 use Rattle.petal_msg.specs.declared.letter.Letter.{Letter}
-use Rattle.petal_rules.specs.Lists.{In}
-use Rattle.petal_rules.specs.Server.{Post, Sender, letters_of, post_to}
-use Rattle.petal_rules.specs.World.{stamped}
+use Rattle.spec_rules.specs.Lists.{In}
+use Rattle.spec_rules.specs.Server.{Post, Sender, letters_of, post_to}
+use Rattle.spec_rules.specs.World.{stamped}
 
 -- a letter of a step was posted in it
 pub record Said (who : Sender) (stamp : ℕ) (posts : List Post) (letter : Letter) : Type 0 where

@@ -12,24 +12,24 @@ use Rattle.petal_msg.specs.declared.body.Body.TheVariants as body
 use Rattle.petal_msg.specs.declared.letter.Actor.{Actor}
 use Rattle.petal_msg.specs.declared.letter.Actor.TheVariants as actor
 use Rattle.petal_msg.specs.declared.letter.Letter.{Letter}
-use Rattle.petal_paxos.specs.Acceptor.{is_open}
-use Rattle.petal_paxos.specs.Proposer.{Step, hear, has_majority}
-use Rattle.petal_paxos.specs.declared.phase.Heard.{Heard}
-use Rattle.petal_paxos.specs.declared.phase.Heard.TheVariants.{Nothing, Send, Refused}
-use Rattle.petal_paxos.specs.declared.phase.Heard.TheVariants.{Chosen as Decided}
-use Rattle.petal_paxos.specs.declared.phase.Phase.{Phase}
-use Rattle.petal_paxos.specs.declared.phase.Phase.TheVariants.{Idle, Collecting, Voting}
-use Rattle.petal_rules.specs.Ballots.{on_down, on_propose, on_pax, hears_of_ballot, comes_out, proposes, to_all, to_unheard, post_of}
-use Rattle.petal_rules.specs.Ballots.{first_wanted, starts, starts_for, ballot_posts, ask_posts}
-use Rattle.petal_rules.specs.Entries.{on_ask, on_news, learns, learns_first, applies, applies_known, applies_then, unknown_from}
-use Rattle.petal_rules.specs.Jobs.{log_does, hears_log}
-use Rattle.petal_rules.specs.Lists.{In}
-use Rattle.petal_rules.specs.Log.{Log, LogDone, Voter, known, next_place, acceptor, rev_of, keeps}
-use Rattle.petal_rules.specs.Server.{Post}
-use Rattle.petal_rules.specs.declared.job.Job.{Job}
-use Rattle.petal_rules.specs.declared.job.Job.TheVariants as job
-use Rattle.petal_rules.proofs.ListLemmas.{in-append}
-use Rattle.petal_rules.proofs.Tests.{by_test, only}
+use Rattle.spec_paxos.specs.Acceptor.{is_open}
+use Rattle.spec_paxos.specs.Proposer.{Step, hear, has_majority}
+use Rattle.spec_paxos.specs.declared.phase.Heard.{Heard}
+use Rattle.spec_paxos.specs.declared.phase.Heard.TheVariants.{Nothing, Send, Refused}
+use Rattle.spec_paxos.specs.declared.phase.Heard.TheVariants.{Chosen as Decided}
+use Rattle.spec_paxos.specs.declared.phase.Phase.{Phase}
+use Rattle.spec_paxos.specs.declared.phase.Phase.TheVariants.{Idle, Collecting, Voting}
+use Rattle.spec_rules.specs.Ballots.{on_down, on_propose, on_pax, hears_of_ballot, comes_out, proposes, to_all, to_unheard, post_of}
+use Rattle.spec_rules.specs.Ballots.{first_wanted, starts, starts_for, ballot_posts, ask_posts}
+use Rattle.spec_rules.specs.Entries.{on_ask, on_news, learns, learns_first, applies, applies_known, applies_then, unknown_from}
+use Rattle.spec_rules.specs.Jobs.{log_does, hears_log}
+use Rattle.spec_rules.specs.Lists.{In}
+use Rattle.spec_rules.specs.Log.{Log, LogDone, Voter, known, next_place, acceptor, rev_of, keeps}
+use Rattle.spec_rules.specs.Server.{Post}
+use Rattle.spec_rules.specs.declared.job.Job.{Job}
+use Rattle.spec_rules.specs.declared.job.Job.TheVariants as job
+use Rattle.spec_rules.proofs.ListLemmas.{in-append}
+use Rattle.spec_rules.proofs.Tests.{by_test, only}
 
 -- the letter speaks of the agreed log
 abbrev pub IsLogged : Post → Type 0

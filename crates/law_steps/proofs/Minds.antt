@@ -19,19 +19,19 @@ use Rattle.petal_msg.specs.declared.copying.NextCopy.{NextCopy}
 use Rattle.petal_msg.specs.declared.copying.NextCopy.TheVariants.{Ask, Block, Wait, Nothing}
 use Rattle.petal_msg.specs.declared.copying.Progress.{Progress}
 use Rattle.petal_msg.specs.declared.operation.Pending.{Pending}
-use Rattle.petal_state.specs.CellState.{cell_link}
+use Rattle.spec_state.specs.CellState.{cell_link}
 use Rattle.petal_table.specs.Table.{Table, at}
 use Rattle.petal_table.proofs.Rows.{at-where}
-use Rattle.petal_rules.specs.Copies.{blocks_left, cell_at, is_link_under_way, least, next_block, next_copy}
-use Rattle.petal_rules.specs.Crossing.{crossed, ends_link}
-use Rattle.petal_rules.specs.Progress.{has_proposed, progress_on, with_progress}
-use Rattle.petal_rules.specs.Returns.{holds_link, proposed}
-use Rattle.petal_rules.specs.Server.{Own, Here}
-use Rattle.petal_rules.specs.State.{State, id_of, is_on, link_cmp}
-use Rattle.petal_rules.specs.Store.{cell_cmp}
-use Rattle.petal_rules.specs.Writes.{is_under_way}
-use Rattle.petal_rules.proofs.CellTables.{cell_cmp_same}
-use Rattle.petal_rules.proofs.Tests.{by_bool, by_test, none_some, number_itself, true_false}
+use Rattle.spec_rules.specs.Copies.{blocks_left, cell_at, is_link_under_way, least, next_block, next_copy}
+use Rattle.spec_rules.specs.Crossing.{crossed, ends_link}
+use Rattle.spec_rules.specs.Progress.{has_proposed, progress_on, with_progress}
+use Rattle.spec_rules.specs.Returns.{holds_link, proposed}
+use Rattle.spec_rules.specs.Server.{Own, Here}
+use Rattle.spec_rules.specs.State.{State, id_of, is_on, link_cmp}
+use Rattle.spec_rules.specs.Store.{cell_cmp}
+use Rattle.spec_rules.specs.Writes.{is_under_way}
+use Rattle.spec_rules.proofs.CellTables.{cell_cmp_same}
+use Rattle.spec_rules.proofs.Tests.{by_bool, by_test, none_some, number_itself, true_false}
 use Rattle.law_state.specs.Below.{HasLater}
 use Rattle.law_state.specs.Started.{is_flagged}
 use Rattle.law_log.proofs.Flags.{progress_beside, same_caught, same_id}

@@ -11,19 +11,19 @@ use Rattle.petal_command.specs.declared.command.Command.TheVariants.{Caught}
 use Rattle.petal_table.specs.Table.{Table, at}
 use Rattle.petal_msg.specs.declared.operation.Pending.{Pending}
 use Rattle.petal_msg.specs.declared.letter.Letter.{Letter}
-use Rattle.petal_state.specs.CellState.{cell_link, serves}
-use Rattle.petal_state.specs.Command.{state_after}
-use Rattle.petal_history.specs.Claims.{IsPrefix}
-use Rattle.petal_rules.specs.Lists.{In}
-use Rattle.petal_rules.specs.Server.{Own}
-use Rattle.petal_rules.specs.Returns.{holds_link, proposed}
-use Rattle.petal_rules.specs.Progress.{has_proposed}
-use Rattle.petal_rules.specs.State.{State, id_of, in_both, is_alone_on, is_in, leads_link, link_named, live}
-use Rattle.petal_rules.specs.Store.{cell_cmp}
-use Rattle.petal_rules.specs.World.{Setting, World, server_state}
-use Rattle.petal_rules.specs.World.{client_state, chosen_log, chosen_state}
-use Rattle.petal_rules.specs.declared.job.Job.{Job}
-use Rattle.petal_rules.proofs.Tests.{by_bool, number_itself, true_false}
+use Rattle.spec_state.specs.CellState.{cell_link, serves}
+use Rattle.spec_state.specs.Command.{state_after}
+use Rattle.spec_history.specs.Claims.{IsPrefix}
+use Rattle.spec_rules.specs.Lists.{In}
+use Rattle.spec_rules.specs.Server.{Own}
+use Rattle.spec_rules.specs.Returns.{holds_link, proposed}
+use Rattle.spec_rules.specs.Progress.{has_proposed}
+use Rattle.spec_rules.specs.State.{State, id_of, in_both, is_alone_on, is_in, leads_link, link_named, live}
+use Rattle.spec_rules.specs.Store.{cell_cmp}
+use Rattle.spec_rules.specs.World.{Setting, World, server_state}
+use Rattle.spec_rules.specs.World.{client_state, chosen_log, chosen_state}
+use Rattle.spec_rules.specs.declared.job.Job.{Job}
+use Rattle.spec_rules.proofs.Tests.{by_bool, number_itself, true_false}
 use Rattle.law_state.specs.Below.{HasLater, IsBelow}
 use Rattle.law_state.specs.Homes.{HasDied, stage_at}
 use Rattle.law_state.specs.Firm.{Firm}

@@ -10,9 +10,9 @@ use Rattle.petal_msg.specs.declared.operation.Ending.TheVariants as ending
 use Rattle.petal_msg.specs.declared.operation.OpKind.{OpKind}
 use Rattle.petal_msg.specs.declared.operation.OpKind.TheVariants as kind
 use Rattle.petal_msg.specs.declared.operation.Pending.{Pending}
-use Rattle.petal_rules.specs.Lists.{In}
-use Rattle.petal_rules.specs.Server.{Own, Here, Post}
-use Rattle.petal_rules.specs.Writes.{acts, ended, ends, moved_as, old_lead, without_pending}
+use Rattle.spec_rules.specs.Lists.{In}
+use Rattle.spec_rules.specs.Server.{Own, Here, Post}
+use Rattle.spec_rules.specs.Writes.{acts, ended, ends, moved_as, old_lead, without_pending}
 use Rattle.law_steps.proofs.Letters.{one_post, posted}
 
 -- it takes an operation on, or tells how it ended

@@ -7,13 +7,13 @@ use Rattle.petal_msg.specs.declared.operation.Action.{Action}
 use Rattle.petal_msg.specs.declared.operation.Action.TheVariants as action
 use Rattle.petal_msg.specs.declared.operation.Ending.TheVariants.{Written}
 use Rattle.petal_msg.specs.declared.operation.Pending.{Pending}
-use Rattle.petal_rules.specs.Lists.{In}
-use Rattle.petal_rules.specs.Store.{cell_cmp, chain_in, version_of}
-use Rattle.petal_rules.specs.Server.{Here, Own, Pairs, Post, Done}
-use Rattle.petal_rules.specs.Writes.{acts, gives_back, pending_on, with_pending, without_pending, with_reserved}
-use Rattle.petal_rules.specs.Writes.{with_paired, with_mark_at, marks, puts, unmarks}
-use Rattle.petal_rules.proofs.CellTables.{cell_same, cell_apart, cell_gone, cell_gone_apart}
-use Rattle.petal_rules.proofs.Tests.{by_test, none_some, same_some}
+use Rattle.spec_rules.specs.Lists.{In}
+use Rattle.spec_rules.specs.Store.{cell_cmp, chain_in, version_of}
+use Rattle.spec_rules.specs.Server.{Here, Own, Pairs, Post, Done}
+use Rattle.spec_rules.specs.Writes.{acts, gives_back, pending_on, with_pending, without_pending, with_reserved}
+use Rattle.spec_rules.specs.Writes.{with_paired, with_mark_at, marks, puts, unmarks}
+use Rattle.spec_rules.proofs.CellTables.{cell_same, cell_apart, cell_gone, cell_gone_apart}
+use Rattle.spec_rules.proofs.Tests.{by_test, none_some, same_some}
 use Rattle.law_steps.specs.DidLead.{Taken}
 use Rattle.law_steps.proofs.Staged.{same_cell_or_apart}
 use Rattle.law_steps.proofs.Subjects.{of_ending}

@@ -22,21 +22,21 @@ use Rattle.petal_msg.specs.declared.copying.LinkId.{LinkId}
 use Rattle.petal_msg.specs.declared.copying.NextCopy.{NextCopy}
 use Rattle.petal_msg.specs.declared.copying.NextCopy.TheVariants.{Ask, Block, Wait, Nothing}
 use Rattle.petal_msg.specs.declared.copying.Progress.{Progress}
-use Rattle.petal_state.specs.CellState.{cell_link}
-use Rattle.petal_state.specs.Command.{after}
+use Rattle.spec_state.specs.CellState.{cell_link}
+use Rattle.spec_state.specs.Command.{after}
 use Rattle.petal_table.specs.Table.{at}
-use Rattle.petal_rules.specs.Copies.{begins_copy, blocks_left, cell_at, cell_holder, is_kept_on, is_link_under_way, least, marked_blocks}
-use Rattle.petal_rules.specs.Copies.{next_block, next_copy, stored_blocks, with_copied, with_page}
-use Rattle.petal_rules.specs.Lists.{In}
-use Rattle.petal_rules.specs.Progress.{copying_on, last_copy, no_progress, progress_on, with_copying, with_full, with_last_copy, with_progress, without_copying}
-use Rattle.petal_rules.specs.Returns.{holds_link, proposed}
-use Rattle.petal_rules.specs.Server.{Own, Copies, Here, Done}
-use Rattle.petal_rules.specs.State.{State, holder_of, id_of, is_on, is_whole, link_cmp, link_named, live}
-use Rattle.petal_rules.specs.Store.{Stored, cell_cmp, with_entry, with_mark_on, with_ticket}
-use Rattle.petal_rules.specs.Writes.{is_under_way}
-use Rattle.petal_rules.proofs.CellTables.{cell_apart, cell_gone, cell_gone_apart, cell_same}
-use Rattle.petal_rules.proofs.ListLemmas.{in-append}
-use Rattle.petal_rules.proofs.Tests.{both_true, by_bool, by_test, none_some, same_numbers, same_some, some_or_none, true_false}
+use Rattle.spec_rules.specs.Copies.{begins_copy, blocks_left, cell_at, cell_holder, is_kept_on, is_link_under_way, least, marked_blocks}
+use Rattle.spec_rules.specs.Copies.{next_block, next_copy, stored_blocks, with_copied, with_page}
+use Rattle.spec_rules.specs.Lists.{In}
+use Rattle.spec_rules.specs.Progress.{copying_on, last_copy, no_progress, progress_on, with_copying, with_full, with_last_copy, with_progress, without_copying}
+use Rattle.spec_rules.specs.Returns.{holds_link, proposed}
+use Rattle.spec_rules.specs.Server.{Own, Copies, Here, Done}
+use Rattle.spec_rules.specs.State.{State, holder_of, id_of, is_on, is_whole, link_cmp, link_named, live}
+use Rattle.spec_rules.specs.Store.{Stored, cell_cmp, with_entry, with_mark_on, with_ticket}
+use Rattle.spec_rules.specs.Writes.{is_under_way}
+use Rattle.spec_rules.proofs.CellTables.{cell_apart, cell_gone, cell_gone_apart, cell_same}
+use Rattle.spec_rules.proofs.ListLemmas.{in-append}
+use Rattle.spec_rules.proofs.Tests.{both_true, by_bool, by_test, none_some, same_numbers, same_some, some_or_none, true_false}
 use Rattle.law_state.proofs.Changing.{found_itself}
 use Rattle.law_state.proofs.Places.{found_at}
 use Rattle.law_log.proofs.Flags.{progress_beside, progress_here, same_id}

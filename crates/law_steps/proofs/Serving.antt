@@ -8,30 +8,30 @@ use Rattle.petal_msg.specs.declared.body.Body.{Body}
 use Rattle.petal_msg.specs.declared.letter.Actor.TheVariants as actor
 use Rattle.petal_msg.specs.declared.letter.Letter.{Letter}
 use Rattle.petal_msg.specs.declared.operation.Pending.{Pending}
-use Rattle.petal_history.specs.Claims.{IsPrefix}
-use Rattle.petal_rules.specs.Ballots.{asks_next, first_wanted, starts}
-use Rattle.petal_rules.specs.Boots.{boots, raised, stays}
-use Rattle.petal_rules.specs.Crossing.{crossed, link_jobs, settled_by, stage_jobs}
-use Rattle.petal_rules.specs.Progress.{has_proposed}
-use Rattle.petal_rules.specs.Returns.{proposed}
-use Rattle.petal_rules.specs.Entries.{applies}
-use Rattle.petal_rules.specs.Lists.{In, put_at}
-use Rattle.petal_rules.specs.Log.{Log, LogDone, known, next_place, rev_of}
-use Rattle.petal_rules.specs.Server.{Server, Post, Sender, Done, silent, sender, letters_of}
-use Rattle.petal_rules.specs.Writes.{pending_on}
-use Rattle.petal_rules.specs.Jobs.{Acted, works, job_done, crossing, entered, worked, is_overfull, stops, glances, glance_sender, is_log_job, voter_of}
-use Rattle.petal_rules.specs.Jobs.{tick_jobs, tick_posts, does, log_does, wanted_by}
-use Rattle.petal_rules.specs.World.{Setting, World, acts, server_state, server_step, chosen_log, MayServer}
-use Rattle.petal_rules.specs.declared.job.Job.{Job}
-use Rattle.petal_rules.specs.declared.job.Job.TheVariants as job
-use Rattle.petal_rules.specs.declared.step.CommitEnd.TheVariants.{Before, After}
-use Rattle.petal_rules.specs.declared.step.Step.{Step}
-use Rattle.petal_rules.specs.declared.step.Step.TheVariants.{Call, Deliver, Tick, Work, StopIn, Stop, Blank, Boot, Arm, Glance}
-use Rattle.petal_rules.specs.declared.step.WorkEnd.{WorkEnd}
-use Rattle.petal_rules.specs.declared.step.WorkEnd.TheVariants as work_end
-use Rattle.petal_paxos.specs.Chosen.{chosen_log as chosen_by}
-use Rattle.petal_rules.proofs.ListLemmas.{in-append, put_same}
-use Rattle.petal_rules.proofs.Tests.{by_test, all_put, only, true_false}
+use Rattle.spec_history.specs.Claims.{IsPrefix}
+use Rattle.spec_rules.specs.Ballots.{asks_next, first_wanted, starts}
+use Rattle.spec_rules.specs.Boots.{boots, raised, stays}
+use Rattle.spec_rules.specs.Crossing.{crossed, link_jobs, settled_by, stage_jobs}
+use Rattle.spec_rules.specs.Progress.{has_proposed}
+use Rattle.spec_rules.specs.Returns.{proposed}
+use Rattle.spec_rules.specs.Entries.{applies}
+use Rattle.spec_rules.specs.Lists.{In, put_at}
+use Rattle.spec_rules.specs.Log.{Log, LogDone, known, next_place, rev_of}
+use Rattle.spec_rules.specs.Server.{Server, Post, Sender, Done, silent, sender, letters_of}
+use Rattle.spec_rules.specs.Writes.{pending_on}
+use Rattle.spec_rules.specs.Jobs.{Acted, works, job_done, crossing, entered, worked, is_overfull, stops, glances, glance_sender, is_log_job, voter_of}
+use Rattle.spec_rules.specs.Jobs.{tick_jobs, tick_posts, does, log_does, wanted_by}
+use Rattle.spec_rules.specs.World.{Setting, World, acts, server_state, server_step, chosen_log, MayServer}
+use Rattle.spec_rules.specs.declared.job.Job.{Job}
+use Rattle.spec_rules.specs.declared.job.Job.TheVariants as job
+use Rattle.spec_rules.specs.declared.step.CommitEnd.TheVariants.{Before, After}
+use Rattle.spec_rules.specs.declared.step.Step.{Step}
+use Rattle.spec_rules.specs.declared.step.Step.TheVariants.{Call, Deliver, Tick, Work, StopIn, Stop, Blank, Boot, Arm, Glance}
+use Rattle.spec_rules.specs.declared.step.WorkEnd.{WorkEnd}
+use Rattle.spec_rules.specs.declared.step.WorkEnd.TheVariants as work_end
+use Rattle.spec_paxos.specs.Chosen.{chosen_log as chosen_by}
+use Rattle.spec_rules.proofs.ListLemmas.{in-append, put_same}
+use Rattle.spec_rules.proofs.Tests.{by_test, all_put, only, true_false}
 use Rattle.law_state.specs.Firm.{Firm}
 use Rattle.law_state.proofs.Steady.{log_rev}
 use Rattle.law_state.specs.Steady.{IsSteady}

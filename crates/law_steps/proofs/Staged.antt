@@ -10,13 +10,13 @@ use Rattle.petal_msg.specs.declared.operation.Action.TheVariants as action
 use Rattle.petal_msg.specs.declared.operation.Ending.TheVariants.{Written, Full}
 use Rattle.petal_msg.specs.declared.operation.Pending.{Pending}
 use Rattle.petal_msg.specs.declared.operation.Stage.{Stage}
-use Rattle.petal_rules.specs.State.{State, is_alone_on, leads_link, live}
-use Rattle.petal_rules.specs.Store.{cell_cmp, chain_in, version_of}
-use Rattle.petal_rules.specs.Fills.{fill_operation}
-use Rattle.petal_rules.specs.Progress.{has_proposed}
-use Rattle.petal_rules.specs.Server.{Own, Here, Pairs, Done}
-use Rattle.petal_rules.specs.Writes.{acts, gives_back, next_stage, operation, with_reserved, with_paired, with_mark_at, without_pending}
-use Rattle.petal_rules.proofs.CellTables.{cell_cmp_total, cell_same, cell_apart, cell_gone, cell_gone_apart}
+use Rattle.spec_rules.specs.State.{State, is_alone_on, leads_link, live}
+use Rattle.spec_rules.specs.Store.{cell_cmp, chain_in, version_of}
+use Rattle.spec_rules.specs.Fills.{fill_operation}
+use Rattle.spec_rules.specs.Progress.{has_proposed}
+use Rattle.spec_rules.specs.Server.{Own, Here, Pairs, Done}
+use Rattle.spec_rules.specs.Writes.{acts, gives_back, next_stage, operation, with_reserved, with_paired, with_mark_at, without_pending}
+use Rattle.spec_rules.proofs.CellTables.{cell_cmp_total, cell_same, cell_apart, cell_gone, cell_gone_apart}
 use Rattle.law_state.specs.Homes.{stage_at}
 use Rattle.law_steps.specs.Operations.{A_fill, A_write, IsOpenedFor, IsStaged, AtRest, Waiting, Putting, Copying, Answering}
 use Rattle.law_state.proofs.Alone.{alone_not_both}
@@ -24,7 +24,7 @@ use Rattle.law_steps.specs.DidLead.{DidLead, Opens, Marks, Puts, Gives_up, Unmar
 use Rattle.law_steps.specs.DidLead.{Unmarks_alone, Closes_alone, Opens_fill, Opens_fill_alone, Goes_on_dead, Taken}
 use Rattle.law_steps.specs.Did.{Did, Ignores, Refuses, By_read, By_lead, By_second, By_holder, By_other, By_filler, By_sweep}
 use Rattle.law_steps.specs.Ready.{IsReady, IsRising}
-use Rattle.petal_rules.proofs.Tests.{by_test, same_or_apart, same_some, none_some, true_false}
+use Rattle.spec_rules.proofs.Tests.{by_test, same_or_apart, same_some, none_some, true_false}
 use Rattle.law_steps.proofs.CopyFrames.{of_holder, of_other}
 use Rattle.law_steps.proofs.Leading.{lead_links, live_stage}
 use Rattle.law_steps.proofs.Subjects.{of_ending, of_filler, of_read, of_second, of_sweep}

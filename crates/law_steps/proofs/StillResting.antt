@@ -9,21 +9,21 @@ use Rattle.global_tables.specs.Link.{other_of}
 use Rattle.global_tables.specs.declared.link.LinkRow.{LinkRow}
 use Rattle.petal_base.specs.declared.cell.Cell.{Cell}
 use Rattle.petal_command.specs.declared.command.Command.{Command}
-use Rattle.petal_state.specs.CellState.{cell_link}
-use Rattle.petal_state.specs.Command.{after, is_alone, state_after}
-use Rattle.petal_state.specs.Place.{touches, touches_cell}
-use Rattle.petal_state.specs.State.{inc_of, is_up, start}
+use Rattle.spec_state.specs.CellState.{cell_link}
+use Rattle.spec_state.specs.Command.{after, is_alone, state_after}
+use Rattle.spec_state.specs.Place.{touches, touches_cell}
+use Rattle.spec_state.specs.State.{inc_of, is_up, start}
 use Rattle.petal_table.specs.Table.{Table, at}
 use Rattle.petal_table.proofs.Rows.{at-empty, at-where}
-use Rattle.petal_rules.specs.Crossing.{crossed, dies, ends_cell, ends_link}
-use Rattle.petal_rules.specs.Lists.{In}
-use Rattle.petal_rules.specs.Progress.{no_progress}
-use Rattle.petal_rules.specs.Server.{Own, Copies, no_copies}
-use Rattle.petal_rules.specs.State.{State, id_of, link_cmp, live, other_in}
-use Rattle.petal_rules.specs.Store.{cell_cmp}
-use Rattle.petal_rules.proofs.CellTables.{cell_cmp_same}
-use Rattle.petal_rules.proofs.ListLemmas.{in_former, in_later}
-use Rattle.petal_rules.proofs.Tests.{both_true, by_bool, by_test, none_some, same_some, true_false}
+use Rattle.spec_rules.specs.Crossing.{crossed, dies, ends_cell, ends_link}
+use Rattle.spec_rules.specs.Lists.{In}
+use Rattle.spec_rules.specs.Progress.{no_progress}
+use Rattle.spec_rules.specs.Server.{Own, Copies, no_copies}
+use Rattle.spec_rules.specs.State.{State, id_of, link_cmp, live, other_in}
+use Rattle.spec_rules.specs.Store.{cell_cmp}
+use Rattle.spec_rules.proofs.CellTables.{cell_cmp_same}
+use Rattle.spec_rules.proofs.ListLemmas.{in_former, in_later}
+use Rattle.spec_rules.proofs.Tests.{both_true, by_bool, by_test, none_some, same_some, true_false}
 use Rattle.law_state.specs.Homes.{stage_at}
 use Rattle.law_state.specs.Plain.{IsPlain, IsPlainLog}
 use Rattle.law_state.specs.Places.{StaysSo}

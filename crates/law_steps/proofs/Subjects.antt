@@ -17,17 +17,17 @@ use Rattle.petal_msg.specs.declared.operation.Ending.TheVariants.{Written, Full}
 use Rattle.petal_msg.specs.declared.operation.OpKind.{OpKind}
 use Rattle.petal_msg.specs.declared.operation.OpKind.TheVariants as kind
 use Rattle.petal_msg.specs.declared.operation.Pending.{Pending}
-use Rattle.petal_rules.specs.Lists.{In}
-use Rattle.petal_state.specs.CellState.{cell_link}
+use Rattle.spec_rules.specs.Lists.{In}
+use Rattle.spec_state.specs.CellState.{cell_link}
 use Rattle.petal_table.specs.Table.{at}
-use Rattle.petal_rules.specs.Progress.{has_proposed, no_progress, progress_on}
-use Rattle.petal_rules.specs.Server.{Own, Copies, Here, Post, Done}
-use Rattle.petal_rules.specs.State.{State, id_of, link_cmp}
-use Rattle.petal_rules.specs.Store.{cell_cmp}
+use Rattle.spec_rules.specs.Progress.{has_proposed, no_progress, progress_on}
+use Rattle.spec_rules.specs.Server.{Own, Copies, Here, Post, Done}
+use Rattle.spec_rules.specs.State.{State, id_of, link_cmp}
+use Rattle.spec_rules.specs.Store.{cell_cmp}
 use Rattle.law_steps.specs.Ready.{IsRising}
-use Rattle.petal_rules.specs.Writes.{acts, ends, gives_back, next_stage, tells, without_pending}
-use Rattle.petal_rules.specs.declared.job.Job.{Job}
-use Rattle.petal_rules.specs.declared.job.Job.TheVariants as job
+use Rattle.spec_rules.specs.Writes.{acts, ends, gives_back, next_stage, tells, without_pending}
+use Rattle.spec_rules.specs.declared.job.Job.{Job}
+use Rattle.spec_rules.specs.declared.job.Job.TheVariants as job
 use Rattle.law_steps.specs.DidRead.{DidRead, Not_here, Shows}
 use Rattle.law_steps.specs.DidLead.{DidLead, Repeats, Marks, Puts, Gives_up, Unmarks, Closes, Opens_alone, Marks_alone, Puts_alone}
 use Rattle.law_steps.specs.DidLead.{Unmarks_alone, Closes_alone, Opens_fill_alone, Goes_on_dead}
@@ -35,7 +35,7 @@ use Rattle.law_steps.specs.DidSecond.{DidSecond, Sets_apart, Promises, Declines,
 use Rattle.law_steps.specs.DidFiller.{DidFiller, Is_filled, Is_out_of_slots}
 use Rattle.law_steps.specs.DidSweep.{DidSweep, Sweeps}
 use Rattle.law_steps.specs.Did.{Did, Ignores, Refuses, By_read, By_lead, By_second, By_holder, By_other, By_filler, By_sweep}
-use Rattle.petal_rules.proofs.Tests.{by_test}
+use Rattle.spec_rules.proofs.Tests.{by_test}
 use Rattle.law_steps.proofs.CopyFrames.{of_holder, of_other}
 use Rattle.law_steps.proofs.Letters.{one_post, posted}
 use Rattle.law_steps.proofs.Taking.{taking}

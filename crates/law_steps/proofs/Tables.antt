@@ -8,7 +8,7 @@ use Rattle.std.specs.Cmp.{IsTotalOrder, tied_itself}
 use Rattle.std.specs.BTreeMap.{insert_entry, is_at}
 use Rattle.std.specs.Map.{lookup}
 use Rattle.petal_table.specs.Table.{Table, at, put, without}
-use Rattle.petal_rules.specs.Lists.{In}
+use Rattle.spec_rules.specs.Lists.{In}
 use Rattle.law_steps.specs.Ready.{IsRising}
 
 -- a row of this key stands in the table

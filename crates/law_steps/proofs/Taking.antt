@@ -3,10 +3,10 @@ use Rattle.petal_table.specs.Table.{Table, put}
 use Rattle.std.proofs.Common.{◌≡◌, ◌≢◌, Bool, Some, refl}
 use Rattle.petal_base.specs.declared.cell.Cell.{Cell}
 use Rattle.petal_msg.specs.declared.operation.Pending.{Pending}
-use Rattle.petal_rules.specs.Store.{cell_cmp}
-use Rattle.petal_rules.specs.Server.{Own}
-use Rattle.petal_rules.specs.Writes.{pending_on}
-use Rattle.petal_rules.proofs.CellTables.{cell_cmp_total, cell_same, cell_apart}
+use Rattle.spec_rules.specs.Store.{cell_cmp}
+use Rattle.spec_rules.specs.Server.{Own}
+use Rattle.spec_rules.specs.Writes.{pending_on}
+use Rattle.spec_rules.proofs.CellTables.{cell_cmp_total, cell_same, cell_apart}
 use Rattle.law_steps.specs.DidLead.{Taken, As_it_is, As_told, told}
 use Rattle.law_steps.specs.Ready.{IsRising}
 use Rattle.law_steps.proofs.Tables.{put_rises}

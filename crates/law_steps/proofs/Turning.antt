@@ -18,26 +18,26 @@ use Rattle.script_lines.specs.declared.request.Line.{Line}
 use Rattle.script_lines.specs.declared.request.Pattern.{Pattern}
 use Rattle.script_lines.specs.declared.request.Request.{Request}
 use Rattle.script_lines.specs.declared.request.Request.TheVariants as request
-use Rattle.petal_state.specs.State.{latest}
-use Rattle.petal_state.specs.State as states
-use Rattle.petal_state.specs.CellState.{cell_asked}
-use Rattle.petal_state.specs.Command.{after, state_after}
-use Rattle.petal_state.specs.declared.answer.DiskView.{DiskView}
-use Rattle.petal_history.specs.Claims.{IsPrefix}
-use Rattle.petal_rules.specs.Lists.{In}
-use Rattle.petal_state.specs.Settled.{is_settled}
-use Rattle.petal_rules.specs.State.{State, find, servers_of}
-use Rattle.petal_rules.specs.Server.{Post, post_to}
-use Rattle.petal_rules.specs.Clients.{Client, Asked, Reaction, Learning, rests, posts_for, write_posts, read_posts, read_posts_at, epoch_for, to_propose}
-use Rattle.petal_rules.specs.Clients.{way_now, goes_the_old_way, sends_or_proposes, goes_out, goes_out_where, post_in_turn, asking, asks_and_sends, called}
-use Rattle.petal_rules.specs.Clients.{replies, is_read, is_write, Sight, with_sight, stays_open, rounds, settles, sees_for, sees, sees_from}
-use Rattle.petal_rules.specs.Clients.{answers, hears, hears_of, heard, hears_any, command_of, refusal, verdict_for, answered_where, witnessed, is_witness}
-use Rattle.petal_rules.specs.Clients.{judged, judged_by, takes_entry, takes_all, then_goes_out, takes_entries, next_entries, ticked}
-use Rattle.petal_rules.specs.World.{Setting, World, MayClient, client_state, client_step, calls, line_in, next_line}
-use Rattle.petal_rules.specs.declared.step.Step.{Step}
-use Rattle.petal_rules.specs.declared.step.Step.TheVariants.{Call, Deliver, Tick}
-use Rattle.petal_rules.proofs.ListLemmas.{in-append}
-use Rattle.petal_rules.proofs.Tests.{by_bool, by_test, both_true, same_numbers, only}
+use Rattle.spec_state.specs.State.{latest}
+use Rattle.spec_state.specs.State as states
+use Rattle.spec_state.specs.CellState.{cell_asked}
+use Rattle.spec_state.specs.Command.{after, state_after}
+use Rattle.spec_state.specs.declared.answer.DiskView.{DiskView}
+use Rattle.spec_history.specs.Claims.{IsPrefix}
+use Rattle.spec_rules.specs.Lists.{In}
+use Rattle.spec_state.specs.Settled.{is_settled}
+use Rattle.spec_rules.specs.State.{State, find, servers_of}
+use Rattle.spec_rules.specs.Server.{Post, post_to}
+use Rattle.spec_rules.specs.Clients.{Client, Asked, Reaction, Learning, rests, posts_for, write_posts, read_posts, read_posts_at, epoch_for, to_propose}
+use Rattle.spec_rules.specs.Clients.{way_now, goes_the_old_way, sends_or_proposes, goes_out, goes_out_where, post_in_turn, asking, asks_and_sends, called}
+use Rattle.spec_rules.specs.Clients.{replies, is_read, is_write, Sight, with_sight, stays_open, rounds, settles, sees_for, sees, sees_from}
+use Rattle.spec_rules.specs.Clients.{answers, hears, hears_of, heard, hears_any, command_of, refusal, verdict_for, answered_where, witnessed, is_witness}
+use Rattle.spec_rules.specs.Clients.{judged, judged_by, takes_entry, takes_all, then_goes_out, takes_entries, next_entries, ticked}
+use Rattle.spec_rules.specs.World.{Setting, World, MayClient, client_state, client_step, calls, line_in, next_line}
+use Rattle.spec_rules.specs.declared.step.Step.{Step}
+use Rattle.spec_rules.specs.declared.step.Step.TheVariants.{Call, Deliver, Tick}
+use Rattle.spec_rules.proofs.ListLemmas.{in-append}
+use Rattle.spec_rules.proofs.Tests.{by_bool, by_test, both_true, same_numbers, only}
 use Rattle.law_log.proofs.Clients.{newly_asked}
 use Rattle.law_state.proofs.Steady.{log_rev}
 use Rattle.law_steps.specs.Happens.{Heard}

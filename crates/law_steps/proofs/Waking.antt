@@ -5,22 +5,22 @@ use Rattle.std.proofs.Common.{fold, Some, refl, sym, ap, ◌∙◌, subst, arith
 use Rattle.std.specs.Prelude.{slice_get}
 use Rattle.script_lines.specs.declared.script.Script.{Script}
 use Rattle.petal_command.specs.declared.command.Command.{Command}
-use Rattle.petal_paxos.specs.Kept.{row_after, empty_row, promise_row, accept_row, choose_row, known_at}
-use Rattle.petal_paxos.specs.declared.record.Row.{Row}
-use Rattle.petal_paxos.specs.declared.record.StateRecord.{StateRecord}
-use Rattle.petal_paxos.specs.declared.record.StateRecord.TheVariants.{Inc, Promise, Accepted, Chosen}
-use Rattle.petal_paxos.proofs.Committed.{known_inc}
-use Rattle.petal_state.specs.Command.{state_after}
-use Rattle.petal_history.specs.Claims.{IsPrefix}
-use Rattle.petal_history.specs.Steps.{AreSteps, world_after}
-use Rattle.petal_history.specs.Sound.{IsSound}
-use Rattle.petal_history.specs.declared.record.Record.{Record}
-use Rattle.petal_rules.specs.Boots.{known_front, raised}
-use Rattle.petal_rules.specs.Entries.{before_known, known_run}
-use Rattle.petal_rules.specs.Log.{Log, known}
-use Rattle.petal_rules.specs.State.{is_in}
-use Rattle.petal_rules.specs.World.{start, setting_of, chosen_log, chosen_state}
-use Rattle.petal_rules.proofs.Tests.{by_bool, by_test, none_some, same_numbers, same_some, true_false}
+use Rattle.spec_paxos.specs.Kept.{row_after, empty_row, promise_row, accept_row, choose_row, known_at}
+use Rattle.spec_paxos.specs.declared.record.Row.{Row}
+use Rattle.spec_paxos.specs.declared.record.StateRecord.{StateRecord}
+use Rattle.spec_paxos.specs.declared.record.StateRecord.TheVariants.{Inc, Promise, Accepted, Chosen}
+use Rattle.spec_paxos.proofs.Committed.{known_inc}
+use Rattle.spec_state.specs.Command.{state_after}
+use Rattle.spec_history.specs.Claims.{IsPrefix}
+use Rattle.spec_history.specs.Steps.{AreSteps, world_after}
+use Rattle.spec_history.specs.Sound.{IsSound}
+use Rattle.spec_history.specs.declared.record.Record.{Record}
+use Rattle.spec_rules.specs.Boots.{known_front, raised}
+use Rattle.spec_rules.specs.Entries.{before_known, known_run}
+use Rattle.spec_rules.specs.Log.{Log, known}
+use Rattle.spec_rules.specs.State.{is_in}
+use Rattle.spec_rules.specs.World.{start, setting_of, chosen_log, chosen_state}
+use Rattle.spec_rules.proofs.Tests.{by_bool, by_test, none_some, same_numbers, same_some, true_false}
 use Rattle.law_log.proofs.Histories.{history_agrees, logged, out_has_stopped, who_is_in_has_begun}
 use Rattle.law_log.proofs.Jobs.{run_known}
 use Rattle.law_steps.proofs.Histories.{front_legal, world_more}

@@ -9,12 +9,12 @@ use Rattle.petal_msg.specs.declared.body.Body.TheVariants as body
 use Rattle.petal_msg.specs.declared.letter.Letter.{Letter}
 use Rattle.petal_msg.specs.declared.operation.OpKind.TheVariants as kind
 use Rattle.petal_msg.specs.declared.operation.Pending.{Pending}
-use Rattle.petal_state.specs.Command.{state_after}
-use Rattle.petal_history.specs.Claims.{IsPrefix}
-use Rattle.petal_rules.specs.Lists.{In}
-use Rattle.petal_rules.specs.State.{coming}
-use Rattle.petal_rules.specs.Store.{cell_cmp}
-use Rattle.petal_rules.specs.World.{Setting, World, chosen_log}
+use Rattle.spec_state.specs.Command.{state_after}
+use Rattle.spec_history.specs.Claims.{IsPrefix}
+use Rattle.spec_rules.specs.Lists.{In}
+use Rattle.spec_rules.specs.State.{coming}
+use Rattle.spec_rules.specs.Store.{cell_cmp}
+use Rattle.spec_rules.specs.World.{Setting, World, chosen_log}
 
 -- the cell was under the new map of a move, in the region that was on its way, by the entries of this revision
 pub record WasComing (setting : Setting) (w : World) (rev : ℕ) (cell : Cell) : Type 0 where

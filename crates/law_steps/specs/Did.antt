@@ -7,11 +7,11 @@ use Rattle.petal_msg.specs.declared.body.Body.TheVariants as body
 use Rattle.petal_msg.specs.declared.letter.Actor.{Actor}
 use Rattle.petal_msg.specs.declared.copying.Copying.{Copying}
 use Rattle.petal_msg.specs.declared.operation.Pending.{Pending}
-use Rattle.petal_rules.specs.Progress.{copying_on, has_proposed}
-use Rattle.petal_rules.specs.Reads.{is_all_held}
-use Rattle.petal_rules.specs.State.{held, is_lead}
-use Rattle.petal_rules.specs.Server.{Own, Here, Done, silent, says}
-use Rattle.petal_rules.specs.Writes.{Wanted, is_for, is_writes_held, pending_on}
+use Rattle.spec_rules.specs.Progress.{copying_on, has_proposed}
+use Rattle.spec_rules.specs.Reads.{is_all_held}
+use Rattle.spec_rules.specs.State.{held, is_lead}
+use Rattle.spec_rules.specs.Server.{Own, Here, Done, silent, says}
+use Rattle.spec_rules.specs.Writes.{Wanted, is_for, is_writes_held, pending_on}
 use Rattle.law_steps.specs.DidRead.{DidRead}
 use Rattle.law_steps.specs.DidLead.{DidLead}
 use Rattle.law_steps.specs.DidSecond.{DidSecond}

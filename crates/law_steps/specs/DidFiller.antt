@@ -5,11 +5,11 @@ use Rattle.global_tables.specs.declared.link.LinkRow.{LinkRow}
 use Rattle.petal_base.specs.declared.cell.Key.{Key}
 use Rattle.petal_msg.specs.declared.body.Body.{Body}
 use Rattle.petal_msg.specs.declared.body.Body.TheVariants as body
-use Rattle.petal_rules.specs.Fills.{link_before, next_fill, region_to_move, with_filled}
-use Rattle.petal_rules.specs.Lists.{In}
-use Rattle.petal_rules.specs.Progress.{with_full}
-use Rattle.petal_rules.specs.Server.{Own, Here, Post, Done, silent}
-use Rattle.petal_rules.specs.State.{is_in}
+use Rattle.spec_rules.specs.Fills.{link_before, next_fill, region_to_move, with_filled}
+use Rattle.spec_rules.specs.Lists.{In}
+use Rattle.spec_rules.specs.Progress.{with_full}
+use Rattle.spec_rules.specs.Server.{Own, Here, Post, Done, silent}
+use Rattle.spec_rules.specs.State.{is_in}
 use Rattle.law_steps.specs.DidLead.{IsNextFill}
 
 -- the key, of the new map, is the next one of a link of the old map that this server is to move

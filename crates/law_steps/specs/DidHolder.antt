@@ -11,12 +11,12 @@ use Rattle.petal_msg.specs.declared.body.Body.TheVariants as body
 use Rattle.petal_msg.specs.declared.copying.Copying.{Copying}
 use Rattle.petal_msg.specs.declared.copying.LinkId.{LinkId}
 use Rattle.petal_msg.specs.declared.copying.NextCopy.TheVariants.{Block}
-use Rattle.petal_rules.specs.Copies.{begins_copy, cell_at, closes, idle_mark, next_copy, page_wanted, same_block, tells_other, turns_page}
-use Rattle.petal_rules.specs.Progress.{copying_on, progress_on, with_copying, without_copying, with_full}
-use Rattle.petal_rules.specs.Server.{Own, Here, Done, silent, says_to}
-use Rattle.petal_rules.specs.State.{id_of, link_named, other_in}
-use Rattle.petal_rules.specs.Store.{Stored, chain_in, epochs_of, mark_left, without_mark_on}
-use Rattle.petal_rules.specs.declared.job.Job.TheVariants as job
+use Rattle.spec_rules.specs.Copies.{begins_copy, cell_at, closes, idle_mark, next_copy, page_wanted, same_block, tells_other, turns_page}
+use Rattle.spec_rules.specs.Progress.{copying_on, progress_on, with_copying, without_copying, with_full}
+use Rattle.spec_rules.specs.Server.{Own, Here, Done, silent, says_to}
+use Rattle.spec_rules.specs.State.{id_of, link_named, other_in}
+use Rattle.spec_rules.specs.Store.{Stored, chain_in, epochs_of, mark_left, without_mark_on}
+use Rattle.spec_rules.specs.declared.job.Job.TheVariants as job
 
 -- the link of this name, which the server holds alone, and whose other server, this one, is In
 pub record IsHeldWith (here : Here) (id : LinkId) (row : LinkRow) (other : ℕ) : Type 0 where

@@ -17,16 +17,16 @@ use Rattle.petal_msg.specs.declared.copying.Copying.{Copying}
 use Rattle.petal_msg.specs.declared.operation.Ending.TheVariants as ending
 use Rattle.petal_msg.specs.declared.operation.Finished.{Finished}
 use Rattle.petal_msg.specs.declared.operation.Pending.{Pending}
-use Rattle.petal_state.specs.CellState.{cell_link, target}
-use Rattle.petal_rules.specs.Copies.{page_wanted}
-use Rattle.petal_rules.specs.Fills.{Moving, fill_operation, next_fill, region_to_move}
-use Rattle.petal_rules.specs.Lists.{In}
-use Rattle.petal_rules.specs.Progress.{copying_on, has_proposed, progress_on}
-use Rattle.petal_rules.specs.State.{held, second, is_in, is_lead, lead, live, in_both, is_alone_on, other_in}
-use Rattle.petal_rules.specs.Store.{Stored, chain_in, epochs_of, free_of}
-use Rattle.petal_rules.specs.Server.{Own, Here, Post, Done, says, says_to}
-use Rattle.petal_rules.specs.Writes.{Wanted, is_writes_held, operation, pending_on, with_pending, without_pending, gives_back, with_reserved, with_paired}
-use Rattle.petal_rules.specs.Writes.{with_opened, opened, old_lead, next_stage, acts, ends, marks, puts, unmarks, finishes, ended}
+use Rattle.spec_state.specs.CellState.{cell_link, target}
+use Rattle.spec_rules.specs.Copies.{page_wanted}
+use Rattle.spec_rules.specs.Fills.{Moving, fill_operation, next_fill, region_to_move}
+use Rattle.spec_rules.specs.Lists.{In}
+use Rattle.spec_rules.specs.Progress.{copying_on, has_proposed, progress_on}
+use Rattle.spec_rules.specs.State.{held, second, is_in, is_lead, lead, live, in_both, is_alone_on, other_in}
+use Rattle.spec_rules.specs.Store.{Stored, chain_in, epochs_of, free_of}
+use Rattle.spec_rules.specs.Server.{Own, Here, Post, Done, says, says_to}
+use Rattle.spec_rules.specs.Writes.{Wanted, is_writes_held, operation, pending_on, with_pending, without_pending, gives_back, with_reserved, with_paired}
+use Rattle.spec_rules.specs.Writes.{with_opened, opened, old_lead, next_stage, acts, ends, marks, puts, unmarks, finishes, ended}
 use Rattle.law_steps.specs.Operations.{waiting, putting, copying, answering, done_to}
 
 -- to the other server of a cell's link, which this one holds alone, where that is In

@@ -9,12 +9,12 @@ use Rattle.petal_msg.specs.declared.body.Body.{Body}
 use Rattle.petal_msg.specs.declared.body.Body.TheVariants as body
 use Rattle.petal_msg.specs.declared.copying.LastCopy.{LastCopy}
 use Rattle.petal_msg.specs.declared.copying.LinkId.{LinkId}
-use Rattle.petal_rules.specs.Copies.{Entry, cell_holder, epochs_beyond, least, marked_blocks, puts_entry}
-use Rattle.petal_rules.specs.Progress.{last_copy, with_last_copy}
-use Rattle.petal_rules.specs.Server.{Own, Here, Done, says_to}
-use Rattle.petal_rules.specs.State.{holder_of, link_named}
-use Rattle.petal_rules.specs.Store.{free_of, without_entry}
-use Rattle.petal_rules.specs.declared.job.Job.TheVariants as job
+use Rattle.spec_rules.specs.Copies.{Entry, cell_holder, epochs_beyond, least, marked_blocks, puts_entry}
+use Rattle.spec_rules.specs.Progress.{last_copy, with_last_copy}
+use Rattle.spec_rules.specs.Server.{Own, Here, Done, says_to}
+use Rattle.spec_rules.specs.State.{holder_of, link_named}
+use Rattle.spec_rules.specs.Store.{free_of, without_entry}
+use Rattle.spec_rules.specs.declared.job.Job.TheVariants as job
 
 -- what the last copy of a cell does next here: one of the entries that the holder has not is dropped, or the holder is told that none
 -- is left

@@ -4,11 +4,11 @@ use Rattle.petal_base.specs.declared.cell.Cell.{Cell}
 use Rattle.petal_msg.specs.declared.body.Body.{Body}
 use Rattle.petal_msg.specs.declared.body.Body.TheVariants as body
 use Rattle.petal_msg.specs.declared.letter.Actor.TheVariants as actor
-use Rattle.petal_rules.specs.Reads.{is_all_held}
-use Rattle.petal_rules.specs.State.{coming, held, is_in, is_lead, readable}
-use Rattle.petal_rules.specs.Store.{chain_in, entry_at, bytes_of}
-use Rattle.petal_rules.specs.Server.{Own, Here, Done, says}
-use Rattle.petal_rules.specs.Writes.{is_under_way}
+use Rattle.spec_rules.specs.Reads.{is_all_held}
+use Rattle.spec_rules.specs.State.{coming, held, is_in, is_lead, readable}
+use Rattle.spec_rules.specs.Store.{chain_in, entry_at, bytes_of}
+use Rattle.spec_rules.specs.Server.{Own, Here, Done, says}
+use Rattle.spec_rules.specs.Writes.{is_under_way}
 
 -- a read that may be answered: the server is In as itself and may read the cell, whose reads no fence holds, and at the cell's lead nothing is
 -- under way there

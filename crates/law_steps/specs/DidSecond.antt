@@ -8,10 +8,10 @@ use Rattle.petal_msg.specs.declared.body.Body.TheVariants as body
 use Rattle.petal_msg.specs.declared.operation.Far.{Far}
 use Rattle.petal_msg.specs.declared.operation.Far.TheVariants as far
 use Rattle.petal_msg.specs.declared.operation.LastOp.{LastOp}
-use Rattle.petal_rules.specs.State.{first, is_second}
-use Rattle.petal_rules.specs.Store.{free_of}
-use Rattle.petal_rules.specs.Server.{Own, Here, Done, says_to}
-use Rattle.petal_rules.specs.Writes.{last_on, with_last, tells, follows}
+use Rattle.spec_rules.specs.State.{first, is_second}
+use Rattle.spec_rules.specs.Store.{free_of}
+use Rattle.spec_rules.specs.Server.{Own, Here, Done, says_to}
+use Rattle.spec_rules.specs.Writes.{last_on, with_last, tells, follows}
 use Rattle.law_steps.specs.Operations.{progress}
 
 -- an operation of this number found no slot at its second server: none is free, and the operation is newer than the last one

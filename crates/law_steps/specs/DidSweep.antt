@@ -4,10 +4,10 @@ use Rattle.petal_base.specs.Cells.{cell_of}
 use Rattle.petal_base.specs.declared.cell.Cell.{Cell}
 use Rattle.petal_msg.specs.declared.dead.Dead.{Dead}
 use Rattle.petal_msg.specs.declared.dead.Dead.TheVariants as dead
-use Rattle.petal_rules.specs.Server.{Own, Here, Done}
-use Rattle.petal_rules.specs.State.{is_in, live}
-use Rattle.petal_rules.specs.Sweeping.{next_dead, without_dead}
-use Rattle.petal_rules.specs.declared.job.Job.TheVariants as job
+use Rattle.spec_rules.specs.Server.{Own, Here, Done}
+use Rattle.spec_rules.specs.State.{is_in, live}
+use Rattle.spec_rules.specs.Sweeping.{next_dead, without_dead}
+use Rattle.spec_rules.specs.declared.job.Job.TheVariants as job
 
 -- the cell of an entry or a mark
 abbrev pub cell_swept : Dead → Cell

@@ -10,25 +10,25 @@ use Rattle.petal_msg.specs.declared.copying.NextCopy.TheVariants.{Nothing}
 use Rattle.petal_msg.specs.declared.letter.Actor.{Actor}
 use Rattle.petal_msg.specs.declared.letter.Actor.TheVariants as actor
 use Rattle.petal_msg.specs.declared.letter.Letter.{Letter}
-use Rattle.petal_state.specs.Command.{state_after}
-use Rattle.petal_history.specs.Claims.{IsPrefix}
-use Rattle.petal_rules.specs.Boots.{awake, blanked, raised, stays, wakes}
-use Rattle.petal_rules.specs.Copies.{next_copy}
-use Rattle.petal_rules.specs.Crossing.{crossed, settled_by}
-use Rattle.petal_rules.specs.Returns.{proposed}
-use Rattle.petal_rules.specs.Lists.{In}
-use Rattle.petal_rules.specs.Log.{Log, rev_of}
-use Rattle.petal_rules.specs.State.{State, is_in, servers_of}
-use Rattle.petal_rules.specs.Server.{Server, Own, Here, Post, Sender, Done, silent, sender, stopped, letters_of}
-use Rattle.petal_rules.specs.Jobs.{Acted, here_of, down_posts}
-use Rattle.petal_rules.specs.Clients.{Reaction}
-use Rattle.petal_rules.specs.World.{Setting, World, acts, before_blanks, reacts, server_state, chosen_log}
-use Rattle.petal_rules.specs.declared.job.Job.{Job}
-use Rattle.petal_rules.specs.declared.job.Job.TheVariants as job
-use Rattle.petal_rules.specs.declared.step.Step.{Step}
-use Rattle.petal_rules.specs.declared.step.Step.TheVariants.{Blank, Boot, Work}
-use Rattle.petal_rules.specs.declared.step.CommitEnd.TheVariants.{After}
-use Rattle.petal_rules.specs.declared.step.WorkEnd.TheVariants as work_end
+use Rattle.spec_state.specs.Command.{state_after}
+use Rattle.spec_history.specs.Claims.{IsPrefix}
+use Rattle.spec_rules.specs.Boots.{awake, blanked, raised, stays, wakes}
+use Rattle.spec_rules.specs.Copies.{next_copy}
+use Rattle.spec_rules.specs.Crossing.{crossed, settled_by}
+use Rattle.spec_rules.specs.Returns.{proposed}
+use Rattle.spec_rules.specs.Lists.{In}
+use Rattle.spec_rules.specs.Log.{Log, rev_of}
+use Rattle.spec_rules.specs.State.{State, is_in, servers_of}
+use Rattle.spec_rules.specs.Server.{Server, Own, Here, Post, Sender, Done, silent, sender, stopped, letters_of}
+use Rattle.spec_rules.specs.Jobs.{Acted, here_of, down_posts}
+use Rattle.spec_rules.specs.Clients.{Reaction}
+use Rattle.spec_rules.specs.World.{Setting, World, acts, before_blanks, reacts, server_state, chosen_log}
+use Rattle.spec_rules.specs.declared.job.Job.{Job}
+use Rattle.spec_rules.specs.declared.job.Job.TheVariants as job
+use Rattle.spec_rules.specs.declared.step.Step.{Step}
+use Rattle.spec_rules.specs.declared.step.Step.TheVariants.{Blank, Boot, Work}
+use Rattle.spec_rules.specs.declared.step.CommitEnd.TheVariants.{After}
+use Rattle.spec_rules.specs.declared.step.WorkEnd.TheVariants as work_end
 use Rattle.law_state.specs.Below.{IsBelow}
 use Rattle.law_state.specs.Plain.{IsPlainLog}
 use Rattle.law_steps.specs.DidHolder.{IsHeldWith}

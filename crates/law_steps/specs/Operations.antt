@@ -9,8 +9,8 @@ use Rattle.petal_msg.specs.declared.operation.LastOp.{LastOp}
 use Rattle.petal_msg.specs.declared.operation.OpKind.TheVariants as kind
 use Rattle.petal_msg.specs.declared.operation.Pending.{Pending}
 use Rattle.petal_msg.specs.declared.operation.Stage.{Stage}
-use Rattle.petal_rules.specs.State.{State, in_both, leads_link, live}
-use Rattle.petal_rules.specs.Writes.{first_stage}
+use Rattle.spec_rules.specs.State.{State, in_both, leads_link, live}
+use Rattle.spec_rules.specs.Writes.{first_stage}
 use Rattle.law_state.specs.Homes.{stage_at}
 
 -- the stages that an operation rests in while its link is in Both: it waits for its slot at the second server; its block is marked, and it is to put;

@@ -4,10 +4,10 @@ use Rattle.global_tables.specs.declared.link.LinkRow.{LinkRow}
 use Rattle.petal_base.specs.declared.cell.Cell.{Cell}
 use Rattle.petal_msg.specs.declared.copying.Copying.{Copying}
 use Rattle.petal_msg.specs.declared.copying.LastCopy.{LastCopy}
-use Rattle.petal_state.specs.CellState.{cell_link}
-use Rattle.petal_rules.specs.Progress.{copying_on, last_copy, progress_on}
-use Rattle.petal_rules.specs.Server.{Own}
-use Rattle.petal_rules.specs.State.{State, holder_of, live, other_in}
+use Rattle.spec_state.specs.CellState.{cell_link}
+use Rattle.spec_rules.specs.Progress.{copying_on, last_copy, progress_on}
+use Rattle.spec_rules.specs.Server.{Own}
+use Rattle.spec_rules.specs.State.{State, holder_of, live, other_in}
 use Rattle.law_state.specs.Homes.{stage_at}
 
 -- the cell is live, and of a link that the server holds alone, whose other server is In

@@ -4,10 +4,10 @@ use Rattle.global_tables.specs.declared.link.LinkRow.{LinkRow}
 use Rattle.global_tables.specs.declared.link.LinkState.TheVariants.{Both}
 use Rattle.petal_base.specs.declared.cell.Cell.{Cell}
 use Rattle.petal_command.specs.declared.command.Command.{Command}
-use Rattle.petal_state.specs.Command.{state_after}
-use Rattle.petal_rules.specs.Progress.{has_proposed}
-use Rattle.petal_rules.specs.State.{is_alone_on}
-use Rattle.petal_rules.specs.World.{Setting, World, server_state}
+use Rattle.spec_state.specs.Command.{state_after}
+use Rattle.spec_rules.specs.Progress.{has_proposed}
+use Rattle.spec_rules.specs.State.{is_alone_on}
+use Rattle.spec_rules.specs.World.{Setting, World, server_state}
 use Rattle.law_state.specs.Places.{StaysSo}
 
 -- of one that was in Both: nothing has touched it, or the server holds it alone

@@ -15,19 +15,19 @@ use Rattle.script_lines.specs.declared.answer.Answer.TheVariants as answer
 use Rattle.script_lines.specs.declared.request.Line.{Line}
 use Rattle.script_lines.specs.declared.request.Pattern.{Pattern}
 use Rattle.script_lines.specs.declared.request.Request.TheVariants as request
-use Rattle.petal_state.specs.State.{latest}
-use Rattle.petal_state.specs.CellState.{cell_asked}
-use Rattle.petal_state.specs.Command.{state_after}
-use Rattle.petal_state.specs.declared.answer.DiskView.{DiskView}
-use Rattle.petal_history.specs.Claims.{IsPrefix}
-use Rattle.petal_rules.specs.Lists.{In}
-use Rattle.petal_state.specs.Settled.{is_settled}
-use Rattle.petal_rules.specs.State.{State, find, servers_of}
-use Rattle.petal_rules.specs.Server.{Post}
-use Rattle.petal_rules.specs.Writes.{ended}
-use Rattle.petal_rules.specs.Clients.{Client, Asked, Reaction, Sight, with_sight, answers, is_read, is_write, epoch_for}
-use Rattle.petal_rules.specs.Clients.{command_of, refusal, verdict_for, is_witness}
-use Rattle.petal_rules.specs.World.{lines_of, next_line}
+use Rattle.spec_state.specs.State.{latest}
+use Rattle.spec_state.specs.CellState.{cell_asked}
+use Rattle.spec_state.specs.Command.{state_after}
+use Rattle.spec_state.specs.declared.answer.DiskView.{DiskView}
+use Rattle.spec_history.specs.Claims.{IsPrefix}
+use Rattle.spec_rules.specs.Lists.{In}
+use Rattle.spec_state.specs.Settled.{is_settled}
+use Rattle.spec_rules.specs.State.{State, find, servers_of}
+use Rattle.spec_rules.specs.Server.{Post}
+use Rattle.spec_rules.specs.Writes.{ended}
+use Rattle.spec_rules.specs.Clients.{Client, Asked, Reaction, Sight, with_sight, answers, is_read, is_write, epoch_for}
+use Rattle.spec_rules.specs.Clients.{command_of, refusal, verdict_for, is_witness}
+use Rattle.spec_rules.specs.World.{lines_of, next_line}
 
 -- the line of a client's request of this number. The first has number 1
 abbrev pub line_by : List Line → (client seq : ℕ) → Option Line

@@ -1,12 +1,12 @@
 -- What is so of a server that boots.
 use Rattle.std.specs.Prelude.{◌≡◌, ◌+◌, ℕ, false, List, [], ◌∷◌}
-use Rattle.petal_state.specs.Command.{state_after}
-use Rattle.petal_history.specs.Claims.{IsPrefix}
-use Rattle.petal_history.specs.Steps.{stepped}
-use Rattle.petal_history.specs.declared.record.Record.{Record}
-use Rattle.petal_rules.specs.Boots.{known_front, raised}
-use Rattle.petal_rules.specs.State.{is_in}
-use Rattle.petal_rules.specs.World.{Setting, World, chosen_log}
+use Rattle.spec_state.specs.Command.{state_after}
+use Rattle.spec_history.specs.Claims.{IsPrefix}
+use Rattle.spec_history.specs.Steps.{stepped}
+use Rattle.spec_history.specs.declared.record.Record.{Record}
+use Rattle.spec_rules.specs.Boots.{known_front, raised}
+use Rattle.spec_rules.specs.State.{is_in}
+use Rattle.spec_rules.specs.World.{Setting, World, chosen_log}
 
 -- a server that boots in this world goes on from the entries that it had applied, by which it is not yet In as its next incarnation
 pub record MayWake (setting : Setting) (w : World) (n : ℕ) : Type 0 where

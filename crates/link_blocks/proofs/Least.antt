@@ -7,7 +7,7 @@ use Rattle.std.proofs.lemmas.Bool.Decides.{nat_tests}
 use Rattle.std.specs.Prelude.{filter, nat_eq}
 use Rattle.std.specs.List.{list_any}
 use Rattle.busy_marks.specs.Marks.{above, lesser}
-use Rattle.petal_rules.specs.Copies.{least}
+use Rattle.spec_rules.specs.Copies.{least}
 use Rattle.link_blocks.specs.Walks.{room_above}
 
 -- nothing of the list is below this number

@@ -9,13 +9,13 @@ use Rattle.busy_marks.specs.Marks.{above, lesser}
 use Rattle.global_tables.specs.declared.link.LinkRow.{LinkRow}
 use Rattle.petal_base.specs.declared.cell.Cell.{Cell}
 use Rattle.petal_table.specs.Table.{Table}
-use Rattle.petal_rules.specs.Copies.{cell_at, idle_mark, is_kept_on, least}
-use Rattle.petal_rules.specs.Server.{Own}
-use Rattle.petal_rules.specs.State.{State, is_on, is_whole}
-use Rattle.petal_rules.specs.Store.{Chain}
-use Rattle.petal_rules.specs.Writes.{is_under_way}
-use Rattle.pair_side.specs.Walking.{marked_in, stored_in}
-use Rattle.pair_side.proofs.Linked.{on_map}
+use Rattle.spec_rules.specs.Copies.{cell_at, idle_mark, is_kept_on, least}
+use Rattle.spec_rules.specs.Server.{Own}
+use Rattle.spec_rules.specs.State.{State, is_on, is_whole}
+use Rattle.spec_rules.specs.Store.{Chain}
+use Rattle.spec_rules.specs.Writes.{is_under_way}
+use Rattle.pair_memory.specs.Walking.{marked_in, stored_in}
+use Rattle.pair_memory.proofs.Linked.{on_map}
 use Rattle.link_blocks.specs.Walks.{idle_on, left_on, marked_on, on_link, stored_on}
 use Rattle.link_blocks.proofs.Least.{filter_both, from_start, least_both}
 

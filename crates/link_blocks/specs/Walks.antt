@@ -5,12 +5,12 @@ use Rattle.busy_marks.specs.Marks.{above}
 use Rattle.global_tables.specs.declared.link.LinkRow.{LinkRow}
 use Rattle.petal_base.specs.declared.cell.Cell.{Cell}
 use Rattle.petal_table.specs.Table.{Table}
-use Rattle.petal_rules.specs.Copies.{cell_at, is_kept_on}
-use Rattle.petal_rules.specs.Server.{Own}
-use Rattle.petal_rules.specs.State.{State, is_whole}
-use Rattle.petal_rules.specs.Store.{Chain, Store}
-use Rattle.petal_rules.specs.Writes.{is_under_way}
-use Rattle.pair_side.specs.Side.{Side, pairs_of}
+use Rattle.spec_rules.specs.Copies.{cell_at, is_kept_on}
+use Rattle.spec_rules.specs.Server.{Own}
+use Rattle.spec_rules.specs.State.{State, is_whole}
+use Rattle.spec_rules.specs.Store.{Chain, Store}
+use Rattle.spec_rules.specs.Writes.{is_under_way}
+use Rattle.pair_memory.specs.Side.{Side, pairs_of}
 
 -- the link's blocks among marks
 abbrev pub marked_on : State → LinkRow → List Mark → List ℕ

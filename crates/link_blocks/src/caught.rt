@@ -1,16 +1,16 @@
 //! The links of which nothing is left to copy.
 
 ghost use Rattle.std.specs.Prelude.{◌≡◌, ◌++◌, IfOk, OnOk};
-ghost use Rattle.petal_rules.specs.Returns as returns;
-ghost use Rattle.petal_state.specs.State.{inc_of};
-ghost use Rattle.petal_rules.specs.State.{other_in};
-ghost use Rattle.pair_side.specs.Side.{own_of};
+ghost use Rattle.spec_rules.specs.Returns as returns;
+ghost use Rattle.spec_state.specs.State.{inc_of};
+ghost use Rattle.spec_rules.specs.State.{other_in};
+ghost use Rattle.pair_memory.specs.Side.{own_of};
 ghost use Rattle.link_blocks.specs.Found.{listed};
 
 use crate::next::next_copy;
 use crate::roles::other_in;
 use global_state::LinkRow;
-use pair_side::{Here, Side, Store};
+use pair_memory::{Here, Side, Store};
 use petal_base::{NoMemory, ServerId};
 use petal_command::{Command, LinkNumber, ServerNumber};
 use petal_disk::Disk;

@@ -2,7 +2,7 @@
 
 ghost use Rattle.std.specs.Prelude.{◌≡◌, []};
 
-use pair_side::{Done, FollowUp, Here};
+use pair_memory::{Done, FollowUp, Here};
 use petal_base::Sequence;
 
 /// No letter is sent, and this job follows the job up.

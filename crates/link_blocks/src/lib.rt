@@ -1,7 +1,7 @@
 //! The blocks of a link at a server: who the link's other server is, which blocks are marked or have an entry, which one is to be
 //! copied next, the job that goes on with them, and the links of which none is left.
 //!
-//! To the layer above it promises that each answer is the rule's of `petal_rules`. It changes nothing, sends nothing, and knows
+//! To the layer above it promises that each answer is the rule's of `spec_rules`. It changes nothing, sends nothing, and knows
 //! nothing of how a copy goes.
 #![tactic(auto)]
 

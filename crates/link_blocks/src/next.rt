@@ -3,19 +3,19 @@
 ghost use Rattle.std.specs.Prelude.{◌≡◌};
 ghost use Rattle.std.specs.List.{list_any};
 ghost use Rattle.busy_marks.specs.Marks.{lesser};
-ghost use Rattle.petal_rules.specs.Copies as copies;
-ghost use Rattle.petal_rules.specs.Copies.{least};
-ghost use Rattle.petal_rules.specs.State.{is_on};
-ghost use Rattle.petal_rules.specs.Store.{Store as Stored};
-ghost use Rattle.pair_side.specs.Kept.{chains_of};
-ghost use Rattle.pair_side.specs.Side.{own_of};
+ghost use Rattle.spec_rules.specs.Copies as copies;
+ghost use Rattle.spec_rules.specs.Copies.{least};
+ghost use Rattle.spec_rules.specs.State.{is_on};
+ghost use Rattle.spec_rules.specs.Store.{Store as Stored};
+ghost use Rattle.pair_memory.specs.Kept.{chains_of};
+ghost use Rattle.pair_memory.specs.Side.{own_of};
 ghost use Rattle.link_blocks.specs.Walks.{left_on, side_own};
 
 use crate::roles::is_whole;
 use crate::walk::{cell_at, marked_above, stored_above};
 use global_state::LinkRow;
 use pair_lock::PairLock;
-use pair_side::{Copies, Here, Side, Store, link_id};
+use pair_memory::{Copies, Here, Side, Store, link_id};
 use petal_base::BlockNo;
 use petal_disk::Disk;
 use petal_msg::NextCopy;
@@ -96,7 +96,7 @@ fn next_block<D: Disk>(
 }
 
 /// What is next of a link that this server holds alone, and whose other server is In.
-#[tactic(auto, unfolding(petal_rules::specs::Copies::next_copy))]
+#[tactic(auto, unfolding(spec_rules::specs::Copies::next_copy))]
 pub fn next_copy<D: Disk>(here: &Here, side: &Side, store: &Store<D>, row: &LinkRow) -> NextCopy
     ensures { result ≡ copies.next_copy here.now.state row.now (own_of side.now store.now) }
 {

@@ -1,12 +1,12 @@
 //! The other server of a cell's link, for its holder and for that other one.
 
 ghost use Rattle.std.specs.Prelude.{◌≡◌, option_and_then};
-ghost use Rattle.petal_state.specs.CellState.{cell_link};
-ghost use Rattle.petal_rules.specs.Copies as copies;
-ghost use Rattle.petal_rules.specs.State as rules;
+ghost use Rattle.spec_state.specs.CellState.{cell_link};
+ghost use Rattle.spec_rules.specs.Copies as copies;
+ghost use Rattle.spec_rules.specs.State as rules;
 
 use global_state::{LinkRow, LinkState, holder_of};
-use pair_side::Here;
+use pair_memory::Here;
 use petal_base::{Cell, ServerId};
 
 /// For the server that holds the cell's link alone, the other one, where that is In.

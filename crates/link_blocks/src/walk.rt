@@ -2,15 +2,15 @@
 
 ghost use Rattle.std.specs.Prelude.{◌≡◌, ◌<◌, ◌^◌, filter};
 ghost use Rattle.busy_marks.specs.Marks.{above};
-ghost use Rattle.petal_rules.specs.Copies as copies;
-ghost use Rattle.petal_rules.specs.Copies.{least};
-ghost use Rattle.pair_side.specs.Kept.{chains_of};
-ghost use Rattle.pair_side.specs.Side.{own_of};
-ghost use Rattle.petal_rules.specs.Store.{Store as Stored};
+ghost use Rattle.spec_rules.specs.Copies as copies;
+ghost use Rattle.spec_rules.specs.Copies.{least};
+ghost use Rattle.pair_memory.specs.Kept.{chains_of};
+ghost use Rattle.pair_memory.specs.Side.{own_of};
+ghost use Rattle.spec_rules.specs.Store.{Store as Stored};
 ghost use Rattle.link_blocks.specs.Walks.{idle_on, marked_on, on_link, side_own, stored_on};
 
 use global_state::LinkRow;
-use pair_side::{Here, Side, Store, next_marked, next_stored};
+use pair_memory::{Here, Side, Store, next_marked, next_stored};
 use petal_base::{BlockNo, Cell};
 use petal_disk::Disk;
 

@@ -6,23 +6,22 @@
 mod parts;
 
 ghost use Rattle.std.specs.Prelude.{◌≡◌, All, map};
-ghost use Rattle.first_servers.specs.Server.{site_of};
+ghost use Rattle.memory_server.specs.Server.{site_of};
 ghost use Rattle.memory_server.specs.Armed.{armed_of};
-ghost use Rattle.petal_rules.specs.Plans.{unarmed};
+ghost use Rattle.spec_rules.specs.Plans.{unarmed};
 ghost use Rattle.petal_world.specs.Desks.{first_sites};
 
-use chance_runs::{Count, Habit, simulate};
-use chance_scripts::{Chance, Tale, script_by};
-use first_servers::{MemServer, members};
+use memory_server::{MemServer, members};
+use oracle_events::Stores;
 pub use parts::{Parts, play_parts};
 use petal_base::{Cell, NoMemory, Sequence, ServerId, SharedBlock};
 use petal_script::{Script, read_script};
 use petal_world::{Record, World, are_in_order};
-use row_runs::{FirstHosts, Row, Run, play_row};
-use server_copy::{Copy, held};
+use random_runs::{Chance, Count, Habit, Tale, script_by, simulate};
 use std::alloc::Global;
 use std::test::Fail;
-use world_told::Stores;
+use step_runner::{FirstHosts, Row, Run, play_row};
+use world_probe::{Copy, held};
 
 /// Servers with disks in memory.
 pub struct Memory;

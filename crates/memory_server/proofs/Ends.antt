@@ -1,13 +1,13 @@
 -- However a job's step is called, it leaves the same.
 use Rattle.std.proofs.Common.{◌≡◌, Bool, true, false, refl, ap}
-use Rattle.petal_rules.specs.declared.step.Step.TheVariants.{Boot, Work}
-use Rattle.petal_rules.specs.declared.step.WorkEnd.{WorkEnd}
-use Rattle.petal_rules.specs.declared.step.WorkEnd.TheVariants.{Done, Fault}
-use Rattle.world_desks.specs.Desks.{IsFault, Site, acted_at, as_end, boot_end, end_in, job_ended}
-use Rattle.world_desks.specs.declared.step_end.StepEnd.{StepEnd}
-use Rattle.world_desks.specs.declared.step_end.StepEnd.TheVariants as step_end
-use Rattle.server_recovery.specs.Ends.{job_end}
-use Rattle.server_recovery.specs.Server.{left_at, whole_after}
+use Rattle.spec_rules.specs.declared.step.Step.TheVariants.{Boot, Work}
+use Rattle.spec_rules.specs.declared.step.WorkEnd.{WorkEnd}
+use Rattle.spec_rules.specs.declared.step.WorkEnd.TheVariants.{Done, Fault}
+use Rattle.server_host.specs.Desks.{IsFault, Site, acted_at, as_end, boot_end, end_in, job_ended}
+use Rattle.server_host.specs.declared.step_end.StepEnd.{StepEnd}
+use Rattle.server_host.specs.declared.step_end.StepEnd.TheVariants as step_end
+use Rattle.memory_server.specs.Ends.{job_end}
+use Rattle.memory_server.specs.Server.{left_at, whole_after}
 
 pub job_left : (old : Site) (end : WorkEnd) (stopped : Bool)
     → left_at (whole_after old (Work end)) ≡ left_at (whole_after old (job_ended (job_end end stopped)))

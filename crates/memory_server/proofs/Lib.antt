@@ -2,3 +2,9 @@ pub mod Plans
 pub mod Ends
 pub mod Ticking
 pub mod Keeping
+pub mod Seen
+pub mod Recovering
+pub mod Faults
+pub mod Booting
+pub mod Working
+pub mod Casting

@@ -6,15 +6,15 @@ use Rattle.device_faults.specs.declared.which.Which.TheVariants.{Data, State}
 use Rattle.petal_disk.specs.PlanRuns.{CameTo-later, CameTo-same}
 use Rattle.petal_disk.specs.Plans.{CameTo, MetOnce, PlanState, WaitsOn, plan_state}
 use Rattle.petal_disk.specs.declared.planned.Planned.{Planned}
-use Rattle.petal_rules.specs.declared.step.CommitEnd.{CommitEnd}
-use Rattle.petal_rules.specs.declared.step.Step.{Step}
-use Rattle.petal_rules.specs.declared.step.Step.TheVariants.{Boot, StopIn}
-use Rattle.petal_rules.specs.declared.step.WorkEnd.{WorkEnd}
-use Rattle.petal_rules.specs.declared.step.WorkEnd.TheVariants.{Done, Fault}
-use Rattle.server_recovery.specs.Ends.{job_end}
-use Rattle.server_recovery.specs.Server.{Mounted}
-use Rattle.world_desks.specs.Desks.{IsFault, as_end, boot_end, job_ended}
-use Rattle.petal_rules.specs.Plans.{AreLeftOf, Armed, IsLeftOf, LeavesPlans, Spends, Uses}
+use Rattle.spec_rules.specs.declared.step.CommitEnd.{CommitEnd}
+use Rattle.spec_rules.specs.declared.step.Step.{Step}
+use Rattle.spec_rules.specs.declared.step.Step.TheVariants.{Boot, StopIn}
+use Rattle.spec_rules.specs.declared.step.WorkEnd.{WorkEnd}
+use Rattle.spec_rules.specs.declared.step.WorkEnd.TheVariants.{Done, Fault}
+use Rattle.memory_server.specs.Ends.{job_end}
+use Rattle.memory_server.specs.Server.{Mounted}
+use Rattle.server_host.specs.Desks.{IsFault, as_end, boot_end, job_ended}
+use Rattle.spec_rules.specs.Plans.{AreLeftOf, Armed, IsLeftOf, LeavesPlans, Spends, Uses}
 use Rattle.memory_server.specs.Armed.{BothCameTo, armed_of, stops_of}
 use Rattle.memory_server.specs.contracts.taken.StopsPartialEq.TheImpl as flags
 use Rattle.memory_server.specs.declared.taken.Stops.{Stops}

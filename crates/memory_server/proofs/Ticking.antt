@@ -1,11 +1,11 @@
 -- A server that ticks.
 use Rattle.std.proofs.Common.{◌≡◌, List}
 use Rattle.kept_chains.specs.Kept.{store_of}
-use Rattle.server_recovery.specs.Server.{whole_after, whole_of}
+use Rattle.memory_server.specs.Server.{whole_after, whole_of}
 use Rattle.petal_msg.specs.declared.letter.Letter.{Letter}
-use Rattle.petal_rules.specs.Jobs.{ticks}
-use Rattle.petal_rules.specs.declared.step.Step.TheVariants.{Tick}
-use Rattle.server_recovery.specs.Core.{Core, acted, here_in, server_of}
+use Rattle.spec_rules.specs.Jobs.{ticks}
+use Rattle.spec_rules.specs.declared.step.Step.TheVariants.{Tick}
+use Rattle.server_core.specs.Core.{Core, acted, here_in, server_of}
 use Rattle.server_store.specs.Holdings.{Holdings}
 use Rattle.state_store.specs.Device.{Keeping}
 

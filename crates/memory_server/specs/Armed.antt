@@ -1,8 +1,8 @@
 -- The plans of a server's two devices, of which a blank one, where there is one, is the data device.
 use Rattle.petal_disk.specs.Plans.{CameTo, plan_state}
 use Rattle.petal_disk.specs.declared.planned.Planned.{Planned}
-use Rattle.server_recovery.specs.Server.{Mounted}
-use Rattle.petal_rules.specs.Plans.{Armed}
+use Rattle.memory_server.specs.Server.{Mounted}
+use Rattle.spec_rules.specs.Plans.{Armed}
 use Rattle.memory_server.specs.declared.taken.Stops.{Stops}
 
 -- the plans that are armed and were not met

@@ -1,2 +1,6 @@
 pub mod Armed
-pub use Rattle.server_recovery.specs.Server
+pub mod Server
+pub mod Ends
+pub mod Recovery
+pub mod Booted
+pub mod Members

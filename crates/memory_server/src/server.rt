@@ -1,30 +1,33 @@
 //! A server and its two stores.
 
 ghost use Rattle.std.specs.Prelude.{◌≡◌, ◌∷◌, ◌&&◌, [], true, false, None, IfOk, OnOk, OnErr};
-ghost use Rattle.log_side.specs.Done as logs;
-ghost use Rattle.petal_paxos.specs.declared.record.StateRecord.TheVariants.{Inc};
-ghost use Rattle.petal_rules.specs.Server.{first_server};
-ghost use Rattle.petal_rules.specs.declared.step.Step.TheVariants.{Blank, Boot, Stop, Tick, Work};
-ghost use Rattle.world_desks.specs.Desks.{IsFault, acted_at, as_end, boot_end, end_in, ended, job_ended, may_take};
-ghost use Rattle.world_desks.specs.declared.step_end.StepEnd.TheVariants.{Done};
+ghost use Rattle.server_log.specs.Done as logs;
+ghost use Rattle.spec_paxos.specs.declared.record.StateRecord.TheVariants.{Inc};
+ghost use Rattle.spec_rules.specs.Server.{first_server};
+ghost use Rattle.spec_rules.specs.declared.step.Step.TheVariants.{Blank, Boot, Stop, Tick, Work};
+ghost use Rattle.server_host.specs.Desks.{IsFault, acted_at, as_end, boot_end, end_in, ended, job_ended, may_take};
+ghost use Rattle.server_host.specs.declared.step_end.StepEnd.TheVariants.{Done};
 ghost use Rattle.server_store.specs.Shown.{Holds};
 ghost use Rattle.server_store.specs.Slots.{slot_start};
-ghost use Rattle.server_recovery.specs.Server.{HasFailed, left_at, site_of, whole_after, whole_of};
+ghost use Rattle.memory_server.specs.Server.{HasFailed, left_at, site_of, whole_after, whole_of};
 ghost use Rattle.petal_disk.specs.Plans.{plan_state};
-ghost use Rattle.petal_rules.specs.Plans.{AreLeftOf, LeavesPlans, unarmed, with_plan};
+ghost use Rattle.spec_rules.specs.Plans.{AreLeftOf, LeavesPlans, unarmed, with_plan};
 ghost use Rattle.memory_server.specs.Armed.{BothCameTo, armed_of, stops_of};
 
+use crate::attempt::Attempt;
+use crate::boot::boot_stopped;
 use crate::taken::{Stops, done};
+use crate::work::work_first;
 use petal_base::{Inc, NoMemory, Rev, Sequence, ServerId};
 use petal_disk::{DeviceError, Disk, MemDisk, Plan, Planned, Which};
 use petal_msg::Letter;
-use petal_rules::Step;
-use server_recovery::{Attempt, ServerCore, boot_stopped, work_first};
+use server_core::ServerCore;
+use server_host::{Host, Taken};
 use server_store::{DATA_START, SLOT_BYTES, Store};
+use spec_rules::Step;
 use state_store::{DEVICE_BYTES, StateStore};
 use std::alloc::Global;
 use std::marker::Model;
-use world_desks::{Host, Taken};
 
 /// A disk in memory, of which one call can be made to fail, or to stop the server.
 type Device = Planned<MemDisk>;
@@ -44,7 +47,7 @@ pub struct MemServer {
 impl Model for MemServer {
     ghost use Rattle.petal_disk.specs.declared.memory_disk.MemDisk.{MemDisk};
     ghost use Rattle.petal_disk.specs.declared.planned.Planned.{Planned};
-    ghost use Rattle.server_recovery.specs.Server.{IsKept, Mounted, store_at};
+    ghost use Rattle.memory_server.specs.Server.{IsKept, Mounted, store_at};
 
     ghost Value = { Mounted (Planned MemDisk) };
 
@@ -352,7 +355,7 @@ impl MemServer {
 impl Host for MemServer {
     ghost use Rattle.petal_disk.specs.declared.memory_disk.MemDisk.{MemDisk};
     ghost use Rattle.petal_disk.specs.declared.planned.Planned.{Planned};
-    ghost use Rattle.server_recovery.specs.Server.{faults_of, site_of};
+    ghost use Rattle.memory_server.specs.Server.{faults_of, site_of};
     ghost use Rattle.memory_server.specs.Armed.{armed_of};
 
     ghost seen = { site_of };

@@ -1,11 +1,11 @@
 //! What other steps give, and which devices have stopped the server.
 
 ghost use Rattle.std.specs.Prelude.{◌≡◌};
-ghost use Rattle.world_desks.specs.declared.step_end.StepEnd.TheVariants as step_end;
+ghost use Rattle.server_host.specs.declared.step_end.StepEnd.TheVariants as step_end;
 
 use petal_base::Sequence;
 use petal_msg::Letter;
-use world_desks::{StepEnd, Taken};
+use server_host::{StepEnd, Taken};
 
 /// A step that is no job and no boot.
 pub fn done(letters: Sequence<Letter>) -> Taken

@@ -13,8 +13,8 @@ use Rattle.petal_msg.specs.declared.operation.Pending.{Pending}
 use Rattle.petal_msg.specs.declared.operation.Stage.{Stage}
 use Rattle.petal_table.specs.Table.{Table, at, put, without}
 use Rattle.petal_table.proofs.Rows.{at-put, at-without, at-empty, remove_is_without}
-use Rattle.petal_rules.specs.Store.{cell_cmp}
-use Rattle.petal_rules.proofs.CellTables.{cell_cmp_total, cell_cmp_same}
+use Rattle.spec_rules.specs.Store.{cell_cmp}
+use Rattle.spec_rules.proofs.CellTables.{cell_cmp_total, cell_cmp_same}
 use Rattle.pair_lock.specs.Pairs.{EachAtItsCell, at_stage, staged, at_version, versioned}
 
 tied : (r : Ordering) → is_eq r ≡ true → r ≡ Equal

@@ -5,8 +5,8 @@ use Rattle.petal_msg.specs.declared.operation.Pending.{Pending}
 use Rattle.petal_msg.specs.declared.operation.Stage.{Stage}
 use Rattle.petal_table.specs.Table.{Table, at, put}
 use Rattle.global_tables.specs.Region.{region_of}
-use Rattle.petal_rules.specs.Writes.{is_clients}
-use Rattle.petal_rules.specs.Store.{cell_cmp}
+use Rattle.spec_rules.specs.Writes.{is_clients}
+use Rattle.spec_rules.specs.Store.{cell_cmp}
 use Rattle.pair_lock.specs.declared.error.PairError.{PairError}
 use Rattle.pair_lock.specs.declared.error.PairError.TheVariants as error
 use Rattle.pair_lock.specs.declared.scope.Scope.{Scope}

@@ -4,8 +4,8 @@ ghost use Rattle.std.specs.Prelude.{◌≡◌, ◌↔◌, [], length, Err, IsSom
 ghost use Rattle.std.specs.List.Sorted.{IsStrictlySortedBy};
 ghost use Rattle.std.specs.Map.{keys_of};
 ghost use Rattle.petal_table.specs.Table.{at, put, without};
-ghost use Rattle.petal_rules.specs.Writes.{is_clients};
-ghost use Rattle.petal_rules.specs.Store.{cell_cmp};
+ghost use Rattle.spec_rules.specs.Writes.{is_clients};
+ghost use Rattle.spec_rules.specs.Store.{cell_cmp};
 ghost use Rattle.pair_lock.specs.Pairs.{refused, at_stage, staged, at_version, versioned, above, is_next, is_write_in, first_write_in, next_pending};
 ghost use Rattle.pair_lock.specs.declared.error.PairError.TheVariants as error;
 

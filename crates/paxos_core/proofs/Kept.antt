@@ -3,13 +3,13 @@ use Rattle.std.proofs.Common.{◌≡◌, ◌≢◌, inl, inr, ℕ, Bool, true, f
 use Rattle.std.proofs.lemmas.Bool.Decides.{nat_tests}
 use Rattle.petal_command.specs.declared.ballot.Ballot.{Ballot}
 use Rattle.petal_command.specs.declared.command.Command.{Command}
-use Rattle.petal_paxos.specs.Member.{put}
-use Rattle.petal_paxos.specs.Acceptor.{Acceptor, rank, is_open, promise, accept}
-use Rattle.petal_paxos.proofs.Members.{put_cases}
-use Rattle.petal_paxos.specs.declared.record.StateRecord.{StateRecord}
-use Rattle.petal_paxos.specs.declared.record.StateRecord.TheVariants.{Promise, Accepted}
-use Rattle.petal_paxos.specs.declared.record.Row.{Row}
-use Rattle.petal_paxos.specs.Kept.{row_after, row_of, acceptor_of, empty_row, promise_row, accept_row, Commits}
+use Rattle.spec_paxos.specs.Member.{put}
+use Rattle.spec_paxos.specs.Acceptor.{Acceptor, rank, is_open, promise, accept}
+use Rattle.spec_paxos.proofs.Members.{put_cases}
+use Rattle.spec_paxos.specs.declared.record.StateRecord.{StateRecord}
+use Rattle.spec_paxos.specs.declared.record.StateRecord.TheVariants.{Promise, Accepted}
+use Rattle.spec_paxos.specs.declared.record.Row.{Row}
+use Rattle.spec_paxos.specs.Kept.{row_after, row_of, acceptor_of, empty_row, promise_row, accept_row, Commits}
 use Rattle.state_store.proofs.Records.{fold_more}
 
 -- what an acceptor keeps is a part of the row

@@ -3,12 +3,12 @@
 ghost use Rattle.std.specs.Prelude.{◌≡◌, ◌⊎◌, ◌≤◌, ◌<◌, if◌then◌else◌, ℕ, None, OnOk, OnErr, IfOk, IfErr, IsErrOf};
 ghost use Rattle.petal_disk.specs.Disk.{LeavesOnly};
 ghost use Rattle.paxos_core.specs.Needs.{Needs};
-ghost use Rattle.petal_paxos.specs.Member.{put};
-ghost use Rattle.petal_paxos.specs.Acceptor.{is_open, on_prepare, prepare_reply, on_accept, accept_reply};
+ghost use Rattle.spec_paxos.specs.Member.{put};
+ghost use Rattle.spec_paxos.specs.Acceptor.{is_open, on_prepare, prepare_reply, on_accept, accept_reply};
 ghost use Rattle.state_store.specs.Device.{Holds, StandsForEither, WithOrWithout};
 ghost use Rattle.state_store.specs.Errors.{IsCommitError};
-ghost use Rattle.petal_paxos.specs.Kept.{acceptor_of, committed};
-ghost use Rattle.petal_paxos.specs.declared.record.StateRecord.TheVariants as kind;
+ghost use Rattle.spec_paxos.specs.Kept.{acceptor_of, committed};
+ghost use Rattle.spec_paxos.specs.declared.record.StateRecord.TheVariants as kind;
 ghost use Rattle.state_store.specs.declared.error.StateError.TheVariants as error;
 
 use petal_command::{Ballot, Command, Pax};

@@ -11,6 +11,6 @@ pub mod laws;
 mod proposer;
 
 pub use acceptor::{on_accept, on_prepare};
-pub use petal_paxos::{Heard, Phase};
 pub use proposer::{Proposer, has_majority};
+pub use spec_paxos::{Heard, Phase};
 pub use state_store::{StateError, StateStore};

@@ -2,12 +2,12 @@
 
 ghost use Rattle.std.specs.Prelude.{◌≡◌, nat_lt, true, set};
 ghost use Rattle.petal_command.specs.declared.pax.Pax.TheVariants.{Prepare};
-ghost use Rattle.petal_paxos.specs.declared.phase.Phase.TheVariants.{Idle};
-ghost use Rattle.petal_paxos.specs.Proposer.{collecting, has_majority, higher, rank_of, to_propose, is_for, counts, collected, counted, hear};
+ghost use Rattle.spec_paxos.specs.declared.phase.Phase.TheVariants.{Idle};
+ghost use Rattle.spec_paxos.specs.Proposer.{collecting, has_majority, higher, rank_of, to_propose, is_for, counts, collected, counted, hear};
 
 use petal_base::ServerId;
 use petal_command::{Ballot, Command, Pax};
-use petal_paxos::{Heard, Phase};
+use spec_paxos::{Heard, Phase};
 
 /// A server's proposer, among so many servers. It is about the place and ballot that it started last.
 #[derive(Drop)]
@@ -31,7 +31,7 @@ impl Proposer {
 
     /// Starts this server's ballot of the round at the place, for the command where no other was accepted before. Gives the
     /// letter that asks for promises. It asks nothing of its caller; that each ballot is started once is the caller's part.
-    #[tactic(auto, unfolding(petal_paxos::specs::Proposer::nobody))]
+    #[tactic(auto, unfolding(spec_paxos::specs::Proposer::nobody))]
     pub fn start(&mut self, place: u32, round: u32, want: Command) -> Pax
         ensures started { self.new ≡ record self.old { phase = collecting place (record { round = round; server = self.old.me }) want } }
         ensures letter { result ≡ Prepare place (record { round = round; server = self.old.me }) }
@@ -154,7 +154,7 @@ fn hear(servers: u8, phase: Phase, from: ServerId, letter: &Pax) -> (Phase, Hear
 }
 
 /// A promise more was counted: with a majority the proposer asks for acceptances.
-#[tactic(auto, unfolding(petal_paxos::specs::Proposer::nobody))]
+#[tactic(auto, unfolding(spec_paxos::specs::Proposer::nobody))]
 fn collect(
     servers: u8,
     place: u32,

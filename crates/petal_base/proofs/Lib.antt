@@ -1,3 +1,4 @@
 pub mod Blocks
 mod Bytes
 pub mod Tuples
+pub mod Made

@@ -1,12 +1,13 @@
-//! The words that every other crate of Petal uses: names, blocks, tuples of servers, cells and keys, and the two small
-//! types that make lists and shared blocks plain for contracts.
+//! The words that every other crate of Petal uses: names, blocks, tuples of servers, cells and keys, the two small types that make
+//! lists and shared blocks plain for contracts, and lists that only contracts see.
 //!
 //! To the layer above it promises that a `Name`, a `Tuple` and a `Block` are always well formed, and that a contract sees
-//! them as the list of their bytes or numbers. It knows nothing of servers, disks or letters.
+//! them as the list of their bytes or numbers. A ghost list takes no memory. The crate knows nothing of servers, disks or letters.
 #![tactic(auto)]
 
 mod block;
 mod cell;
+mod ghost_list;
 mod memory;
 mod name;
 mod number;
@@ -16,6 +17,7 @@ mod tuple;
 
 pub use block::{BLOCK_BYTES, Block};
 pub use cell::{Cell, Key};
+pub use ghost_list::{Change, GhostList};
 pub use memory::NoMemory;
 pub use name::{NAME_BYTES, Name};
 pub use number::{

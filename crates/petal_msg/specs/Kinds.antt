@@ -1,5 +1,5 @@
 -- The kinds of letters, each with what it is about. Lists over all kinds stand here alone, but for the two that say what is
--- done with each: `handles` and `hears` of `petal_rules`.
+-- done with each: `handles` and `hears` of `spec_rules`.
 use Rattle.std.specs.Prelude.{ℕ, Bool, true, false, if◌then◌else◌, Option, Some, None}
 use Rattle.petal_base.specs.declared.cell.Cell.{Cell}
 use Rattle.petal_base.specs.Cells.{cell_of}

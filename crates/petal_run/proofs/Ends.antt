@@ -1,6 +1,6 @@
 -- A script that was played was read to its end.
 use Rattle.std.proofs.Common.{◌≡◌, ℕ, List, []}
-use Rattle.petal_history.specs.declared.record.Record.{Record}
+use Rattle.spec_history.specs.declared.record.Record.{Record}
 use Rattle.petal_run.specs.Asked.{Asked, Refuse, Play}
 use Rattle.petal_run.specs.Said.{Done}
 

@@ -1,19 +1,19 @@
 -- In every script that is read, lines rise, and phases rise with the numbers of lines.
 use Rattle.std.proofs.Common.{◌≡◌, ℕ, ◌+◌, ◌-◌, ◌≤◌, ◌<◌, Bool, true, false, not, ◌&&◌, ◌==◌, List, [], ◌∷◌, ◌++◌, length, refl, sym, ap, subst}
 use Rattle.std.proofs.Common.{cond, codes, arith, Some, None, is_some, Result, Ok, Err, ◌⊎◌, inl, inr}
-use Rattle.script_words.specs.Text.{pieces, without_end, words_of}
-use Rattle.script_words.specs.Words.{Word, ◌>>=◌, is_word, two_words, three_words}
-use Rattle.script_words.specs.Fields.{in_limits}
+use Rattle.petal_script.specs.Text.{pieces, without_end, words_of}
+use Rattle.petal_script.specs.Words.{Word, ◌>>=◌, is_word, two_words, three_words}
+use Rattle.petal_script.specs.Fields.{in_limits}
 use Rattle.petal_script.specs.Script.{TextLine, text_lines, lines_after, first_line, servers_line, net_line}
 use Rattle.law_script.specs.Laws.{IsAccepted, Does, skipped, nets, waits, asks, Follows, line_at}
-use Rattle.script_words.specs.declared.cause.Cause.{Cause}
-use Rattle.script_words.specs.declared.cause.Cause.TheVariants.{BadLine, NoServersLine}
+use Rattle.petal_script.specs.declared.cause.Cause.{Cause}
+use Rattle.petal_script.specs.declared.cause.Cause.TheVariants.{BadLine, NoServersLine}
 use Rattle.script_lines.specs.declared.request.Line.{Line}
 use Rattle.script_lines.specs.declared.script.Script.{Script}
-use Rattle.petal_rules.specs.Lists.{In}
-use Rattle.petal_rules.proofs.ListLemmas.{in-append}
-use Rattle.petal_history.specs.Order.{AreRising}
-use Rattle.world_desks.specs.Playable.{AreOrdered}
+use Rattle.spec_rules.specs.Lists.{In}
+use Rattle.spec_rules.proofs.ListLemmas.{in-append}
+use Rattle.spec_history.specs.Order.{AreRising}
+use Rattle.server_host.specs.Playable.{AreOrdered}
 
 -- the lines that were read up to this number, and how many phases were begun
 record Read (phases : ℕ) (lines : List Line) (n : ℕ) : Type 0 where

@@ -2,8 +2,8 @@
 use Rattle.std.proofs.Common.{◌≡◌, ◌≤◌, ℕ, ◌+◌, List, [], ◌∷◌, length, Option, None, Result, Ok, Err, refl, ap, arith, length-append}
 use Rattle.std.proofs.lemmas.Bool.Decides.{nat_tests}
 use Rattle.std.specs.List.{concat}
-use Rattle.script_words.specs.Text.{pieces, without_end}
-use Rattle.script_words.specs.declared.cause.Cause.{Cause}
+use Rattle.petal_script.specs.Text.{pieces, without_end}
+use Rattle.petal_script.specs.declared.cause.Cause.{Cause}
 use Rattle.script_lines.specs.declared.script.Script.{Script}
 use Rattle.petal_script.specs.Script.{TextLine, Refusal, script_of, script_from, lines_after, line_verdict, goes_on}
 

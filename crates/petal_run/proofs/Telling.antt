@@ -5,8 +5,8 @@ use Rattle.std.proofs.lemmas.Bool.Decides.{nat_tests}
 use Rattle.std.specs.Prelude.{nat_lt}
 use Rattle.std.proofs.Math.Seq.{take-append_seam, take-append-add, take-length}
 use Rattle.std.specs.Ordering.{nat_cmp}
-use Rattle.petal_history.specs.Order.{AreRising, AnsweredComeFirst, AnswersPhases, all_answered}
-use Rattle.world_desks.specs.Playable.{AreOrdered}
+use Rattle.spec_history.specs.Order.{AreRising, AnsweredComeFirst, AnswersPhases, all_answered}
+use Rattle.server_host.specs.Playable.{AreOrdered}
 use Rattle.script_lines.specs.declared.request.Line.{Line}
 use Rattle.byte_streams.specs.Streams.{Adds}
 use Rattle.petal_table.specs.Table.{Table}
@@ -14,12 +14,12 @@ use Rattle.petal_table.proofs.Rows.{at-empty}
 use Rattle.script_lines.specs.declared.answer.Answer.{Answer}
 use Rattle.script_lines.specs.declared.script.Script.{Script}
 use Rattle.petal_script.specs.Script.{Refusal, script_of}
-use Rattle.petal_history.specs.Claims.{Keeps}
-use Rattle.petal_rules.specs.Plans.{unarmed}
-use Rattle.petal_history.specs.Legal.{IsLegal}
-use Rattle.petal_history.specs.Steps.{AreSteps}
-use Rattle.petal_history.specs.Text.{answers_of, text_of}
-use Rattle.petal_history.specs.declared.record.Record.{Record}
+use Rattle.spec_history.specs.Claims.{Keeps}
+use Rattle.spec_rules.specs.Plans.{unarmed}
+use Rattle.spec_history.specs.Legal.{IsLegal}
+use Rattle.spec_history.specs.Steps.{AreSteps}
+use Rattle.spec_history.specs.Text.{answers_of, text_of}
+use Rattle.spec_history.specs.declared.record.Record.{Record}
 use Rattle.plain_schedule.specs.Phases.{Progress, GoesByPhases, Ends, records_of}
 use Rattle.petal_run.specs.Asked.{Play, by_text}
 use Rattle.petal_run.specs.Said.{Done, DoneInPart, EndsWithPhase, WrittenByPhases, WrotePhases, WroteInPhase}

@@ -2,7 +2,7 @@
 use Rattle.std.specs.Prelude.{ℕ, List, codes, Result, Ok, Err, if◌then◌else◌}
 use Rattle.petal_script.specs.Script.{Refusal, script_of}
 use Rattle.script_lines.specs.Printed.{refusal_line}
-use Rattle.script_words.specs.Cause.{cause_text}
+use Rattle.petal_script.specs.Cause.{cause_text}
 use Rattle.script_lines.specs.declared.script.Script.{Script}
 use Rattle.petal_run.specs.Words.{is_run}
 

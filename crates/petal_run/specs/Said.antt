@@ -2,11 +2,11 @@
 use Rattle.std.specs.Prelude.{◌≡◌, ℕ, ◌+◌, true, List, [], ◌++◌}
 use Rattle.byte_streams.specs.Streams.{Adds}
 use Rattle.script_lines.specs.declared.script.Script.{Script}
-use Rattle.petal_history.specs.declared.record.Record.{Record}
-use Rattle.petal_history.specs.Claims.{Keeps}
-use Rattle.petal_history.specs.Legal.{IsLegal}
-use Rattle.petal_history.specs.Text.{answers_of, text_of}
-use Rattle.petal_history.specs.Order.{AnswersPhases, IsFront, all_answered}
+use Rattle.spec_history.specs.declared.record.Record.{Record}
+use Rattle.spec_history.specs.Claims.{Keeps}
+use Rattle.spec_history.specs.Legal.{IsLegal}
+use Rattle.spec_history.specs.Text.{answers_of, text_of}
+use Rattle.spec_history.specs.Order.{AnswersPhases, IsFront, all_answered}
 use Rattle.petal_run.specs.Asked.{Asked, Refuse, Play}
 
 -- a whole run of a script: each record is a real step of its servers and clients, each line is answered, and what the plain

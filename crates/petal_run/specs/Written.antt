@@ -4,8 +4,8 @@ use Rattle.std.specs.List.{flat_map}
 use Rattle.petal_table.specs.Table.{Table}
 use Rattle.script_lines.specs.Printed.{answer_line}
 use Rattle.script_lines.specs.declared.answer.Answer.{Answer}
-use Rattle.petal_history.specs.Text.{text_of}
-use Rattle.petal_history.specs.declared.record.Record.{Record}
+use Rattle.spec_history.specs.Text.{text_of}
+use Rattle.spec_history.specs.declared.record.Record.{Record}
 
 -- one line for each answer
 abbrev pub text_of_answers : Table ℕ Answer → List ℕ

@@ -1,11 +1,11 @@
 //! What is plain of scripts that are read.
 
 ghost use Rattle.std.specs.Prelude.{◌≡◌, List, [], ℕ, Ok};
-ghost use Rattle.petal_history.specs.Order.{AreRising};
+ghost use Rattle.spec_history.specs.Order.{AreRising};
 ghost use Rattle.petal_script.specs.Script.{script_of};
 ghost use Rattle.script_lines.specs.declared.script.Script.{Script};
 ghost use Rattle.petal_run.specs.Asked.{by_text};
-ghost use Rattle.world_desks.specs.Playable.{AreOrdered};
+ghost use Rattle.server_host.specs.Playable.{AreOrdered};
 ghost use Rattle.petal_run.specs.Said.{DoneInPart, WrittenByPhases};
 
 use law_run::read_scripts_are_sound;

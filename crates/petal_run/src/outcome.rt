@@ -12,7 +12,7 @@ use crate::script::{run_text, say, without_history};
 use crate::words::is_run;
 use byte_streams::{Sink, Source};
 use petal_disk::{DeviceError, Shelf};
-use petal_history::History;
+use spec_history::History;
 use std::alloc::Global;
 use std::sync::Wait;
 

@@ -1,15 +1,15 @@
 //! A script that was read and is played, with the answers of each phase written at its end; a text that is no script is refused.
 
 ghost use Rattle.std.specs.Prelude.{◌≡◌, ◌≤◌, ◌<◌, ◌⊎◌, ◌++◌, ℕ, List, [], length, true, IfOk, OnOk, IsErrOf, IfSome, Some, None};
-ghost use Rattle.petal_history.specs.Order.{AreRising, all_answered};
+ghost use Rattle.spec_history.specs.Order.{AreRising, all_answered};
 ghost use Rattle.byte_streams.specs.Streams.{Adds};
 ghost use Rattle.script_lines.specs.Printed.{refusal_line};
 ghost use Rattle.petal_script.specs.Script.{script_of};
-ghost use Rattle.petal_history.specs.Sound.{IsSound};
-ghost use Rattle.petal_history.specs.Text.{answers_of, text_of};
+ghost use Rattle.spec_history.specs.Sound.{IsSound};
+ghost use Rattle.spec_history.specs.Text.{answers_of, text_of};
 ghost use Rattle.plain_schedule.specs.Phases.{GoesByPhases, records_of};
 ghost use Rattle.petal_run.specs.Asked.{Play, by_text};
-ghost use Rattle.world_desks.specs.Playable.{AreOrdered};
+ghost use Rattle.server_host.specs.Playable.{AreOrdered};
 ghost use Rattle.petal_run.specs.Said.{Done, DoneInPart, EndsWithPhase, WrittenByPhases, WrittenInPhase, WroteInPhase, WrotePhases};
 ghost use Rattle.petal_run.specs.Written.{Wrote, text_of_answers};
 ghost use Rattle.device_faults.specs.declared.failure.DeviceError.TheVariants as error;
@@ -23,9 +23,9 @@ use law_run::{every_history_keeps_the_law, read_scripts_are_sound};
 use law_script::lines_are_the_text;
 use petal_base::{NoMemory, Sequence};
 use petal_disk::DeviceError;
-use petal_history::History;
 use petal_script::{Script, ScriptError, read_script};
 use plain_schedule::{Answers, Playing};
+use spec_history::History;
 use std::alloc::Global;
 use std::sync::Wait;
 

@@ -1,9 +1,9 @@
 -- One line more of a text is read.
 use Rattle.std.proofs.Common.{◌≡◌, ℕ, ◌+◌, ◌-◌, ◌≤◌, List, [], ◌∷◌, length, refl, ap, ◌∙◌, arith, Option, None, Ok, Err}
-use Rattle.script_words.specs.Text.{pieces, without_end}
+use Rattle.petal_script.specs.Text.{pieces, without_end}
 use Rattle.script_lines.specs.declared.script.Script.{Script}
 use Rattle.petal_script.specs.Script.{TextLine, lines_after, script_from, script_of, line_verdict, goes_on, ended}
-use Rattle.script_words.specs.declared.cause.Cause.{Cause}
+use Rattle.petal_script.specs.declared.cause.Cause.{Cause}
 
 -- what is still to be read after n lines of a text of so many bytes
 abbrev pub left : ℕ → ℕ → List ℕ → List TextLine

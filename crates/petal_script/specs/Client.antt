@@ -1,9 +1,9 @@
 -- What a client's line asks for, by the words after the client. The order of the steps is the order of the causes.
 use Rattle.std.specs.Prelude.{ℕ, not, ◌||◌, ◌==◌, List, length, if◌then◌else◌, codes, Result, Ok, Err}
-use Rattle.script_words.specs.Words.{Word, ◌>>=◌, is_word, front_word, one_word, two_words}
-use Rattle.script_words.specs.Fields.{a_name, a_byte, a_block, a_tuple, version_of}
-use Rattle.script_words.specs.declared.cause.Cause.{Cause}
-use Rattle.script_words.specs.declared.cause.Cause.TheVariants.{BadLine}
+use Rattle.petal_script.specs.Words.{Word, ◌>>=◌, is_word, front_word, one_word, two_words}
+use Rattle.petal_script.specs.Fields.{a_name, a_byte, a_block, a_tuple, version_of}
+use Rattle.petal_script.specs.declared.cause.Cause.{Cause}
+use Rattle.petal_script.specs.declared.cause.Cause.TheVariants.{BadLine}
 use Rattle.script_lines.specs.declared.request.Request.{Request}
 use Rattle.script_lines.specs.declared.request.Request.TheVariants.{Disk, Write, Read, Snap, Move}
 use Rattle.script_lines.specs.declared.request.Pattern.{Pattern}

@@ -3,3 +3,8 @@ pub mod Operator
 pub mod Script
 pub mod Tally
 pub mod Told
+pub mod Cause
+pub mod Fields
+pub mod Number
+pub mod Text
+pub mod Words

@@ -1,9 +1,9 @@
 -- What the operator's line asks for, by the words after `op`. The order of the steps is the order of the causes.
 use Rattle.std.specs.Prelude.{ℕ, not, ◌==◌, List, length, if◌then◌else◌, codes, Result, Ok, Err}
-use Rattle.script_words.specs.Words.{Word, ◌>>=◌, is_word, front_word, no_word, one_word, two_words, four_words}
-use Rattle.script_words.specs.Fields.{a_server, a_call, a_device, a_kind}
-use Rattle.script_words.specs.declared.cause.Cause.{Cause}
-use Rattle.script_words.specs.declared.cause.Cause.TheVariants.{BadLine}
+use Rattle.petal_script.specs.Words.{Word, ◌>>=◌, is_word, front_word, no_word, one_word, two_words, four_words}
+use Rattle.petal_script.specs.Fields.{a_server, a_call, a_device, a_kind}
+use Rattle.petal_script.specs.declared.cause.Cause.{Cause}
+use Rattle.petal_script.specs.declared.cause.Cause.TheVariants.{BadLine}
 use Rattle.script_lines.specs.declared.request.Request.{Request}
 use Rattle.script_lines.specs.declared.request.Request.TheVariants.{Stop, StopAt, Fault, Start, Blank, Settle}
 

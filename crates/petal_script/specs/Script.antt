@@ -4,13 +4,13 @@ use Rattle.std.specs.Prelude.{if◌then◌else◌, codes, Option, Some, None, is
 use Rattle.std.specs.List.{list_all, count_by, fold, range_with_len}
 use Rattle.std.specs.Char.{is_ascii}
 use Rattle.script_lines.specs.Requests.{is_disk, is_snap, is_move, is_boot}
-use Rattle.script_words.specs.Text.{pieces, without_end, words_of}
-use Rattle.script_words.specs.Words.{Word, is_word, ◌>>=◌, front_word, no_word, two_words, three_words}
-use Rattle.script_words.specs.Fields.{in_limits}
+use Rattle.petal_script.specs.Text.{pieces, without_end, words_of}
+use Rattle.petal_script.specs.Words.{Word, is_word, ◌>>=◌, front_word, no_word, two_words, three_words}
+use Rattle.petal_script.specs.Fields.{in_limits}
 use Rattle.petal_script.specs.Client.{client_request}
 use Rattle.petal_script.specs.Operator.{operator_request}
-use Rattle.script_words.specs.declared.cause.Cause.{Cause}
-use Rattle.script_words.specs.declared.cause.Cause.TheVariants.{NotAscii, TooLong, NoServersLine, BadLine, TooMany, NoMajority}
+use Rattle.petal_script.specs.declared.cause.Cause.{Cause}
+use Rattle.petal_script.specs.declared.cause.Cause.TheVariants.{NotAscii, TooLong, NoServersLine, BadLine, TooMany, NoMajority}
 use Rattle.script_lines.specs.declared.request.Request.{Request}
 use Rattle.script_lines.specs.declared.request.Request.TheVariants.{Stop, StopAt, Fault, Start, Blank}
 use Rattle.script_lines.specs.declared.request.Line.{Line}

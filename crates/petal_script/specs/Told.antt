@@ -1,6 +1,6 @@
 -- What the functions that may want memory return.
 use Rattle.std.specs.Prelude.{◌≡◌, Result, Ok, Err}
-use Rattle.script_words.specs.declared.cause.Cause.{Cause}
+use Rattle.petal_script.specs.declared.cause.Cause.{Cause}
 use Rattle.petal_script.specs.declared.error.ScriptError.{ScriptError}
 use Rattle.petal_script.specs.declared.error.ScriptError.TheVariants as errors
 use Rattle.petal_script.specs.declared.error.LineError.{LineError}

@@ -4,11 +4,12 @@ ghost use Rattle.std.specs.Prelude.{◌≡◌};
 ghost use Rattle.script_lines.specs.declared.request.Pattern.TheVariants.{Fill, Ramp};
 ghost use Rattle.petal_script.specs.Client.{spread_of, filled_of, halves_of, write_by, write_of, read_of, snap_of, disk_of, move_of, client_request};
 
+use crate::cause::Cause;
+use crate::fields::{block, byte, name, version};
+use crate::tuple::tuple;
+use crate::words::Words;
 use petal_base::{Name, Tuple};
 use script_lines::{Pattern, Request};
-use script_words::fields::{block, byte, name, version};
-use script_words::tuple::tuple;
-use script_words::{Cause, Words};
 
 #[tactic(auto, unfolding(crate::specs::Client::spread_of))]
 fn spread(servers: u8, words: &mut Words<'_>) -> Result<(Name, Tuple), Cause>

@@ -4,12 +4,13 @@ ghost use Rattle.std.specs.Prelude.{◌≡◌, ◌≤◌, ◌<◌, ◌+◌, ◌^
 ghost use Rattle.petal_script.specs.Script.{adds, servers_line, net_line};
 ghost use Rattle.petal_script.specs.Told.{AddsTo};
 
+use crate::cause::Cause;
 use crate::error::LineError;
+use crate::number::in_limits;
 use crate::tally::Tally;
+use crate::words::Words;
 use petal_base::{ClientId, Sequence};
 use script_lines::{Line, Request, Script};
-use script_words::number::in_limits;
-use script_words::{Cause, Words};
 use std::alloc::Global;
 use std::marker::Model;
 

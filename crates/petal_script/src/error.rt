@@ -5,8 +5,8 @@ ghost use Rattle.petal_script.specs.declared.error.ScriptError.TheVariants.{NoMe
 ghost use Rattle.petal_script.specs.declared.error.LineError.TheVariants.{Bad};
 ghost use Rattle.petal_script.specs.declared.error.LineError.TheVariants as faults;
 
+use crate::cause::Cause;
 use petal_base::NoMemory;
-use script_words::Cause;
 use thiserror::Error;
 
 /// Why a line wasn't taken.

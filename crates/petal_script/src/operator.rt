@@ -3,9 +3,10 @@
 ghost use Rattle.std.specs.Prelude.{◌≡◌, ◌<◌};
 ghost use Rattle.petal_script.specs.Operator.{stop_at, stop_of, fault_of, operator_request};
 
+use crate::cause::Cause;
+use crate::fields::{call, call_kind, device, server};
+use crate::words::Words;
 use script_lines::Request;
-use script_words::fields::{call, call_kind, device, server};
-use script_words::{Cause, Words};
 
 /// A server stops in a later call of its data device: the server, `at`, and which call.
 #[tactic(auto, unfolding(crate::specs::Operator::stop_at))]

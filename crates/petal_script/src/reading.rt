@@ -3,17 +3,19 @@
 ghost use Rattle.std.specs.Prelude.{◌≡◌, ℕ, ◌≤◌, ◌<◌, ◌+◌, ◌-◌, ◌^◌, length, OnOk, IfOk, IfSome, Option, Some, None};
 ghost use Rattle.std.specs.List.{list_all};
 ghost use Rattle.std.specs.Char.{is_ascii};
-ghost use Rattle.script_words.specs.Text.{without_end};
+ghost use Rattle.petal_script.specs.Text.{without_end};
 ghost use Rattle.petal_script.specs.Script.{is_comment, is_skipped, client_of, later_line, first_line, line_verdict, script_of};
 ghost use Rattle.petal_script.specs.Told.{AddsTo, Tells, Reads};
 
+use crate::cause::Cause;
 use crate::client::client_request;
 use crate::draft::Draft;
 use crate::error::{LineError, ScriptError};
 use crate::operator::operator_request;
+use crate::text;
+use crate::words::Words;
 use petal_base::{ClientId, OPERATOR};
 use script_lines::Script;
-use script_words::{Cause, Words, text};
 use std::alloc::Global;
 
 /// A line's greatest length, its end not counted.

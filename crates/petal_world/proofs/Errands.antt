@@ -6,16 +6,16 @@ use Rattle.std.proofs.Common.{arith}
 use Rattle.petal_msg.specs.declared.letter.Actor.{Actor}
 use Rattle.petal_msg.specs.declared.letter.Actor.TheVariants as actor
 use Rattle.script_lines.specs.declared.request.Line.{Line}
-use Rattle.petal_rules.specs.Jobs.{operator}
-use Rattle.petal_rules.specs.World.{Setting, World, next_line}
-use Rattle.petal_rules.specs.declared.step.Step.{Step}
-use Rattle.petal_rules.specs.declared.step.Step.TheVariants.{Call, Work, StopIn}
-use Rattle.petal_rules.proofs.Tests.{none_some, same_numbers}
-use Rattle.petal_history.specs.Controls.{Errand, Given, IsNext, Obeys, due, errand_after, errand_of, served}
-use Rattle.world_actors.specs.Steps.{rev_of}
-use Rattle.world_desks.specs.Desks.{ended, job_ended}
-use Rattle.world_desks.specs.declared.step_end.StepEnd.{StepEnd}
-use Rattle.world_desks.specs.declared.step_end.StepEnd.TheVariants as step_end
+use Rattle.spec_rules.specs.Jobs.{operator}
+use Rattle.spec_rules.specs.World.{Setting, World, next_line}
+use Rattle.spec_rules.specs.declared.step.Step.{Step}
+use Rattle.spec_rules.specs.declared.step.Step.TheVariants.{Call, Work, StopIn}
+use Rattle.spec_rules.proofs.Tests.{none_some, same_numbers}
+use Rattle.spec_history.specs.Controls.{Errand, Given, IsNext, Obeys, due, errand_after, errand_of, served}
+use Rattle.petal_world.specs.Steps.{rev_of}
+use Rattle.server_host.specs.Desks.{ended, job_ended}
+use Rattle.server_host.specs.declared.step_end.StepEnd.{StepEnd}
+use Rattle.server_host.specs.declared.step_end.StepEnd.TheVariants as step_end
 use Rattle.petal_world.specs.Errands.{ObeysBy, Runs, called_next, errand_next, first_step}
 
 -- ### The next step

@@ -2,3 +2,9 @@ pub mod Playing
 pub mod Starting
 pub mod Errands
 pub mod Planning
+pub mod Stepping
+pub mod Allowed
+pub mod Acting
+pub mod Ending
+pub mod Lines
+pub mod Revs

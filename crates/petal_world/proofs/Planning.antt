@@ -3,10 +3,10 @@ use Rattle.std.proofs.Common.{◌≡◌, Option, Some, None, refl, sym, ◌∙�
 use Rattle.device_faults.specs.declared.plan.Plan.{Plan}
 use Rattle.device_faults.specs.declared.which.Which.{Which}
 use Rattle.device_faults.specs.declared.which.Which.TheVariants.{Data, State}
-use Rattle.petal_rules.specs.Plans.{Armed, AreLeftOf, IsLeftOf, LeavesPlans, Spends, Uses, plan_of, with_plan}
-use Rattle.petal_rules.specs.declared.step.Step.{Step}
-use Rattle.petal_rules.specs.declared.step.Step.TheVariants.{Work, StopIn, Boot, Arm}
-use Rattle.petal_rules.specs.declared.step.WorkEnd.TheVariants as work_end
+use Rattle.spec_rules.specs.Plans.{Armed, AreLeftOf, IsLeftOf, LeavesPlans, Spends, Uses, plan_of, with_plan}
+use Rattle.spec_rules.specs.declared.step.Step.{Step}
+use Rattle.spec_rules.specs.declared.step.Step.TheVariants.{Work, StopIn, Boot, Arm}
+use Rattle.spec_rules.specs.declared.step.WorkEnd.TheVariants as work_end
 
 pub left_trans : (a b c : Option Plan) → IsLeftOf a b → IsLeftOf b c → IsLeftOf a c
 left_trans a b None one two = tt

@@ -7,29 +7,29 @@ use Rattle.std.proofs.lemmas.List.FromFn.{length-map-range_with_len}
 use Rattle.petal_msg.specs.declared.letter.Actor.{Actor}
 use Rattle.petal_msg.specs.declared.letter.Actor.TheVariants as actor
 use Rattle.script_lines.specs.declared.request.Line.{Line}
-use Rattle.petal_rules.specs.World.{Setting, World, MayActor, MayStep, MayClient, start, clock_of, next_stamp, next_line, setting_of}
-use Rattle.petal_rules.specs.declared.step.Step.{Step}
-use Rattle.petal_rules.specs.declared.step.Step.TheVariants.{Call}
-use Rattle.petal_rules.specs.Plans.{AreLeftOf, Uses, unarmed}
-use Rattle.petal_rules.proofs.Tests.{number_itself, same_numbers, true_false}
-use Rattle.petal_history.specs.Controls.{Errand, Obeys, errand_after, no_errand}
-use Rattle.petal_history.specs.Failures.{UsesAt, UsesWhere}
-use Rattle.petal_history.specs.Legal.{IsLegal}
-use Rattle.petal_history.specs.Steps.{Follows, InPhase, CallsInPhase, world_after, stepped}
-use Rattle.petal_history.specs.declared.record.Record.{Record}
-use Rattle.client_seats.specs.Core.{is_spent}
-use Rattle.client_seats.specs.declared.seat.Seat.{Seat}
-use Rattle.world_actors.specs.declared.stepped.Stepped.{Stepped}
-use Rattle.world_desks.specs.Desks.{Equipped, LeavesPlansAt, desk_of, ended}
-use Rattle.world_desks.specs.declared.step_end.StepEnd.{StepEnd}
+use Rattle.spec_rules.specs.World.{Setting, World, MayActor, MayStep, MayClient, start, clock_of, next_stamp, next_line, setting_of}
+use Rattle.spec_rules.specs.declared.step.Step.{Step}
+use Rattle.spec_rules.specs.declared.step.Step.TheVariants.{Call}
+use Rattle.spec_rules.specs.Plans.{AreLeftOf, Uses, unarmed}
+use Rattle.spec_rules.proofs.Tests.{number_itself, same_numbers, true_false}
+use Rattle.spec_history.specs.Controls.{Errand, Obeys, errand_after, no_errand}
+use Rattle.spec_history.specs.Failures.{UsesAt, UsesWhere}
+use Rattle.spec_history.specs.Legal.{IsLegal}
+use Rattle.spec_history.specs.Steps.{Follows, InPhase, CallsInPhase, world_after, stepped}
+use Rattle.spec_history.specs.declared.record.Record.{Record}
+use Rattle.client_core.specs.Core.{is_spent}
+use Rattle.petal_world.specs.declared.seat.Seat.{Seat}
+use Rattle.petal_world.specs.declared.stepped.Stepped.{Stepped}
+use Rattle.server_host.specs.Desks.{Equipped, LeavesPlansAt, desk_of, ended}
+use Rattle.server_host.specs.declared.step_end.StepEnd.{StepEnd}
 use Rattle.petal_world.specs.Play.{ArePlanned, Play, IsKept, errand_in, world_of, record_of, played, told_by}
-use Rattle.world_actors.specs.Steps.{LeavesIn, Can, stamp_of, phase_of, phase_for}
-use Rattle.client_seats.specs.Seats.{CanTake, seat_of}
-use Rattle.world_actors.specs.Actors.{Actors, LeavesPlansBy, Shows}
-use Rattle.world_actors.proofs.Ending.{may_ended, stamp_ended, phase_ended}
-use Rattle.petal_history.proofs.Onwards.{come_more, errand_more, obey_more, steps_more}
-use Rattle.world_desks.proofs.Plans.{get_equipped}
-use Rattle.world_desks.proofs.Ranges.{get_range}
+use Rattle.petal_world.specs.Steps.{LeavesIn, Can, stamp_of, phase_of, phase_for}
+use Rattle.petal_world.specs.Seats.{CanTake, seat_of}
+use Rattle.petal_world.specs.Actors.{Actors, LeavesPlansBy, Shows}
+use Rattle.petal_world.proofs.Ending.{may_ended, stamp_ended, phase_ended}
+use Rattle.spec_history.proofs.Onwards.{come_more, errand_more, obey_more, steps_more}
+use Rattle.server_host.proofs.Plans.{get_equipped}
+use Rattle.server_host.proofs.Ranges.{get_range}
 use Rattle.petal_world.proofs.Errands.{after_ended, obeys_ended}
 use Rattle.petal_world.proofs.Planning.{plans_used}
 

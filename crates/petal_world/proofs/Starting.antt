@@ -6,19 +6,19 @@ use Rattle.std.proofs.lemmas.Simd.{map-map}
 use Rattle.std.specs.List.{range_with_len, fold}
 use Rattle.petal_msg.specs.declared.letter.Letter.{Letter}
 use Rattle.script_lines.specs.declared.script.Script.{Script}
-use Rattle.petal_rules.specs.Lists.{In}
-use Rattle.petal_rules.specs.World.{Setting, World, start, setting_of, clock_of}
-use Rattle.client_seats.specs.declared.seat.Seat.{Seat}
-use Rattle.petal_rules.specs.Plans.{Armed, AreLeftOf, unarmed}
-use Rattle.petal_history.specs.Controls.{Errand, no_errand}
-use Rattle.world_desks.specs.Desks.{Equipped, Site, bare, desk_of, desks_of, first_desk, first_sites}
+use Rattle.spec_rules.specs.Lists.{In}
+use Rattle.spec_rules.specs.World.{Setting, World, start, setting_of, clock_of}
+use Rattle.petal_world.specs.declared.seat.Seat.{Seat}
+use Rattle.spec_rules.specs.Plans.{Armed, AreLeftOf, unarmed}
+use Rattle.spec_history.specs.Controls.{Errand, no_errand}
+use Rattle.server_host.specs.Desks.{Equipped, Site, bare, desk_of, desks_of, first_desk, first_sites}
 use Rattle.petal_world.specs.Play.{IsKept}
-use Rattle.world_desks.specs.Playable.{AreOrdered}
-use Rattle.client_seats.specs.Seats.{seat_of, seats_of}
-use Rattle.world_desks.specs.Sent.{Lists}
-use Rattle.world_actors.specs.Actors.{Actors, Shows}
-use Rattle.world_desks.specs.Waiting.{Await}
-use Rattle.world_desks.proofs.Letters.{none_sent}
+use Rattle.server_host.specs.Playable.{AreOrdered}
+use Rattle.petal_world.specs.Seats.{seat_of, seats_of}
+use Rattle.server_host.specs.Sent.{Lists}
+use Rattle.petal_world.specs.Actors.{Actors, Shows}
+use Rattle.server_host.specs.Waiting.{Await}
+use Rattle.server_host.proofs.Letters.{none_sent}
 
 -- ### The start
 

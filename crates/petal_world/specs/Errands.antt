@@ -4,11 +4,11 @@ use Rattle.device_faults.specs.declared.which.Which.TheVariants.{State}
 use Rattle.petal_msg.specs.declared.letter.Actor.{Actor}
 use Rattle.petal_msg.specs.declared.letter.Actor.TheVariants as actor
 use Rattle.script_lines.specs.declared.request.Line.{Line}
-use Rattle.petal_rules.specs.Jobs.{operator}
-use Rattle.petal_rules.specs.World.{World}
-use Rattle.petal_rules.specs.declared.step.Step.{Step}
-use Rattle.petal_rules.specs.declared.step.Step.TheVariants.{Call}
-use Rattle.petal_history.specs.Controls.{Errand, Given, Stops, Blanks, Arms, Boots, ObeysAs, boot_steps, errand_of, served}
+use Rattle.spec_rules.specs.Jobs.{operator}
+use Rattle.spec_rules.specs.World.{World}
+use Rattle.spec_rules.specs.declared.step.Step.{Step}
+use Rattle.spec_rules.specs.declared.step.Step.TheVariants.{Call}
+use Rattle.spec_history.specs.Controls.{Errand, Given, Stops, Blanks, Arms, Boots, ObeysAs, boot_steps, errand_of, served}
 use Rattle.petal_world.specs.declared.errand.Left.{Left}
 use Rattle.petal_world.specs.declared.errand.Left.TheVariants as left
 use Rattle.petal_world.specs.declared.errand.Deed.{Deed}

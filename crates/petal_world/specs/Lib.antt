@@ -1,4 +1,8 @@
-pub use Rattle.world_desks.specs.Desks
-pub use Rattle.world_desks.specs.Playable
 pub mod Play
 pub mod Errands
+pub mod Seats
+pub mod Lines
+pub mod Actors
+pub mod Steps
+pub use Rattle.server_host.specs.Desks
+pub use Rattle.server_host.specs.Playable

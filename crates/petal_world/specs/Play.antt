@@ -3,20 +3,20 @@ use Rattle.std.specs.Prelude.{◌≡◌, ℕ, ◌+◌, max, min, Bool, false, Li
 use Rattle.std.specs.List.{range_with_len, fold}
 use Rattle.petal_msg.specs.declared.letter.Actor.{Actor}
 use Rattle.script_lines.specs.declared.script.Script.{Script}
-use Rattle.petal_rules.specs.Plans.{Armed, AreLeftOf, unarmed}
-use Rattle.petal_rules.specs.World.{World, MayStep, start, step, setting_of, greatest_u64}
-use Rattle.petal_rules.specs.World as rules
-use Rattle.petal_rules.specs.declared.step.Step.{Step}
-use Rattle.petal_history.specs.Controls.{Errand, Obeys, errand_along, no_errand}
-use Rattle.petal_history.specs.Failures.{ComeTo}
-use Rattle.petal_history.specs.Legal.{ObeyScript}
-use Rattle.petal_history.specs.Steps.{AreSteps, world_after}
-use Rattle.petal_history.specs.declared.record.Record.{Record}
-use Rattle.world_actors.specs.declared.stepped.Stepped.{Stepped}
-use Rattle.world_desks.specs.Desks.{Equipped, end_in}
-use Rattle.world_desks.specs.Playable.{AreOrdered}
-use Rattle.world_actors.specs.Actors.{Actors, Shows}
-use Rattle.world_actors.specs.Steps.{phase_for, stamp_of}
+use Rattle.spec_rules.specs.Plans.{Armed, AreLeftOf, unarmed}
+use Rattle.spec_rules.specs.World.{World, MayStep, start, step, setting_of, greatest_u64}
+use Rattle.spec_rules.specs.World as rules
+use Rattle.spec_rules.specs.declared.step.Step.{Step}
+use Rattle.spec_history.specs.Controls.{Errand, Obeys, errand_along, no_errand}
+use Rattle.spec_history.specs.Failures.{ComeTo}
+use Rattle.spec_history.specs.Legal.{ObeyScript}
+use Rattle.spec_history.specs.Steps.{AreSteps, world_after}
+use Rattle.spec_history.specs.declared.record.Record.{Record}
+use Rattle.petal_world.specs.declared.stepped.Stepped.{Stepped}
+use Rattle.server_host.specs.Desks.{Equipped, end_in}
+use Rattle.server_host.specs.Playable.{AreOrdered}
+use Rattle.petal_world.specs.Actors.{Actors, Shows}
+use Rattle.petal_world.specs.Steps.{phase_for, stamp_of}
 
 -- its script, the records of all steps, the phase, the least stamp of a client's next step, whether memory was wanting, so that no
 -- step follows, and whether a step may have been taken that no line of the script gives

@@ -2,14 +2,14 @@
 
 ghost use Rattle.std.specs.Prelude.{◌≡◌, ◌↔◌, None, Some, drop, option_copied, IsTrue};
 ghost use Rattle.script_lines.specs.Requests.{names};
-ghost use Rattle.petal_history.specs.Controls.{IsLeftAlone, IsNext, IsThrough, ObeysAs, due, errand_of, no_errand, served, steps_of};
+ghost use Rattle.spec_history.specs.Controls.{IsLeftAlone, IsNext, IsThrough, ObeysAs, due, errand_of, no_errand, served, steps_of};
 ghost use Rattle.petal_world.specs.Errands.{ObeysBy, called_next, errand_next, first_step, given_in, given_of, steps_left};
 
 use device_faults::{CallKind, Plan, Which};
 use petal_base::{ClientId, OPERATOR, ServerId};
 use petal_msg::Actor;
-use petal_rules::Step;
 use script_lines::{Line, Request};
+use spec_rules::Step;
 use std::marker::Model;
 
 /// A step that a line gives its server.
@@ -43,7 +43,7 @@ pub struct Errand {
 }
 
 impl Model for Errand {
-    ghost use Rattle.petal_history.specs.Controls.{Errand};
+    ghost use Rattle.spec_history.specs.Controls.{Errand};
     ghost use Rattle.petal_world.specs.Errands.{steps_left};
 
     ghost Value = { Errand };

@@ -1,17 +1,26 @@
-//! The world of all servers and clients, stepped one at a time.
+//! The world of all servers and clients, stepped one at a time: each client with its lines and its seat, the letters ever sent, and
+//! the lines without an answer.
 //!
 //! To the layer above it promises that the records that it keeps are a legal history of its script, and that a step is
-//! refused exactly where the rules, or the order of the operator's lines, do not allow it. It knows nothing of the order in which steps are taken, and of how a
-//! server keeps its blocks.
+//! refused exactly where the rules, or the order of the operator's lines, do not allow it. It knows nothing of the order in which
+//! steps are taken, and of how a server keeps its blocks.
 #![tactic(auto)]
 
+mod actors;
+mod blocks;
+mod control;
+mod deciding;
 mod errand;
 mod error;
+mod seat;
+mod seats;
+mod stepped;
+mod taking;
 mod world;
 
 pub use error::WorldError;
-pub use petal_history::{History, Record};
-pub use petal_rules::{CommitEnd, Step, WorkEnd};
+pub use server_host::{Host, StepEnd, are_in_order};
+pub use spec_history::{History, Record};
+pub use spec_rules::{CommitEnd, Step, WorkEnd};
+pub use stepped::Stepped;
 pub use world::World;
-pub use world_actors::Stepped;
-pub use world_desks::{Host, StepEnd, are_in_order};

@@ -1,38 +1,41 @@
 //! The world.
 
 ghost use Rattle.std.specs.Prelude.{◌≡◌, ◌↔◌, ◌+◌, ◌++◌, ◌∷◌, [], All, map, min, false, true, option_copied, IfOk, IsTrue, OnOk, OnErr, IsErrOf};
-ghost use Rattle.petal_history.specs.Controls.{Obeys};
-ghost use Rattle.petal_history.specs.Legal.{IsLegal};
-ghost use Rattle.petal_history.specs.Steps.{AreSteps};
-ghost use Rattle.petal_rules.specs.Plans.{unarmed};
-ghost use Rattle.petal_rules.specs.declared.step.Step.{Step};
+ghost use Rattle.spec_history.specs.Controls.{Obeys};
+ghost use Rattle.spec_history.specs.Legal.{IsLegal};
+ghost use Rattle.spec_history.specs.Steps.{AreSteps};
+ghost use Rattle.spec_rules.specs.Plans.{unarmed};
+ghost use Rattle.spec_rules.specs.declared.step.Step.{Step};
 ghost use Rattle.petal_world.specs.Errands.{Runs};
-ghost use Rattle.client_seats.specs.Core.{settle_of};
-ghost use Rattle.petal_rules.specs.Jobs.{operator};
-ghost use Rattle.petal_rules.specs.World.{MayStep, greatest_u64, next_line, setting_of};
+ghost use Rattle.client_core.specs.Core.{settle_of};
+ghost use Rattle.spec_rules.specs.Jobs.{operator};
+ghost use Rattle.spec_rules.specs.World.{MayStep, greatest_u64, next_line, setting_of};
 ghost use Rattle.petal_world.specs.Play.{MayPlay, above_all, entered, errand_in, played, told_by, world_of};
-ghost use Rattle.world_actors.specs.Actors.{LeavesPlansBy};
-ghost use Rattle.world_actors.specs.Steps.{Can, LeavesIn, rev_of};
-ghost use Rattle.world_desks.specs.Desks.{ended, first_sites};
-ghost use Rattle.world_desks.specs.Playable.{AreNumbered, AreOrdered};
+ghost use Rattle.petal_world.specs.Actors.{LeavesPlansBy};
+ghost use Rattle.petal_world.specs.Steps.{Can, LeavesIn, rev_of};
+ghost use Rattle.server_host.specs.Desks.{ended, first_sites};
+ghost use Rattle.server_host.specs.Playable.{AreNumbered, AreOrdered};
 ghost use Rattle.petal_world.specs.declared.error.WorldError.TheVariants as error;
 
 use crate::WorldError;
+use crate::actors::Actors;
+use crate::blocks::Blocks;
+use crate::control::Control;
 use crate::errand::Errand;
-use client_seats::Seats;
+use crate::seats::Seats;
+use crate::stepped::Stepped;
 use petal_base::{NoMemory, OPERATOR, Rev, Sequence, Stamp};
-use petal_history::{History, Record};
 use petal_msg::{Actor, SharedLetter};
-use petal_rules::Step;
 use script_lines::{Answer, Line, Script};
+use server_host::Host;
+use server_host::copies::{answer_again, step_taken};
+use server_host::desks::Desks;
+use server_host::sent::Sent;
+use server_host::waiting::Waiting;
+use spec_history::{History, Record};
+use spec_rules::Step;
 use std::alloc::Global;
 use std::marker::Model;
-use world_actors::{Actors, Blocks, Control, Stepped};
-use world_desks::Host;
-use world_desks::copies::{answer_again, step_taken};
-use world_desks::desks::Desks;
-use world_desks::sent::Sent;
-use world_desks::waiting::Waiting;
 
 /// All servers and clients of a script's run, and the records of their steps. Contracts see the script, the records, the
 /// phase, the least stamp of a client's next step, and whether a step may have been taken that no line gives. The records are allowed steps,

@@ -13,18 +13,18 @@ use Rattle.petal_table.specs.Table.{Table, at}
 use Rattle.script_lines.specs.declared.answer.Answer.{Answer}
 use Rattle.script_lines.specs.declared.request.Line.{Line}
 use Rattle.script_lines.specs.declared.script.Script.{Script}
-use Rattle.petal_rules.specs.Lists.{In}
-use Rattle.petal_rules.proofs.ListLemmas.{in-append, in_later}
-use Rattle.petal_rules.specs.Plans.{unarmed}
-use Rattle.petal_history.specs.Legal.{IsLegal}
-use Rattle.petal_history.specs.Text.{answers_of}
-use Rattle.petal_history.specs.declared.record.Record.{Record}
-use Rattle.petal_rules.proofs.Tests.{by_bool, same_numbers}
-use Rattle.world_desks.specs.Playable.{AreOrdered}
-use Rattle.petal_history.specs.Order.{AreRising, AnsweredComeFirst, AnswersPhases, IsFront, JoinsAnswers, all_answered, is_answered}
+use Rattle.spec_rules.specs.Lists.{In}
+use Rattle.spec_rules.proofs.ListLemmas.{in-append, in_later}
+use Rattle.spec_rules.specs.Plans.{unarmed}
+use Rattle.spec_history.specs.Legal.{IsLegal}
+use Rattle.spec_history.specs.Text.{answers_of}
+use Rattle.spec_history.specs.declared.record.Record.{Record}
+use Rattle.spec_rules.proofs.Tests.{by_bool, same_numbers}
+use Rattle.server_host.specs.Playable.{AreOrdered}
+use Rattle.spec_history.specs.Order.{AreRising, AnsweredComeFirst, AnswersPhases, IsFront, JoinsAnswers, all_answered, is_answered}
 use Rattle.plain_schedule.specs.Phases.{Progress, GoesByPhases, Ends, records_of}
 use Rattle.petal_world.specs.Play.{Play}
-use Rattle.actor_rounds.specs.Going.{GoesOn, WentOn}
+use Rattle.plain_schedule.specs.Going.{GoesOn, WentOn}
 use Rattle.plain_schedule.specs.Places.{numbers, phase_run, progress_of, KeepsPlaces, PlaysOn}
 use Rattle.plain_schedule.proofs.Fronts.{still, goes_front}
 

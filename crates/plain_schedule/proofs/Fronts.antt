@@ -2,9 +2,9 @@
 use Rattle.std.proofs.Common.{◌≡◌, ◌≤◌, ℕ, List, [], ◌∷◌, ◌++◌, length, take, drop, refl, sym, ap, ◌∙◌, subst, arith, length-append}
 use Rattle.std.proofs.lemmas.List.{take-append-drop, length-take-le}
 use Rattle.std.proofs.Math.Seq.{take-append_seam}
-use Rattle.petal_history.specs.declared.record.Record.{Record}
-use Rattle.petal_history.specs.Order.{IsFront}
-use Rattle.actor_rounds.specs.Going.{GoesOn}
+use Rattle.spec_history.specs.declared.record.Record.{Record}
+use Rattle.spec_history.specs.Order.{IsFront}
+use Rattle.plain_schedule.specs.Going.{GoesOn}
 
 pub append_nil : (records : List Record) → records ++ [] ≡ records
 append_nil [] = refl

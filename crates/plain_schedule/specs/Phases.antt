@@ -3,10 +3,10 @@ use Rattle.std.specs.Prelude.{◌≡◌, ℕ, ◌+◌, List, [], ◌++◌}
 use Rattle.petal_table.specs.Table.{Table}
 use Rattle.script_lines.specs.declared.answer.Answer.{Answer}
 use Rattle.script_lines.specs.declared.script.Script.{Script}
-use Rattle.petal_history.specs.Legal.{IsLegal}
-use Rattle.petal_history.specs.Text.{answers_of}
-use Rattle.petal_history.specs.declared.record.Record.{Record}
-use Rattle.petal_history.specs.Order.{AnsweredComeFirst, AnswersPhases}
+use Rattle.spec_history.specs.Legal.{IsLegal}
+use Rattle.spec_history.specs.Text.{answers_of}
+use Rattle.spec_history.specs.declared.record.Record.{Record}
+use Rattle.spec_history.specs.Order.{AnsweredComeFirst, AnswersPhases}
 
 -- the script, how many of its phases have ended, their records, and the records since
 pub record Progress : Type 0 where

@@ -3,12 +3,12 @@ use Rattle.std.specs.Prelude.{◌≡◌, ◌≤◌, ◌<◌, ℕ, suc, ◌==◌,
 use Rattle.std.specs.Map.{keys_of}
 use Rattle.script_lines.specs.declared.request.Line.{Line}
 use Rattle.script_lines.specs.declared.script.Script.{Script}
-use Rattle.petal_history.specs.Legal.{IsLegal}
-use Rattle.petal_history.specs.Text.{answers_of}
-use Rattle.petal_history.specs.declared.record.Record.{Record}
-use Rattle.petal_rules.specs.Lists.{In}
-use Rattle.world_desks.specs.Playable.{AreOrdered}
-use Rattle.petal_history.specs.Order.{AreRising, IsFront, JoinsAnswers}
+use Rattle.spec_history.specs.Legal.{IsLegal}
+use Rattle.spec_history.specs.Text.{answers_of}
+use Rattle.spec_history.specs.declared.record.Record.{Record}
+use Rattle.spec_rules.specs.Lists.{In}
+use Rattle.server_host.specs.Playable.{AreOrdered}
+use Rattle.spec_history.specs.Order.{AreRising, IsFront, JoinsAnswers}
 use Rattle.plain_schedule.specs.Phases.{GoesByPhases, Progress, records_of}
 
 abbrev pub numbers : List Line → List ℕ

@@ -5,12 +5,12 @@ ghost use Rattle.std.specs.Cmp.Lexicographic.{pointwise};
 ghost use Rattle.std.specs.Map.{keys_of};
 ghost use Rattle.std.specs.Ordering.{nat_cmp};
 ghost use Rattle.petal_table.specs.Table.{put};
-ghost use Rattle.petal_history.specs.Text.{answers_of};
+ghost use Rattle.spec_history.specs.Text.{answers_of};
 ghost use Rattle.plain_schedule.specs.Places.{numbers};
 
 use petal_base::NoMemory;
-use petal_history::Record;
 use script_lines::{Answer, Line};
+use spec_history::Record;
 use std::alloc::Global;
 use std::collections::BTreeMap;
 use std::marker::Model;

@@ -1,22 +1,22 @@
 //! A script that is played phase by phase.
 
 ghost use Rattle.std.specs.Prelude.{◌≡◌, ◌+◌, ◌≤◌, ◌<◌, [], true, false, length, take, drop, IfOk, OnErr, IfSome, IfNone};
-ghost use Rattle.actor_rounds.specs.Going.{WentOn};
+ghost use Rattle.plain_schedule.specs.Going.{WentOn};
 ghost use Rattle.std.specs.Map.{keys_of};
-ghost use Rattle.petal_history.specs.Legal.{IsLegal};
-ghost use Rattle.petal_history.specs.Order.{AreRising, IsFront, JoinsAnswers, all_answered};
-ghost use Rattle.petal_history.specs.Sound.{IsSound};
-ghost use Rattle.petal_history.specs.Text.{answers_of};
-ghost use Rattle.world_desks.specs.Playable.{AreOrdered};
+ghost use Rattle.spec_history.specs.Legal.{IsLegal};
+ghost use Rattle.spec_history.specs.Order.{AreRising, IsFront, JoinsAnswers, all_answered};
+ghost use Rattle.spec_history.specs.Sound.{IsSound};
+ghost use Rattle.spec_history.specs.Text.{answers_of};
+ghost use Rattle.server_host.specs.Playable.{AreOrdered};
 ghost use Rattle.plain_schedule.specs.Phases.{Ends, GoesByPhases, records_of};
 ghost use Rattle.plain_schedule.specs.Places.{numbers, phase_run, progress_of, KeepsPlaces, PlaysOn};
 
 use crate::answers::Answers;
-use actor_rounds::Rounds;
-use first_servers::{MemServer, members};
+use crate::rounds::Rounds;
+use memory_server::{MemServer, members};
 use petal_base::NoMemory;
-use petal_history::History;
 use script_lines::{Line, Script};
+use spec_history::History;
 use std::alloc::Global;
 use std::marker::Model;
 use std::sync::Wait;

@@ -4,9 +4,9 @@ use Rattle.petal_base.specs.declared.cell.Cell.{Cell}
 use Rattle.petal_msg.specs.declared.body.Body.{Body}
 use Rattle.petal_msg.specs.declared.letter.Actor.TheVariants as actor
 use Rattle.petal_msg.specs.declared.operation.Reply.{Reply}
-use Rattle.petal_rules.specs.State.{readable}
-use Rattle.petal_rules.specs.Server.{Own, Here, says}
-use Rattle.petal_rules.specs.Reads.{on_read, reply_to, said}
+use Rattle.spec_rules.specs.State.{readable}
+use Rattle.spec_rules.specs.Server.{Own, Here, says}
+use Rattle.spec_rules.specs.Reads.{on_read, reply_to, said}
 
 -- the reply of a read that the server may answer
 pub told_is : (here : Here) (own own' : Own) (client seq : ℕ) (cell : Cell) (epoch : ℕ) (reply : Reply) (said_so : Body) → own ≡ own'

@@ -5,9 +5,9 @@ use Rattle.petal_base.specs.Block.{zero_block}
 use Rattle.petal_base.specs.declared.cell.Cell.{Cell}
 use Rattle.petal_msg.specs.declared.operation.Reply.{Reply}
 use Rattle.petal_msg.specs.declared.operation.Reply.TheVariants.{Data, NotHere}
-use Rattle.petal_rules.specs.State.{State, coming}
-use Rattle.petal_rules.specs.Store.{Stored, bytes_of}
-use Rattle.petal_rules.specs.Reads.{reply_of}
+use Rattle.spec_rules.specs.State.{State, coming}
+use Rattle.spec_rules.specs.Store.{Stored, bytes_of}
+use Rattle.spec_rules.specs.Reads.{reply_of}
 
 by_none : (on_way : Bool) → on_way && true ≡ true → (if on_way then NotHere else Data zero_block) ≡ NotHere
 by_none true elsewhere = refl

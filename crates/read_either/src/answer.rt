@@ -2,17 +2,17 @@
 
 ghost use Rattle.std.specs.Prelude.{◌≡◌, ◌&&◌, not, true, is_some, IfOk};
 ghost use Rattle.petal_disk.specs.Keeping.{KeepsDevice};
-ghost use Rattle.petal_rules.specs.Reads as reads;
-ghost use Rattle.petal_rules.specs.State.{coming, readable};
-ghost use Rattle.petal_rules.specs.Store.{chain_in, entry_at};
+ghost use Rattle.spec_rules.specs.Reads as reads;
+ghost use Rattle.spec_rules.specs.State.{coming, readable};
+ghost use Rattle.spec_rules.specs.Store.{chain_in, entry_at};
 ghost use Rattle.kept_chains.specs.Kept.{chains_of};
 ghost use Rattle.kept_chains.specs.Reading.{IsReadFault};
-ghost use Rattle.pair_side.specs.Side.{own_of};
-ghost use Rattle.pair_side.specs.Done.{HoldsAt};
+ghost use Rattle.pair_memory.specs.Side.{own_of};
+ghost use Rattle.pair_memory.specs.Done.{HoldsAt};
 
 use global_state::Hold;
 use kept_chains::{has_below, read_at};
-use pair_side::{Here, Side};
+use pair_memory::{Here, Side};
 use petal_base::{Cell, Epoch, Seq};
 use petal_disk::{DeviceError, Disk};
 use petal_msg::{Body, Reply};

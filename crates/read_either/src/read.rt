@@ -1,12 +1,12 @@
 //! A letter that asks for a read.
 
 ghost use Rattle.std.specs.Prelude.{◌≡◌};
-ghost use Rattle.petal_rules.specs.Reads.{on_read};
-ghost use Rattle.pair_side.specs.Done.{IsDone};
-ghost use Rattle.pair_side.specs.Side.{HasTicketsAt, own_of};
+ghost use Rattle.spec_rules.specs.Reads.{on_read};
+ghost use Rattle.pair_memory.specs.Done.{IsDone};
+ghost use Rattle.pair_memory.specs.Side.{HasTicketsAt, own_of};
 
 use crate::answer::{answer_read, said};
-use pair_side::{Done, Here, Side, WorkError, says, silent};
+use pair_memory::{Done, Here, Side, WorkError, says, silent};
 use petal_base::{Cell, ClientId, Epoch, Seq};
 use petal_disk::{DeviceError, Disk};
 use petal_msg::Actor;
@@ -16,7 +16,7 @@ use server_store::Store;
 ///
 /// # Errors
 /// `Failed` where the device failed, and out of memory.
-#[tactic(auto, unfolding(petal_rules::specs::Reads::on_read))]
+#[tactic(auto, unfolding(spec_rules::specs::Reads::on_read))]
 pub fn on_read<D: Disk>(
     here: &Here,
     side: &Side,

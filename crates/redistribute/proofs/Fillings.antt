@@ -9,18 +9,18 @@ use Rattle.petal_base.specs.declared.cell.Key.{Key}
 use Rattle.petal_base.specs.Cells.{cell_of, key_at}
 use Rattle.petal_table.specs.Table.{at, put}
 use Rattle.petal_table.proofs.Rows.{at-put}
-use Rattle.petal_rules.specs.Fills.{goes_after, region_to_move, sends_key, sends_moving}
+use Rattle.spec_rules.specs.Fills.{goes_after, region_to_move, sends_key, sends_moving}
 use Rattle.petal_msg.specs.declared.body.Body.TheVariants as body
-use Rattle.petal_rules.specs.Server.{Here, Own, post_to}
-use Rattle.petal_rules.specs.State.{State, id_of, lead, link_cmp}
-use Rattle.petal_rules.specs.Store.{Stored, chain_in}
-use Rattle.petal_state.specs.CellState.{target}
-use Rattle.pair_side.specs.Letters.{posts_of}
-use Rattle.copy_memory.proofs.ByLink.{link_cmp_total}
+use Rattle.spec_rules.specs.Server.{Here, Own, post_to}
+use Rattle.spec_rules.specs.State.{State, id_of, lead, link_cmp}
+use Rattle.spec_rules.specs.Store.{Stored, chain_in}
+use Rattle.spec_state.specs.CellState.{target}
+use Rattle.pair_memory.specs.Letters.{posts_of}
+use Rattle.pair_memory.proofs.ByLink.{link_cmp_total}
 use Rattle.redistribute.specs.Following.{following, filled_with, posts_after}
-use Rattle.next_fill.specs.Next.{left_after}
+use Rattle.redistribute.specs.Next.{left_after}
 use Rattle.redistribute.specs.Sending.{destination, letter_with, with_lead}
-use Rattle.next_fill.proofs.FillOf.{fill_is}
+use Rattle.redistribute.proofs.FillOf.{fill_is}
 
 last_there : (own : Own) (row : LinkRow) (key : Key) → at link_cmp (put link_cmp own.filled (id_of row) key) (id_of row) ≡ Some key
 last_there own row key =

@@ -1,1 +1,9 @@
 pub mod Fillings
+pub mod Flat
+pub mod Firsts
+pub mod FillOf
+pub mod FirstDead
+pub mod Dead
+pub mod Rests
+pub mod Marked
+pub mod DeadMarks

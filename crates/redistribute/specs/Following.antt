@@ -2,10 +2,10 @@
 use Rattle.std.specs.Prelude.{List, [], false, Some}
 use Rattle.global_tables.specs.declared.link.LinkRow.{LinkRow}
 use Rattle.petal_base.specs.declared.cell.Key.{Key}
-use Rattle.petal_rules.specs.Fills.{region_to_move, sends_key, with_filled}
-use Rattle.petal_rules.specs.Progress.{with_full}
-use Rattle.petal_rules.specs.Server.{Done, Here, Own, Post}
-use Rattle.next_fill.specs.Next.{left_after}
+use Rattle.spec_rules.specs.Fills.{region_to_move, sends_key, with_filled}
+use Rattle.spec_rules.specs.Progress.{with_full}
+use Rattle.spec_rules.specs.Server.{Done, Here, Own, Post}
+use Rattle.redistribute.specs.Next.{left_after}
 
 -- it remembers the key, and that its last entry found a slot
 abbrev pub following : Own → LinkRow → Key → Own

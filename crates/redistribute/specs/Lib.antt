@@ -1,3 +1,5 @@
 pub mod Sending
 pub mod Following
 pub mod Wants
+pub mod Next
+pub mod Swept

@@ -5,8 +5,8 @@ use Rattle.petal_base.specs.declared.cell.Key.{Key}
 use Rattle.petal_base.specs.Cells.{cell_of, key_at}
 use Rattle.petal_msg.specs.declared.body.Body.{Body}
 use Rattle.petal_msg.specs.declared.body.Body.TheVariants as body
-use Rattle.petal_rules.specs.State.{State, lead}
-use Rattle.petal_state.specs.CellState.{target}
+use Rattle.spec_rules.specs.State.{State, lead}
+use Rattle.spec_state.specs.CellState.{target}
 
 -- a cell with its lead
 abbrev pub with_lead : State → Cell → Option (ℕ × Cell)

@@ -1,18 +1,19 @@
 //! What the new map's server answered.
 
 ghost use Rattle.std.specs.Prelude.{◌≡◌, true, Ok};
-ghost use Rattle.petal_rules.specs.Progress.{with_full};
-ghost use Rattle.petal_rules.specs.Server as servers;
-ghost use Rattle.petal_rules.specs.Fills as rules;
-ghost use Rattle.pair_side.specs.Done.{IsDone, IsSaid};
-ghost use Rattle.pair_side.specs.Letters.{posts_of};
-ghost use Rattle.pair_side.specs.Side.{own_of, HasTicketsAt};
+ghost use Rattle.spec_rules.specs.Progress.{with_full};
+ghost use Rattle.spec_rules.specs.Server as servers;
+ghost use Rattle.spec_rules.specs.Fills as rules;
+ghost use Rattle.pair_memory.specs.Done.{IsDone, IsSaid};
+ghost use Rattle.pair_memory.specs.Letters.{posts_of};
+ghost use Rattle.pair_memory.specs.Side.{own_of, HasTicketsAt};
 ghost use Rattle.redistribute.specs.Following.{following, filled_with};
 
 use crate::letters::fill_letter;
+use crate::next::{fill_of, left_after};
+use crate::region::link_before;
 use global_state::LinkRow;
-use next_fill::{fill_of, left_after, link_before};
-use pair_side::{Done, Here, Side, WorkError, link_id, only, silent, with_letter};
+use pair_memory::{Done, Here, Side, WorkError, link_id, only, silent, with_letter};
 use petal_base::{Key, Sequence, ServerId};
 use petal_disk::{DeviceError, Disk};
 use petal_msg::Body;
@@ -83,7 +84,7 @@ fn goes_after<D: Disk>(
 ///
 /// # Errors
 /// `Failed` where the device failed; `NoMemory`, which changed nothing.
-#[tactic(auto, unfolding(petal_rules::specs::Fills::on_filled))]
+#[tactic(auto, unfolding(spec_rules::specs::Fills::on_filled))]
 pub fn on_filled<D: Disk>(
     here: &Here,
     side: &mut Side,
@@ -116,7 +117,7 @@ fn notes_full<D: Disk>(here: &Here, side: &mut Side, store: &Store<D>) -> Done
 ///
 /// # Errors
 /// Out of memory, which changed nothing.
-#[tactic(auto, unfolding(petal_rules::specs::Fills::on_fill_full))]
+#[tactic(auto, unfolding(spec_rules::specs::Fills::on_fill_full))]
 pub fn on_fill_full<D: Disk>(
     here: &Here,
     side: &mut Side,

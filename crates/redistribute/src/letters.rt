@@ -4,18 +4,18 @@ ghost use Rattle.std.specs.Prelude.{◌≡◌, ◌++◌, length, option_map, IfO
 ghost use Rattle.std.specs.Ordering.{nat_cmp};
 ghost use Rattle.petal_base.specs.Cells.{cell_of, key_at};
 ghost use Rattle.petal_table.specs.Table.{at};
-ghost use Rattle.petal_rules.specs.Store.{chain_in};
+ghost use Rattle.spec_rules.specs.Store.{chain_in};
 ghost use Rattle.kept_chains.specs.Kept.{chains_of};
 ghost use Rattle.petal_msg.specs.declared.body.Body.TheVariants as body;
-ghost use Rattle.petal_rules.specs.Fills as fills;
-ghost use Rattle.petal_rules.specs.Server.{letters_of, sender};
-ghost use Rattle.pair_side.specs.Letters.{IsLook, posts_of};
-ghost use Rattle.pair_side.specs.Side.{Side as Sides, own_of};
+ghost use Rattle.spec_rules.specs.Fills as fills;
+ghost use Rattle.spec_rules.specs.Server.{letters_of, sender};
+ghost use Rattle.pair_memory.specs.Letters.{IsLook, posts_of};
+ghost use Rattle.pair_memory.specs.Side.{Side as Sides, own_of};
 ghost use Rattle.redistribute.specs.Sending.{destination, letter_with};
 
+use crate::next::fill_of;
 use kept_chains::read_key;
-use next_fill::fill_of;
-use pair_side::{Here, Side, with_letter};
+use pair_memory::{Here, Side, with_letter};
 use petal_base::{Cell, Key, Sequence, ServerId, SharedBlock};
 use petal_disk::{DeviceError, Disk};
 use petal_msg::{Body, Letter};

@@ -2,13 +2,14 @@
 
 ghost use Rattle.std.specs.Prelude.{◌≡◌, ◌++◌, IfOk, OnOk};
 ghost use Rattle.std.specs.List.{flat_map};
-ghost use Rattle.petal_rules.specs.Fills as fills;
-ghost use Rattle.pair_side.specs.Side.{own_of};
+ghost use Rattle.spec_rules.specs.Fills as fills;
+ghost use Rattle.pair_memory.specs.Side.{own_of};
 ghost use Rattle.redistribute.specs.Wants.{listed};
 
+use crate::next::fill_of;
+use crate::region::region_to_move;
 use global_state::LinkRow;
-use next_fill::{fill_of, region_to_move};
-use pair_side::{Here, Side};
+use pair_memory::{Here, Side};
 use petal_base::NoMemory;
 use petal_command::{Command, LinkNumber, RegionNumber};
 use petal_disk::Disk;

@@ -2,30 +2,30 @@
 use Rattle.std.proofs.Common.{◌≡◌, ◌⊎◌, ◌≤◌, ◌<◌, ◌==◌, nat_lt, Ok, ℕ, ◌+◌, Bool, false, List, [], ◌∷◌, length, length-append}
 use Rattle.std.proofs.Common.{if◌then◌else◌, inl, inr, refl, sym, ap, subst, ◌∙◌, arith}
 use Rattle.std.proofs.lemmas.Bool.Decides.{nat_tests}
-use Rattle.log_memory.proofs.States.{rev_counts}
-use Rattle.log_side.specs.Done.{HoldsAt}
-use Rattle.log_memory.specs.Part.{sender_of}
+use Rattle.server_log.proofs.States.{rev_counts}
+use Rattle.server_log.specs.Done.{HoldsAt}
+use Rattle.server_log.specs.Part.{sender_of}
 use Rattle.petal_command.specs.declared.command.Command.{Command}
 use Rattle.petal_disk.specs.Disk.{LeavesOnly}
 use Rattle.petal_disk.specs.declared.disk.Disk.{Ghosts}
 use Rattle.petal_msg.specs.declared.letter.Actor.TheVariants as actor
 use Rattle.petal_msg.specs.declared.letter.Letter.{Letter}
-use Rattle.petal_paxos.specs.Kept.{committed, inc_of}
-use Rattle.petal_paxos.specs.declared.record.StateRecord.{StateRecord}
-use Rattle.petal_paxos.specs.declared.record.StateRecord.TheVariants.{Inc}
-use Rattle.petal_rules.proofs.Applied.{servers_after}
-use Rattle.petal_rules.specs.Boots.{awake, boots, known_front, raised, stays, wakes}
-use Rattle.petal_rules.specs.Entries.{known_run}
-use Rattle.petal_rules.specs.Jobs.{down_posts, is_overfull, journal_records}
-use Rattle.petal_rules.specs.Log.{Log, first_log}
-use Rattle.petal_rules.specs.World.{greatest_u32}
-use Rattle.petal_rules.specs.Server.{Here, Sender, Server, letters_of}
-use Rattle.petal_rules.specs.Store.{Store}
-use Rattle.petal_rules.specs.declared.step.WorkEnd.TheVariants.{Done}
+use Rattle.spec_paxos.specs.Kept.{committed, inc_of}
+use Rattle.spec_paxos.specs.declared.record.StateRecord.{StateRecord}
+use Rattle.spec_paxos.specs.declared.record.StateRecord.TheVariants.{Inc}
+use Rattle.spec_rules.proofs.Applied.{servers_after}
+use Rattle.spec_rules.specs.Boots.{awake, boots, known_front, raised, stays, wakes}
+use Rattle.spec_rules.specs.Entries.{known_run}
+use Rattle.spec_rules.specs.Jobs.{down_posts, is_overfull, journal_records}
+use Rattle.spec_rules.specs.Log.{Log, first_log}
+use Rattle.spec_rules.specs.World.{greatest_u32}
+use Rattle.spec_rules.specs.Server.{Here, Sender, Server, letters_of}
+use Rattle.spec_rules.specs.Store.{Store}
+use Rattle.spec_rules.specs.declared.step.WorkEnd.TheVariants.{Done}
 use Rattle.server_core.specs.Boots.{IsBoot, booted, raised_records, shut}
-use Rattle.server_ticks.specs.Core.{Core, acted, here_in, server_of}
-use Rattle.server_ticks.proofs.Rooms.{few_records}
-use Rattle.server_ticks.proofs.Works.{few}
+use Rattle.server_core.specs.Core.{Core, acted, here_in, server_of}
+use Rattle.server_core.proofs.Rooms.{few_records}
+use Rattle.server_core.proofs.Works.{few}
 use Rattle.state_store.specs.Device.{Keeping, StandsForEither, WithOrWithout}
 
 -- a record of a greater incarnation is needed

@@ -1,5 +1,10 @@
 pub mod Stops
 pub mod Boots
-pub use Rattle.server_ticks.proofs.Rooms
-pub use Rattle.server_ticks.proofs.Works
-pub use Rattle.server_ticks.proofs.Steps
+pub mod Steps
+pub mod Rooms
+pub mod Works
+pub mod Refused
+pub mod Pairing
+pub mod Entering
+pub mod Ticking
+mod Looking

@@ -1,11 +1,11 @@
 -- A server that stops.
 use Rattle.std.proofs.Common.{◌≡◌, false, List, [], refl}
-use Rattle.petal_rules.proofs.Applied.{servers_after}
+use Rattle.spec_rules.proofs.Applied.{servers_after}
 use Rattle.petal_msg.specs.declared.letter.Letter.{Letter}
-use Rattle.petal_paxos.specs.declared.record.StateRecord.{StateRecord}
-use Rattle.petal_rules.specs.Jobs.{stops}
-use Rattle.petal_rules.specs.Store.{Store}
-use Rattle.server_ticks.specs.Core.{Core, acted, here_in, server_of}
+use Rattle.spec_paxos.specs.declared.record.StateRecord.{StateRecord}
+use Rattle.spec_rules.specs.Jobs.{stops}
+use Rattle.spec_rules.specs.Store.{Store}
+use Rattle.server_core.specs.Core.{Core, acted, here_in, server_of}
 use Rattle.server_core.specs.Farewell.{farewell_of}
 
 -- with the letters that were made before it is as the rule says

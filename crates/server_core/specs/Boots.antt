@@ -1,24 +1,24 @@
 -- What a boot leaves of a server.
 use Rattle.std.specs.Prelude.{◌≡◌, ◌≤◌, ◌+◌, ◌++◌, ◌∷◌, [], List, true, Result, Err, IfOk, OnOk, OnErr}
-use Rattle.log_side.specs.Done as logs
-use Rattle.log_memory.specs.Part.{new_part}
-use Rattle.pair_side.specs.Done.{HasFault}
-use Rattle.pair_side.specs.Side.{new_side}
-use Rattle.pair_side.specs.declared.error.WorkError.{WorkError}
-use Rattle.pair_side.specs.declared.error.WorkError.TheVariants.{Failed, JournalFull}
+use Rattle.server_log.specs.Done as logs
+use Rattle.server_log.specs.Part.{new_part}
+use Rattle.pair_memory.specs.Done.{HasFault}
+use Rattle.pair_memory.specs.Side.{new_side}
+use Rattle.pair_memory.specs.declared.error.WorkError.{WorkError}
+use Rattle.pair_memory.specs.declared.error.WorkError.TheVariants.{Failed, JournalFull}
 use Rattle.petal_command.specs.declared.command.Command.{Command}
 use Rattle.petal_disk.specs.declared.disk.Disk.{Ghosts}
 use Rattle.petal_disk.specs.Disk.{LeavesOnly}
 use Rattle.petal_msg.specs.declared.letter.Letter.{Letter}
-use Rattle.petal_paxos.specs.Kept.{inc_of}
-use Rattle.petal_paxos.specs.declared.record.StateRecord.{StateRecord}
-use Rattle.petal_paxos.specs.declared.record.StateRecord.TheVariants.{Inc}
-use Rattle.petal_rules.specs.Boots.{boots, stays}
-use Rattle.petal_rules.specs.Jobs.{journal_records}
-use Rattle.petal_rules.specs.Log.{Voter}
-use Rattle.petal_rules.specs.Store.{Store}
-use Rattle.petal_rules.specs.declared.step.WorkEnd.TheVariants.{Done}
-use Rattle.server_ticks.specs.Core.{Core, acted, here_in, server_of}
+use Rattle.spec_paxos.specs.Kept.{inc_of}
+use Rattle.spec_paxos.specs.declared.record.StateRecord.{StateRecord}
+use Rattle.spec_paxos.specs.declared.record.StateRecord.TheVariants.{Inc}
+use Rattle.spec_rules.specs.Boots.{boots, stays}
+use Rattle.spec_rules.specs.Jobs.{journal_records}
+use Rattle.spec_rules.specs.Log.{Voter}
+use Rattle.spec_rules.specs.Store.{Store}
+use Rattle.spec_rules.specs.declared.step.WorkEnd.TheVariants.{Done}
+use Rattle.server_core.specs.Core.{Core, acted, here_in, server_of}
 use Rattle.state_store.specs.Device.{Keeping, StandsForEither}
 
 -- the same server as its next incarnation

@@ -1,5 +1,5 @@
 pub mod Farewell
 pub mod Boots
 pub mod Works
-pub use Rattle.server_ticks.specs.Core
-pub use Rattle.server_ticks.specs.Work
+pub mod Core
+pub mod Work

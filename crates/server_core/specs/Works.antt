@@ -2,17 +2,17 @@
 use Rattle.std.specs.Prelude.{◌≡◌, ◌↔◌, [], List, Option, None, Some, Result, Ok, Err, IfOk, OnOk, OnErr}
 use Rattle.kept_chains.specs.Kept.{store_of}
 use Rattle.kept_chains.specs.Standing.{StandsAsEither}
-use Rattle.log_side.specs.Done as logs
-use Rattle.pair_side.specs.Done.{HoldsAt}
-use Rattle.pair_side.specs.Side.{HasTicketsAt}
-use Rattle.pair_side.specs.declared.error.WorkError.{WorkError}
-use Rattle.pair_side.specs.declared.error.WorkError.TheVariants.{JournalFull, NoMemory}
+use Rattle.server_log.specs.Done as logs
+use Rattle.pair_memory.specs.Done.{HoldsAt}
+use Rattle.pair_memory.specs.Side.{HasTicketsAt}
+use Rattle.pair_memory.specs.declared.error.WorkError.{WorkError}
+use Rattle.pair_memory.specs.declared.error.WorkError.TheVariants.{JournalFull, NoMemory}
 use Rattle.petal_disk.specs.declared.disk.Disk.{Ghosts}
 use Rattle.petal_disk.specs.Disk.{LeavesOnly}
 use Rattle.petal_msg.specs.declared.letter.Letter.{Letter}
 use Rattle.server_store.specs.Holdings.{Holdings}
-use Rattle.server_ticks.specs.Core.{Core, HasFaults, IsWork, left_by_first}
-use Rattle.server_ticks.specs.Work.{IsFullWork}
+use Rattle.server_core.specs.Core.{Core, HasFaults, IsWork, left_by_first}
+use Rattle.server_core.specs.Work.{IsFullWork}
 use Rattle.state_store.specs.Device.{Keeping, StandsForEither}
 
 -- the letters of a job that was there

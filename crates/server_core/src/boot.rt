@@ -1,23 +1,23 @@
 //! A stopped server runs again.
 
 ghost use Rattle.std.specs.Prelude.{◌≡◌, ◌<◌, ◌+◌, [], true, false, length, IfOk, OnOk, OnErr};
-ghost use Rattle.log_memory.specs.Part.{Part, new_part, sender_of};
-ghost use Rattle.petal_paxos.specs.Kept.{inc_of};
-ghost use Rattle.petal_rules.specs.Entries.{known_run};
-ghost use Rattle.petal_rules.specs.Jobs.{down_posts};
-ghost use Rattle.petal_rules.specs.Log.{Log};
-ghost use Rattle.petal_rules.specs.Server.{letters_of};
-ghost use Rattle.petal_rules.specs.World.{greatest_u32};
+ghost use Rattle.server_log.specs.Part.{Part, new_part, sender_of};
+ghost use Rattle.spec_paxos.specs.Kept.{inc_of};
+ghost use Rattle.spec_rules.specs.Entries.{known_run};
+ghost use Rattle.spec_rules.specs.Jobs.{down_posts};
+ghost use Rattle.spec_rules.specs.Log.{Log};
+ghost use Rattle.spec_rules.specs.Server.{letters_of};
+ghost use Rattle.spec_rules.specs.World.{greatest_u32};
 ghost use Rattle.server_core.specs.Boots.{IsBoot, booted, next_voter, raised_core};
 
+use crate::log::of_state;
 use crate::server::ServerCore;
-use log_side::{LogSide, farewell};
-use pair_side::WorkError;
+use pair_memory::WorkError;
 use petal_base::{Inc, NoMemory, Sequence};
 use petal_command::ServerNumber;
 use petal_disk::Disk;
 use petal_msg::Letter;
-use server_ticks::of_state;
+use server_log::{LogSide, farewell};
 use state_store::StateStore;
 use std::alloc::Global;
 

@@ -3,25 +3,26 @@
 ghost use Rattle.std.specs.Prelude.{◌≡◌, ◌++◌, ◌∷◌, ◌↔◌, List, [], true, false, length, if◌then◌else◌, IsTrue, IfOk, OnOk, OnErr};
 ghost use Rattle.kept_chains.specs.Kept.{store_of};
 ghost use Rattle.kept_chains.specs.Reading.{IsReadFault};
-ghost use Rattle.log_memory.specs.Part.{new_part, state_of};
-ghost use Rattle.pair_side.specs.Done.{HoldsAt};
-ghost use Rattle.pair_side.specs.Side.{new_side};
+ghost use Rattle.server_log.specs.Part.{new_part, state_of};
+ghost use Rattle.pair_memory.specs.Done.{HoldsAt};
+ghost use Rattle.pair_memory.specs.Side.{new_side};
 ghost use Rattle.petal_disk.specs.Keeping.{KeepsDevice};
-ghost use Rattle.petal_paxos.specs.declared.record.StateRecord.{StateRecord};
-ghost use Rattle.petal_rules.specs.Jobs as jobs;
-ghost use Rattle.petal_rules.specs.Store as stores;
-ghost use Rattle.petal_rules.specs.declared.job.Job.TheVariants as job;
-ghost use Rattle.server_ticks.specs.Core.{acted, here_in, is_spent, server_of};
+ghost use Rattle.spec_paxos.specs.declared.record.StateRecord.{StateRecord};
+ghost use Rattle.spec_rules.specs.Jobs as jobs;
+ghost use Rattle.spec_rules.specs.Store as stores;
+ghost use Rattle.spec_rules.specs.declared.job.Job.TheVariants as job;
+ghost use Rattle.server_core.specs.Core.{acted, here_in, is_spent, server_of};
 
+use crate::parts::Parts;
+use crate::ticks::{moves_on, tick_jobs, tick_letters};
 use global_state::GlobalState;
-use log_side::{Envelope, LogSide, farewell};
 use petal_base::{Inc, NoMemory, OPERATOR, Rev, Sequence, ServerId};
 use petal_command::ServerNumber;
 use petal_disk::{DeviceError, Disk};
 use petal_msg::{Actor, Body, Letter, SharedLetter};
-use petal_rules::Job;
+use server_log::{Envelope, LogSide, farewell};
 use server_store::Store;
-use server_ticks::{Parts, moves_on, tick_jobs, tick_letters};
+use spec_rules::Job;
 use std::alloc::Global;
 use std::marker::Model;
 
@@ -36,7 +37,7 @@ pub struct ServerCore {
 impl Model for ServerCore {
     ghost use Rattle.std.specs.Prelude.{◌≡◌, true};
     ghost use Rattle.server_core.specs.Farewell.{farewell_of};
-    ghost use Rattle.server_ticks.specs.Core.{Core};
+    ghost use Rattle.server_core.specs.Core.{Core};
 
     ghost Value = { Core };
 

@@ -2,17 +2,17 @@
 
 ghost use Rattle.std.specs.Prelude.{◌≡◌, false};
 ghost use Rattle.kept_chains.specs.Kept.{store_of};
-ghost use Rattle.pair_side.specs.Side.{HasTicketsAt};
+ghost use Rattle.pair_memory.specs.Side.{HasTicketsAt};
 ghost use Rattle.server_core.specs.Works.{IsFirstJob, as_some};
-ghost use Rattle.server_ticks.specs.Core.{is_spent};
+ghost use Rattle.server_core.specs.Core.{is_spent};
 
 use crate::server::ServerCore;
-use pair_side::WorkError;
+use pair_memory::WorkError;
 use petal_base::Sequence;
 use petal_disk::Disk;
 use petal_msg::Letter;
+use server_jobs::Kind;
 use server_store::Store;
-use server_ticks::Kind;
 use state_store::StateStore;
 use std::alloc::Global;
 

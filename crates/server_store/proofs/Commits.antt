@@ -6,8 +6,8 @@ use Rattle.petal_disk.specs.Disk.{Torn, Follows}
 use Rattle.petal_disk.proofs.Tearing.{torn_front}
 use Rattle.data_device.proofs.Frame.{stands_outside}
 use Rattle.physical_map.specs.declared.entry.Entry.{Entry}
-use Rattle.store_record.specs.declared.record.StoreRecord.{StoreRecord}
-use Rattle.store_record.specs.declared.record.StoreRecord.TheVariants as kind
+use Rattle.data_device.specs.declared.record.StoreRecord.{StoreRecord}
+use Rattle.data_device.specs.declared.record.StoreRecord.TheVariants as kind
 use Rattle.data_device.specs.Device.{StandsFor, Log, Logs, WithOrWithout}
 use Rattle.server_store.specs.Holdings.{Held, held_in}
 use Rattle.data_device.specs.Kept.{Kept, Fits, kept_of, kept_after, formatted}

@@ -14,8 +14,8 @@ use Rattle.busy_marks.specs.declared.marks.Mark.{Mark}
 use Rattle.busy_marks.specs.Marks.{has_mark, kind_rank, mark_cmp, same_mark, with_mark, without_mark}
 use Rattle.busy_marks.proofs.Orders.{is_mark, same_itself, ties}
 use Rattle.data_device.specs.Kept.{Kept, formatted, kept_after, kept_of}
-use Rattle.store_record.specs.declared.record.StoreRecord.{StoreRecord}
-use Rattle.store_record.specs.declared.record.StoreRecord.TheVariants.{Mark as Marks, Unmark}
+use Rattle.data_device.specs.declared.record.StoreRecord.{StoreRecord}
+use Rattle.data_device.specs.declared.record.StoreRecord.TheVariants.{Mark as Marks, Unmark}
 
 mark_cmp_total : IsTotalOrder mark_cmp
 mark_cmp_total =

@@ -1,7 +1,7 @@
 -- A store that was read from its device.
 use Rattle.std.proofs.Common.{◌≡◌, ◌∙◌, Bool, List, ℕ, map, sym, ap}
 use Rattle.petal_disk.specs.Disk.{Only}
-use Rattle.store_record.specs.declared.record.StoreRecord.{StoreRecord}
+use Rattle.data_device.specs.declared.record.StoreRecord.{StoreRecord}
 use Rattle.data_device.specs.Device.{Logs}
 use Rattle.data_device.specs.Found.{IsFound}
 use Rattle.data_device.specs.Kept.{Kept, kept_of}

@@ -1,6 +1,6 @@
 -- What a device is found to be.
 use Rattle.std.specs.Prelude.{◌≡◌, ℕ, Bool, List, ⊤}
-use Rattle.store_record.specs.declared.record.StoreRecord.{StoreRecord}
+use Rattle.data_device.specs.declared.record.StoreRecord.{StoreRecord}
 use Rattle.server_store.specs.declared.opened.Opened.{Opened}
 use Rattle.server_store.specs.declared.opened.Opened.TheVariants.{Store, Blank}
 use Rattle.server_store.specs.Holdings.{Holdings}

@@ -3,8 +3,8 @@ use Rattle.std.specs.Prelude.{ℕ, ◌≡◌, ◌⊎◌, Bool, false, List, [], 
 use Rattle.busy_marks.specs.declared.marks.Mark.{Mark}
 use Rattle.busy_marks.specs.Marks.{with_mark, without_mark}
 use Rattle.physical_map.specs.Keys.{placed}
-use Rattle.store_record.specs.declared.record.StoreRecord.{StoreRecord}
-use Rattle.store_record.specs.declared.record.StoreRecord.TheVariants as kind
+use Rattle.data_device.specs.declared.record.StoreRecord.{StoreRecord}
+use Rattle.data_device.specs.declared.record.StoreRecord.TheVariants as kind
 use Rattle.data_device.specs.Device.{StandsFor, Log}
 use Rattle.server_store.specs.Holdings.{Held, Holdings, held_in, key_held, without_held}
 use Rattle.data_device.specs.Kept.{Kept, kept_of}

@@ -3,18 +3,18 @@
 ghost use Rattle.std.specs.Prelude.{◌≡◌, ◌≢◌, ◌≤◌, ◌<◌, ◌↔◌, ◌++◌, ◌∷◌, [], ℕ, List, All, map, length, OnOk, OnErr, IfErr, IsErrOf};
 ghost use Rattle.petal_disk.specs.Disk.{LeavesOnly};
 ghost use Rattle.physical_map.specs.declared.entry.Entry.{Entry};
-ghost use Rattle.store_record.specs.declared.record.StoreRecord.TheVariants as kind;
+ghost use Rattle.data_device.specs.declared.record.StoreRecord.TheVariants as kind;
 ghost use Rattle.data_device.specs.Errors.{IsCommitError, HasFault};
 ghost use Rattle.server_store.specs.Holdings.{held_in};
 ghost use Rattle.data_device.specs.Kept.{kept_of};
 ghost use Rattle.server_store.specs.Shown.{Picture, PutsNothing, Keeps, ShowsEither, picture_after};
 ghost use Rattle.data_device.specs.Slots.{slot_start, slot_bytes};
 
+use data_device::record::StoreRecord;
 use data_device::{RecordLog, SlotStore, StoreError};
 use petal_base::Block;
 use petal_disk::Disk;
 use physical_map::Entry;
-use store_record::StoreRecord;
 
 /// Commits a change that puts nothing: whole, or at any crash not at all. It takes no memory.
 pub fn commit<D: Disk>(

@@ -22,19 +22,19 @@ ghost use Rattle.data_device.specs.Reading.{IsBadOn, IsBlank, LeftByFormat};
 ghost use Rattle.server_store.specs.Shown.{Picture, picture_of, picture_in, Shows, Holds, BeforeOrAfter};
 ghost use Rattle.data_device.specs.Slots.{slot_start};
 ghost use Rattle.data_device.specs.Tickets.{without};
-ghost use Rattle.store_record.specs.declared.record.StoreRecord.{StoreRecord};
-ghost use Rattle.store_record.specs.declared.record.StoreRecord.TheVariants as records;
+ghost use Rattle.data_device.specs.declared.record.StoreRecord.{StoreRecord};
+ghost use Rattle.data_device.specs.declared.record.StoreRecord.TheVariants as records;
 
 use crate::Opened;
 use crate::commit::{commit, commit_put};
 use busy_marks::{MarkKind, Marks};
+use data_device::record::StoreRecord;
 use data_device::{Header, Ledger, RecordLog, StoreError, Ticket, read_device, write_format};
 use petal_base::{Block, BlockNo, Cell, Epoch, Key, MapId, NoMemory, Sequence, Version};
 use petal_disk::{Disk, Failed, Plan, Planned};
 use physical_map::Entry;
 use std::alloc::Global;
 use std::marker::Model;
-use store_record::StoreRecord;
 
 /// The entries of one server with their contents, and its marks. Contracts see the entries in the order of their keys, each
 /// with its content, the slots of the tickets out, the marks, the number of slots, whether the store is still to be filled

@@ -5,12 +5,12 @@ use Rattle.global_tables.specs.declared.fence.Fence.{Fence}
 use Rattle.global_tables.specs.Disk.{disk_at}
 use Rattle.global_tables.specs.View.{View, ready, following, passed, taken, servers_in}
 use Rattle.petal_command.specs.declared.command.Command.{Command}
-use Rattle.petal_state.specs.State.{State}
-use Rattle.petal_state.specs.Fence.{effect}
-use Rattle.petal_state.specs.Command.{act}
-use Rattle.petal_state.specs.Bound.{IsWithin}
-use Rattle.petal_state.proofs.Passing.{length-following, view-effect}
-use Rattle.petal_state.proofs.Bounds.{act_within, passed_within, epoch_below}
+use Rattle.spec_state.specs.State.{State}
+use Rattle.spec_state.specs.Fence.{effect}
+use Rattle.spec_state.specs.Command.{act}
+use Rattle.spec_state.specs.Bound.{IsWithin}
+use Rattle.spec_state.proofs.Passing.{length-following, view-effect}
+use Rattle.spec_state.proofs.Bounds.{act_within, passed_within, epoch_below}
 use Rattle.state_fold.specs.Room.{HasRoom}
 
 pub act_room : (s : State) (command : Command) → IsWithin s.rev s → s.rev < 4294967295 → HasRoom (act command s)

@@ -4,8 +4,8 @@ ghost use Rattle.std.specs.Prelude.{◌≡◌, ◌<◌, ◌-◌, ◌^◌, IfOk, 
 ghost use Rattle.std.specs.List.{list_any};
 ghost use Rattle.global_tables.specs.Disk.{named, snapshot_named};
 ghost use Rattle.global_tables.specs.Link.{other_of};
-ghost use Rattle.petal_state.specs.Command.{may_join, join, leave, is_alone, may_catch, caught, is_new, make_disk, takes, is_taken, snap_target, snap};
-ghost use Rattle.petal_state.specs.Command.{move_target, start_move, is_head, drained, after_region, note, mover_in, moved, act};
+ghost use Rattle.spec_state.specs.Command.{may_join, join, leave, is_alone, may_catch, caught, is_new, make_disk, takes, is_taken, snap_target, snap};
+ghost use Rattle.spec_state.specs.Command.{move_target, start_move, is_head, drained, after_region, note, mover_in, moved, act};
 
 use crate::moving::{is_fenced, move_region};
 use crate::snapshot::snapshot_named;

@@ -1,8 +1,8 @@
 //! One entry more.
 
 ghost use Rattle.std.specs.Prelude.{◌≡◌, ◌<◌, ◌-◌, ◌^◌, IfOk};
-ghost use Rattle.petal_state.specs.Command.{after};
-ghost use Rattle.petal_state.specs.Bound.{IsWithin};
+ghost use Rattle.spec_state.specs.Command.{after};
+ghost use Rattle.spec_state.specs.Bound.{IsWithin};
 
 use crate::tables::Tables;
 use petal_base::{NoMemory, Rev};

@@ -1,8 +1,8 @@
 //! How far a disk is on its way from map to map.
 
 ghost use Rattle.std.specs.Prelude.{◌≡◌, option_copied};
-ghost use Rattle.petal_state.specs.State.{leaves, mover};
-ghost use Rattle.petal_state.specs.CellState.{move_region, is_fenced};
+ghost use Rattle.spec_state.specs.State.{leaves, mover};
+ghost use Rattle.spec_state.specs.CellState.{move_region, is_fenced};
 
 use crate::tables::Tables;
 use global_tables::{DiskRow, Move, RegionState};

@@ -3,8 +3,8 @@
 ghost use Rattle.std.specs.Prelude.{◌≡◌, ℕ, ◌<◌, ◌-◌, ◌^◌, IfOk};
 ghost use Rattle.std.specs.Option.{ForSome};
 ghost use Rattle.global_tables.specs.Disk.{disk_at};
-ghost use Rattle.petal_state.specs.State.{latest};
-ghost use Rattle.petal_state.specs.Fence.{confirmed, effect, settled};
+ghost use Rattle.spec_state.specs.State.{latest};
+ghost use Rattle.spec_state.specs.Fence.{confirmed, effect, settled};
 ghost use Rattle.state_fold.specs.Room.{HasRoom};
 
 use crate::tables::Tables;

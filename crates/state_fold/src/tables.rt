@@ -2,8 +2,8 @@
 
 ghost use Rattle.std.specs.Prelude.{◌≡◌, ◌<◌, ◌-◌, ◌^◌, IfOk, Some, length, map, slice_set};
 ghost use Rattle.global_tables.specs.View.{is_in};
-ghost use Rattle.petal_state.specs.State.{start, inc_of, is_up, is_up_as, latest, told, links_of};
-ghost use Rattle.petal_state.specs.Command.{with_map, with_disk, with_fence, with_move};
+ghost use Rattle.spec_state.specs.State.{start, inc_of, is_up, is_up_as, latest, told, links_of};
+ghost use Rattle.spec_state.specs.Command.{with_map, with_disk, with_fence, with_move};
 
 use global_map::Maps;
 use global_tables::{FenceKind, Latest, Member, Verdict};
@@ -28,7 +28,7 @@ pub struct Tables {
 }
 
 impl Model for Tables {
-    ghost use Rattle.petal_state.specs.State.{State};
+    ghost use Rattle.spec_state.specs.State.{State};
 
     ghost Value = { State };
 

@@ -4,9 +4,9 @@ use Rattle.std.proofs.Common.{◌++◌, length-append, inr, ⊎_elim, Result, Ok
 use Rattle.std.proofs.lemmas.Bool.Decides.{nat_tests}
 use Rattle.petal_command.specs.declared.ballot.Ballot.{Ballot}
 use Rattle.petal_command.specs.declared.command.Command.{Command}
-use Rattle.petal_paxos.specs.declared.record.StateRecord.{StateRecord}
-use Rattle.petal_paxos.specs.declared.record.StateRecord.TheVariants.{Promise, Accepted, Chosen}
-use Rattle.petal_paxos.specs.declared.record.Row.{Row}
+use Rattle.spec_paxos.specs.declared.record.StateRecord.{StateRecord}
+use Rattle.spec_paxos.specs.declared.record.StateRecord.TheVariants.{Promise, Accepted, Chosen}
+use Rattle.spec_paxos.specs.declared.record.Row.{Row}
 use Rattle.state_store.specs.declared.error.StateError.{StateError}
 use Rattle.state_store.specs.declared.error.StateError.TheVariants as error
 use Rattle.petal_disk.specs.Disk.{LeavesOnly}
@@ -14,7 +14,7 @@ use Rattle.petal_disk.specs.declared.disk.Disk.{Ghosts}
 use Rattle.petal_disk.proofs.Moments.{weaker}
 use Rattle.state_store.specs.Device.{StandsForEither, WithOrWithout}
 use Rattle.state_store.specs.Errors.{IsAppendError}
-use Rattle.petal_paxos.specs.Kept.{row_after, inc_after, row_of, inc_of, promise_row, accept_row, choose_row, AddsNothing}
+use Rattle.spec_paxos.specs.Kept.{row_after, inc_after, row_of, inc_of, promise_row, accept_row, choose_row, AddsNothing}
 
 tested : (f : Row → Row) (place p : ℕ) (row : ℕ → Row)
     → (if place == p then f (row p) else row p) ≡ (if p == place then (if place == place then f (row place) else row place) else row p)

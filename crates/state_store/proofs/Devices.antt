@@ -5,15 +5,15 @@ use Rattle.record_fields.specs.Fields.{IsWord}
 use Rattle.petal_disk.specs.Disk.{Torn, Only, LeavesOnly, written}
 use Rattle.petal_disk.proofs.Moments.{joined, weaker}
 use Rattle.petal_disk.proofs.Tearing.{torn_front, torn_written}
-use Rattle.device_gate.specs.Gate.{IsShut}
+use Rattle.block_journal.specs.Gate.{IsShut}
 use Rattle.block_journal.specs.Records.{contents, Stands, Stored, Counts, LeftByAppend}
 use Rattle.block_journal.specs.Records as journal
 use Rattle.block_journal.specs.Region.{Region}
 use Rattle.block_journal.proofs.Frame.{stands_outside}
-use Rattle.device_gate.proofs.Gates.{shut_still}
-use Rattle.petal_paxos.specs.declared.record.StateRecord.{StateRecord}
-use Rattle.petal_paxos.specs.declared.record.StateRecord.TheVariants.{Inc}
-use Rattle.state_record.specs.Body.{body_of, HasBody}
+use Rattle.block_journal.proofs.Gates.{shut_still}
+use Rattle.spec_paxos.specs.declared.record.StateRecord.{StateRecord}
+use Rattle.spec_paxos.specs.declared.record.StateRecord.TheVariants.{Inc}
+use Rattle.state_store.specs.Body.{body_of, HasBody}
 use Rattle.state_store.specs.Device.{header, bodies_of, AreSpelled, StandsFor, WithOrWithout, Holds, IsBlank, LeftByFormat}
 
 -- the journal of a state device

@@ -1,3 +1,5 @@
 pub mod Records
 pub mod Devices
 pub mod Adds
+pub mod Bodies
+pub mod Equal

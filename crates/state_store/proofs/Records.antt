@@ -2,8 +2,8 @@
 use Rattle.std.proofs.Common.{◌≡◌, ℕ, zero, suc, ◌+◌, ◌<◌, List, [], ◌∷◌, ◌++◌, length, take, get_or, map, fold, Option}
 use Rattle.std.proofs.Common.{Some, None, refl, sym, ap, subst, ◌∙◌, arith}
 use Rattle.state_store.specs.Device.{bodies_of, AreSpelled}
-use Rattle.petal_paxos.specs.declared.record.StateRecord.{StateRecord}
-use Rattle.state_record.specs.Body.{body_of, HasBody}
+use Rattle.spec_paxos.specs.declared.record.StateRecord.{StateRecord}
+use Rattle.state_store.specs.Body.{body_of, HasBody}
 
 -- the record of a body among those of a list
 pub record Found (records : List StateRecord) (i : ℕ) : Type 0 where

@@ -2,9 +2,9 @@
 use Rattle.std.specs.Prelude.{ℕ, ◌≡◌, ◌≢◌, ◌⊎◌, ◌+◌, ◌≤◌, ◌<◌, List, [], ◌∷◌, ◌++◌, map, length, take, replicate, ⊤}
 use Rattle.block_journal.specs.Records.{Stands, IsOpen, body_at}
 use Rattle.block_journal.specs.Region.{Region}
-use Rattle.petal_paxos.specs.declared.record.StateRecord.{StateRecord}
-use Rattle.petal_paxos.specs.declared.record.StateRecord.TheVariants.{Inc}
-use Rattle.state_record.specs.Body.{body_of, HasBody}
+use Rattle.spec_paxos.specs.declared.record.StateRecord.{StateRecord}
+use Rattle.spec_paxos.specs.declared.record.StateRecord.TheVariants.{Inc}
+use Rattle.state_store.specs.Body.{body_of, HasBody}
 
 -- the gate, PETALSTA, version 1, zeros
 abbrev pub header : List ℕ

@@ -2,19 +2,20 @@
 
 ghost use Rattle.std.specs.Prelude.{◌≡◌, ◌<◌, ◌^◌, ◌==◌, ℕ, List, [], length, slice_index_or, if◌then◌else◌, IfOk, IfErr};
 ghost use Rattle.block_journal.specs.Records.{contents};
-ghost use Rattle.state_record.specs.Body.{body_of, HasBody};
+ghost use Rattle.state_store.specs.Body.{body_of, HasBody};
 ghost use Rattle.state_store.specs.Device.{bodies_of, AreSpelled};
-ghost use Rattle.petal_paxos.specs.Kept.{row_of, inc_of, row_after, inc_after};
-ghost use Rattle.state_record.specs.Rows.{row_at};
-ghost use Rattle.petal_paxos.specs.declared.record.StateRecord.{StateRecord};
-ghost use Rattle.petal_paxos.specs.declared.record.Row.{Row};
+ghost use Rattle.spec_paxos.specs.Kept.{row_of, inc_of, row_after, inc_after};
+ghost use Rattle.state_store.specs.Rows.{row_at};
+ghost use Rattle.spec_paxos.specs.declared.record.StateRecord.{StateRecord};
+ghost use Rattle.spec_paxos.specs.declared.record.Row.{Row};
 ghost use Rattle.state_store.specs.declared.error.StateError.TheVariants as error;
 ghost use Rattle.state_store.specs.Errors.{IsReadError};
 
 use crate::error::StateError;
-use ghost_list::GhostList;
-use petal_base::{Inc, NoMemory};
-use state_record::{Places, StateRecord, record_of};
+use crate::places::Places;
+use crate::record::record_of;
+use petal_base::{GhostList, Inc, NoMemory};
+use spec_paxos::StateRecord;
 use std::alloc::Global;
 
 /// The records, and what they give.

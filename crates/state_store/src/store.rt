@@ -8,18 +8,19 @@ ghost use Rattle.petal_disk.specs.Keeping.{KeepsDevice};
 ghost use Rattle.block_journal.specs.Records.{Counts};
 ghost use Rattle.state_store.specs.Device.{header, bodies_of, AreSpelled, StandsFor, StandsForEither, Holds, WithOrWithout, LeftByFormat, IsBadOn};
 ghost use Rattle.state_store.specs.Errors.{IsAppendError, IsCommitError};
-ghost use Rattle.petal_paxos.specs.declared.record.StateRecord.{StateRecord};
-ghost use Rattle.petal_paxos.specs.Kept.{row_of, row_after, inc_of, inc_after, AddsNothing, Commits, committed};
-ghost use Rattle.petal_paxos.specs.declared.record.Row.{Row};
-ghost use Rattle.petal_paxos.specs.declared.record.StateRecord.TheVariants as kind;
+ghost use Rattle.spec_paxos.specs.declared.record.StateRecord.{StateRecord};
+ghost use Rattle.spec_paxos.specs.Kept.{row_of, row_after, inc_of, inc_after, AddsNothing, Commits, committed};
+ghost use Rattle.spec_paxos.specs.declared.record.Row.{Row};
+ghost use Rattle.spec_paxos.specs.declared.record.StateRecord.TheVariants as kind;
 ghost use Rattle.state_store.specs.declared.error.StateError.TheVariants as error;
 
 use crate::device::Device;
 use crate::error::StateError;
+use crate::places::Places;
 use petal_base::Inc;
 use petal_command::{Ballot, Command};
 use petal_disk::{Disk, Plan, Planned};
-use state_record::{Places, StateRecord};
+use spec_paxos::StateRecord;
 use std::alloc::Global;
 use std::marker::Model;
 
@@ -35,8 +36,8 @@ pub struct StateStore<D: Disk> {
 impl<D: Disk> Model for StateStore<D> {
     ghost use Rattle.std.specs.Prelude.{◌≡◌, ℕ};
     ghost use Rattle.state_store.specs.Device.{Keeping};
-    ghost use Rattle.petal_paxos.specs.Kept.{row_of, inc_of};
-    ghost use Rattle.state_record.specs.Rows.{row_at};
+    ghost use Rattle.spec_paxos.specs.Kept.{row_of, inc_of};
+    ghost use Rattle.state_store.specs.Rows.{row_at};
 
     ghost Value = { Keeping D };
 

@@ -2,17 +2,16 @@
 
 ghost use Rattle.std.specs.Prelude.{◌≡◌, true, Err};
 ghost use Rattle.petal_msg.specs.Kinds.{is_of_write, subject_of};
-ghost use Rattle.petal_rules.specs.Jobs.{handles};
-ghost use Rattle.pair_side.specs.declared.error.WorkError.TheVariants as error;
-ghost use Rattle.pair_side.specs.Side.{own_of, HasTicketsAt};
-ghost use Rattle.pair_side.specs.Done.{HasVersions, IsDone};
+ghost use Rattle.spec_rules.specs.Jobs.{handles};
+ghost use Rattle.pair_memory.specs.declared.error.WorkError.TheVariants as error;
+ghost use Rattle.pair_memory.specs.Side.{own_of, HasTicketsAt};
+ghost use Rattle.pair_memory.specs.Done.{HasVersions, IsDone};
 
-use lead_replies::{on_pair_full, on_replicated, on_reserved};
-use lead_write::{Wanted, on_write};
-use pair_side::{Done, Here, Side, WorkError, silent};
+use crate::lead::{Wanted, on_pair_full, on_replicated, on_reserved, on_write};
+use crate::second::{on_replicate, on_reserve};
+use pair_memory::{Done, Here, Side, WorkError, silent};
 use petal_disk::Disk;
 use petal_msg::{Body, Letter};
-use second_write::{on_replicate, on_reserve};
 use server_store::Store;
 
 /// What a letter of writes does: at most one commit. After Ok all is as the rule `handles` says, where the device tells its bytes.
@@ -20,7 +19,7 @@ use server_store::Store;
 /// # Errors
 /// `NoMemory`, and then nothing changed; `Failed` where the device failed, and `JournalFull` only where the store's journal had
 /// all its records: the entries are as they were, and the server is to be stopped.
-#[tactic(auto, unfolding(petal_rules::specs::Jobs::handles))]
+#[tactic(auto, unfolding(spec_rules::specs::Jobs::handles))]
 pub fn on_letter<D: Disk>(
     here: &Here,
     side: &mut Side,

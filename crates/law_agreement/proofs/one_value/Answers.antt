@@ -1,5 +1,5 @@
 use Rattle.law_agreement.proofs.one_value.Goals as goal
-use Rattle.petal_paxos.specs.Schedule.{begin, run}
+use Rattle.spec_paxos.specs.Schedule.{begin, run}
 use Rattle.law_agreement.proofs.Runs.{run_holds, begin_holds, one_chosen}
 
 pub returns : goal.returns

@@ -1,7 +1,7 @@
 use Rattle.std.proofs.Common.{refl}
 use Rattle.petal_command.specs.Ballot.{number}
-use Rattle.petal_paxos.specs.Member.{In, put, put_at}
-use Rattle.petal_paxos.specs.Proposer.{nobody}
+use Rattle.spec_paxos.specs.Member.{In, put, put_at}
+use Rattle.spec_paxos.specs.Proposer.{nobody}
 use Rattle.law_agreement.proofs.some_value.Goals as goal
 
 pub returns : goal.returns

@@ -1,4 +1,4 @@
-use Rattle.script_words.proofs.Pieces.{concat-pieces}
+use Rattle.petal_script.proofs.Pieces.{concat-pieces}
 use Rattle.law_script.proofs.Firsts.{pieces_are, number_at}
 use Rattle.law_script.proofs.lines_are_the_text.Goals as goal
 

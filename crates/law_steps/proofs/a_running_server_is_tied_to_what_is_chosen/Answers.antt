@@ -1,8 +1,8 @@
 -- A Caught of its own stands at most after its last entry.
 use Rattle.std.proofs.Common.{ap, ◌∙◌}
-use Rattle.petal_state.specs.CellState.{serves}
-use Rattle.petal_rules.specs.World.{setting_of, start}
-use Rattle.petal_rules.proofs.Tests.{number_itself}
+use Rattle.spec_state.specs.CellState.{serves}
+use Rattle.spec_rules.specs.World.{setting_of, start}
+use Rattle.spec_rules.proofs.Tests.{number_itself}
 use Rattle.law_steps.proofs.Firms.{always_firm}
 use Rattle.law_steps.proofs.Histories.{firm_after}
 use Rattle.law_steps.proofs.Ties.{running_fronts, stays_alone, stays_both}

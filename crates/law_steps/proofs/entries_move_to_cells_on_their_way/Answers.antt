@@ -1,5 +1,5 @@
 -- By induction on the history.
-use Rattle.petal_rules.specs.World.{setting_of, start}
+use Rattle.spec_rules.specs.World.{setting_of, start}
 use Rattle.law_steps.proofs.Arriving.{comes_after, start_comes}
 use Rattle.law_steps.proofs.Firms.{always_firm}
 use Rattle.law_steps.proofs.Histories.{start_rests}

@@ -1,15 +1,15 @@
 use Rattle.std.proofs.Common.{◌≡◌, List, sym, ap}
 use Rattle.petal_base.specs.declared.cell.Cell.{Cell}
 use Rattle.petal_msg.specs.declared.copying.Copying.{Copying}
-use Rattle.petal_rules.specs.Copies.{copy_awaited, copy_stage}
-use Rattle.petal_rules.specs.Server.{Post, sender}
-use Rattle.petal_rules.specs.Store.{Store}
+use Rattle.spec_rules.specs.Copies.{copy_awaited, copy_stage}
+use Rattle.spec_rules.specs.Server.{Post, sender}
+use Rattle.spec_rules.specs.Store.{Store}
 use Rattle.server_store.specs.Holdings.{Holdings}
 use Rattle.kept_chains.specs.Kept.{store_of}
-use Rattle.pair_side.specs.Side.{own_of}
-use Rattle.pair_side.proofs.Letters.{next_letters}
-use Rattle.copy_sender.specs.Walks.{side_own}
-use Rattle.pair_side.proofs.Looks.{seen_then}
+use Rattle.pair_memory.specs.Side.{own_of}
+use Rattle.pair_memory.proofs.Letters.{next_letters}
+use Rattle.copy_transfer.specs.Walks.{side_own}
+use Rattle.pair_memory.proofs.Looks.{seen_then}
 use Rattle.copy_recovery.proofs.again.copies_after.Goals as goal
 
 pub loop-cell-preserved : goal.loop-cell-preserved

@@ -1,11 +1,11 @@
 -- The letters so far and those of the copies that are left are all letters, and nothing of the store changed.
 use Rattle.std.proofs.Common.{◌≡◌, ◌++◌, length}
 use Rattle.std.specs.List.{flat_map}
-use Rattle.petal_rules.specs.Copies.{copy_awaited, copy_stage}
-use Rattle.petal_rules.specs.Server.{letters_of, sender}
+use Rattle.spec_rules.specs.Copies.{copy_awaited, copy_stage}
+use Rattle.spec_rules.specs.Server.{letters_of, sender}
 use Rattle.kept_chains.specs.Kept.{store_of}
-use Rattle.pair_side.specs.Side.{own_of}
-use Rattle.pair_side.proofs.Looks.{IsSeen}
+use Rattle.pair_memory.specs.Side.{own_of}
+use Rattle.pair_memory.proofs.Looks.{IsSeen}
 use Rattle.copy_recovery.proofs.again.copies_after.Given as goal
 
 abbrev pub invariant-loop-cell : goal.invariant-loop-cell

@@ -1,12 +1,12 @@
 use Rattle.std.proofs.Common.{◌≡◌, ◌++◌, length, ap, ◌∙◌}
-use Rattle.petal_rules.specs.Copies.{copy_posts, page_posts}
-use Rattle.petal_rules.specs.Server.{letters_of, sender}
-use Rattle.petal_rules.specs.Store.{Store}
+use Rattle.spec_rules.specs.Copies.{copy_posts, page_posts}
+use Rattle.spec_rules.specs.Server.{letters_of, sender}
+use Rattle.spec_rules.specs.Store.{Store}
 use Rattle.server_store.specs.Holdings.{Holdings}
 use Rattle.kept_chains.specs.Kept.{store_of}
-use Rattle.pair_side.specs.Side.{own_of}
-use Rattle.copy_sender.specs.Walks.{side_own}
-use Rattle.pair_side.proofs.Looks.{letters_two}
+use Rattle.pair_memory.specs.Side.{own_of}
+use Rattle.copy_transfer.specs.Walks.{side_own}
+use Rattle.pair_memory.proofs.Looks.{letters_two}
 use Rattle.copy_recovery.proofs.again.letters_after.Goals as goal
 
 pub returns-clause-letters : goal.returns-clause-letters

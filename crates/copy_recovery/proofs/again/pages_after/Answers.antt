@@ -1,11 +1,11 @@
 use Rattle.std.proofs.Common.{◌≡◌, ◌+◌, ◌++◌, suc, List, length, ap, ◌∙◌, arith}
 use Rattle.global_tables.specs.declared.link.LinkRow.{LinkRow}
 use Rattle.global_tables.specs.declared.link.LinkState.TheVariants.{Both}
-use Rattle.petal_rules.specs.Copies.{page_for}
-use Rattle.petal_rules.specs.Server.{Post, letters_of, sender}
-use Rattle.petal_rules.specs.State.{other_in}
-use Rattle.pair_side.specs.Side.{own_of}
-use Rattle.pair_side.proofs.Looks.{count_more, letters_more}
+use Rattle.spec_rules.specs.Copies.{page_for}
+use Rattle.spec_rules.specs.Server.{Post, letters_of, sender}
+use Rattle.spec_rules.specs.State.{other_in}
+use Rattle.pair_memory.specs.Side.{own_of}
+use Rattle.pair_memory.proofs.Looks.{count_more, letters_more}
 use Rattle.copy_recovery.proofs.again.pages_after.Goals as goal
 
 abbrev no_row : LinkRow

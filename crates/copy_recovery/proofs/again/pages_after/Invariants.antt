@@ -1,10 +1,10 @@
 -- The letters so far are those before and those of the links so far.
 use Rattle.std.proofs.Common.{◌≡◌, ◌+◌, ◌++◌, length, take}
 use Rattle.std.specs.List.{flat_map}
-use Rattle.petal_rules.specs.Copies.{page_for}
-use Rattle.petal_rules.specs.Server.{letters_of, sender}
-use Rattle.petal_rules.specs.State.{other_in}
-use Rattle.pair_side.specs.Side.{own_of}
+use Rattle.spec_rules.specs.Copies.{page_for}
+use Rattle.spec_rules.specs.Server.{letters_of, sender}
+use Rattle.spec_rules.specs.State.{other_in}
+use Rattle.pair_memory.specs.Side.{own_of}
 use Rattle.copy_recovery.proofs.again.pages_after.Given as goal
 
 abbrev pub invariant-loop-row : goal.invariant-loop-row

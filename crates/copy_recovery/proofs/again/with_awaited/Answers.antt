@@ -1,5 +1,5 @@
 use Rattle.std.proofs.Common.{◌+◌, ◌++◌, List, length, sym, ap, ◌∙◌}
-use Rattle.petal_rules.specs.Server.{Post, letters_of, sender}
+use Rattle.spec_rules.specs.Server.{Post, letters_of, sender}
 use Rattle.copy_recovery.proofs.again.with_awaited.Goals as goal
 
 pub returns-clause-letters : goal.returns-clause-letters

@@ -1,7 +1,7 @@
 use Rattle.std.proofs.Common.{◌≡◌, ◌∙◌, ◌<◌, ℕ, List, [], length, take, get_or, sym, ap, subst, arith}
 use Rattle.std.proofs.lemmas.List.{length-map, take_all}
 use Rattle.block_journal.specs.Records.{contents}
-use Rattle.store_record.specs.Spelling.{spelling}
+use Rattle.data_device.specs.Spelling.{spelling}
 use Rattle.data_device.specs.Device.{bodies_of}
 use Rattle.data_device.specs.Reading.{IsRead, IsBad}
 use Rattle.data_device.proofs.Readings.{at_map, next_read, next_same, not_read, is_read}

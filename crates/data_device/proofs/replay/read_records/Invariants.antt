@@ -1,6 +1,6 @@
 use Rattle.std.proofs.Common.{◌≡◌, List, take}
 use Rattle.block_journal.specs.Records.{contents}
-use Rattle.store_record.specs.declared.record.StoreRecord.{StoreRecord}
+use Rattle.data_device.specs.declared.record.StoreRecord.{StoreRecord}
 use Rattle.data_device.specs.Device.{bodies_of, AreSpelled}
 use Rattle.data_device.specs.Reading.{IsRead}
 use Rattle.data_device.proofs.replay.read_records.Given as goal

@@ -2,7 +2,7 @@ use Rattle.std.proofs.Common.{◌∙◌, ◌∷◌, [], ap, refl, length, length
 use Rattle.std.proofs.lemmas.Grind.{common_steps}
 use Rattle.server_store.proofs.Commits.{on_ok}
 use Rattle.server_store.specs.Holdings.{Holdings}
-use Rattle.store_record.specs.declared.record.StoreRecord.TheVariants as kind
+use Rattle.data_device.specs.declared.record.StoreRecord.TheVariants as kind
 use Rattle.kept_chains.proofs.Commits.{drop_moments}
 use Rattle.kept_chains.proofs.Drops.{dropped_is}
 use Rattle.kept_chains.proofs.Walks.{slot_is}

@@ -1,6 +1,6 @@
 use Rattle.std.proofs.Common.{◌∙◌, ap, sym}
 use Rattle.petal_base.specs.declared.cell.Cell.{Cell}
-use Rattle.petal_rules.specs.Store.{bytes_of, chain_in, entry_at}
+use Rattle.spec_rules.specs.Store.{bytes_of, chain_in, entry_at}
 use Rattle.kept_chains.specs.Kept.{chains_of}
 use Rattle.kept_chains.proofs.Walks.{key_none, key_read}
 use Rattle.kept_chains.proofs.walk.read_key.Goals as goal

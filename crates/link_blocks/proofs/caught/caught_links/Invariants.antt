@@ -1,9 +1,9 @@
 -- What is wanted so far, of the links so far.
 use Rattle.std.proofs.Common.{◌≡◌, take}
 use Rattle.std.specs.List.{flat_map}
-use Rattle.petal_rules.specs.Returns.{caught_of}
-use Rattle.petal_rules.specs.State.{other_in}
-use Rattle.pair_side.specs.Side.{own_of}
+use Rattle.spec_rules.specs.Returns.{caught_of}
+use Rattle.spec_rules.specs.State.{other_in}
+use Rattle.pair_memory.specs.Side.{own_of}
 use Rattle.link_blocks.proofs.caught.caught_links.Given as goal
 
 abbrev pub invariant-loop-row : goal.invariant-loop-row

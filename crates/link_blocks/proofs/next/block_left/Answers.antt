@@ -1,6 +1,6 @@
 use Rattle.std.proofs.Common.{sym, ◌∙◌}
 use Rattle.busy_marks.specs.Marks.{lesser}
-use Rattle.pair_side.specs.Kept.{chains_of}
+use Rattle.pair_memory.specs.Kept.{chains_of}
 use Rattle.link_blocks.proofs.Links.{left_plain, left_whole}
 use Rattle.link_blocks.proofs.next.block_left.Goals as goal
 

@@ -1,5 +1,5 @@
 use Rattle.std.proofs.Common.{sym, ◌∙◌}
-use Rattle.pair_side.specs.Walking.{marked_in}
+use Rattle.pair_memory.specs.Walking.{marked_in}
 use Rattle.link_blocks.specs.Walks.{on_link}
 use Rattle.link_blocks.proofs.Least.{walk_hit, walk_less, walk_none, walk_on}
 use Rattle.link_blocks.proofs.Links.{marked_is}

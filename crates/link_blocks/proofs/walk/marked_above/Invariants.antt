@@ -2,7 +2,7 @@
 use Rattle.std.proofs.Common.{◌≡◌}
 use Rattle.std.specs.Prelude.{filter}
 use Rattle.busy_marks.specs.Marks.{above}
-use Rattle.petal_rules.specs.Copies.{least}
+use Rattle.spec_rules.specs.Copies.{least}
 use Rattle.link_blocks.specs.Walks.{marked_on, room_above}
 use Rattle.link_blocks.proofs.walk.marked_above.Given as goal
 

@@ -1,6 +1,6 @@
 use Rattle.std.proofs.Common.{sym, ◌∙◌}
-use Rattle.pair_side.specs.Kept.{chains_of}
-use Rattle.pair_side.specs.Walking.{stored_in}
+use Rattle.pair_memory.specs.Kept.{chains_of}
+use Rattle.pair_memory.specs.Walking.{stored_in}
 use Rattle.link_blocks.specs.Walks.{on_link}
 use Rattle.link_blocks.proofs.Least.{walk_hit, walk_less, walk_none, walk_on}
 use Rattle.link_blocks.proofs.Links.{stored_is}

@@ -2,8 +2,8 @@
 use Rattle.std.proofs.Common.{◌≡◌}
 use Rattle.std.specs.Prelude.{filter}
 use Rattle.busy_marks.specs.Marks.{above}
-use Rattle.petal_rules.specs.Copies.{least}
-use Rattle.pair_side.specs.Kept.{chains_of}
+use Rattle.spec_rules.specs.Copies.{least}
+use Rattle.pair_memory.specs.Kept.{chains_of}
 use Rattle.link_blocks.specs.Walks.{stored_on, room_above}
 use Rattle.link_blocks.proofs.walk.stored_above.Given as goal
 

@@ -1,8 +1,8 @@
 use Rattle.std.proofs.Common.{◌≡◌, true, false, refl, sym, ◌∙◌}
-use Rattle.petal_paxos.proofs.Committed.{commits_is}
-use Rattle.petal_paxos.specs.declared.record.StateRecord.TheVariants as kind
-use Rattle.petal_paxos.specs.Acceptor.{is_open}
-use Rattle.petal_paxos.specs.Kept.{acceptor_of}
+use Rattle.spec_paxos.proofs.Committed.{commits_is}
+use Rattle.spec_paxos.specs.declared.record.StateRecord.TheVariants as kind
+use Rattle.spec_paxos.specs.Acceptor.{is_open}
+use Rattle.spec_paxos.specs.Kept.{acceptor_of}
 use Rattle.paxos_core.proofs.Kept.{closed, opened, same_rows, when_open, when_shut, accepted_rows}
 use Rattle.paxos_core.proofs.acceptor.on_accept.Goals as goal
 

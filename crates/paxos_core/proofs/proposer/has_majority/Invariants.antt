@@ -1,6 +1,6 @@
 use Rattle.std.proofs.Common.{◌≡◌, ◌≤◌}
-use Rattle.petal_paxos.specs.Quorum.{count_below}
-use Rattle.petal_paxos.specs.Proposer.{is_in}
+use Rattle.spec_paxos.specs.Quorum.{count_below}
+use Rattle.spec_paxos.specs.Proposer.{is_in}
 use Rattle.paxos_core.proofs.proposer.has_majority.Given as goal
 
 abbrev pub invariant-loop-s : goal.invariant-loop-s

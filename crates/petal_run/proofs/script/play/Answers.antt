@@ -1,9 +1,9 @@
 use Rattle.std.proofs.Common.{◌≡◌, List, [], sym, ap, ◌∙◌, subst, inl, inr, arith}
 use Rattle.byte_streams.specs.Streams.{Adds}
-use Rattle.petal_history.specs.Claims.{Keeps}
-use Rattle.petal_history.specs.Legal.{IsLegal}
-use Rattle.petal_history.specs.Text.{text_of}
-use Rattle.petal_history.specs.declared.record.Record.{Record}
+use Rattle.spec_history.specs.Claims.{Keeps}
+use Rattle.spec_history.specs.Legal.{IsLegal}
+use Rattle.spec_history.specs.Text.{text_of}
+use Rattle.spec_history.specs.declared.record.Record.{Record}
 use Rattle.plain_schedule.specs.Phases.{Progress, records_of}
 use Rattle.petal_run.specs.Said.{WrotePhases}
 use Rattle.petal_run.proofs.Telling.{ended_all, done_play, play_legal, play_wrote, play_last, play_ends, adds_phases, adds_last, none_added, none_wrote, nothing_legal}

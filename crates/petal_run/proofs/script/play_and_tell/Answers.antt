@@ -1,5 +1,5 @@
 use Rattle.std.proofs.Common.{Err, List, ap, sym, subst}
-use Rattle.petal_history.specs.declared.record.Record.{Record}
+use Rattle.spec_history.specs.declared.record.Record.{Record}
 use Rattle.plain_schedule.specs.Phases.{Ends, records_of}
 use Rattle.petal_run.specs.Said.{WrotePhases}
 use Rattle.petal_run.specs.Written.{Wrote}

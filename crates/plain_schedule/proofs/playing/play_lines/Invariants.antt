@@ -1,4 +1,4 @@
-use Rattle.actor_rounds.specs.Going.{WentOn}
+use Rattle.plain_schedule.specs.Going.{WentOn}
 use Rattle.plain_schedule.proofs.playing.play_lines.Given as goal
 
 abbrev pub invariant-loop : goal.invariant-loop

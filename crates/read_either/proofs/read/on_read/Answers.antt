@@ -1,7 +1,7 @@
 use Rattle.std.proofs.Common.{◌≡◌, true, sym, ap, ◌∙◌}
-use Rattle.petal_rules.specs.State.{readable}
-use Rattle.pair_side.specs.Side.{own_of}
-use Rattle.pair_side.proofs.Reading.{after_read}
+use Rattle.spec_rules.specs.State.{readable}
+use Rattle.pair_memory.specs.Side.{own_of}
+use Rattle.pair_memory.proofs.Reading.{after_read}
 use Rattle.read_either.proofs.Reading.{told_is}
 use Rattle.read_either.proofs.read.on_read.Goals as goal
 

@@ -1,11 +1,11 @@
 use Rattle.std.proofs.Common.{Option, List, ap, ◌∙◌}
 use Rattle.petal_base.specs.declared.cell.Key.{Key}
-use Rattle.petal_rules.specs.Fills.{sends_key}
-use Rattle.petal_rules.specs.Server.{Post}
+use Rattle.spec_rules.specs.Fills.{sends_key}
+use Rattle.spec_rules.specs.Server.{Post}
 use Rattle.server_store.specs.Holdings.{Holdings}
-use Rattle.pair_side.specs.Letters.{posts_of}
-use Rattle.pair_side.specs.Side.{own_of}
-use Rattle.pair_side.proofs.Reading.{after_read}
+use Rattle.pair_memory.specs.Letters.{posts_of}
+use Rattle.pair_memory.specs.Side.{own_of}
+use Rattle.pair_memory.proofs.Reading.{after_read}
 use Rattle.redistribute.specs.Following.{filled_with}
 use Rattle.redistribute.proofs.Fillings.{after_is}
 use Rattle.redistribute.proofs.answer.goes_after.Goals as goal

@@ -2,11 +2,11 @@ use Rattle.std.proofs.Common.{◌≡◌, ◌+◌, ◌++◌, suc, List, Option, g
 use Rattle.global_tables.specs.declared.link.LinkRow.{LinkRow}
 use Rattle.global_tables.specs.declared.link.LinkState.TheVariants.{Both}
 use Rattle.petal_base.specs.declared.cell.Key.{Key}
-use Rattle.petal_rules.specs.Fills.{fill_of, fills_row, sends_key}
-use Rattle.petal_rules.specs.Server.{Own, Post, letters_of, sender}
+use Rattle.spec_rules.specs.Fills.{fill_of, fills_row, sends_key}
+use Rattle.spec_rules.specs.Server.{Own, Post, letters_of, sender}
 use Rattle.server_store.specs.Holdings.{Holdings}
-use Rattle.pair_side.specs.Side.{own_of}
-use Rattle.pair_side.proofs.Looks.{count_more, letters_more, seen_then}
+use Rattle.pair_memory.specs.Side.{own_of}
+use Rattle.pair_memory.proofs.Looks.{count_more, letters_more, seen_then}
 use Rattle.redistribute.proofs.letters.fills_after.Goals as goal
 
 abbrev no_row : LinkRow

@@ -1,10 +1,10 @@
 -- The letters so far are those before and those of the links so far, and nothing of the store changed.
 use Rattle.std.proofs.Common.{◌≡◌, ◌+◌, ◌++◌, length, take}
 use Rattle.std.specs.List.{flat_map}
-use Rattle.petal_rules.specs.Fills.{fills_row}
-use Rattle.petal_rules.specs.Server.{letters_of, sender}
-use Rattle.pair_side.specs.Side.{own_of}
-use Rattle.pair_side.proofs.Looks.{IsSeen}
+use Rattle.spec_rules.specs.Fills.{fills_row}
+use Rattle.spec_rules.specs.Server.{letters_of, sender}
+use Rattle.pair_memory.specs.Side.{own_of}
+use Rattle.pair_memory.proofs.Looks.{IsSeen}
 use Rattle.redistribute.proofs.letters.fills_after.Given as goal
 
 abbrev pub invariant-loop-row : goal.invariant-loop-row

@@ -1,8 +1,8 @@
 -- What is wanted so far, of the links so far.
 use Rattle.std.proofs.Common.{◌≡◌, take}
 use Rattle.std.specs.List.{flat_map}
-use Rattle.petal_rules.specs.Fills.{moved_of}
-use Rattle.pair_side.specs.Side.{own_of}
+use Rattle.spec_rules.specs.Fills.{moved_of}
+use Rattle.pair_memory.specs.Side.{own_of}
 use Rattle.redistribute.proofs.want.moving.Given as goal
 
 abbrev pub invariant-loop-row : goal.invariant-loop-row

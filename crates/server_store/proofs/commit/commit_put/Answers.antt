@@ -1,8 +1,8 @@
 use Rattle.std.proofs.Common.{◌≡◌, ◌∙◌, ◌+◌, ◌≤◌, inl, length, subst, sym, ap, arith}
 use Rattle.petal_disk.specs.Disk.{Torn, Follows, LeavesOnly, LeftByWrite, written}
 use Rattle.petal_disk.proofs.Moments.{weaker, joined}
-use Rattle.store_record.specs.declared.record.StoreRecord.{StoreRecord}
-use Rattle.store_record.specs.declared.record.StoreRecord.TheVariants as kind
+use Rattle.data_device.specs.declared.record.StoreRecord.{StoreRecord}
+use Rattle.data_device.specs.declared.record.StoreRecord.TheVariants as kind
 use Rattle.data_device.specs.Kept.{kept_of}
 use Rattle.server_store.specs.Shown.{ShowsEither}
 use Rattle.data_device.specs.Slots.{slot_start, slot_bytes}

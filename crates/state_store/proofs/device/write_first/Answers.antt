@@ -1,6 +1,6 @@
 use Rattle.std.proofs.Common.{◌∙◌, ◌*◌, inr, List, ℕ, [], ◌∷◌, arith, ap, subst}
 use Rattle.block_journal.specs.Records.{Stands}
-use Rattle.device_gate.proofs.Gates.{shut_still}
+use Rattle.block_journal.proofs.Gates.{shut_still}
 use Rattle.state_store.proofs.Devices.{IsPlaced, placed, first_record}
 use Rattle.state_store.proofs.device.write_first.Goals as goal
 

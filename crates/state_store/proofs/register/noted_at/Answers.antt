@@ -1,4 +1,4 @@
-use Rattle.state_record.specs.Rows.{row_at}
+use Rattle.state_store.specs.Rows.{row_at}
 use Rattle.state_store.proofs.register.noted_at.Goals as goal
 
 pub note-requires-clause-here : goal.note-requires-clause-here

@@ -1,8 +1,8 @@
 use Rattle.std.proofs.Common.{◌≡◌, ◌++◌, ◌∷◌, [], ◌<◌, List, ℕ, length, take, get_or, arith, ap, sym, ◌∙◌}
 use Rattle.std.proofs.lemmas.List.{length-map}
 use Rattle.block_journal.specs.Records.{contents}
-use Rattle.state_record.specs.Body.{body_of}
-use Rattle.petal_paxos.specs.Kept.{row_after, inc_after, empty_row}
+use Rattle.state_store.specs.Body.{body_of}
+use Rattle.spec_paxos.specs.Kept.{row_after, inc_after, empty_row}
 use Rattle.state_store.proofs.Devices.{bodies_one_more, spelled_more}
 use Rattle.state_store.proofs.Records.{read_same, take_next, at_map, fold_more}
 use Rattle.state_store.proofs.register.read_records.Goals as goal

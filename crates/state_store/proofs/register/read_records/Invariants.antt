@@ -1,9 +1,9 @@
 use Rattle.std.proofs.Common.{◌≡◌, ℕ, List, take}
 use Rattle.block_journal.specs.Records.{contents}
 use Rattle.state_store.specs.Device.{bodies_of, AreSpelled}
-use Rattle.petal_paxos.specs.Kept.{row_of, inc_of}
-use Rattle.state_record.specs.Rows.{row_at}
-use Rattle.petal_paxos.specs.declared.record.StateRecord.{StateRecord}
+use Rattle.spec_paxos.specs.Kept.{row_of, inc_of}
+use Rattle.state_store.specs.Rows.{row_at}
+use Rattle.spec_paxos.specs.declared.record.StateRecord.{StateRecord}
 use Rattle.state_store.proofs.register.read_records.Given as goal
 
 abbrev pub invariant-loop-index : goal.invariant-loop-index

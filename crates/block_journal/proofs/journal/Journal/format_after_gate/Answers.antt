@@ -1,6 +1,6 @@
 use Rattle.std.proofs.Common.{inr}
 use Rattle.std.proofs.lemmas.Result.{on_ok_weaker}
-use Rattle.device_gate.proofs.Gates.{shut_still, clearing}
+use Rattle.block_journal.proofs.Gates.{shut_still, clearing}
 use Rattle.block_journal.proofs.journal.Journal.format_after_gate.Goals as goal
 
 pub returns-clause-shut : goal.returns-clause-shut

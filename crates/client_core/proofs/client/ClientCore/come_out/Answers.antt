@@ -1,7 +1,7 @@
 -- The request waits still, and goes out in the state that the entries made.
 use Rattle.std.proofs.Common.{◌≡◌, length, refl, ap, ◌∙◌}
-use Rattle.petal_rules.specs.State.{State}
-use Rattle.petal_rules.proofs.Applied.{rev_after}
+use Rattle.spec_rules.specs.State.{State}
+use Rattle.spec_rules.proofs.Applied.{rev_after}
 use Rattle.client_core.proofs.Sends.{waited_is}
 use Rattle.client_core.proofs.client.ClientCore.come_out.Goals as goal
 

@@ -1,8 +1,8 @@
 -- A request goes out: by its command, or to its servers.
 use Rattle.std.proofs.Common.{◌≡◌, Some, None, sym, ◌∙◌}
 use Rattle.std.proofs.lemmas.Result.{IfOk-weaker}
-use Rattle.petal_rules.specs.Clients.{to_propose}
-use Rattle.open_request.specs.Open.{on_way}
+use Rattle.spec_rules.specs.Clients.{to_propose}
+use Rattle.client_core.specs.Open.{on_way}
 use Rattle.client_core.proofs.Sends.{goes_by_command, goes_by_sending}
 use Rattle.client_core.proofs.client.ClientCore.goes_out.Goals as goal
 

@@ -1,7 +1,7 @@
 -- The entries of a letter leave the state that the applied entries make.
 use Rattle.std.proofs.Common.{sym, ap, ◌∙◌}
-use Rattle.petal_rules.specs.State.{servers_of}
-use Rattle.petal_rules.proofs.Applied.{servers_after}
+use Rattle.spec_rules.specs.State.{servers_of}
+use Rattle.spec_rules.proofs.Applied.{servers_after}
 use Rattle.client_core.proofs.Learnt.{news_fits}
 use Rattle.client_core.proofs.client.ClientCore.learn.Goals as goal
 

@@ -1,6 +1,6 @@
 use Rattle.std.proofs.Common.{◌≡◌, drop}
-use Rattle.petal_rules.specs.State.{servers_of}
-use Rattle.petal_rules.specs.Clients.{takes_all}
+use Rattle.spec_rules.specs.State.{servers_of}
+use Rattle.spec_rules.specs.Clients.{takes_all}
 use Rattle.client_core.specs.Learning.{learnt}
 use Rattle.client_core.proofs.client.ClientCore.take_all.Given as goal
 

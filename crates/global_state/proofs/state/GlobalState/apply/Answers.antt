@@ -1,7 +1,7 @@
 use Rattle.std.proofs.Common.{subst, sym}
-use Rattle.petal_state.specs.State.{State}
-use Rattle.petal_state.specs.Bound.{IsWithin}
-use Rattle.petal_state.proofs.Bounds.{after_within}
+use Rattle.spec_state.specs.State.{State}
+use Rattle.spec_state.specs.Bound.{IsWithin}
+use Rattle.spec_state.proofs.Bounds.{after_within}
 use Rattle.global_state.proofs.state.GlobalState.apply.Goals as goal
 
 pub invariant_of-self : goal.invariant_of-self

@@ -1,11 +1,11 @@
 use Rattle.std.proofs.Common.{sym, ap, subst, ◌∙◌}
 use Rattle.std.proofs.lemmas.Result.{IfOk-weaker, on_ok_weaker}
 use Rattle.kept_chains.specs.Kept.{store_of}
-use Rattle.petal_rules.specs.Jobs.{Acted}
-use Rattle.server_recovery.specs.Server.{left_at}
-use Rattle.world_desks.specs.Desks.{Site}
-use Rattle.petal_rules.specs.Plans.{AreLeftOf}
-use Rattle.world_desks.specs.declared.host.Taken.{Taken}
+use Rattle.spec_rules.specs.Jobs.{Acted}
+use Rattle.memory_server.specs.Server.{left_at}
+use Rattle.server_host.specs.Desks.{Site}
+use Rattle.spec_rules.specs.Plans.{AreLeftOf}
+use Rattle.server_host.specs.declared.host.Taken.{Taken}
 use Rattle.memory_server.proofs.Plans.{are_left, are_same, uses_none}
 use Rattle.memory_server.specs.Armed.{armed_of}
 use Rattle.memory_server.proofs.server.MemServer.act.Goals as goal

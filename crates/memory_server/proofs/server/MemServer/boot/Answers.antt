@@ -1,10 +1,10 @@
 -- A boot, whose step is called by what the devices tell.
 use Rattle.std.proofs.Common.{ap, ◌∙◌, arith}
-use Rattle.petal_rules.specs.declared.step.Step.TheVariants.{Boot}
-use Rattle.world_desks.specs.Desks.{acted_at}
+use Rattle.spec_rules.specs.declared.step.Step.TheVariants.{Boot}
+use Rattle.server_host.specs.Desks.{acted_at}
 use Rattle.memory_server.proofs.Ends.{boot_left, boot_told}
 use Rattle.memory_server.proofs.Plans.{boot_plans}
-use Rattle.server_recovery.specs.Server.{left_at, whole_after, whole_of}
+use Rattle.memory_server.specs.Server.{left_at, whole_after, whole_of}
 use Rattle.memory_server.proofs.server.MemServer.boot.Goals as goal
 
 pub returns-clause-site : goal.returns-clause-site

@@ -3,8 +3,8 @@ use Rattle.std.proofs.Common.{ap}
 use Rattle.petal_disk.specs.declared.memory_disk.MemDisk.{MemDisk}
 use Rattle.petal_disk.specs.declared.planned.Planned.{Planned}
 use Rattle.server_store.specs.Holdings.{Holdings}
-use Rattle.server_recovery.specs.Core.{Core}
-use Rattle.server_recovery.proofs.Blank.{blank}
+use Rattle.server_core.specs.Core.{Core}
+use Rattle.pair_memory.proofs.Blank.{blank}
 use Rattle.memory_server.proofs.server.MemServer.start.Goals as goal
 
 pub invariant_of-result : goal.invariant_of-result

@@ -1,6 +1,6 @@
 use Rattle.std.proofs.Common.{ap}
 use Rattle.kept_chains.specs.Kept.{store_of}
-use Rattle.petal_rules.specs.Jobs.{Acted}
+use Rattle.spec_rules.specs.Jobs.{Acted}
 use Rattle.memory_server.proofs.server.MemServer.stop.Goals as goal
 
 pub returns-clause-letters : goal.returns-clause-letters

@@ -1,7 +1,7 @@
 use Rattle.std.proofs.Common.{ap, ◌∙◌}
-use Rattle.server_recovery.specs.Server.{whole_after}
-use Rattle.petal_rules.specs.declared.step.Step.TheVariants.{Tick}
-use Rattle.world_desks.specs.Desks.{Site}
+use Rattle.memory_server.specs.Server.{whole_after}
+use Rattle.spec_rules.specs.declared.step.Step.TheVariants.{Tick}
+use Rattle.server_host.specs.Desks.{Site}
 use Rattle.memory_server.proofs.server.MemServer.tick.Goals as goal
 
 pub returns-in-Ok-tick_once-clause-site : goal.returns-in-Ok-tick_once-clause-site

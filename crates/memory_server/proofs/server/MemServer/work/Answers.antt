@@ -2,7 +2,7 @@
 use Rattle.std.proofs.Common.{sym, ◌∙◌, arith}
 use Rattle.memory_server.proofs.Ends.{job_fault, job_left, job_sends, job_told}
 use Rattle.memory_server.proofs.Plans.{flags_apart, job_plans}
-use Rattle.server_recovery.specs.Server.{whole_of}
+use Rattle.memory_server.specs.Server.{whole_of}
 use Rattle.memory_server.proofs.server.MemServer.work.Goals as goal
 
 pub returns-clause-site : goal.returns-clause-site

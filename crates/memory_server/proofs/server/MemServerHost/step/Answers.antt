@@ -1,8 +1,8 @@
 -- What a server sends, and what is left of it.
 use Rattle.std.proofs.Common.{sym, ◌∙◌}
-use Rattle.server_recovery.proofs.Steps.{of_each}
-use Rattle.server_recovery.specs.Server.{whole_of}
-use Rattle.server_recovery.proofs.Seen.{ended_after, ended_letters}
+use Rattle.server_core.proofs.Steps.{of_each}
+use Rattle.memory_server.specs.Server.{whole_of}
+use Rattle.memory_server.proofs.Seen.{ended_after, ended_letters}
 use Rattle.memory_server.proofs.server.MemServerHost.step.Goals as goal
 
 pub returns-clause-site : goal.returns-clause-site

@@ -1,8 +1,8 @@
 use Rattle.std.proofs.Common.{◌∙◌, ap}
 use Rattle.petal_table.specs.Table.{without}
 use Rattle.petal_table.proofs.Rows.{remove_is_without}
-use Rattle.petal_rules.specs.Store.{cell_cmp}
-use Rattle.petal_rules.proofs.CellTables.{cell_cmp_total}
+use Rattle.spec_rules.specs.Store.{cell_cmp}
+use Rattle.spec_rules.proofs.CellTables.{cell_cmp_total}
 use Rattle.pair_lock.proofs.Pairs.{kept_by_remove, own_cell}
 use Rattle.pair_lock.proofs.lock.PairLock.close.Goals as goal
 

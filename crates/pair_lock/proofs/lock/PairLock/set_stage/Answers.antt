@@ -1,7 +1,7 @@
 use Rattle.std.proofs.Common.{refl, sym, ◌∙◌, ap}
 use Rattle.petal_table.specs.Table.{at}
 use Rattle.pair_lock.specs.Pairs.{at_stage, staged}
-use Rattle.petal_rules.specs.Store.{cell_cmp}
+use Rattle.spec_rules.specs.Store.{cell_cmp}
 use Rattle.pair_lock.proofs.Pairs.{kept_by_set, set_is_staged}
 use Rattle.pair_lock.proofs.lock.PairLock.set_stage.Goals as goal
 

@@ -1,6 +1,6 @@
 -- The first of the steps that are left is this one, or another.
 use Rattle.std.proofs.Common.{◌≡◌, Some, ap, ◌∙◌}
-use Rattle.petal_history.specs.Controls.{Errand, due}
+use Rattle.spec_history.specs.Controls.{Errand, due}
 use Rattle.petal_world.specs.Errands.{first_step, given_of, steps_left}
 use Rattle.petal_world.proofs.Errands.{is_next_by}
 use Rattle.petal_world.proofs.errand.Errand.is_next.Goals as goal

@@ -1,6 +1,6 @@
 -- What is kept is a legal history where no step was free.
 use Rattle.std.proofs.Common.{◌≡◌, false, subst}
-use Rattle.petal_history.specs.Legal.{IsLegal}
+use Rattle.spec_history.specs.Legal.{IsLegal}
 use Rattle.petal_world.specs.Play.{Play}
 use Rattle.petal_world.proofs.Playing.{legal_of}
 use Rattle.petal_world.proofs.world.World.records.Goals as goal

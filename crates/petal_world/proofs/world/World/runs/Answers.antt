@@ -1,8 +1,8 @@
 -- A revision is that of a server that runs.
 use Rattle.std.proofs.Common.{◌≡◌, false, subst}
 use Rattle.petal_msg.specs.declared.letter.Actor.{Actor}
-use Rattle.petal_rules.specs.World.{MayActor, MayStep, setting_of}
-use Rattle.petal_rules.specs.declared.step.Step.{Step}
+use Rattle.spec_rules.specs.World.{MayActor, MayStep, setting_of}
+use Rattle.spec_rules.specs.declared.step.Step.{Step}
 use Rattle.petal_world.specs.Errands.{Runs}
 use Rattle.petal_world.specs.Play.{Play, world_of}
 use Rattle.petal_world.proofs.Errands.{runs_by}

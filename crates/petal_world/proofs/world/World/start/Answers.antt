@@ -1,10 +1,10 @@
 -- What is kept at the start is that of the world without steps.
 use Rattle.std.proofs.Common.{false, List, [], sym, subst}
 use Rattle.script_lines.specs.declared.request.Line.{Line}
-use Rattle.petal_history.specs.declared.record.Record.{Record}
+use Rattle.spec_history.specs.declared.record.Record.{Record}
 use Rattle.petal_world.specs.Play.{IsKept}
-use Rattle.world_actors.specs.Actors.{Actors}
-use Rattle.world_desks.specs.Waiting.{Await}
+use Rattle.petal_world.specs.Actors.{Actors}
+use Rattle.server_host.specs.Waiting.{Await}
 use Rattle.petal_world.proofs.Starting.{start_kept}
 use Rattle.petal_world.proofs.world.World.start.Goals as goal
 

@@ -1,6 +1,6 @@
 -- A step that the rules allow is taken, and may be free.
 use Rattle.std.proofs.Common.{subst}
-use Rattle.petal_rules.specs.World.{MayStep, setting_of}
+use Rattle.spec_rules.specs.World.{MayStep, setting_of}
 use Rattle.petal_world.specs.Play.{Play, world_of}
 use Rattle.petal_world.proofs.Playing.{kept_free}
 use Rattle.petal_world.proofs.world.World.step_freely.Goals as goal

@@ -1,10 +1,10 @@
 -- An allowed step is taken, and its record is kept.
 use Rattle.std.proofs.Common.{◌≡◌, false, sym, subst, ◌∙◌}
 use Rattle.std.specs.Prelude.{option_copied}
-use Rattle.petal_rules.specs.Jobs.{operator}
-use Rattle.petal_rules.specs.World.{MayStep, next_line, setting_of}
-use Rattle.petal_history.specs.Controls.{Obeys}
-use Rattle.world_desks.specs.Desks.{ended}
+use Rattle.spec_rules.specs.Jobs.{operator}
+use Rattle.spec_rules.specs.World.{MayStep, next_line, setting_of}
+use Rattle.spec_history.specs.Controls.{Obeys}
+use Rattle.server_host.specs.Desks.{ended}
 use Rattle.petal_world.specs.Errands.{Runs}
 use Rattle.petal_world.specs.Play.{Play, errand_in, played, told_by, world_of}
 use Rattle.petal_world.proofs.Errands.{errand_by}

@@ -1,6 +1,6 @@
 use Rattle.std.proofs.Common.{◌≡◌, drop}
 use Rattle.std.specs.List.{fold}
-use Rattle.petal_history.specs.Text.{answers_of, with_given}
+use Rattle.spec_history.specs.Text.{answers_of, with_given}
 use Rattle.plain_schedule.proofs.answers.Answers.of_records.Given as goal
 
 -- the answers so far, with those of the records that are left, are those of all records

@@ -4,9 +4,9 @@ use Rattle.std.proofs.lemmas.Option.{slice_get_read}
 use Rattle.std.specs.Prelude.{slice_get}
 use Rattle.script_lines.specs.declared.request.Line.{Line}
 use Rattle.script_lines.specs.declared.script.Script.{Script}
-use Rattle.petal_history.specs.Text.{answers_of}
+use Rattle.spec_history.specs.Text.{answers_of}
 use Rattle.plain_schedule.specs.Phases.{Progress}
-use Rattle.petal_history.specs.Order.{all_answered}
+use Rattle.spec_history.specs.Order.{all_answered}
 use Rattle.plain_schedule.proofs.Ended.{all_lines, line_to_play}
 use Rattle.plain_schedule.proofs.playing.Playing.next_phase.Goals as goal
 

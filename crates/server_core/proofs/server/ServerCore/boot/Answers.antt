@@ -1,7 +1,7 @@
 -- A server that was stopped runs, or the state device refused its incarnation.
 use Rattle.std.proofs.Common.{◌<◌, ◌∙◌, arith}
-use Rattle.petal_paxos.specs.Kept.{inc_of}
-use Rattle.petal_rules.specs.World.{greatest_u32}
+use Rattle.spec_paxos.specs.Kept.{inc_of}
+use Rattle.spec_rules.specs.World.{greatest_u32}
 use Rattle.server_core.proofs.Boots.{booted_done, raised_as}
 use Rattle.server_core.proofs.server.ServerCore.boot.Goals as goal
 

@@ -1,5 +1,5 @@
 use Rattle.std.proofs.Common.{ap, ◌∙◌}
-use Rattle.server_ticks.specs.Core.{Core, acted}
+use Rattle.server_core.specs.Core.{Core, acted}
 use Rattle.server_core.proofs.Stops.{stopped_with}
 use Rattle.server_core.proofs.server.ServerCore.stop.Goals as goal
 

@@ -1,8 +1,8 @@
 use Rattle.std.proofs.Common.{ap, refl, ◌∙◌}
 use Rattle.kept_chains.specs.Kept.{store_of}
-use Rattle.petal_rules.specs.Jobs.{tick_jobs}
-use Rattle.server_ticks.specs.Core.{acted, here_in, server_of}
-use Rattle.server_ticks.proofs.Ticking.{ticked}
+use Rattle.spec_rules.specs.Jobs.{tick_jobs}
+use Rattle.server_core.specs.Core.{acted, here_in, server_of}
+use Rattle.server_core.proofs.Ticking.{ticked}
 use Rattle.server_store.specs.Holdings.{Holdings}
 use Rattle.server_core.proofs.server.ServerCore.tick.Goals as goal
 

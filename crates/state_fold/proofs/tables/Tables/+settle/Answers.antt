@@ -1,6 +1,6 @@
 use Rattle.std.proofs.Common.{◌≡◌, ◌<◌, Some, arith, ap, length, subst, sym, ◌∙◌}
 use Rattle.global_tables.specs.View.{ready}
-use Rattle.petal_state.specs.State.{State}
+use Rattle.spec_state.specs.State.{State}
 use Rattle.state_fold.specs.Room.{HasRoom}
 use Rattle.state_fold.proofs.Rooms.{epochs_fit, room_after, shorter_after}
 use Rattle.state_fold.proofs.tables.Tables.+settle.Goals as goal

@@ -1,7 +1,7 @@
 use Rattle.std.proofs.Common.{◌≡◌, ◌<◌, Some, subst, sym}
 use Rattle.global_tables.specs.declared.disk.DiskRow.{DiskRow}
 use Rattle.global_tables.specs.Disk.{disk_at}
-use Rattle.petal_state.specs.State.{State}
+use Rattle.spec_state.specs.State.{State}
 use Rattle.state_fold.proofs.tables.Tables.effect.Goals as goal
 
 pub freeze-requires : goal.freeze-requires

@@ -1,5 +1,5 @@
 use Rattle.std.proofs.Common.{◌≡◌, ap, subst, sym, ◌∙◌}
-use Rattle.petal_state.specs.Command.{act}
+use Rattle.spec_state.specs.Command.{act}
 use Rattle.state_fold.specs.Room.{HasRoom}
 use Rattle.state_fold.proofs.Rooms.{act_room}
 use Rattle.state_fold.proofs.tables.Tables.next.Goals as goal

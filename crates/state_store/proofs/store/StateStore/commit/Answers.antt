@@ -1,10 +1,10 @@
 use Rattle.std.proofs.Common.{◌≡◌, ◌++◌, ◌∷◌, [], List, inl, inr, ap, refl, subst, ◌∙◌}
 use Rattle.petal_disk.specs.Disk.{LeavesOnly}
-use Rattle.petal_paxos.proofs.Committed.{commits_is}
-use Rattle.petal_paxos.specs.declared.record.StateRecord.{StateRecord}
+use Rattle.spec_paxos.proofs.Committed.{commits_is}
+use Rattle.spec_paxos.specs.declared.record.StateRecord.{StateRecord}
 use Rattle.state_store.specs.Device.{Keeping, StandsForEither}
-use Rattle.petal_paxos.specs.Kept.{row_of}
-use Rattle.state_record.specs.Rows.{row_at}
+use Rattle.spec_paxos.specs.Kept.{row_of}
+use Rattle.state_store.specs.Rows.{row_at}
 use Rattle.state_store.proofs.Adds.{still_nothing, adds_something, on_ok, one_more}
 use Rattle.state_store.proofs.store.StateStore.commit.Goals as goal
 

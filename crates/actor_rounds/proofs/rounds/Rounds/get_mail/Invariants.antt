@@ -1,5 +1,0 @@
-use Rattle.actor_rounds.specs.Going.{WentOn}
-use Rattle.actor_rounds.proofs.rounds.Rounds.get_mail.Given as goal
-
-abbrev pub invariant-loop : goal.invariant-loop
-invariant-loop g l = WentOn l.fn.self.world l.self.world

@@ -1,5 +1,0 @@
-use Rattle.actor_rounds.specs.Going.{WentOn}
-use Rattle.actor_rounds.proofs.rounds.Rounds.glance_at_all.Given as goal
-
-abbrev pub invariant-loop-server : goal.invariant-loop-server
-invariant-loop-server g l = WentOn l.fn.self.world l.self.world

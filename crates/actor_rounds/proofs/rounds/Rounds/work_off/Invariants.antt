@@ -1,7 +1,0 @@
-use Rattle.actor_rounds.specs.Going.{WentOn}
-use Rattle.actor_rounds.proofs.rounds.Rounds.work_off.Given as goal
-
-abbrev pub invariant-loop : goal.invariant-loop
-invariant-loop g l =
-    (goal.iterator-loop g).can_next l.iterator' × (goal.iterator-loop g).is_finite l.iterator'
-    × WentOn l.fn.self.world l.self.world

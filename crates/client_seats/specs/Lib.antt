@@ -1,2 +1,0 @@
-pub mod Seats
-pub use Rattle.client_core.specs.Core

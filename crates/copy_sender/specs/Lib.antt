@@ -1,2 +1,0 @@
-pub mod Stages
-pub use Rattle.link_blocks.specs.Walks

@@ -1,0 +1,26 @@
+-- What becomes of entries where they are copied to.
+use Rattle.std.specs.Prelude.{ℕ, ◌+◌, [], ◌∷◌}
+use Rattle.petal_base.specs.declared.cell.Cell.{Cell}
+use Rattle.petal_base.specs.Cells.{key_at}
+use Rattle.petal_msg.specs.declared.copying.LastCopy.{LastCopy}
+use Rattle.spec_rules.specs.Copies as rules
+use Rattle.spec_rules.specs.Server.{Done, Own}
+use Rattle.spec_rules.specs.Store.{without_entry}
+use Rattle.spec_rules.specs.declared.job.Job.TheVariants as job
+use Rattle.copy_transfer.specs.declared.sync.CopiedEntry.{CopiedEntry}
+
+-- an entry of the holder's, as the rules have it
+abbrev pub entry_of : CopiedEntry → rules.Entry
+entry_of entry = record { op = entry.op; key = entry.key; index = entry.index; stored = record { version = entry.version; bytes = entry.bytes.now } }
+
+-- an entry of the cell is dropped, and the next one follows as a job of its own
+abbrev pub dropped : Own → Cell → ℕ → Done
+dropped own cell epoch = record {
+  own = record own { store = without_entry own.store (key_at cell epoch) };
+  posts = [];
+  jobs = job.Stage cell ∷ [];
+}
+
+-- the copy with one entry more that is put
+abbrev pub one_more : LastCopy → LastCopy
+one_more last = record last { index = last.index + 1 }

@@ -1,0 +1,164 @@
+//! The other server of a link: it puts the holder's entries.
+
+ghost use Rattle.std.specs.Prelude.{◌≡◌, nat_lt, IfOk, IsSome, Some, option_map};
+ghost use Rattle.petal_base.specs.Cells.{cell_of};
+ghost use Rattle.petal_table.specs.Table.{at};
+ghost use Rattle.petal_msg.specs.declared.copying.LastCopy.{LastCopy as Last};
+ghost use Rattle.petal_msg.specs.declared.body.Body.TheVariants as body;
+ghost use Rattle.spec_rules.specs.Copies as copies;
+ghost use Rattle.spec_rules.specs.Server as rules;
+ghost use Rattle.spec_rules.specs.Store.{cell_cmp, free_of};
+ghost use Rattle.kept_chains.specs.Kept.{store_of};
+ghost use Rattle.pair_memory.specs.Side.{own_of, HasTicketsAt};
+ghost use Rattle.pair_memory.specs.Done.{IsDone, IsSaid};
+ghost use Rattle.copy_transfer.specs.Entries.{entry_of, one_more};
+
+use link_blocks::holder_on;
+use pair_memory::{Done, Here, Side, WorkError, only, put_new, says_to, silent};
+use petal_base::{Cell, Key, NoMemory, Op, ServerId, SharedBlock, Version};
+use petal_disk::Disk;
+use petal_msg::{Body, LastCopy};
+use server_store::Store;
+
+/// An entry of the holder's, as its letter has it.
+#[derive(Drop)]
+pub struct CopiedEntry<'a> {
+    /// The number of the copy.
+    pub op: Op,
+    /// Where it is to be put.
+    pub key: Key,
+    /// Its place in the holder's chain.
+    pub index: u32,
+    pub version: Version,
+    pub bytes: &'a SharedBlock,
+}
+
+/// The holder is told that the entry is put.
+fn says_synced<D: Disk>(
+    here: &Here,
+    side: &Side,
+    store: &Store<D>,
+    entry: &CopiedEntry,
+    holder: ServerId,
+) -> Result<Done, WorkError>
+    requires { HasTicketsAt side.now store.now }
+    ensures { IsSaid here.now side.now side.now store.now store.now result
+        (rules.says_to (own_of side.now store.now) (Some holder) (body.Synced entry.now.op (cell_of entry.now.key) entry.now.index)) }
+{
+    let body = Body::Synced {
+        op: entry.op,
+        cell: entry.key.cell(),
+        index: entry.index,
+    };
+    says_to(here, side, store, Some(holder), body)
+}
+
+/// The copy with one entry more that is put.
+fn advanced(last: &LastCopy) -> Result<LastCopy, NoMemory>
+    ensures { IfOk result (λ next. next ≡ one_more last.now) }
+{
+    Ok(LastCopy {
+        op: last.op,
+        epochs: last.epochs.clone()?,
+        index: last.index.checked_add(1).ok_or(NoMemory)?,
+    })
+}
+
+/// The entry is put in a free slot, and the copy is as far as this.
+fn puts<D: Disk>(
+    here: &Here,
+    side: &mut Side,
+    store: &mut Store<D>,
+    entry: &CopiedEntry,
+    holder: ServerId,
+    next: LastCopy,
+) -> Result<Done, WorkError>
+    requires tickets { HasTicketsAt side.old store.old }
+    requires there { IsSome (at cell_cmp side.old.copies.last (cell_of entry.now.key)) }
+    ensures { (last : Last) → next ≡ one_more last → IsDone D.Disk here.now side.old side.new store.old store.new result
+        (copies.puts_entry (own_of side.old store.old) (entry_of entry.now) last holder (nat_lt 0 (free_of (store_of store.old)))) }
+{
+    let cell = entry.key.cell();
+    let body = Body::Synced {
+        op: entry.op,
+        cell,
+        index: entry.index,
+    };
+    let letters = here.says_to(Some(holder), body)?;
+    if put_new(store, entry.key, entry.version, entry.bytes)? {
+        side.copies.replace_last_copy(cell, next);
+        return Ok(only(letters));
+    }
+    let body = Body::SyncFull { op: entry.op, cell };
+    says_to(here, side, store, Some(holder), body)
+}
+
+/// The next entry is put, and one that is put already is answered again.
+fn hears_entry<D: Disk>(
+    here: &Here,
+    side: &mut Side,
+    store: &mut Store<D>,
+    entry: &CopiedEntry,
+    holder: ServerId,
+    index: u32,
+) -> Result<Done, WorkError>
+    requires { HasTicketsAt side.old store.old }
+    ensures { (last : Last) → at cell_cmp side.old.copies.last (cell_of entry.now.key) ≡ Some last → last.index ≡ index
+        → IsDone D.Disk here.now side.old side.new store.old store.new result
+        (copies.hears_entry (own_of side.old store.old) (entry_of entry.now) holder last) }
+{
+    if entry.index < index {
+        return says_synced(here, side, store, entry, holder);
+    }
+    if entry.index != index {
+        return silent(here, side, store);
+    }
+    match next_copy(side, entry.key.cell())? {
+        Some(next) => puts(here, side, store, entry, holder, next),
+        None => silent(here, side, store),
+    }
+}
+
+/// The last copy of the cell with one entry more that is put.
+fn next_copy(side: &Side, cell: Cell) -> Result<Option<LastCopy>, NoMemory>
+    ensures { IfOk result (λ next. next ≡ option_map one_more (at cell_cmp side.now.copies.last cell)) }
+{
+    match side.copies.last_copy(cell) {
+        Some(last) => Ok(Some(advanced(last)?)),
+        None => Ok(None),
+    }
+}
+
+/// The number of the last copy of the cell to this server, and how many of its entries are put.
+fn last_place(side: &Side, cell: Cell) -> Option<(Op, u32)>
+    ensures { result ≡ option_map (λ last. (last.op, last.index)) (at cell_cmp side.now.copies.last cell) }
+{
+    match side.copies.last_copy(cell) {
+        Some(last) => Some((last.op, last.index)),
+        None => None,
+    }
+}
+
+/// An entry of the copy that trimmed the cell last is put as the holder has it, in a free slot.
+///
+/// # Errors
+/// As of [`trims_on`](crate::follow::trims_on).
+#[tactic(auto, unfolding(spec_rules::specs::Copies::on_sync))]
+pub fn on_sync<D: Disk>(
+    here: &Here,
+    side: &mut Side,
+    store: &mut Store<D>,
+    entry: &CopiedEntry,
+) -> Result<Done, WorkError>
+    requires { HasTicketsAt side.old store.old }
+    ensures { IsDone D.Disk here.now side.old side.new store.old store.new result
+        (copies.on_sync here.now (own_of side.old store.old) (entry_of entry.now)) }
+{
+    let cell = entry.key.cell();
+    match (holder_on(here, cell), last_place(side, cell)) {
+        (Some(holder), Some((op, index))) if op == entry.op => {
+            hears_entry(here, side, store, entry, holder, index)
+        }
+        _ => silent(here, side, store),
+    }
+}

@@ -1,5 +1,0 @@
-use Rattle.std.proofs.Common.{inl, arith}
-use Rattle.disk_rows.proofs.entries.put.Goals as goal
-
-pub put-requires : goal.put-requires
-put-requires c = inl (omega (arith, c.in_ok-reserve.ensures.room))

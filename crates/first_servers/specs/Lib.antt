@@ -1,2 +1,0 @@
-pub mod Members
-pub use Rattle.memory_server.specs.Server

@@ -1,8 +1,0 @@
--- Servers of a run that begins.
-use Rattle.std.specs.Prelude.{ℕ, true}
-use Rattle.petal_rules.specs.Server.{first_server}
-use Rattle.world_desks.specs.Desks.{Site}
-
--- a server of a run that begins, among so many
-abbrev pub first_site : (servers slots : ℕ) → ℕ → Site
-first_site servers slots n = record { me = n; servers = servers; server = first_server true slots }

@@ -1,0 +1,108 @@
+-- What a job of a server says of two matters: nothing of either, or that its letter had another revision; and what a tick says.
+use Rattle.std.proofs.Common.{◌≡◌, ◌≢◌, ◌==◌, ℕ, Bool, true, false, not, Option}
+use Rattle.std.proofs.Common.{Some, None, refl, arith}
+use Rattle.std.proofs.lemmas.Bool.Decides.{nat_tests}
+use Rattle.std.specs.Prelude.{if◌then◌else◌}
+use Rattle.petal_msg.specs.Kinds.{asked_by}
+use Rattle.petal_msg.specs.declared.body.Body.TheVariants as body
+use Rattle.petal_msg.specs.declared.letter.Actor.{Actor}
+use Rattle.petal_msg.specs.declared.letter.Actor.TheVariants as actor
+use Rattle.petal_msg.specs.declared.letter.Letter.{Letter}
+use Rattle.spec_rules.specs.Copies.{mends}
+use Rattle.spec_rules.specs.Sweeping.{sweeps}
+use Rattle.spec_rules.specs.Lists.{In}
+use Rattle.spec_rules.specs.State.{is_in}
+use Rattle.spec_rules.specs.Server.{Server, Own, Here, Done, Post, silent}
+use Rattle.spec_rules.specs.Jobs.{handles, wrong_rev, at_other_rev, is_from_in, does}
+use Rattle.spec_rules.specs.Jobs.{voter_of}
+use Rattle.spec_rules.specs.Jobs.{stages, tick_posts}
+use Rattle.spec_rules.specs.declared.job.Job.{Job}
+use Rattle.spec_rules.specs.declared.job.Job.TheVariants as job
+use Rattle.spec_rules.proofs.Tests.{by_test, not_true}
+use Rattle.law_steps.proofs.Letters.{one_post}
+use Rattle.law_steps.proofs.LogJobs.{ballot_logged, ask_logged}
+use Rattle.law_log.proofs.Copying.{IsCalm, calm_mends}
+use Rattle.law_log.proofs.Filling.{calm_sweeps}
+use Rattle.law_log.proofs.Handling.{calm_handles, calm_stages, calm_where_in, dated_copies_again}
+use Rattle.law_log.proofs.Pairs.{dated_again}
+use Rattle.law_answers.proofs.Mute.{IsMute, AreMute, M, both_mute, calm_mute, dated_mute, logged_mute, none_mute}
+
+module _ (here : Here) where
+  pub tick_mute : (server : Server) → AreMute (tick_posts here server)
+  tick_mute server =
+      both_mute _ _
+      (both_mute _ _
+      (both_mute _ _ (λ post h. logged_mute post.body (ballot_logged (voter_of here) server.log.phase post h))
+      (λ post h. dated_mute post.body (dated_again here server.own server.own.pairs.pending post h)))
+      (λ post h. dated_mute post.body (dated_copies_again here server.own post h)))
+      (λ post h. logged_mute post.body (ask_logged (voter_of here) server.log post h))
+
+  -- a job that tells of another revision
+  pub record IsTold (what : Job) (post : Post) (seq : ℕ) : Type 0 where
+    pub client : ℕ
+    pub asked : Letter
+    pub job_is : what ≡ job.Letter asked
+    pub from_is : asked.from ≡ actor.Client client
+    pub number : asked_by asked.body ≡ Some seq
+    pub itself : is_in here.state here.me here.inc ≡ true
+    pub other : asked.rev ≢ here.state.rev
+    pub told : post.to ≡ actor.Client client
+
+  -- what a job says: nothing of either, or of another revision
+  pub data JobSays (what : Job) (post : Post) : Type 0 where
+    Mute_post : IsMute post.body → JobSays what post
+    Rev_post : (seq : ℕ) → post.body ≡ body.WrongRev seq → IsTold what post seq → JobSays what post
+
+  abbrev W : Job → Done → Type 0
+  W what done = (post : Post) → In post done.posts → JobSays what post
+
+  mute_tells : (what : Job) (done : Done) → M done → W what done
+  mute_tells what done mute post h = Mute_post (mute post h)
+
+  rev_tells : (own : Own) (letter : Letter) (client : ℕ) (o : Option ℕ) → is_in here.state here.me here.inc ≡ true → letter.rev ≢ here.state.rev
+      → letter.from ≡ actor.Client client
+      → asked_by letter.body ≡ o → W (job.Letter letter) (wrong_rev own client o)
+  rev_tells own letter client None itself other from_is number post h = mute_tells (job.Letter letter) (wrong_rev own client None) none_mute post h
+  rev_tells own letter client (Some k) itself other from_is number post h =
+      let one = one_post (actor.Client client) (body.WrongRev k) post h in
+      Rev_post k one.1 (record {
+        client = client;
+        asked = letter;
+        job_is = refl;
+        from_is = from_is;
+        number = number;
+        itself = itself;
+        other = other;
+        told = one.0;
+      })
+
+  other_tells : (own : Own) (letter : Letter) (who : Actor) → is_in here.state here.me here.inc ≡ true → letter.rev ≢ here.state.rev → letter.from ≡ who
+      → W (job.Letter letter) (at_other_rev own letter who)
+  other_tells own letter (actor.Server n) itself other from_is = mute_tells (job.Letter letter) (at_other_rev own letter (actor.Server n)) none_mute
+  other_tells own letter (actor.Client c) itself other from_is = rev_tells own letter c (asked_by letter.body) itself other from_is refl
+
+  differs : (a b : ℕ) → not (a == b) ≡ true → a ≢ b
+  differs a b t = grind (arith, nat_tests, not_true)
+
+  stays_in : (b : Bool) → not b ≡ false → b ≡ true
+  stays_in true t = refl
+  stays_in false t = absurd (cc)
+
+  tells_in : (own : Own) (what : Job) (done : Done) → IsCalm own done → W what (if is_in here.state here.me here.inc then done else silent own)
+  tells_in own what done calm =
+      let found = if is_in here.state here.me here.inc then done else silent own in
+      mute_tells what found (calm_mute own found (calm_where_in here own done calm))
+
+  pub job_tells : (own : Own) (what : Job) → W what (does here own what)
+  unfolding does
+  job_tells own (job.Letter letter) =
+      by_test (W (job.Letter letter)) (not (is_in here.state here.me here.inc)) _ _ (λ t. mute_tells (job.Letter letter) (silent own) none_mute) (λ now.
+      by_test (W (job.Letter letter)) (not (letter.rev == here.state.rev)) _ _
+      (λ t. other_tells own letter letter.from (stays_in (is_in here.state here.me here.inc) now) (differs letter.rev here.state.rev t) refl) (λ t.
+      by_test (W (job.Letter letter)) (not (is_from_in here.state letter.inc letter.from)) _ _ (λ t. mute_tells (job.Letter letter) (silent own) none_mute)
+      (λ t. mute_tells (job.Letter letter) (handles here own letter.body) (calm_mute own (handles here own letter.body) (calm_handles here own letter.body)))))
+  job_tells own (job.Stage cell) = tells_in own (job.Stage cell) (stages here own cell) (calm_stages here own cell)
+  job_tells own (job.Mend id) = tells_in own (job.Mend id) (mends here own id) (calm_mends here own id)
+  job_tells own job.Sweep = tells_in own job.Sweep (sweeps here own) (calm_sweeps here own)
+  job_tells own job.Apply = mute_tells job.Apply (silent own) none_mute
+  job_tells own job.Start = mute_tells job.Start (silent own) none_mute

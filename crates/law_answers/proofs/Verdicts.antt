@@ -1,0 +1,706 @@
+-- Where a plain log gives a client its verdict: by the client's own command, of which the state before its place says what the verdict says;
+-- and a snapshot that waits there is taken once its fence passes.
+use Rattle.std.proofs.Common.{◌≡◌, ◌≢◌, ◌⊎◌, inl, inr, ◌<◌, ◌≤◌, ◌+◌, ℕ, zero, suc, true, false, List, length, take, Option, Some}
+use Rattle.std.proofs.Common.{None, is_some, refl, sym, ap, ◌∙◌, subst, arith}
+use Rattle.std.proofs.lemmas.Bool.{cases_lt}
+use Rattle.std.specs.Option.{option_map_or}
+use Rattle.std.proofs.lemmas.Option.{slice_get_within}
+use Rattle.std.specs.Prelude.{is_none, slice_get, unwrap_or}
+use Rattle.global_tables.specs.Disk.{named, row_frozen, row_moving, same_name, snapshot_named}
+use Rattle.global_tables.specs.View.{following, passed, servers_in}
+use Rattle.global_tables.specs.View.{queued as with_queued}
+use Rattle.global_tables.specs.declared.disk.DiskRow.{DiskRow}
+use Rattle.global_tables.specs.declared.disk.Snapshot.{Snapshot}
+use Rattle.global_tables.specs.declared.disk.Verdict.{Verdict}
+use Rattle.global_tables.specs.declared.disk.Verdict.TheVariants as verdict
+use Rattle.global_tables.specs.declared.fence.Fence.{Fence}
+use Rattle.global_tables.specs.declared.fence.FenceKind.TheVariants.{Region, Whole}
+use Rattle.script_lines.specs.Requests.{is_snap}
+use Rattle.script_lines.specs.declared.answer.Answer.{Answer}
+use Rattle.script_lines.specs.declared.answer.Answer.TheVariants as answer
+use Rattle.script_lines.specs.declared.request.Request.{Request}
+use Rattle.script_lines.specs.declared.request.Request.TheVariants as request
+use Rattle.petal_command.specs.declared.command.Command.{Command}
+use Rattle.petal_command.specs.declared.command.Command.TheVariants.{Caught, Drained, Join, Leave, MakeDisk, Moved, Snap, StartMove, Witness}
+use Rattle.spec_history.specs.Causes.{has_made, is_moving, is_name_taken, lacks_disk}
+use Rattle.spec_state.specs.State.{State, is_up_as, latest, told}
+use Rattle.spec_state.specs.Command.{act, after, is_new, is_taken, may_join, note, state_after, with_disk, with_fence, with_move}
+use Rattle.spec_state.specs.Fence.{effect, settled}
+use Rattle.spec_state.proofs.Passing.{view-effect}
+use Rattle.spec_rules.specs.Clients.{command_of, verdict_answer, verdict_for}
+use Rattle.spec_rules.proofs.Tests.{by_test, none_some, same_some, some_or_none, true_false}
+use Rattle.law_state.specs.Plain.{IsPlainLog}
+use Rattle.law_state.specs.Tables.{IsForRegion, IsForSnapshot, Of_disk, Of_region}
+use Rattle.law_state.proofs.Caughts.{act_caught}
+use Rattle.law_state.proofs.Entries.{acting}
+use Rattle.law_state.proofs.Fences.{Acted, IsRequeued, IsUnsettled, get_after, head_get, ready_by, requeued_awaiting}
+use Rattle.law_state.proofs.Fences.{requeued_itself, requeued_reported}
+use Rattle.law_state.proofs.Passing.{one_passed, passed_here, passing, settled_keeps}
+use Rattle.law_state.proofs.Places.{get_last, get_within, text_itself}
+use Rattle.law_state.proofs.Moves.{IsNoting, act_moved, act_note, act_start}
+use Rattle.law_state.proofs.Rowed.{here_now}
+use Rattle.law_state.proofs.Snaps.{act_drained, act_snap}
+use Rattle.law_answers.specs.Asked.{asker}
+use Rattle.law_answers.proofs.Asked.{asker_of}
+use Rattle.law_answers.proofs.Folds.{told_answers, act_make, judged_last, judged_old, old_now, onward_new, passed_old, passed_or}
+use Rattle.law_answers.proofs.Folds.{passed_stays, settled_old, told_old, told_or, told_stays}
+use Rattle.law_answers.proofs.Wanted.{nobody_told, named_on, last_found, has_kept, made_on, asks_it, request_of, same_whole}
+use Rattle.law_answers.proofs.Wanted.{no_whole, row_known_at, settled_moving, IsMoving}
+use Rattle.law_answers.proofs.Numbers.{at_next, entry_plain, many_at, old_on, own_old, plain_at}
+
+-- ### Along a log
+
+module _ (servers : ℕ) (log : List Command) (plain : IsPlainLog servers log) where
+  -- the state before a place
+  abbrev at : ℕ → State
+  at k = state_after servers (take k log)
+
+  -- ### One request
+
+  module _ (c seq : ℕ) (few : c < 9) (asked : Request)
+      (own : (k : ℕ) (e : Command) → slice_get log k ≡ Some e → asker e ≡ Some (c, seq) → command_of c seq asked ≡ Some e) where
+    -- the request's own command stands at this place, and is new there; what it is answered, the state before says
+    pub record Placed (given : Answer) : Type 0 where
+      pub place : ℕ
+      pub command : Command
+      pub of_it : command_of c seq asked ≡ Some command
+      pub is : slice_get log place ≡ Some command
+      pub new : is_new seq (latest (at place) c) ≡ true
+      pub taken : given ≡ answer.Exists → is_name_taken (at place) asked ≡ true
+      pub unknown : given ≡ answer.NoDisk → lacks_disk (at place) asked ≡ true
+      pub moving : given ≡ answer.Moving → is_moving (at place) asked ≡ true
+      pub still : given ≡ answer.Ok → is_moving (at place) asked ≡ false
+      pub free : given ≡ answer.Ok → is_name_taken (at place) asked ≡ false
+      pub known : given ≡ answer.Ok → lacks_disk (at place) asked ≡ false
+
+    -- what the request is answered so far
+    abbrev says : State → Option Answer
+    says t = verdict_for seq (latest t c)
+
+    -- what it is answered it is answered still, until the client is told of a later command
+    abbrev Stays : (s t : State) → Type 0
+    Stays s t = (given : Answer) → says s ≡ Some given → (says t ≡ Some given) ⊎ (is_new (suc seq) (latest t c) ≡ false)
+
+    -- the fence of this disk and name is for the request's snapshot, of which nothing is said before it is taken
+    pub record Waits (t : State) (disk : ℕ) (name : List ℕ) : Type 0 where
+      pub placed : Placed answer.Ok
+      pub of : List ℕ
+      pub asks : asked ≡ request.Snap of name
+      pub row : DiskRow
+      pub found : named t.disks.rows of ≡ Some row
+      pub id : row.id ≡ disk
+      pub old : is_new seq (latest t c) ≡ false
+      pub quiet : (given : Answer) → says t ≡ Some given → given ≡ answer.Ok
+
+    -- what is answered was placed, and what it asked for is there; and so waits each fence of this client and number
+    pub record Has (t : State) : Type 0 where
+      pub told : (given : Answer) → says t ≡ Some given → Placed given × (given ≡ answer.Ok → has_kept t asked ≡ true)
+      pub waits : (i : ℕ) (fence : Fence) (disk : ℕ) (name : List ℕ) → slice_get t.view.queue i ≡ Some fence → fence.kind ≡ Whole disk name c seq
+          → Waits t disk name
+
+    -- what a step tells of the request: what was told before; or that its command, which was new, stands there, or that its snapshot is taken
+    abbrev OldOrTold : (s t : State) → Answer → Type 0
+    OldOrTold s t given =
+        (says s ≡ Some given)
+        ⊎ Placed given × (given ≡ answer.Ok → has_kept t asked ≡ true) × ((is_new seq (latest s c) ≡ true) ⊎ (given ≡ answer.Ok))
+
+    record Tells (s t : State) : Type 0 where
+      tells : (given : Answer) → says t ≡ Some given → OldOrTold s t given
+      old : is_new seq (latest s c) ≡ false → is_new seq (latest t c) ≡ false
+      stays : Stays s t
+
+    waits_on : (s t : State) → IsUnsettled servers s → Acted servers s t → Tells s t → (disk : ℕ) (name : List ℕ) → Waits s disk name → Waits t disk name
+    waits_on s t p acted tells disk name w =
+        let later = named_on servers s t p acted.plain acted.grown w.of w.row w.found in
+        record {
+          placed = w.placed;
+          of = w.of;
+          asks = w.asks;
+          row = later.0;
+          found = later.1;
+          id = later.2.id ∙ w.id;
+          old = tells.old w.old;
+          quiet = λ given e. elim (tells.tells given e) [
+            | inl before ↦ w.quiet given before
+            | inr told ↦ elim told.2 [ inl new ↦ true_false new w.old | inr ok ↦ ok ]
+          ];
+        }
+
+    -- a fence that stood before, or waits for the request's snapshot
+    abbrev OldOrWaits : (s t : State) → Fence → Type 0
+    OldOrWaits s t fence =
+        ((i : ℕ) × (before : Fence) × (slice_get s.view.queue i ≡ Some before) × (fence.kind ≡ before.kind))
+        ⊎ ((disk : ℕ) (name : List ℕ) → fence.kind ≡ Whole disk name c seq → Waits t disk name)
+
+    has_next : (s t : State) → IsUnsettled servers s → Has s → Acted servers s t → Tells s t
+        → ((i : ℕ) (fence : Fence) → slice_get t.view.queue i ≡ Some fence → OldOrWaits s t fence) → Has t × Stays s t
+    has_next s t p h acted tells queue = (
+      record {
+        told = λ given e. elim (tells.tells given e) [
+          | inl old ↦ (let was = h.told given old in (was.0, λ ok. made_on servers s t p acted.plain acted.grown asked (was.1 ok)))
+          | inr new ↦ (new.0, new.1)
+        ];
+        waits = λ i fence disk name e kind. elim (queue i fence e) [
+          | inl old ↦ waits_on s t p acted tells disk name (h.waits old.0 old.1 disk name old.2 (sym old.3 ∙ kind))
+          | inr new ↦ new disk name kind
+        ];
+      },
+      tells.stays,
+    )
+
+    old_queue : (s t : State) → IsRequeued s.view.queue t.view.queue → (i : ℕ) (fence : Fence) → slice_get t.view.queue i ≡ Some fence → OldOrWaits s t fence
+    old_queue s t was i fence e = let before = was i fence e in inl (i, before.0, before.1, before.2)
+
+    -- a step that tells no client anything
+    has_still : (s t : State) → IsUnsettled servers s → Has s → IsRequeued s.view.queue t.view.queue → latest t c ≡ latest s c → Acted servers s t
+        → Has t × Stays s t
+    has_still s t p h queue same acted =
+        has_next s t p h acted
+        (record {
+          tells = λ given e. inl (ap (verdict_for seq) (sym same) ∙ e);
+          old = λ old. ap (is_new seq) same ∙ old;
+          stays = λ given e. inl (ap (verdict_for seq) same ∙ e);
+        }) (old_queue s t queue)
+
+    -- ### A fence that passes
+
+    passing_made : (s : State) (p : IsUnsettled servers s) (fence : Fence) (first : slice_get s.view.queue 0 ≡ Some fence)
+        → (active : IsForSnapshot s fence) → Waits s active.disk active.name → has_kept (one_passed s fence) asked ≡ true
+    passing_made s p fence first active w =
+        let t = one_passed s fence in
+        let acted = passing servers s p fence first in
+        let later = named_on servers s t p acted.plain acted.grown w.of w.row w.found in
+        let now : later.0 ≡ row_frozen active.name active.row =
+        same_some (sym later.3 ∙ ap (slice_get t.disks.rows) w.id ∙ passed_here servers s p fence first active) in
+        ap (has_kept t) w.asks ∙ ap (λ o. option_map_or (λ (row : DiskRow). is_some (snapshot_named row.snaps active.name)) o false) later.1
+        ∙ ap (λ (row : DiskRow). is_some (snapshot_named row.snaps active.name)) now
+        ∙ last_found (λ (x : Snapshot). same_name x.name active.name) active.row.snaps (record { name = active.name; epoch = active.row.epoch })
+        (text_itself active.name)
+
+    -- the fences after it stood before
+    queue_after : (s : State) (fence : Fence) (i : ℕ) (other : Fence) → slice_get (one_passed s fence).view.queue i ≡ Some other
+        → OldOrWaits s (one_passed s fence) other
+    queue_after s fence i other e =
+        let there : slice_get (following (servers_in s.view.members) s.view.queue) i ≡ Some other =
+        sym (ap (λ (v : Rattle.global_tables.specs.View.View). slice_get v.queue i) (view-effect fence.kind _)) ∙ e in
+        let before = get_after (servers_in s.view.members) s.view.queue i other there in
+        inl (suc i, before.0, before.1, before.2)
+
+    -- one for a region tells nobody
+    region_passes : (s : State) → IsUnsettled servers s → Has s → (fence : Fence) → slice_get s.view.queue 0 ≡ Some fence → IsForRegion s fence
+        → IsUnsettled servers (one_passed s fence) × Has (one_passed s fence) × Stays s (one_passed s fence)
+    region_passes s p h fence first active =
+        let t = one_passed s fence in
+        let acted = passing servers s p fence first in
+        let same : latest t c ≡ latest s c = ap (λ kind. latest (effect kind (record s { view = passed s.view })) c) active.kind in
+        let next = has_next s t p h acted
+        (record {
+          tells = λ given e. inl (ap (verdict_for seq) (sym same) ∙ e);
+          old = λ old. ap (is_new seq) same ∙ old;
+          stays = λ given e. inl (ap (verdict_for seq) same ∙ e);
+        }) (queue_after s fence) in
+        (acted.plain, next.0, next.1)
+
+    disk_passes : (s : State) → IsUnsettled servers s → Has s → (fence : Fence) → slice_get s.view.queue 0 ≡ Some fence → IsForSnapshot s fence
+        → IsUnsettled servers (one_passed s fence) × Has (one_passed s fence) × Stays s (one_passed s fence)
+    disk_passes s p h fence first active =
+        let t = one_passed s fence in
+        let acted = passing servers s p fence first in
+        let waiting = λ (same : active.client ≡ c) (number : active.seq ≡ seq). h.waits 0 fence active.disk active.name first
+        (active.kind ∙ (λ i. Whole active.disk active.name (same i) (number i))) in
+        let next = has_next s t p h acted
+        (record {
+          tells = λ given e. elim (passed_or s fence active.disk active.name active.client c active.seq seq given active.kind e) [
+            | inl old ↦ inl old
+            | inr hit ↦
+                let w = waiting hit.0 hit.1 in
+                inr (subst Placed (same_some hit.2) w.placed, λ ok. passing_made s p fence first active w, inr (sym (same_some hit.2)))
+          ];
+          old = passed_old s fence c seq;
+          stays = λ given e. inl (passed_stays s fence active.disk active.name active.client c active.seq seq given active.kind
+              (λ same number. (waiting same number).quiet given e) e);
+        })
+        (queue_after s fence) in
+        (acted.plain, next.0, next.1)
+
+    passes_by : (s : State) → IsUnsettled servers s → Has s → (fence : Fence) → slice_get s.view.queue 0 ≡ Some fence
+        → IsUnsettled servers (one_passed s fence) × Has (one_passed s fence) × Stays s (one_passed s fence)
+    passes_by s p h fence first = elim (p.fences.each 0 fence first) [
+      | Of_disk active ↦ disk_passes s p h fence first active
+      | Of_region active ↦ region_passes s p h fence first active
+    ]
+
+    stays_then : (s t u : State) → Stays s t → Stays t u → (is_new (suc seq) (latest t c) ≡ false → is_new (suc seq) (latest u c) ≡ false) → Stays s u
+    stays_then s t u first second gone given e = elim (first given e) [ inl still ↦ second given still | inr later ↦ inr (gone later) ]
+
+    settles : (s : State) → IsUnsettled servers s → Has s → Has (settled s) × Stays s (settled s)
+    settles s p h =
+        let all = settled_keeps (λ t. IsUnsettled servers t × Has t × Stays s t)
+        (λ t fence ready now.
+        let passed = passes_by t now.0 now.1 fence (head_get t.view.queue fence (ready_by t.view.queue fence ready).first) in
+        (passed.0, passed.1, stays_then s t (one_passed t fence) now.2 passed.2 (passed_old t fence c (suc seq)))) s
+        (p, h, λ given e. inl e) in
+        (all.1, all.2)
+
+    -- ### The command of an entry
+
+    module _ (k : ℕ) (low : k ≤ length log) (h : Has (at k)) where
+      abbrev s : State
+      s = at k
+
+      p : IsUnsettled servers s
+      p = (plain_at servers log plain k).unsettled
+
+      still : (t : State) → IsRequeued s.view.queue t.view.queue → latest t c ≡ latest s c → Acted servers s t → Has t × Stays s t
+      still t queue same acted = has_still s t p h queue same acted
+
+      unmoved : Has s × Stays s s
+      unmoved = (h, λ given e. inl e)
+
+      new_at : (d q : ℕ) → d ≡ c → q ≡ seq → is_new q (latest s d) ≡ true → is_new seq (latest s c) ≡ true
+      new_at d q one two new = (λ i. is_new (sym two i) (latest s (sym one i))) ∙ new
+
+      -- what a new command tells
+      telling : (u : State) (d q : ℕ) (v : Verdict) → u.verdicts ≡ s.verdicts → is_new q (latest s d) ≡ true
+          → (d ≡ c → q ≡ seq → (given : Answer) → verdict_answer v ≡ Some given
+          → Placed given × (given ≡ answer.Ok → has_kept (told u d q v) asked ≡ true)) → Tells s (told u d q v)
+      telling u d q v same new placed =
+          let at_u : (n : ℕ) → latest u n ≡ latest s n = λ n. ap (λ verdicts. unwrap_or (slice_get verdicts n) None) same in
+          record {
+            tells = λ given e. elim (told_or u d c q seq v given e) [
+              | inl old ↦ inl (ap (verdict_for seq) (sym (at_u c)) ∙ old)
+              | inr hit ↦ (let r = placed hit.0 hit.1 given hit.2 in inr (r.0, r.1, inl (new_at d q hit.0 hit.1 new)))
+            ];
+            old = λ old. told_old u d c q seq v (λ r is. onward_new q (latest s d) new r (ap (is_new r) (sym (at_u d)) ∙ is)) (ap (is_new seq) (at_u c) ∙ old);
+            stays = λ given e. told_stays u d c q seq v given (ap (is_new q) (at_u d) ∙ new) (ap (verdict_for seq) (at_u c) ∙ e);
+          }
+
+      -- what the state before says of the request, by what its command is answered
+      abbrev Judges : Answer → Type 0
+      Judges answer.Exists = is_name_taken s asked ≡ true
+      Judges answer.NoDisk = lacks_disk s asked ≡ true
+      Judges answer.Moving = is_moving s asked ≡ true
+      Judges answer.Ok = (is_moving s asked ≡ false) × (is_name_taken s asked ≡ false) × (lacks_disk s asked ≡ false)
+      Judges _ = Unit
+
+      -- and the state after it
+      abbrev Keeps : State → Answer → Type 0
+      Keeps t answer.Ok = has_kept t asked ≡ true
+      Keeps t _ = Unit
+
+      placed_here : (command : Command) (given : Answer) → command_of c seq asked ≡ Some command → slice_get log k ≡ Some command
+          → is_new seq (latest s c) ≡ true → Judges given → Placed given
+      placed_here command given of_it there new judged = record {
+        place = k;
+        command = command;
+        of_it = of_it;
+        is = there;
+        new = new;
+        taken = λ is. subst Judges is judged;
+        unknown = λ is. subst Judges is judged;
+        moving = λ is. subst Judges is judged;
+        still = λ is. (subst Judges is judged).0;
+        free = λ is. (subst Judges is judged).1;
+        known = λ is. (subst Judges is judged).2;
+      }
+
+      -- the command that stands here is the request's, where it is of its client and number
+      is_own : (d q : ℕ) (command : Command) → slice_get log k ≡ Some command → asker command ≡ Some (d, q) → d ≡ c → q ≡ seq
+          → (command_of c seq asked ≡ Some command) × (asked ≡ request_of command)
+      is_own d q command there of_it one two =
+          let mine = own k command there (of_it ∙ λ i. Some (one i, two i)) in (mine, asks_it c seq asked command mine)
+
+      -- a new command is told its verdict
+      judged : (u : State) (d q : ℕ) (v : Verdict) (given : Answer) (command : Command) → u.verdicts ≡ s.verdicts → verdict_answer v ≡ Some given
+          → asker command ≡ Some (d, q) → slice_get log k ≡ Some command → is_new q (latest s d) ≡ true
+          → (asked ≡ request_of command → Judges given × Keeps (told u d q v) given)
+          → ((i : ℕ) (fence : Fence) → slice_get (told u d q v).view.queue i ≡ Some fence → OldOrWaits s (told u d q v) fence)
+          → Acted servers s (told u d q v) → Has (told u d q v) × Stays s (told u d q v)
+      judged u d q v given command same is of_it there new why queue acted =
+          has_next s (told u d q v) p h acted
+          (telling u d q v same new (λ one two other e.
+          let mine = is_own d q command there of_it one two in
+          let w = why mine.1 in
+          subst (λ g. Placed g × (g ≡ answer.Ok → has_kept (told u d q v) asked ≡ true)) (same_some (sym is ∙ e))
+          (placed_here command given mine.0 there (new_at d q one two new) w.0, λ ok. subst (Keeps (told u d q v)) ok w.1))) queue
+
+      -- a disk that is made, or not
+      module _ (d q : ℕ) (name tuple : List ℕ) (there : slice_get log k ≡ Some (MakeDisk d q name tuple)) (new : is_new q (latest s d) ≡ true) where
+        exists : is_some (named s.disks.rows name) ≡ true → Acted servers s (told s d q verdict.Exists)
+            → Has (told s d q verdict.Exists) × Stays s (told s d q verdict.Exists)
+        exists taken acted =
+            judged s d q verdict.Exists answer.Exists (MakeDisk d q name tuple) refl refl refl there new (λ a.
+            (ap (is_name_taken s) a ∙ taken, tt))
+            (old_queue s (told s d q verdict.Exists) (requeued_itself s.view.queue)) acted
+
+        makes : named s.disks.rows name ≡ None → Acted servers s (told (with_disk s name tuple) d q verdict.Ok)
+            → Has (told (with_disk s name tuple) d q verdict.Ok) × Stays s (told (with_disk s name tuple) d q verdict.Ok)
+        makes none acted =
+            judged (with_disk s name tuple) d q verdict.Ok answer.Ok (MakeDisk d q name tuple) refl refl refl there new (λ a. (
+              (ap (is_moving s) a, ap (is_name_taken s) a ∙ ap is_some none, ap (lacks_disk s) a),
+              ap (has_kept (told (with_disk s name tuple) d q verdict.Ok)) a
+                  ∙ last_found (λ (row : DiskRow). same_name row.name name) s.disks.rows _ (text_itself name),
+            )) (old_queue s (told (with_disk s name tuple) d q verdict.Ok) (requeued_itself s.view.queue)) acted
+
+      -- a snapshot that is asked for
+      module _ (d q : ℕ) (of name : List ℕ) (there : slice_get log k ≡ Some (Snap d q of name)) (new : is_new q (latest s d) ≡ true) where
+        unknown : named s.disks.rows of ≡ None → Acted servers s (told s d q verdict.NoDisk)
+            → Has (told s d q verdict.NoDisk) × Stays s (told s d q verdict.NoDisk)
+        unknown none acted =
+            judged s d q verdict.NoDisk answer.NoDisk (Snap d q of name) refl refl refl there new (λ a.
+            (ap (lacks_disk s) a ∙ ap is_none none, tt))
+            (old_queue s (told s d q verdict.NoDisk) (requeued_itself s.view.queue)) acted
+
+        name_taken : (row : DiskRow) → named s.disks.rows of ≡ Some row → is_taken s name row ≡ true → Acted servers s (told s d q verdict.Exists)
+            → Has (told s d q verdict.Exists) × Stays s (told s d q verdict.Exists)
+        name_taken row found taken acted =
+            judged s d q verdict.Exists answer.Exists (Snap d q of name) refl refl refl there new (λ a.
+            (ap (is_name_taken s) a ∙ ap (λ o. option_map_or (is_taken s name) o false) found ∙ taken, tt))
+            (old_queue s (told s d q verdict.Exists) (requeued_itself s.view.queue)) acted
+
+        -- the state in which its fence waits
+        module _ (row : DiskRow) (found : named s.disks.rows of ≡ Some row) (free : is_taken s name row ≡ false) where
+          abbrev queued : State
+          queued = with_fence s (Whole row.id name d q)
+
+          abbrev waiting : State
+          waiting = told queued d q verdict.Waiting
+
+          late_waits : (disk : ℕ) (text : List ℕ) → Whole row.id name d q ≡ Whole disk text c seq → Waits waiting disk text
+          late_waits disk text kind =
+              let same = same_whole row.id disk d c q seq name text kind in
+              let a = is_own d q (Snap d q of name) there refl same.2 same.3 in
+              let is_new_here = new_at d q same.2 same.3 new in
+              record {
+                placed = placed_here (Snap d q of name) answer.Ok a.0 there is_new_here (
+                  ap (is_moving s) a.1,
+                  ap (is_name_taken s) a.1 ∙ ap (λ o. option_map_or (is_taken s name) o false) found ∙ free,
+                  ap (lacks_disk s) a.1 ∙ ap is_none found,
+                );
+                of = of;
+                asks = a.1 ∙ ap (request.Snap of) same.1;
+                row = row;
+                found = found;
+                id = same.0;
+                old = old_now queued d c q seq verdict.Waiting same.2 same.3 (let many = many_at servers log plain k low in omega arith);
+                quiet = λ given e. elim (told_or queued d c q seq verdict.Waiting given e) [
+                  | inl before ↦ true_false is_new_here (judged_old seq (latest s c) given before)
+                  | inr hit ↦ none_some refl hit.2
+                ];
+              }
+
+          queues : Acted servers s waiting → Has waiting × Stays s waiting
+          queues acted =
+              has_next s waiting p h acted
+              (telling queued d q verdict.Waiting refl new (λ one two given e. none_some refl e))
+              (λ i fence e. elim (get_last s.view.queue _ i fence e) [
+                | inl old ↦ inl (i, fence, old, refl)
+                | inr late ↦ inr (λ disk text kind. late_waits disk text (sym (ap (λ (f : Fence). f.kind) late.1) ∙ kind))
+              ])
+
+      -- a fence for a region is after those that stood
+      region_queued_then : (t : State) (disk region : ℕ) → (i : ℕ) (fence : Fence)
+          → slice_get (with_queued s.view (Region disk region)).queue i ≡ Some fence → OldOrWaits s t fence
+      region_queued_then t disk region i fence e = elim (get_last s.view.queue _ i fence e) [
+        | inl old ↦ inl (i, fence, old, refl)
+        | inr late ↦ inr (λ disk text kind. no_whole (sym (ap (λ (f : Fence). f.kind) late.1) ∙ kind))
+      ]
+
+      -- a move that is asked for
+      module _ (d q : ℕ) (of tuple : List ℕ) (there : slice_get log k ≡ Some (StartMove d q of tuple)) (new : is_new q (latest s d) ≡ true) where
+        of_nobody : named s.disks.rows of ≡ None → Acted servers s (told s d q verdict.NoDisk)
+            → Has (told s d q verdict.NoDisk) × Stays s (told s d q verdict.NoDisk)
+        of_nobody none acted =
+            judged s d q verdict.NoDisk answer.NoDisk (StartMove d q of tuple) refl refl refl there new (λ a.
+            (ap (lacks_disk s) a ∙ ap is_none none, tt))
+            (old_queue s (told s d q verdict.NoDisk) (requeued_itself s.view.queue)) acted
+
+        of_busy : (row : DiskRow) → named s.disks.rows of ≡ Some row → is_some row.moving ≡ true → Acted servers s (told s d q verdict.Moving)
+            → Has (told s d q verdict.Moving) × Stays s (told s d q verdict.Moving)
+        of_busy row found busy acted =
+            judged s d q verdict.Moving answer.Moving (StartMove d q of tuple) refl refl refl there new (λ a.
+            (ap (is_moving s) a ∙ ap (λ o. option_map_or (λ (r : DiskRow). is_some r.moving) o false) found ∙ busy, tt))
+            (old_queue s (told s d q verdict.Moving) (requeued_itself s.view.queue)) acted
+
+        begins : (row : DiskRow) → named s.disks.rows of ≡ Some row → row.moving ≡ None → Acted servers s (told (with_move s tuple row.id) d q verdict.Ok)
+            → Has (told (with_move s tuple row.id) d q verdict.Ok) × Stays s (told (with_move s tuple row.id) d q verdict.Ok)
+        begins row found free acted =
+            judged (with_move s tuple row.id) d q verdict.Ok answer.Ok (StartMove d q of tuple) refl refl refl there new (λ a. (
+              (
+                ap (is_moving s) a ∙ ap (λ o. option_map_or (λ (r : DiskRow). is_some r.moving) o false) found ∙ ap is_some free,
+                ap (is_name_taken s) a,
+                ap (lacks_disk s) a ∙ ap is_none found,
+              ),
+              ap (has_kept (told (with_move s tuple row.id) d q verdict.Ok)) a,
+            )) (region_queued_then (told (with_move s tuple row.id) d q verdict.Ok) row.id 0) acted
+
+      -- a Moved tells nobody
+      noted_by : (of region link : ℕ) (n : IsNoting s of region link) → Acted servers s (note s of n.row.id region link)
+          → Has (note s of n.row.id region link) × Stays s (note s of n.row.id region link)
+      noted_by of region link n acted =
+          act_note servers s (plain_at servers log plain k) of region link n (λ (t : State). Acted servers s t → Has t × Stays s t)
+          (λ some acts. quiet _ refl (old_queue s _ (requeued_itself s.view.queue)) acts)
+          (λ all more acts. quiet _ refl (region_queued_then _ n.row.id (region + 1)) acts)
+          (λ all last acts. quiet _ refl (old_queue s _ (requeued_itself s.view.queue)) acts)
+          acted
+        where
+          quiet : (t : State) → latest t c ≡ latest s c → ((i : ℕ) (fence : Fence) → slice_get t.view.queue i ≡ Some fence → OldOrWaits s t fence)
+              → Acted servers s t → Has t × Stays s t
+          quiet t same queue acts = has_next s t p h acts
+              (record {
+                tells = λ given e. inl (ap (verdict_for seq) (sym same) ∙ e);
+                old = λ old. ap (is_new seq) same ∙ old;
+                stays = λ given e. inl (ap (verdict_for seq) same ∙ e);
+              }) queue
+
+      acts : (e : Command) → slice_get log k ≡ Some e → Acted servers s (act e s) → Has (act e s) × Stays s (act e s)
+      acts (MakeDisk d q name tuple) there acted =
+          act_make (λ (t : State). Acted servers s t → Has t × Stays s t) s d q name tuple (λ old acted. unmoved)
+          (λ new taken. exists d q name tuple there new taken) (λ new none. makes d q name tuple there new none) acted
+      acts (Snap d q of name) there acted =
+          act_snap (λ (t : State). Acted servers s t → Has t × Stays s t) s d q of name (λ old acted. unmoved)
+          (λ new none. unknown d q of name there new none) (λ new row found taken. name_taken d q of name there new row found taken)
+          (λ new row found free. queues d q of name there new row found free) acted
+      acts (Join server inc blank) there acted =
+          by_test (λ (t : State). Acted servers s t → Has t × Stays s t) (may_join (slice_get s.view.members server) inc) _ s
+          (λ may. still _ (requeued_itself s.view.queue) refl) (λ no acted. unmoved) acted
+      acts (Leave server inc) there acted =
+          by_test (λ (t : State). Acted servers s t → Has t × Stays s t) (is_up_as s server inc) _ s
+          (λ up. still _ (requeued_awaiting _ s.view.queue) refl) (λ out acted. unmoved) acted
+      acts (Caught of link holder holder_inc other other_inc) there acted =
+          act_caught (λ (t : State). Acted servers s t → Has t × Stays s t) s of link holder holder_inc other other_inc
+          (λ acts. still _ (requeued_itself s.view.queue) refl) (λ acted. unmoved) acted
+      acts (Drained server inc fence) there acted =
+          act_drained (λ (t : State). Acted servers s t → Has t × Stays s t) s server inc fence (λ acted. unmoved)
+          (λ is up. still _ (requeued_reported server s.view.queue) refl) acted
+      acts (StartMove d q of tuple) there acted =
+          act_start (λ (t : State). Acted servers s t → Has t × Stays s t) s d q of tuple (λ old acted. unmoved)
+          (λ new none. of_nobody d q of tuple there new none) (λ new row found busy. of_busy d q of tuple there new row found busy)
+          (λ new row found free. begins d q of tuple there new row found free) acted
+      acts (Moved of region link) there acted =
+          act_moved (λ (t : State). Acted servers s t → Has t × Stays s t) servers s (plain_at servers log plain k) of region link (λ acted. unmoved)
+          (λ n. noted_by of region link n) acted
+      acts (Witness client number turn) there acted = unmoved
+
+    has_renumbered : (t : State) (rev : ℕ) → Has t → Has (record t { rev = rev })
+    has_renumbered t rev h = record {
+      told = λ given e. let was = h.told given e in (was.0, λ ok. renumbered_made asked (was.1 ok));
+      waits = λ i fence disk name e kind. let w = h.waits i fence disk name e kind in
+          record { placed = w.placed; of = w.of; asks = w.asks; row = w.row; found = w.found; id = w.id; old = w.old; quiet = w.quiet };
+    }
+      where
+        renumbered_made : (what : Request) → has_kept t what ≡ true → has_kept (record t { rev = rev }) what ≡ true
+        renumbered_made (request.Disk name tuple) h = h
+        renumbered_made (request.Snap name snap) h = h
+        renumbered_made (request.Move name tuple) h = h
+        renumbered_made _ h = h
+
+    has_start : Has (at 0)
+    has_start = record {
+      told = λ given e. none_some (ap (verdict_for seq) (nobody_told 9 c)) e;
+      waits = λ i fence disk name e kind. none_some refl e;
+    }
+
+    next_by : (k : ℕ) → k + 1 ≤ length log → Has (at k) → Has (at (suc k)) × Stays (at k) (at (suc k))
+    next_by k low h =
+        let e = get_within log k (omega arith) in
+        let acted = acting servers (at k) e.0 (plain_at servers log plain k) (entry_plain servers log plain k e.0 e.1) in
+        let acts_so = acts k (omega arith) h e.0 e.1 acted in
+        let settled_so = settles (act e.0 (at k)) acted.plain acts_so.0 in
+        subst (λ (t : State). Has t × Stays (at k) t) (sym (at_next servers log plain k e.0 e.1)) (
+          has_renumbered _ _ settled_so.0,
+          stays_then (at k) (act e.0 (at k)) (after (at k) e.0) acts_so.1 settled_so.1 (settled_old (act e.0 (at k)) c (suc seq)),
+        )
+
+    pub has_at : (k : ℕ) → k ≤ length log → Has (at k)
+    has_at zero low = has_start
+    has_at (suc k) low = (next_by k (omega arith) (has_at k (omega arith))).0
+
+    stays_on : (i k : ℕ) → i ≤ k → k ≤ length log → Stays (at i) (at k)
+    stays_on i zero le low given h = let same : i ≡ 0 = omega arith in inl (subst (λ j. says (at j) ≡ Some given) same h)
+    stays_on i (suc k) le low given h = elim (cases_lt i (suc k)) [
+      | inr past ↦ (let same : i ≡ suc k = omega arith in inl (subst (λ j. says (at j) ≡ Some given) same h))
+      | inl before ↦ elim (stays_on i k (omega arith) (omega arith) given h) [
+        | inl still ↦ (next_by k (omega arith) (has_at k (omega arith))).1 given still
+        | inr later ↦ inr (old_on servers log plain c (suc seq) k (suc k) (omega arith) low later)
+      ]
+    ]
+
+    -- ### The place of the verdict
+
+    -- the first state that answers the request, after so many entries and one more, answers it so
+    pub judged_first : (k : ℕ) → k ≤ length log → (given : Answer) → says (at k) ≡ Some given
+        → (j : ℕ) × (j + 1 ≤ k) × (says (at (j + 1)) ≡ Some given) × ((i : ℕ) → i ≤ j → says (at i) ≡ None)
+    judged_first zero low given h = none_some (ap (verdict_for seq) (nobody_told 9 c)) h
+    judged_first (suc m) low given h = elim (some_or_none (says (at m))) [
+      | inl some ↦ elim ((next_by m (omega arith) (has_at m (omega arith))).1 some.0 some.1) [
+        | inl still ↦
+            (let one : some.0 ≡ given = same_some (sym still ∙ h) in
+            let r = judged_first m (omega arith) given (some.1 ∙ ap Some one) in
+            (r.0, (let le = r.1 in omega arith), r.2, r.3))
+        | inr later ↦ judged_last seq (latest (at (suc m)) c) given h later
+      ]
+      | inr none ↦ (
+        m,
+        omega arith,
+        subst (λ n. says (at n) ≡ Some given) (let e : suc m ≡ m + 1 = omega arith in e) h,
+        λ i below. elim (some_or_none (says (at i))) [
+          | inr silent ↦ silent
+          | inl some ↦ elim (stays_on i m below (omega arith) some.0 some.1) [
+            | inl still ↦ none_some none still
+            | inr later ↦ judged_last seq (latest (at (suc m)) c) given h (old_on servers log plain c (suc seq) m (suc m) (omega arith) low later)
+          ]
+        ],
+      )
+    ]
+
+    -- the place of its command is the first one of that, and lies before
+    pub placed_first : (given : Answer) (p : Placed given) (i : ℕ) → i < p.place → slice_get log i ≢ Some p.command
+    placed_first given p i below there =
+        let here = slice_get_within log p.place p.command p.is in
+        true_false p.new (old_on servers log plain c seq (suc i) p.place (omega arith) (omega arith)
+        (own_old servers log plain c seq i p.command there (omega arith) (asker_of c seq asked p.command p.of_it) few))
+
+    pub placed_before : (k : ℕ) (given : Answer) → says (at k) ≡ Some given → (p : Placed given) → p.place < k
+    placed_before k given h p = elim (cases_lt p.place k) [
+      | inl lt ↦ lt
+      | inr le ↦
+          let here = slice_get_within log p.place p.command p.is in
+          true_false p.new (old_on servers log plain c seq k p.place le (omega arith) (judged_old seq (latest (at k) c) given h))
+    ]
+
+    -- ### A request that isn't for a snapshot
+
+    -- the new command of a disk is answered by the state right after it, but where that state tells of a later command
+    disk_answers : (k : ℕ) → k + 1 ≤ length log → (name tuple : List ℕ) → slice_get log k ≡ Some (MakeDisk c seq name tuple)
+        → is_new seq (latest (at k) c) ≡ true
+        → ((given : Answer) × (says (at (suc k)) ≡ Some given)) ⊎ (is_new (suc seq) (latest (at (suc k)) c) ≡ false)
+    disk_answers k low name tuple there new =
+        let e = MakeDisk c seq name tuple in
+        let acted = acting servers (at k) e (plain_at servers log plain k) (entry_plain servers log plain k e there) in
+        let acts_so = acts k (omega arith) (has_at k (omega arith)) e there acted in
+        let few_at : c < length (at k).verdicts = (let many = many_at servers log plain k (omega arith) in omega arith) in
+        let now = act_make (λ (t : State). (given : Answer) × (says t ≡ Some given)) (at k) c seq name tuple (λ old. true_false new old)
+        (λ _ taken. (answer.Exists, told_answers (at k) c seq verdict.Exists answer.Exists few_at refl))
+        (λ _ free. (answer.Ok, told_answers (with_disk (at k) name tuple) c seq verdict.Ok answer.Ok few_at refl)) in
+        let settled_so = settles (act e (at k)) acted.plain acts_so.0 in
+        subst (λ (t : State). ((given : Answer) × (says t ≡ Some given)) ⊎ (is_new (suc seq) (latest t c) ≡ false)) (sym (at_next servers log plain k e there))
+        (elim (settled_so.1 now.0 now.1) [ inl still ↦ inl (now.0, still) | inr later ↦ inr later ])
+
+    -- what the new command of a move comes to: its verdict, and where it is granted the disk is on the move then
+    record Begun (t : State) (name : List ℕ) : Type 0 where
+      given : Answer
+      so : says t ≡ Some given
+      moves : given ≡ answer.Ok → IsMoving t name
+
+    move_answers : (k : ℕ) → k + 1 ≤ length log → (name tuple : List ℕ) → slice_get log k ≡ Some (StartMove c seq name tuple)
+        → is_new seq (latest (at k) c) ≡ true → Begun (at (suc k)) name ⊎ (is_new (suc seq) (latest (at (suc k)) c) ≡ false)
+    move_answers k low name tuple there new =
+        let e = StartMove c seq name tuple in
+        let acted = acting servers (at k) e (plain_at servers log plain k) (entry_plain servers log plain k e there) in
+        let acts_so = acts k (omega arith) (has_at k (omega arith)) e there acted in
+        let now = begun_by acted in
+        let settled_so = settles (act e (at k)) acted.plain acts_so.0 in
+        let renumber : IsMoving (settled (act e (at k))) name → IsMoving (after (at k) e) name =
+        λ m. record { row = m.row; found = m.found; moves = m.moves } in
+        subst (λ (t : State). Begun t name ⊎ (is_new (suc seq) (latest t c) ≡ false)) (sym (at_next servers log plain k e there))
+        (elim (settled_so.1 now.given now.so) [
+          | inl still ↦ inl (record {
+            given = now.given;
+            so = still;
+            moves = λ ok. renumber (settled_moving servers (act e (at k)) acted.plain name (now.moves ok));
+          })
+          | inr later ↦ inr later
+        ])
+      where
+        few_at : c < length (at k).verdicts
+        few_at = let many = many_at servers log plain k (omega arith) in omega arith
+
+        begun_moving : (row : DiskRow) → named (at k).disks.rows name ≡ Some row → row.moving ≡ None
+            → Acted servers (at k) (told (with_move (at k) tuple row.id) c seq verdict.Ok)
+            → IsMoving (told (with_move (at k) tuple row.id) c seq verdict.Ok) name
+        begun_moving row found free acts =
+            let t = told (with_move (at k) tuple row.id) c seq verdict.Ok in
+            let p = (plain_at servers log plain k).unsettled in
+            let later = named_on servers (at k) t p acts.plain acts.grown name row found in
+            let known = row_known_at (at k) p name row found in
+            let now : row_moving (length (at k).maps) row ≡ later.0 =
+            same_some (sym (here_now servers (at k) p row.id row known (row_moving (length (at k).maps))) ∙ later.3) in
+            record { row = later.0; found = later.1; moves = ap (λ (r : DiskRow). is_some r.moving) (sym now) }
+
+        begun_by : Acted servers (at k) (act (StartMove c seq name tuple) (at k)) → Begun (act (StartMove c seq name tuple) (at k)) name
+        begun_by acted =
+            act_start (λ (t : State). Acted servers (at k) t → Begun t name) (at k) c seq name tuple (λ old. true_false new old)
+            (λ _ none acts. record {
+              given = answer.NoDisk;
+              so = told_answers (at k) c seq verdict.NoDisk answer.NoDisk few_at refl;
+              moves = λ is. (let f : answer.NoDisk ≡ answer.Ok = is in absurd cc);
+            })
+            (λ _ row found busy acts. record {
+              given = answer.Moving;
+              so = told_answers (at k) c seq verdict.Moving answer.Moving few_at refl;
+              moves = λ is. (let f : answer.Moving ≡ answer.Ok = is in absurd cc);
+            })
+            (λ _ row found free acts. record {
+              given = answer.Ok;
+              so = told_answers (with_move (at k) tuple row.id) c seq verdict.Ok answer.Ok few_at refl;
+              moves = λ is. begun_moving row found free acts;
+            }) acted
+
+    -- so its verdict stands right after its place
+    pub judged_at_once : (j : ℕ) → j + 1 ≤ length log → (given : Answer) → says (at (j + 1)) ≡ Some given → ((i : ℕ) → i ≤ j → says (at i) ≡ None)
+        → (p : Placed given) → p.place ≤ j → is_snap asked ≡ false → j ≡ p.place
+    judged_at_once j low given so until p le other = elim (cases_lt p.place j) [
+      | inr past ↦ omega arith
+      | inl before ↦
+          elim (made_of asked other p.command p.of_it) [
+            | inl made ↦ elim (disk_answers p.place (omega arith) made.0 made.1 (p.is ∙ ap Some made.2) p.new) [
+              | inl some ↦ none_some (until (suc p.place) (omega arith)) some.1
+              | inr later ↦ judged_last seq (latest (at (j + 1)) c) given so
+                  (old_on servers log plain c (suc seq) (suc p.place) (j + 1) (omega arith) low later)
+            ]
+            | inr moved ↦ elim (move_answers p.place (omega arith) moved.0 moved.1 (p.is ∙ ap Some moved.2) p.new) [
+              | inl some ↦ none_some (until (suc p.place) (omega arith)) some.so
+              | inr later ↦ judged_last seq (latest (at (j + 1)) c) given so
+                  (old_on servers log plain c (suc seq) (suc p.place) (j + 1) (omega arith) low later)
+            ]
+          ]
+    ]
+      where
+        made_of : (what : Request) → is_snap what ≡ false → (command : Command) → command_of c seq what ≡ Some command
+            → ((name : List ℕ) × (tuple : List ℕ) × (command ≡ MakeDisk c seq name tuple))
+            ⊎ ((name : List ℕ) × (tuple : List ℕ) × (command ≡ StartMove c seq name tuple))
+        made_of (request.Disk name tuple) h command e = inl (name, tuple, sym (same_some e))
+        made_of (request.Move name tuple) h command e = inr (name, tuple, sym (same_some e))
+        made_of (request.Snap name snap) h command e = true_false refl h
+        made_of _ h command e = none_some refl e
+
+    -- and what it asked for is there then: also a disk that is on the move
+    pub judged_made : (j : ℕ) → j + 1 ≤ length log → (given : Answer) → says (at (j + 1)) ≡ Some given → (p : Placed given)
+        → (is_snap asked ≡ false → j ≡ p.place) → has_kept (at (j + 1)) asked ≡ true → given ≡ answer.Ok → has_made (at (j + 1)) asked ≡ true
+    judged_made j low given so p at_once kept ok = by asked refl
+      where
+        moved : (name tuple : List ℕ) → asked ≡ request.Move name tuple → has_made (at (j + 1)) asked ≡ true
+        moved name tuple is =
+            let here : j ≡ p.place = at_once (ap is_snap is) in
+            let there : slice_get log j ≡ Some (StartMove c seq name tuple) =
+            ap (slice_get log) here ∙ p.is ∙ sym p.of_it ∙ ap (command_of c seq) is in
+            let new : is_new seq (latest (at j) c) ≡ true = ap (λ i. is_new seq (latest (at i) c)) here ∙ p.new in
+            elim (move_answers j low name tuple there new) [
+              | inl begun ↦
+                  let next : suc j ≡ j + 1 = omega arith in
+                  let same : begun.given ≡ answer.Ok = same_some (sym begun.so ∙ ap (λ i. says (at i)) next ∙ so) ∙ ok in
+                  let m = begun.moves same in
+                  ap (has_made (at (j + 1))) is
+                  ∙ ap (λ i. option_map_or (λ (r : DiskRow). is_some r.moving) (named (at i).disks.rows name) false) (sym next)
+                  ∙ ap (λ o. option_map_or (λ (r : DiskRow). is_some r.moving) o false) m.found ∙ m.moves
+              | inr later ↦
+                  let next : suc j ≡ j + 1 = omega arith in
+                  judged_last seq (latest (at (j + 1)) c) given so (subst (λ i. is_new (suc seq) (latest (at i) c) ≡ false) next later)
+            ]
+
+        by : (what : Request) → asked ≡ what → has_made (at (j + 1)) asked ≡ true
+        by (request.Move name tuple) is = moved name tuple is
+        by (request.Disk name tuple) is = ap (has_made (at (j + 1))) is ∙ sym (ap (has_kept (at (j + 1))) is) ∙ kept
+        by (request.Snap name snap) is = ap (has_made (at (j + 1))) is ∙ sym (ap (has_kept (at (j + 1))) is) ∙ kept
+        by what is = true_false kept (ap (has_kept (at (j + 1))) is)

@@ -1,0 +1,7 @@
+-- By induction on the records before.
+use Rattle.law_jobs.proofs.Runs.{more_of}
+use Rattle.law_answers.proofs.Refusing.{no_space_reason}
+use Rattle.law_answers.proofs.refusals.nospace_has_a_reason.Goals as goal
+
+pub returns : goal.returns
+returns c script front own sound legal = no_space_reason (more_of script sound front own legal)

@@ -1,0 +1,7 @@
+-- By the kind of the step.
+use Rattle.law_jobs.proofs.Runs.{more_of}
+use Rattle.law_answers.proofs.Refused.{nothing_reason}
+use Rattle.law_answers.proofs.refusals.not_here_has_a_reason.Goals as goal
+
+pub returns : goal.returns
+returns c script front own sound legal letter seq h says = nothing_reason (more_of script sound front own legal) letter seq h says

@@ -1,0 +1,27 @@
+-- That the commands of a log that carry requests out were asked for.
+use Rattle.std.specs.Prelude.{◌≡◌, ◌+◌, ℕ, List, slice_get, Option, Some, None}
+use Rattle.petal_command.specs.declared.command.Command.{Command}
+use Rattle.petal_command.specs.declared.command.Command.TheVariants.{MakeDisk, Snap, StartMove}
+use Rattle.script_lines.specs.declared.request.Line.{Line}
+use Rattle.spec_rules.specs.Clients.{command_of}
+use Rattle.spec_rules.specs.Lists.{In}
+use Rattle.spec_rules.specs.World.{lines_of}
+
+-- the client of the request that the command carries out, and the request's number
+abbrev pub asker : Command → Option (ℕ × ℕ)
+asker (MakeDisk client seq name tuple) = Some (client, seq)
+asker (Snap client seq disk name) = Some (client, seq)
+asker (StartMove client seq disk tuple) = Some (client, seq)
+asker _ = None
+
+-- the client's line of this number asks for the command. The lines of a client are its requests, counted from 1
+pub record IsAsked (lines : List Line) (client seq : ℕ) (command : Command) : Type 0 where
+  pub before : ℕ
+  pub line : Line
+  pub is : slice_get (lines_of lines client) before ≡ Some line
+  pub seq_is : seq ≡ before + 1
+  pub own : command_of client seq line.request ≡ Some command
+
+-- each command of the log that carries a request out was asked for by the line that it names
+abbrev pub AreAsked : List Line → List Command → Type 0
+AreAsked lines log = (client seq : ℕ) (command : Command) → asker command ≡ Some (client, seq) → In command log → IsAsked lines client seq command

@@ -1,0 +1,35 @@
+-- Why a start or a blank fails: the boot that it gives its server.
+use Rattle.std.specs.Prelude.{◌≡◌, ℕ, List, true}
+use Rattle.petal_msg.specs.declared.letter.Actor.TheVariants as actor
+use Rattle.script_lines.specs.declared.request.Line.{Line}
+use Rattle.spec_rules.specs.Boots.{raised}
+use Rattle.spec_rules.specs.Clients.{Asked}
+use Rattle.spec_rules.specs.Jobs.{is_overfull}
+use Rattle.spec_rules.specs.World.{Setting, World}
+use Rattle.spec_rules.specs.declared.step.CommitEnd.{CommitEnd}
+use Rattle.spec_rules.specs.declared.step.Step.{Step}
+use Rattle.spec_rules.specs.declared.step.Step.TheVariants.{Boot}
+use Rattle.spec_rules.specs.declared.step.WorkEnd.TheVariants as work_end
+use Rattle.spec_history.specs.Steps.{world_after}
+use Rattle.spec_history.specs.declared.record.Record.{Record}
+use Rattle.law_state.specs.Moments.{IsMoment}
+use Rattle.law_answers.specs.Lines.{AsksToBoot, IsLineOf}
+
+-- why a boot leaves the server stopped: a device failed, or the journal has no room for the record of the next incarnation
+pub data IsReasonToFail (w : World) (n : ℕ) (what : Step) : Type 0 where
+  Device_failed : (end : CommitEnd) → what ≡ Boot (work_end.Fault end) → IsReasonToFail w n what
+  Journal_full : what ≡ Boot work_end.Done → is_overfull (raised (w.servers n)) ≡ true → IsReasonToFail w n what
+
+-- the line of this number starts or blanks a server, and one of the records is of the boot that it gave the server while it was open, which
+-- left the server stopped for such a reason
+pub record HasReasonToFail (setting : Setting) (w : World) (records : List Record) (number : ℕ) : Type 0 where
+  pub moment : IsMoment records
+  pub open moment use *
+  pub server : ℕ
+  pub asked : Asked
+  pub line : Line
+  pub number_is : line.number ≡ number
+  pub boots : AsksToBoot line.request server
+  pub given : IsLineOf setting.lines (world_after setting w front) asked line
+  pub who : own.actor ≡ actor.Server server
+  pub why : IsReasonToFail (world_after setting w front) server own.step

@@ -1,0 +1,24 @@
+-- The looks of a run that is computed.
+use Rattle.std.specs.Prelude.{ℕ, ◌+◌, List, [], ◌∷◌, ◌++◌, map}
+use Rattle.spec_machine.specs.declared.event.Event.{Event}
+use Rattle.spec_rules.specs.World.{Setting, World, start}
+use Rattle.spec_history.specs.Examples.{make_moves, read_moves, sevens, write_moves}
+use Rattle.spec_history.specs.Steps.{stepped}
+use Rattle.spec_history.specs.Play.{records_of}
+use Rattle.spec_history.specs.declared.record.Record.{Record}
+use Rattle.law_answers.specs.Looks.{record_looks}
+
+-- a look that is told: how many records stand before the one that tells it, and the look beside the number of its line
+abbrev pub Placed : Type 0
+Placed = ℕ × (ℕ × Event)
+
+-- the looks of these records, at this world, before which so many records stand
+abbrev pub looks_along : Setting → World → (before : ℕ) → List Record → List Placed
+looks_along setting w before [] = []
+looks_along setting w before (own ∷ later) =
+    let next = (stepped setting w own).world in
+    map (λ look. (before, look)) (record_looks setting w next own later) ++ looks_along setting next (before + 1) later
+
+-- the records of the run in which a block is written and read back
+abbrev pub sevens_records : List Record
+sevens_records = records_of sevens (start sevens) (make_moves ++ write_moves ++ read_moves)

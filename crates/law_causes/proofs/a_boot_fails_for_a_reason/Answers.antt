@@ -1,6 +1,0 @@
--- What a glance shows comes right after the boot that its line gave.
-use Rattle.law_causes.proofs.a_boot_fails_for_a_reason.Goals as goal
-use Rattle.law_causes.proofs.Glances.{fails_for_a_reason}
-
-pub returns : goal.returns
-returns c script records sound rise legal number told = fails_for_a_reason script records sound rise legal number told

@@ -1,7 +1,0 @@
--- By induction on the history.
-use Rattle.law_jobs.proofs.Runs.{run_of}
-use Rattle.law_causes.proofs.Settled.{settled_by}
-use Rattle.law_causes.proofs.a_settle_is_answered_by_its_glances.Goals as goal
-
-pub returns : goal.returns
-returns c script records sound legal = settled_by (run_of script sound records legal)

@@ -1,7 +1,0 @@
--- By induction on the history, in view of the log at its end.
-use Rattle.law_jobs.proofs.Runs.{run_of}
-use Rattle.law_causes.proofs.answers_are_caused.Goals as goal
-use Rattle.law_causes.proofs.Answered.{causes_after}
-
-pub returns : goal.returns
-returns c script records sound rise legal = causes_after (run_of script sound records legal) rise

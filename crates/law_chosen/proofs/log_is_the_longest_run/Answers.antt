@@ -1,5 +1,0 @@
-use Rattle.law_chosen.proofs.log_is_the_longest_run.Goals as goal
-use Rattle.law_chosen.proofs.Places.{log_tells, log_ends, log_has, front_of_log}
-
-pub returns : goal.returns
-returns c = record { tells = log_tells; ends = log_ends; has = log_has; front = front_of_log }

@@ -1,6 +1,0 @@
-use Rattle.law_chosen.proofs.log_only_grows.Goals as goal
-use Rattle.law_chosen.proofs.Votes.{chosen_stays}
-use Rattle.law_chosen.proofs.Places.{log_grows}
-
-pub returns : goal.returns
-returns c = record { chosen = chosen_stays; log = log_grows }

@@ -1,5 +1,0 @@
-use Rattle.law_chosen.proofs.majorities_choose.Goals as goal
-use Rattle.law_chosen.proofs.Votes.{told_is_chosen, chosen_is_told}
-
-pub returns : goal.returns
-returns c = record { told = told_is_chosen; tells = chosen_is_told }

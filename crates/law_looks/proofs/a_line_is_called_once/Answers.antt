@@ -1,7 +1,0 @@
--- A call takes the client's next number, and numbers only rise.
-use Rattle.law_looks.proofs.Calls.{called_once}
-use Rattle.law_looks.proofs.a_line_is_called_once.Goals as goal
-
-pub returns : goal.returns
-returns c script records rise legal one other number first again =
-    called_once script rise records legal one.front one.own one.following one.is other.front other.own other.following other.is number first again

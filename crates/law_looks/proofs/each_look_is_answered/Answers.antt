@@ -1,6 +1,0 @@
--- By the record that accepts the letter which tells the look, or the data that were found for it.
-use Rattle.law_looks.proofs.Answered.{look_answered}
-use Rattle.law_looks.proofs.each_look_is_answered.Goals as goal
-
-pub returns : goal.returns
-returns c script records sound rise legal moment look told = look_answered script sound rise records legal moment look told

@@ -1,6 +1,0 @@
--- Who runs, and was In as itself, is so by what is chosen, and serves what it served.
-use Rattle.law_looks.proofs.Looking.{its_link}
-use Rattle.law_looks.proofs.no_lost_link_is_read.Goals as goal
-
-pub returns : goal.returns
-returns c script records sound rise legal answer number bytes given = its_link script sound rise records legal answer number bytes given

@@ -1,6 +1,0 @@
--- Letter by letter.
-use Rattle.law_looks.proofs.Told.{events_of_looks}
-use Rattle.law_looks.proofs.the_looks_are_those_of_the_events.Goals as goal
-
-pub returns : goal.returns
-returns c = events_of_looks

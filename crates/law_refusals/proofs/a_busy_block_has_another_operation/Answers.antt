@@ -1,7 +1,0 @@
--- By the kind of the step.
-use Rattle.law_jobs.proofs.Runs.{more_of}
-use Rattle.law_refusals.proofs.Refused.{busy_reason}
-use Rattle.law_refusals.proofs.a_busy_block_has_another_operation.Goals as goal
-
-pub returns : goal.returns
-returns c script front own sound legal letter seq h says = busy_reason (more_of script sound front own legal) letter seq h says

@@ -1,7 +1,0 @@
--- By induction on the records.
-use Rattle.law_jobs.proofs.Runs.{run_of}
-use Rattle.law_refusals.proofs.Copies.{found_none}
-use Rattle.law_refusals.proofs.a_full_copy_found_no_slot.Goals as goal
-
-pub returns : goal.returns
-returns c script records sound legal = found_none (run_of script sound records legal)

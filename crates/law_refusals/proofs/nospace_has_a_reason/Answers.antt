@@ -1,7 +1,0 @@
--- By induction on the records before.
-use Rattle.law_jobs.proofs.Runs.{more_of}
-use Rattle.law_refusals.proofs.Refusing.{no_space_reason}
-use Rattle.law_refusals.proofs.nospace_has_a_reason.Goals as goal
-
-pub returns : goal.returns
-returns c script front own sound legal = no_space_reason (more_of script sound front own legal)

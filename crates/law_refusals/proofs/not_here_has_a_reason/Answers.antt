@@ -1,7 +1,0 @@
--- By the kind of the step.
-use Rattle.law_jobs.proofs.Runs.{more_of}
-use Rattle.law_refusals.proofs.Refused.{nothing_reason}
-use Rattle.law_refusals.proofs.not_here_has_a_reason.Goals as goal
-
-pub returns : goal.returns
-returns c script front own sound legal letter seq h says = nothing_reason (more_of script sound front own legal) letter seq h says

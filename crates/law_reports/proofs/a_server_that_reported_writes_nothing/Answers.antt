@@ -1,6 +1,0 @@
--- By what is known of requests and of reports.
-use Rattle.law_reports.proofs.Reports.{nothing_held_after}
-use Rattle.law_reports.proofs.a_server_that_reported_writes_nothing.Goals as goal
-
-pub returns : goal.returns
-returns c script records sound legal = nothing_held_after script records sound legal

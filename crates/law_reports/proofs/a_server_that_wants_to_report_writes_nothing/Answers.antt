@@ -1,6 +1,0 @@
--- Before it wanted to report, it had drained.
-use Rattle.law_reports.proofs.Reports.{reports_hold}
-use Rattle.law_reports.proofs.a_server_that_wants_to_report_writes_nothing.Goals as goal
-
-pub returns : goal.returns
-returns c script records sound legal = reports_hold script records sound legal

@@ -1,0 +1,81 @@
+-- A write that is pending was opened where no fence held its cell's writes, and after the report.
+use Rattle.std.proofs.Common.{◌≡◌, ◌++◌, ℕ, List, [], ◌∷◌, Some, refl, sym, subst, ◌∙◌, arith}
+use Rattle.std.proofs.lemmas.List.{append-nil}
+use Rattle.petal_command.specs.declared.command.Command.{Command}
+use Rattle.petal_table.specs.Table.{at}
+use Rattle.spec_rules.specs.Jobs.{here_of}
+use Rattle.spec_rules.specs.Store.{cell_cmp}
+use Rattle.petal_command.specs.declared.command.Command.TheVariants.{Drained}
+use Rattle.script_lines.specs.declared.script.Script.{Script}
+use Rattle.spec_rules.specs.World.{Setting, World, chosen_log, server_state, setting_of, start}
+use Rattle.law_log.specs.Requested.{WasDraining}
+use Rattle.law_log.proofs.Draining.{report_among}
+use Rattle.spec_rules.proofs.Tests.{true_false}
+use Rattle.spec_history.specs.Claims.{AreHeldAlong, IsPrefix, ReportsHold, WritesNothingSince}
+use Rattle.spec_history.specs.Steps.{AreSteps, world_after}
+use Rattle.spec_history.specs.Sound.{IsSound}
+use Rattle.spec_history.specs.declared.record.Record.{Record}
+use Rattle.law_steps.proofs.Fronts.{front_itself, front_on, front_within}
+use Rattle.law_requests.specs.Known.{AskingBy, KnowsReports, Lives}
+use Rattle.law_requests.proofs.Drained.{held_write}
+use Rattle.law_requests.proofs.Histories.{asking_along, reports_known}
+use Rattle.law_requests.specs.Reports.{WritesNothingHeld}
+
+nothing_held : (setting : Setting) (w : World) (lives : Lives) → AskingBy setting w lives → KnowsReports setting w lives → WritesNothingHeld setting w
+nothing_held setting w lives asks reports n fence until runs stands cell along op is clients =
+    let own : (w.servers n).life.inc ≡ lives.ran n = sym (asks.lived.ran n runs) in
+    let stands_so = subst (λ inc. IsPrefix (until ++ Drained n inc fence ∷ []) (chosen_log setting w)) own stands in
+    let reached = reports.reached n fence until stands_so in
+    let opened = asks.pending n cell op is clients in
+    let front = opened.known.sent.at.front in
+    let within = front_on front opened.upto (w.servers n).log.applied opened.opened opened.applied in
+    let following = reports.later n fence until stands_so cell op is clients (along until (front_itself until) reached) in
+    let long = opened.known.sent.at.long in
+    let after : IsPrefix until front = front_within until front (w.servers n).log.applied reached within (omega arith) in
+    true_false (along front after within) opened.unfenced
+
+pub nothing_held_after : (script : Script) (records : List Record) → IsSound script → AreSteps script records
+    → WritesNothingHeld (setting_of script) (world_after (setting_of script) (start (setting_of script)) records)
+nothing_held_after script records sound legal =
+    let along = asking_along script sound records legal in
+    nothing_held (setting_of script) _ along.asks.lives along.asks.known (reports_known script sound records legal along)
+
+-- what is pending after a server had drained was opened later
+drained_writes_nothing : (script : Script) (records : List Record) → IsSound script → AreSteps script records → (n inc : ℕ) (until : List Command)
+    → WasDraining (setting_of script) records n inc until
+    → WritesNothingSince (setting_of script) (world_after (setting_of script) (start (setting_of script)) records) n until
+drained_writes_nothing script records sound legal n inc until was cell op along is clients =
+    let setting = setting_of script in
+    let w = world_after setting (start setting) records in
+    let k = asking_along script sound records legal in
+    let opened = k.asks.known.pending n cell op is clients in
+    let front = opened.known.sent.at.front in
+    let long = opened.known.sent.at.long in
+    let reached = subst (λ log. IsPrefix log (w.servers n).log.applied) was.at (k.since was.before (was.own ∷ was.later) was.is n).grows in
+    let within = front_on front opened.upto (w.servers n).log.applied opened.opened opened.applied in
+    let following = k.drained n inc until was cell op is clients (along until (front_itself until) reached) in
+    let after : IsPrefix until front = front_within until front (w.servers n).log.applied reached within (omega arith) in
+    true_false (along front after within) opened.unfenced
+
+pub reports_hold : (script : Script) (records : List Record) → IsSound script → AreSteps script records → ReportsHold script records
+reports_hold script records sound legal front [] n fence e wants cell op along is clients =
+    let setting = setting_of script in
+    let u = world_after setting (start setting) front in
+    let same : records ≡ front = e ∙ append-nil front in
+    let was : at cell_cmp (u.servers n).own.pairs.pending cell ≡ Some op =
+    subst (λ rs. at cell_cmp ((world_after setting (start setting) rs).servers n).own.pairs.pending cell ≡ Some op) same is in
+    let along_there : AreHeldAlong setting.servers (u.servers n).log.applied (u.servers n).log.applied cell = subst
+    (λ rs. AreHeldAlong setting.servers (u.servers n).log.applied ((world_after setting (start setting) rs).servers n).log.applied cell) same along in
+    let none = report_among (here_of (server_state setting u n) n (u.servers n)) (u.servers n).own _ wants.wants in
+    true_false
+    (held_write (server_state setting u n) (u.servers n).own cell op was clients
+    (along_there (u.servers n).log.applied (front_itself (u.servers n).log.applied) (front_itself (u.servers n).log.applied))) none.drained
+reports_hold script records sound legal front (own ∷ later) n fence e wants cell op along is clients =
+    let setting = setting_of script in
+    let u = world_after setting (start setting) front in
+    let none = report_among (here_of (server_state setting u n) n (u.servers n)) (u.servers n).own _ wants.wants in
+    drained_writes_nothing script records sound legal n (u.servers n).life.inc (u.servers n).log.applied (record {
+      ran = record { before = front; own = own; later = later; is = e; lives = refl; runs = wants.runs };
+      at = refl;
+      drained = none.drained;
+    }) cell op along is clients

@@ -1,6 +1,0 @@
--- A server works on its store only while it is In as itself, and then the store waits for nobody.
-use Rattle.law_stores.proofs.Histories.{always_empty}
-use Rattle.law_stores.proofs.a_store_that_waits_is_empty.Goals as goal
-
-pub returns : goal.returns
-returns c = always_empty

@@ -1,4 +1,0 @@
-use Rattle.lead_stages.proofs.resend.letters_after.Goals as goal
-
-pub returns : goal.returns
-returns c = rw (← c.side.view_is) c.all_after.ensures

@@ -1,3 +1,0 @@
-pub mod Wants
-pub mod Noted
-pub mod Ballots

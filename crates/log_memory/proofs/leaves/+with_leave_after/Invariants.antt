@@ -1,5 +1,0 @@
-use Rattle.std.proofs.Common.{length}
-use Rattle.log_memory.proofs.leaves.+with_leave_after.Given as goal
-
-abbrev pub decreases-with_leave_after : goal.decreases-with_leave_after
-decreases-with_leave_after l = length l.rest.now

@@ -1,5 +1,0 @@
-use Rattle.std.proofs.Common.{length}
-use Rattle.log_memory.proofs.leaves.+with_leaves.Given as goal
-
-abbrev pub decreases-with_leaves : goal.decreases-with_leaves
-decreases-with_leaves l = length l.leaves.now

@@ -1,5 +1,0 @@
-use Rattle.std.proofs.Common.{is_some, ap, ◌∙◌}
-use Rattle.log_memory.proofs.side.LogSide.has_wanted.Goals as goal
-
-pub returns : goal.returns
-returns c = λ records. c.is_some.ensures ∙ ap is_some (c.in_ok-most_urgent.ensures records)

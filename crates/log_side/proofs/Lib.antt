@@ -1,3 +1,0 @@
-pub mod FollowUps
-pub mod Said
-pub mod Starts

@@ -1,9 +1,0 @@
--- The commands so far and those that are left are all.
-use Rattle.std.proofs.Common.{◌≡◌, ◌++◌, drop}
-use Rattle.petal_rules.specs.Entries as rules
-use Rattle.petal_rules.specs.Log.{Log}
-use Rattle.log_side.proofs.news.unknown_from.Given as goal
-
-abbrev pub invariant-loop-command : goal.invariant-loop-command
-invariant-loop-command g l = (log : Log) → log.records ≡ l.state.records
-    → l.unknown ++ rules.unknown_from log l.place (drop l.command-index l.commands) ≡ rules.unknown_from log l.from l.commands

@@ -1,0 +1,11 @@
+-- Where no blank device has taken the place of the data device, it is the boot on its own.
+use Rattle.std.proofs.Common.{refl, sym, ◌∙◌}
+use Rattle.std.proofs.lemmas.Result.{IfOk-weaker}
+use Rattle.memory_server.proofs.Booting.{booted_own}
+use Rattle.memory_server.proofs.boot.boot_stopped.Goals as goal
+
+pub returns-in-None-clause-booted : goal.returns-in-None-clause-booted
+returns-in-None-clause-booted g c =
+    let none = sym c.take.ensures.value ∙ c.in-None.is in
+    rw (none, c.take.ensures.after)
+    (IfOk-weaker c.boot_again.result _ _ (λ attempt booted told holds kept. booted_own g.D.Disk (booted told (holds refl) kept)) c.boot_again.ensures)

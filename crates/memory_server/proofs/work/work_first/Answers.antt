@@ -1,0 +1,89 @@
+-- What comes of the first job.
+use Rattle.std.proofs.Common.{◌<◌, ℕ, List, [], refl, sym, ap, ◌∙◌, arith}
+use Rattle.kept_chains.specs.Kept.{store_of}
+use Rattle.kept_chains.specs.Standing.{StandsAsEither}
+use Rattle.spec_rules.specs.Jobs.{Acted}
+use Rattle.server_core.specs.Core.{Core, left_by_first}
+use Rattle.state_store.specs.Device.{StandsForEither}
+use Rattle.memory_server.proofs.Faults.{few_after, fault_commits, fault_letters, fault_site, has_failed, shown_of, stops_letters}
+use Rattle.memory_server.proofs.Recovering.{shown_in}
+use Rattle.memory_server.proofs.Working.{full_done, none_done, work_done}
+use Rattle.memory_server.specs.Server.{Mounted}
+use Rattle.memory_server.specs.declared.recovery.Counts.{Counts}
+use Rattle.memory_server.proofs.work.work_first.Goals as goal
+
+pub returns-in-Ok-Some : goal.returns-in-Ok-Some
+returns-in-Ok-Some g c = λ told.
+    let old : Mounted _ = record { core = c.args.core.now; store = c.args.store.now; state = c.args.state.now } in
+    let new : Mounted _ = record { core = c.work.new.self; store = c.work.new.store; state = c.work.new.state } in
+    let stands = c.requires.stands in
+    let worked = c.in-Ok-Some.ensures in
+    rw (c.done.ensures, c.in-Ok-Some.letters-is)
+    (work_done g.D.Disk told old stands new c.in-Ok-Some.letters ((rw c.in-Ok-Some.field-0-is at worked.work) told told stands.store stands.state)
+    worked.life.1 worked.keeps (worked.holds told stands.store) (worked.state_holds told stands.state)
+    (record { run = worked.run; state_run = worked.state_run }))
+
+pub returns-in-Ok-None : goal.returns-in-Ok-None
+returns-in-Ok-None g c = λ told.
+    let old : Mounted _ = record { core = c.args.core.now; store = c.args.store.now; state = c.args.state.now } in
+    let new : Mounted _ = record { core = c.work.new.self; store = c.work.new.store; state = c.work.new.state } in
+    let stands = c.requires.stands in
+    let worked = c.in-Ok-None.ensures in
+    rw (c.done-in-Ok-None.ensures, c.new.ensures)
+    (work_done g.D.Disk told old stands new []
+    (none_done g.D.Disk told old stands new ((rw c.in-Ok-None.field-0-is at worked.work) told told stands.store stands.state))
+    worked.life.1 worked.keeps (worked.holds told stands.store) (worked.state_holds told stands.state)
+    (record { run = worked.run; state_run = worked.state_run }))
+
+pub returns-in-Err-JournalFull : goal.returns-in-Err-JournalFull
+returns-in-Err-JournalFull g c = λ told.
+    let old : Mounted _ = record { core = c.args.core.now; store = c.args.store.now; state = c.args.state.now } in
+    let worked = rw c.in-Err-JournalFull.field-0-is at c.in-Err-JournalFull.ensures in
+    rw c.done-in-Err-JournalFull.ensures
+    (full_done g.D.Disk told old c.requires.stands c.work.new.self c.stop.new.self c.work.new.store c.work.new.state c.stop.result (worked.full refl)
+    c.stop.ensures.step c.stop.ensures.rest (record { run = worked.run; state_run = worked.state_run }))
+
+pub returns-in_ok-end-in-Err-Failed : goal.returns-in_ok-end-in-Err-Failed
+returns-in_ok-end-in-Err-Failed g c = λ told.
+    let core = c.args.core.now in
+    let store = c.args.store.now in
+    let state = c.args.state.now in
+    let old : Mounted _ = record { core = core; store = store; state = state } in
+    let stands = c.requires.stands in
+    let was = shown_in store state in
+    let will = shown_of (left_by_first core (store_of store) state.records) in
+    let worked = rw c.in-Err-Failed.field-0-is at c.in-Err-Failed.ensures in
+    let law = g.met.D.Disk g.world.𝓛 g.world.𝓜 g.world.𝓡 ((λ s x. x), (λ x. x), (λ x. x), λ x. x) in
+    let moments = worked.moments told stands.store in
+    let state_moments = worked.state_moments told stands.state in
+    let stored : (x : List ℕ) → g.D.Disk.may_leave c.work.new.store.disk x → StandsAsEither was.store will.store x
+    = λ x left. moments.each x (law.counts_now c.work.new.store.disk (g.D.Disk.moment store.disk) x moments.later left) in
+    let recorded : (x : List ℕ) → g.D.Disk.may_leave c.work.new.state.disk x → StandsForEither was.records will.records x
+    = λ x left. state_moments.each x (law.counts_now c.work.new.state.disk (g.D.Disk.moment state.disk) x state_moments.later left) in
+    let bound = c.slots-slots.type_inv in
+    let slots = c.slots-slots.ensures in
+    let small : store.slots < 4294967296 = omega (arith, bound, slots) in
+    let end = c.in_ok-end-in-Err-Failed.end in
+    let reopened = c.in_ok-end-in-Err-Failed.ensures in
+    let rest = c.stop-letters.ensures.rest in
+    let off = ap (λ (it : Core). it.running) rest in
+    let held = reopened.holds was will told small stored in
+    let kept = reopened.state_holds was will told recorded in
+    let few = few_after stands c.reopen.new.store c.reopen.new.state held kept in
+    rw c.failed.ensures (record {
+      site = fault_site old c.stop-letters.new.self c.reopen.new.store c.reopen.new.state end off
+          (ap (λ (it : Core). it.log.voter) rest ∙ worked.life.1)
+          (reopened.ends was will told small stored recorded (ap (λ (counts : Counts). counts.stored) c.of-before.ensures ∙ stands.store.count)
+          (ap (λ (counts : Counts). counts.kept) c.of-before.ensures ∙ stands.state.count) (fault_commits old))
+          few.0 few.1;
+      sends = ap (λ (acted : Acted). acted.letters) (c.stop-letters.ensures.step (store_of store) state.records)
+          ∙ stops_letters c.work.new.self core (store_of store) state.records worked.life.1
+          ∙ sym (fault_letters old end);
+      stands = record { tickets = λ runs. absurd (cc); store = held; state = kept };
+      cause = λ _. has_failed g.D.Disk old c.work.new.store c.work.new.state c.stop-letters.new.self c.reopen.new.store c.reopen.new.state
+          worked.cause reopened.later;
+      run = record {
+        run = law.goes_on store.disk c.work.new.store.disk c.reopen.new.store.disk worked.run reopened.run.0;
+        state_run = law.goes_on state.disk c.work.new.state.disk c.reopen.new.state.disk worked.state_run reopened.run.1;
+      };
+    })

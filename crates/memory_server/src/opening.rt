@@ -1,0 +1,56 @@
+//! A store whose device may fail while it is opened again.
+//!
+//! Such a device is asked once more, before its server gives up. A plan makes one call fail, and a disk in memory never fails of
+//! itself, so that over such disks the second opening always meets none, even where a job failed by the plan of the one device and
+//! the other has a plan for its next read.
+
+ghost use Rattle.std.specs.Prelude.{◌≡◌, ◌<◌, ◌≤◌, ◌+◌, ◌^◌, ℕ, Bool, List, [], true, IfOk, IfErr, IsErrOf, OnOk};
+ghost use Rattle.server_log.specs.Done as logs;
+ghost use Rattle.spec_paxos.specs.declared.record.StateRecord.{StateRecord};
+ghost use Rattle.server_store.specs.Opening.{Reopened};
+ghost use Rattle.server_store.specs.Shown.{Picture, Shows as ShowsPicture};
+ghost use Rattle.state_store.specs.Device.{StandsFor};
+ghost use Rattle.data_device.specs.declared.record.StoreRecord.{StoreRecord};
+
+use petal_disk::Disk;
+use server_store::{Store, StoreError};
+use state_store::{StateError, StateStore};
+use std::alloc::Global;
+
+/// Opens a server's store again, as after a crash; once more where the device fails. The answer is whether the device shows a store.
+///
+/// # Errors
+/// `Failed` where the device failed both times; else as of [`Store::reopen`].
+pub fn reopen_store<D: Disk>(alloc: Global, store: &mut Store<D>) -> Result<bool, StoreError>
+    ensures left { D.told → D.may_leave store.old.disk (D.seen store.new.disk) }
+    ensures same { (slots : ℕ) (fresh : Bool) (recorded : List StoreRecord) (picture : Picture)
+        → IfOk result (λ found. found ≡ true → D.told → slots < 2 ^ 32 → ShowsPicture (D.seen store.new.disk) slots fresh recorded picture
+        → Reopened slots fresh recorded picture store.new (D.seen store.new.disk) (D.may_leave store.new.disk)) }
+    ensures no_tickets { IfOk result (λ found. found ≡ true → store.new.tickets ≡ []) }
+    ensures failed { IfErr result (λ e. e ≡ StoreError.Failed → D.faults store.old.disk + 2 ≤ D.faults store.new.disk) }
+    ensures later { D.faults store.old.disk ≤ D.faults store.new.disk }
+    ensures run { D.came_to store.old.disk store.new.disk }
+{
+    match store.reopen(alloc) {
+        Err(StoreError::Failed) => store.reopen(alloc),
+        opened => opened,
+    }
+}
+
+/// The same of its state store.
+///
+/// # Errors
+/// `Failed` where the device failed both times; else as of [`StateStore::reopen`].
+pub fn reopen_state<D: Disk>(alloc: Global, state: &mut StateStore<D>) -> Result<(), StateError>
+    ensures left { D.told → D.may_leave state.old.disk (D.seen state.new.disk) }
+    ensures same { (records : List StateRecord) → OnOk result (D.told → StandsFor (D.seen state.new.disk) records → state.new.records ≡ records) }
+    ensures holds { (records : List StateRecord) → OnOk result (D.told → StandsFor (D.seen state.new.disk) records → logs.HoldsAt D.Disk state.new) }
+    ensures failed { IsErrOf result StateError.Failed → D.faults state.old.disk + 2 ≤ D.faults state.new.disk }
+    ensures later { D.faults state.old.disk ≤ D.faults state.new.disk }
+    ensures run { D.came_to state.old.disk state.new.disk }
+{
+    match state.reopen(alloc) {
+        Err(StateError::Failed) => state.reopen(alloc),
+        opened => opened,
+    }
+}

@@ -1,3 +1,0 @@
-pub mod Flat
-pub mod Firsts
-pub mod FillOf

@@ -1,4 +1,0 @@
-pub mod Judging
-pub mod Open
-pub mod Orders
-pub mod Posting

@@ -1,0 +1,14 @@
+pub mod ByLink
+pub mod Tickets
+pub mod Said
+pub mod Kept
+pub mod Puts
+pub mod Blank
+pub mod Crossings
+pub mod Letters
+pub mod Entering
+pub mod Looks
+pub mod Linked
+pub mod Reading
+pub mod Restored
+pub mod Viewed

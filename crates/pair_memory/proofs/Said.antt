@@ -1,0 +1,81 @@
+-- A job without a call of the device is one that may have made one.
+use Rattle.std.proofs.Common.{◌≡◌, ℕ, List, Result, Ok, Err, refl, sym, subst, ap, ◌∙◌, arith}
+use Rattle.petal_disk.specs.declared.disk.Disk.{Ghosts}
+use Rattle.spec_rules.specs.Server.{Here}
+use Rattle.spec_rules.specs.Server as rules
+use Rattle.kept_chains.specs.Holdings.{Holdings}
+use Rattle.kept_chains.proofs.Commits.{still_moments}
+use Rattle.pair_memory.specs.declared.error.WorkError.{WorkError}
+use Rattle.pair_memory.specs.declared.error.WorkError.TheVariants.{JournalFull, NoMemory}
+use Rattle.pair_memory.specs.declared.done.Done.{Done}
+use Rattle.pair_memory.specs.Side.{Side}
+use Rattle.pair_memory.specs.Done.{HoldsAt, IsFull, IsSaid, IsDone}
+
+module _ {D : Type 0} (device : Ghosts D) (stays : (d : D) → device.came_to d d)
+    (only_now : (d : D) (c : List ℕ) → device.left_since d (device.moment d) c → device.may_leave d c) where
+  -- where the device is as it was
+  run_same : (old new : Holdings D) → new.disk ≡ old.disk → device.came_to old.disk new.disk
+  run_same old new same = subst (device.came_to old.disk) (sym same) (stays old.disk)
+
+  disk_is : (old new : Holdings D) → new ≡ record old { tickets = new.tickets } → new.disk ≡ old.disk
+  disk_is old new is = ap (λ (s : Holdings D). s.disk) is
+
+  entries_are : (old new : Holdings D) → new ≡ record old { tickets = new.tickets } → new.entries ≡ old.entries
+  entries_are old new is = ap (λ (s : Holdings D). s.entries) is
+
+  -- what the device shows is what it showed
+  shown_still : (old new : Holdings D) → new ≡ record old { tickets = new.tickets } → HoldsAt device old → HoldsAt device new
+  shown_still old new is holds = subst (HoldsAt device) (sym is) holds
+
+  pub said_done : (here : Here) (old new : Side) (old_store new_store : Holdings D) (answer : Result Done WorkError) (rule : rules.Done)
+      → IsSaid here old new old_store new_store answer rule → IsDone device here old new old_store new_store answer rule
+  said_done here old new old_store new_store (Ok out) rule said = record {
+    done = λ _. said.done;
+    keeps = said.keeps;
+    holds = λ _. shown_still old_store new_store said.store;
+    moments = λ _. still_moments device only_now old_store new_store rule.own.store (disk_is old_store new_store said.store);
+    still = λ no. absurd (cc);
+    same = λ no. absurd (cc);
+    kept = tt;
+    full = λ no. absurd (cc);
+    cause = record { later = let same = ap device.faults (disk_is old_store new_store said.store) in omega (arith, same); failed = λ no. absurd (cc) };
+    run = run_same old_store new_store (disk_is old_store new_store said.store);
+  }
+  said_done here old new old_store new_store (Err e) rule said = record {
+    done = tt;
+    keeps = tt;
+    holds = λ _ _. tt;
+    moments = λ _. still_moments device only_now old_store new_store rule.own.store (disk_is old_store new_store said.store);
+    still = λ _ _. shown_still old_store new_store said.store;
+    same = λ _. (said.err.1, said.err.2 ∙ ap (λ (s : Holdings D). record old_store { disk = s.disk }) (sym said.err.2));
+    kept = λ _. entries_are old_store new_store said.store;
+    full = λ is. absurd (let e_is : e ≡ NoMemory = said.err.0 in cc);
+    cause = record {
+      later = let same = ap device.faults (disk_is old_store new_store said.store) in omega (arith, same);
+      failed = λ is. absurd (let e_is : e ≡ NoMemory = said.err.0 in cc);
+    };
+    run = run_same old_store new_store (disk_is old_store new_store said.store);
+  }
+
+  -- a job for whose record the journal has no room
+  pub full_done : (here : Here) (old new : Side) (before after : Holdings D) (rule : rules.Done) → IsFull old new before after rule
+      → IsDone device here old new before after (Err JournalFull) rule
+  full_done here old new before after rule full =
+      let disk : after.disk ≡ before.disk = ap (λ (s : Holdings D). s.disk) full.same.1 in
+      record {
+        done = tt;
+        keeps = tt;
+        holds = λ _ _. tt;
+        moments = λ _. still_moments device only_now before after rule.own.store disk;
+        still = λ no. absurd (cc);
+        same = λ no. absurd (cc);
+        kept = λ _. ap (λ (s : Holdings D). s.entries) full.same.1;
+        full = λ _. full;
+        cause = record { later = let same = ap device.faults disk in omega (arith, same); failed = λ no. absurd (cc) };
+        run = run_same before after disk;
+      }
+
+-- what was refused for memory left all as it was
+pub all_same : {D : Type 0} (here : Here) (old new : Side) (old_store new_store : Holdings D) (rule : rules.Done) → new ≡ old → new_store ≡ old_store
+    → IsSaid here old new old_store new_store (Err NoMemory) rule
+all_same here old new old_store new_store rule same held = rw (same, held) (record { done = tt; keeps = tt; err = (refl, refl, refl); store = refl })

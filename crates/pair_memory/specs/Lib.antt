@@ -1,0 +1,10 @@
+pub mod Copies
+pub mod Ended
+pub mod Side
+pub mod Done
+pub mod Refusals
+pub mod Slots
+pub mod Crossed
+pub mod Letters
+pub use Rattle.kept_chains.specs.Kept
+pub use Rattle.kept_chains.specs.Walking

@@ -1,0 +1,47 @@
+//! Why a job was not done.
+
+use kept_chains::StoreError;
+use petal_base::NoMemory;
+use thiserror::Error;
+
+/// Why a job was not done.
+#[derive(Clone, Copy, Debug, PartialEq, Eq, Error)]
+pub enum WorkError {
+    /// The data device failed, and its count of faults rose. The server is to be stopped.
+    #[error("the device failed")]
+    Failed,
+    /// The data device's journal has all the records that it has room for. The server is to be stopped.
+    #[error("the journal is full")]
+    JournalFull,
+    /// There was no memory for this job, which changed nothing.
+    #[error("out of memory")]
+    NoMemory,
+}
+
+impl From<NoMemory> for WorkError {
+    ghost use Rattle.std.specs.Prelude.{◌≡◌};
+    ghost use Rattle.pair_memory.specs.declared.error.WorkError.TheVariants as error;
+
+    ghost from_gives = { λ _ e. e ≡ error.NoMemory };
+
+    fn from(_error: NoMemory) -> WorkError {
+        WorkError::NoMemory
+    }
+}
+
+impl From<StoreError> for WorkError {
+    ghost use Rattle.std.specs.Prelude.{◌≡◌};
+    ghost use Rattle.pair_memory.specs.Refusals.{work_error};
+
+    ghost from_gives = { λ refusal e. e ≡ work_error refusal };
+
+    fn from(refusal: StoreError) -> WorkError {
+        match refusal {
+            StoreError::JournalFull => WorkError::JournalFull,
+            StoreError::NoMemory => WorkError::NoMemory,
+            StoreError::Failed | StoreError::NoSpace | StoreError::BadRecord { .. } => {
+                WorkError::Failed
+            }
+        }
+    }
+}

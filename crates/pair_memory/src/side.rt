@@ -1,0 +1,102 @@
+//! What a server has in memory of its pairs.
+
+ghost use Rattle.std.specs.Prelude.{◌≡◌, ◌||◌, IfOk, IfSome, is_some};
+ghost use Rattle.std.specs.List.Sorted.{IsStrictlySortedBy};
+ghost use Rattle.std.specs.Map.{keys_of};
+ghost use Rattle.std.specs.Ordering.{nat_cmp};
+ghost use Rattle.petal_table.specs.Table.{at};
+ghost use Rattle.spec_rules.specs.Store.{cell_cmp};
+ghost use Rattle.pair_memory.specs.Side.{new_side};
+
+use crate::copies::Copies;
+use crate::links::LinkTable;
+use kept_chains::Ticket;
+use pair_lock::PairLock;
+use petal_base::{Cell, ClientId, Key, NoMemory, Op};
+use petal_msg::{Finished, LastOp, Pending};
+use petal_table::Table;
+use std::alloc::Global;
+use std::marker::Model;
+
+/// One server's side of its pairs, for its life: the number of its next operation, what is pending, what it finished for each
+/// client, the last operation that it followed on each cell, what it remembers of copies, the last key of each link that the new
+/// map is known to have, and the tickets for the slots set apart, for operations of its own and for the leads of cells.
+#[derive(Drop)]
+pub struct Side {
+    pub next: Op,
+    pub locks: PairLock,
+    pub finished: Table<ClientId, Finished>,
+    pub last: Table<Cell, LastOp>,
+    pub copies: Copies,
+    pub filled: LinkTable<Key>,
+    pub own: Table<Cell, Ticket>,
+    pub apart: Table<Cell, Ticket>,
+}
+
+impl Model for Side {
+    ghost use Rattle.pair_memory.specs.Side as sides;
+
+    ghost Value = { sides.Side };
+
+    ghost view = { λ s. record {
+      next = s.next;
+      pending = s.locks;
+      finished = s.finished;
+      last = s.last;
+      copies = s.copies;
+      filled = s.filled;
+      own = s.own;
+      apart = s.apart;
+    } };
+}
+
+impl Side {
+    /// Nothing was done yet. It takes no memory.
+    pub fn new(alloc: Global) -> Side
+        ensures { result ≡ new_side }
+    {
+        Side {
+            next: 1,
+            locks: PairLock::new(alloc),
+            finished: Table::new(alloc),
+            last: Table::new(alloc),
+            copies: Copies::new(alloc),
+            filled: LinkTable::new(alloc),
+            own: Table::new(alloc),
+            apart: Table::new(alloc),
+        }
+    }
+
+    /// What was finished last for the client.
+    pub fn finished_for(&self, client: ClientId) -> Option<Finished>
+        ensures { result ≡ at nat_cmp self.now.finished client }
+    {
+        self.finished.get(&client).copied()
+    }
+
+    /// The last operation that was followed on the cell.
+    pub fn last_on(&self, cell: Cell) -> Option<LastOp>
+        ensures { result ≡ at cell_cmp self.now.last cell }
+    {
+        self.last.get(&cell).copied()
+    }
+
+    /// Whether an operation or a copy is under way on the cell.
+    pub fn is_under_way(&self, cell: Cell) -> bool
+        ensures { result ≡ (is_some (at cell_cmp self.now.pending cell) || is_some (at cell_cmp self.now.copies.pending cell)) }
+    {
+        self.locks.is_busy(cell) || self.copies.copying_on(cell).is_some()
+    }
+
+    /// The operation that is pending on the cell, with an owner more of its block.
+    pub fn pending_on(&self, cell: Cell) -> Result<Option<Pending>, NoMemory>
+        ensures value { IfOk result (λ found. found ≡ at cell_cmp self.now.pending cell) }
+        ensures own { IfSome (at cell_cmp self.now.pending cell) (λ op. op.cell ≡ cell) }
+        ensures sorted { IsStrictlySortedBy cell_cmp (keys_of self.now.pending) }
+    {
+        match self.locks.get(cell) {
+            Some(pending) => Ok(Some(pending.clone()?)),
+            None => Ok(None),
+        }
+    }
+}

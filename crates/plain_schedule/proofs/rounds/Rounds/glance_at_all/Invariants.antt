@@ -1,0 +1,5 @@
+use Rattle.plain_schedule.specs.Going.{WentOn}
+use Rattle.plain_schedule.proofs.rounds.Rounds.glance_at_all.Given as goal
+
+abbrev pub invariant-loop-server : goal.invariant-loop-server
+invariant-loop-server g l = WentOn l.fn.self.world l.self.world

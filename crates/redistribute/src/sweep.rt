@@ -1,0 +1,104 @@
+//! What is dropped of cells that are live no longer.
+
+ghost use Rattle.std.specs.Prelude.{◌≡◌, [], true, nat_eq, Some, is_some};
+ghost use Rattle.std.specs.List.{list_any};
+ghost use Rattle.petal_base.specs.Cells.{cell_of};
+ghost use Rattle.petal_msg.specs.declared.dead.Dead.TheVariants as dead;
+ghost use Rattle.spec_rules.specs.Store.{chain_in, epochs_of};
+ghost use Rattle.spec_rules.specs.Sweeping as sweeping;
+ghost use Rattle.kept_chains.specs.Kept.{chains_of, store_of};
+ghost use Rattle.pair_memory.specs.declared.done.FollowUp.TheVariants as follow_up;
+ghost use Rattle.pair_memory.specs.Done.{IsDone};
+ghost use Rattle.pair_memory.specs.Side.{own_of, HasTicketsAt};
+
+use crate::search::{dead_entry, dead_mark};
+use busy_marks::MarkKind;
+use global_state::GlobalState;
+use kept_chains::{drop_entry, unmark};
+use pair_memory::{Done, FollowUp, Here, Side, WorkError, silent};
+use petal_base::{Cell, Key, Sequence};
+use petal_disk::Disk;
+use petal_msg::Dead;
+use server_store::Store;
+
+/// What is to be dropped next: the first entry of a cell that is live no longer, or else the first such mark.
+pub fn next_dead<D: Disk>(state: &GlobalState, store: &Store<D>) -> Option<Dead>
+    ensures { result ≡ sweeping.next_dead state.now (store_of store.now) }
+{
+    // What `free` promises tells the proof that the entries are in order.
+    let _ = store.free();
+    match dead_entry(state, store.entries()) {
+        Some(key) => Some(Dead::Key(key)),
+        None => dead_mark(state, store),
+    }
+}
+
+/// Whether something is to be dropped.
+pub fn has_dead<D: Disk>(state: &GlobalState, store: &Store<D>) -> bool
+    ensures { result ≡ is_some (sweeping.next_dead state.now (store_of store.now)) }
+{
+    next_dead(state, store).is_some()
+}
+
+/// No letter is sent, and the next one is dropped in a job of its own.
+fn followed(here: &Here) -> Done
+    ensures { result ≡ record { letters = []; follow = Some follow_up.Sweep } }
+{
+    Done {
+        letters: Sequence::new(here.alloc()),
+        follow: Some(FollowUp::Sweep),
+    }
+}
+
+/// An entry is dropped.
+fn drops<D: Disk>(
+    here: &Here,
+    side: &Side,
+    store: &mut Store<D>,
+    key: Key,
+) -> Result<Done, WorkError>
+    requires tickets { HasTicketsAt side.now store.old }
+    requires there { list_any (nat_eq key.epoch) (epochs_of (chain_in (chains_of store.old.entries) (cell_of key))) ≡ true }
+    ensures { IsDone D.Disk here.now side.now side.now store.old store.new result
+        (sweeping.sweeps_with (own_of side.now store.old) (Some (dead.Key key))) }
+{
+    let _ = side;
+    drop_entry(store, key)?;
+    Ok(followed(here))
+}
+
+/// A mark is taken away.
+fn unmarks<D: Disk>(
+    here: &Here,
+    side: &Side,
+    store: &mut Store<D>,
+    kind: MarkKind,
+    cell: Cell,
+) -> Result<Done, WorkError>
+    requires { HasTicketsAt side.now store.old }
+    ensures { IsDone D.Disk here.now side.now side.now store.old store.new result
+        (sweeping.sweeps_with (own_of side.now store.old) (Some (dead.Mark kind cell))) }
+{
+    let _ = side;
+    unmark(store, kind, cell)?;
+    Ok(followed(here))
+}
+
+/// The next entry or mark is dropped, with one commit to the store.
+///
+/// # Errors
+/// `Failed` where the device failed, and `JournalFull` only where the store's journal had all its records: the entries are as they
+/// were, and the server is to be stopped.
+#[tactic(auto, unfolding(spec_rules::specs::Sweeping::sweeps))]
+pub fn sweeps<D: Disk>(here: &Here, side: &Side, store: &mut Store<D>) -> Result<Done, WorkError>
+    requires { HasTicketsAt side.now store.old }
+    ensures { IsDone D.Disk here.now side.now side.now store.old store.new result (sweeping.sweeps here.now (own_of side.now store.old)) }
+{
+    // What `free` promises tells the proof that the entries are in order.
+    let _ = store.free();
+    match next_dead(here.state(), store) {
+        None => silent(here, side, store),
+        Some(Dead::Key(key)) => drops(here, side, store, key),
+        Some(Dead::Mark(kind, cell)) => unmarks(here, side, store, kind, cell),
+    }
+}

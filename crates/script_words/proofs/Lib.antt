@@ -1,4 +1,0 @@
-pub mod Pieces
-pub mod WordList
-pub mod Kept
-pub mod Tuples

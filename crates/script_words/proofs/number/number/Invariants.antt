@@ -1,9 +1,0 @@
-use Rattle.std.proofs.Common.{◌≡◌, ◌<◌, ◌≤◌, ◌^◌, take, true, length}
-use Rattle.std.specs.List.{list_all}
-use Rattle.std.specs.Char.{is_ascii_digit}
-use Rattle.script_words.specs.Number.{value}
-use Rattle.script_words.proofs.number.number.Given as goal
-
-abbrev pub invariant-loop-digit : goal.invariant-loop-digit
-invariant-loop-digit l = (l.value ≡ value (take l.digit-index l.word)) × (list_all is_ascii_digit (take l.digit-index l.word) ≡ true)
-    × (l.value < 10 ^ l.digit-index) × (length l.word ≤ 20)

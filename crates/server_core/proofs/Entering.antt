@@ -1,0 +1,195 @@
+-- The job that applies an entry, with what the entry does to the store.
+use Rattle.std.proofs.Common.{◌≡◌, ◌≢◌, ℕ, ◌++◌, true, List, [], ◌∷◌, None, Some, Option, Result, Ok, Err, drop, refl, sym, subst, ap, ◌∙◌, arith}
+use Rattle.std.specs.Prelude.{slice_get, option_map, IfSome}
+use Rattle.kept_chains.specs.Kept.{store_of}
+use Rattle.kept_chains.specs.Standing.{StandsAsEither}
+use Rattle.kept_chains.proofs.Commits.{still_moments}
+use Rattle.server_log.specs.Said.{IsBy, follow_ups}
+use Rattle.server_log.specs.Entered.{entry_of, next_known}
+use Rattle.server_log.specs.Part.{Part, log_of, sender_of, state_of}
+use Rattle.server_log.specs.declared.memory.entries.Entered.{Entered}
+use Rattle.server_log.specs.declared.memory.done.LogDone.{LogDone}
+use Rattle.pair_memory.specs.Crossed.{IsEntered, lacks_room}
+use Rattle.pair_memory.specs.Done.{HoldsAt}
+use Rattle.pair_memory.specs.Side.{Side, own_of}
+use Rattle.pair_memory.specs.declared.error.WorkError.{WorkError}
+use Rattle.pair_memory.specs.declared.error.WorkError.TheVariants.{Failed, JournalFull, NoMemory}
+use Rattle.pair_memory.proofs.Entering.{lacking}
+use Rattle.petal_command.specs.declared.command.Command.{Command}
+use Rattle.petal_disk.specs.Disk.{LeavesOnly}
+use Rattle.petal_disk.specs.declared.disk.Disk.{Ghosts}
+use Rattle.spec_paxos.specs.declared.record.StateRecord.{StateRecord}
+use Rattle.spec_rules.specs.Crossing.{crossed_by, jobs_by}
+use Rattle.spec_rules.specs.Entries.{applies, applies_known, with_entry}
+use Rattle.spec_rules.proofs.Applied.{state_append}
+use Rattle.spec_rules.specs.State.{State}
+use Rattle.spec_state.specs.Command.{after, state_after}
+use Rattle.spec_rules.specs.Log.{Log}
+use Rattle.spec_rules.specs.Server.{Here, Own}
+use Rattle.spec_rules.specs.Store.{Store}
+use Rattle.spec_rules.specs.declared.job.Job.TheVariants as job
+use Rattle.server_core.specs.Core.{Core, here_in, left_by_first}
+use Rattle.server_core.specs.Work.{IsStoreWork}
+use Rattle.server_core.proofs.Rooms.{few_stored, full_stored}
+use Rattle.server_core.proofs.Works.{entry_left, entry_stops, entry_worked}
+use Rattle.server_store.specs.Holdings.{Holdings}
+
+-- an entry that was applied makes the state after it
+pub state_entered : (old new : Part) (records : List StateRecord) (done : LogDone) (entered : Option Entered)
+    → IsBy (sender_of old) (log_of new records) done (applies (log_of old records)) → new.voter ≡ old.voter
+    → option_map entry_of entered ≡ next_known old records → IfSome entered (λ it. it.before ≡ state_of old)
+    → IfSome entered (λ it. state_of new ≡ after it.before it.entry)
+unfolding applies
+state_entered old new records done None by voter is before = tt
+state_entered old new records done (Some it) by voter is before =
+    let log : log_of new records ≡ with_entry (log_of old records) it.entry =
+    by.log ∙ ap (λ (found : Option Command). (applies_known (log_of old records) found).log) (sym is) in
+    let applied : new.applied ≡ old.applied ++ it.entry ∷ [] = ap (λ (l : Log). l.applied) log in
+    (λ i. state_after (voter i).servers (applied i))
+    ∙ sym (state_append old.voter.servers old.applied (it.entry ∷ []))
+    ∙ ap (λ (s : State). after s it.entry) (sym before)
+
+-- what an entry left, told with another value
+module _ {D A B : Type 0} (device : Ghosts D) {here : Here} {entry : Option Command} {old new : Side} {before after : Holdings D} where
+  pub entered_with : (made : A) (done : B) → IsEntered device here entry old new before after (Ok made)
+      → IsEntered device here entry old new before after (Ok done)
+  entered_with made done is = record {
+    own = is.own;
+    keeps = is.keeps;
+    holds = is.holds;
+    moments = is.moments;
+    kept = is.kept;
+    errors = tt;
+    cause = record { later = is.cause.later; failed = λ no. absurd (cc) };
+    run = is.run;
+  }
+
+  pub entered_not : (e : WorkError) → IsEntered {T = A} device here entry old new before after (Err e)
+      → IsEntered {T = B} device here entry old new before after (Err e)
+  entered_not e is = record {
+    own = tt;
+    keeps = is.keeps;
+    holds = λ _ _. tt;
+    moments = is.moments;
+    kept = is.kept;
+    errors = is.errors;
+    cause = record { later = is.cause.later; failed = λ _. is.cause.failed (ap Err is.errors) };
+    run = is.run;
+  }
+
+module _ {D : Type 0} (device : Ghosts D) (records : List StateRecord) (old : Core) (before : Holdings D) (there : slice_get old.queue 0 ≡ Some job.Apply) where
+  abbrev rule : Own
+  rule = crossed_by (here_in old) (next_known old.log records) (own_of old.side before)
+
+  abbrev Leaves : Holdings D → Store → Type 0
+  Leaves after left = LeavesOnly device.moment device.left_since before.disk after.disk (StandsAsEither (store_of before) left)
+
+  left_as : (after : Holdings D) → Leaves after rule.store → Leaves after (left_by_first old (store_of before) records).own.store
+  left_as after = subst (Leaves after) (entry_left old (store_of before) records there)
+
+  -- it is done as the rule says
+  pub applied_work : {T : Type 0} (new : Core) (after : Holdings D) (made : T) (done : LogDone)
+      → IsEntered device (here_in old) (next_known old.log records) old.side new.side before after (Ok made)
+      → IsBy (sender_of old.log) (log_of new.log records) done (applies (log_of old.log records))
+      → new.running ≡ old.running → new.log.voter ≡ old.log.voter
+      → new.queue ≡ (drop 1 old.queue ++ follow_ups done) ++ jobs_by (here_in old).state (here_in old).me (next_known old.log records) (own_of old.side before)
+      → IsStoreWork device records old new before after (Ok done.letters)
+  applied_work new after made done entered by running voter queue = record {
+    work = λ told holds few_log.
+        entry_worked old (store_of before) records there new (store_of after) done by running voter (entered.own told) queue
+        (few_stored device after (entered.holds told holds)) few_log;
+    life = (running, voter);
+    keeps = entered.keeps;
+    holds = entered.holds;
+    moments = λ told holds. left_as after (entered.moments told holds);
+    still = λ no. absurd (cc);
+    same = λ no. absurd (cc);
+    kept = tt;
+    full = λ no. absurd (cc);
+    cause = record { later = entered.cause.later; failed = λ no. absurd (cc) };
+    run = entered.run;
+  }
+
+  -- the device failed in it
+  pub applied_failed : {T : Type 0} (new : Core) (after : Holdings D) (e : WorkError) → e ≡ Failed
+      → IsEntered {T = T} device (here_in old) (next_known old.log records) old.side new.side before after (Err e)
+      → new.running ≡ old.running → new.log.voter ≡ old.log.voter
+      → IsStoreWork device records old new before after (Err e)
+  applied_failed new after e is entered running voter = record {
+    work = tt;
+    life = (running, voter);
+    keeps = tt;
+    holds = λ _ _. tt;
+    moments = λ told holds. left_as after (entered.moments told holds);
+    still = λ no. absurd (cc);
+    same = λ no. absurd (cc);
+    kept = entered.kept;
+    full = λ no. absurd (cc);
+    cause = record { later = entered.cause.later; failed = λ _. entered.cause.failed (ap Err is) };
+    run = entered.run;
+  }
+
+  module _ (stays : (d : D) → device.came_to d d) (only_now : (d : D) (c : List ℕ) → device.left_since d (device.moment d) c → device.may_leave d c) where
+    same_moments : HoldsAt device before → Leaves before (left_by_first old (store_of before) records).own.store
+    same_moments = still_moments device only_now before before (left_by_first old (store_of before) records).own.store refl
+
+    -- there was no memory for it
+    pub applied_nothing : (new : Core) → new ≡ old → IsStoreWork device records old new before before (Err NoMemory)
+    applied_nothing new same = record {
+      work = tt;
+      life = (ap (λ (it : Core). it.running) same, ap (λ (it : Core). it.log.voter) same);
+      keeps = tt;
+      holds = λ _ _. tt;
+      moments = λ _. same_moments;
+      still = λ _ _ holds. holds;
+      same = λ _. (same, refl);
+      kept = λ _. refl;
+      full = λ no. absurd (cc);
+      cause = record { later = omega arith; failed = λ no. absurd (cc) };
+      run = stays before.disk;
+    }
+
+    -- it was not done: the device failed, or there was no memory for it
+    pub applied_not : {T : Type 0} (new : Core) (left : Holdings D) (e : WorkError)
+        → (◌≢◌ {A = Result T WorkError} (Err e) (Err NoMemory)
+        → IsEntered {T = T} device (here_in old) (next_known old.log records) old.side new.side before left (Err e))
+        → (◌≡◌ {A = Result T WorkError} (Err e) (Err NoMemory) → (new.log ≡ old.log) × (new.side ≡ old.side) × (left ≡ before))
+        → new.running ≡ old.running → new.log.voter ≡ old.log.voter → new.queue ≡ old.queue
+        → IsStoreWork device records old new before left (Err e)
+    applied_not new left Failed entered same running voter queue = applied_failed new left Failed refl (entered (λ no. absurd (cc))) running voter
+    applied_not new left JournalFull entered same running voter queue = let e = (entered (λ no. absurd (cc))).errors in absurd (cc)
+    applied_not new left NoMemory entered same running voter queue =
+        let is = same refl in
+        subst (λ (held : Holdings D). IsStoreWork device records old new before held (Err NoMemory)) (sym is.2)
+        (applied_nothing new (λ i. record { running = running i; log = is.0 i; side = is.1 i; queue = queue i }))
+
+    -- the journal has no room for its record
+    pub applied_full : lacks_room old.log.voter.me old.log.voter.inc (next_known old.log records) before ≡ true
+        → (new : Core) → new ≡ old → IsStoreWork device records old new before before (Err JournalFull)
+    applied_full lacks new same =
+        let full = lacking (here_in old) (next_known old.log records) old.side before lacks in
+        record {
+          work = tt;
+          life = (ap (λ (it : Core). it.running) same, ap (λ (it : Core). it.log.voter) same);
+          keeps = tt;
+          holds = λ _ _. tt;
+          moments = λ _. same_moments;
+          still = λ no. absurd (cc);
+          same = λ no. absurd (cc);
+          kept = λ _. refl;
+          full = λ _. record {
+            count = full.0;
+            same = (same, refl);
+            stops = λ _ holds. entry_stops old (store_of before) records there (full_stored device before holds full.0 _ full.1);
+          };
+          cause = record { later = omega arith; failed = λ no. absurd (cc) };
+          run = stays before.disk;
+        }
+
+    -- it was refused before anything changed
+    pub applied_refused : (new : Core) → new ≡ old → (e : WorkError) → e ≢ Failed
+        → (e ≡ JournalFull → lacks_room old.log.voter.me old.log.voter.inc (next_known old.log records) before ≡ true)
+        → IsStoreWork device records old new before before (Err e)
+    applied_refused new same Failed other lacks = absurd (other refl)
+    applied_refused new same JournalFull other lacks = applied_full (lacks refl) new same
+    applied_refused new same NoMemory other lacks = applied_nothing new same

@@ -1,0 +1,92 @@
+-- A job of the pairs that was done.
+use Rattle.std.proofs.Common.{◌≡◌, ◌≤◌, List, ◌++◌, Some, Ok, inl, inr, drop, length, refl, sym, ap, ◌∙◌, subst, arith}
+use Rattle.std.specs.Prelude.{slice_get}
+use Rattle.kept_chains.specs.Kept.{store_of}
+use Rattle.kept_chains.specs.Standing.{StandsAsEither}
+use Rattle.server_log.specs.Part.{Part, log_of}
+use Rattle.pair_memory.specs.Done.{HoldsAt, IsDone, follow_up}
+use Rattle.pair_memory.specs.Side.{own_of}
+use Rattle.pair_memory.specs.declared.done.Done.{Done}
+use Rattle.petal_disk.specs.Disk.{LeavesOnly}
+use Rattle.petal_disk.specs.declared.disk.Disk.{Ghosts}
+use Rattle.petal_msg.specs.declared.letter.Letter.{Letter}
+use Rattle.spec_paxos.specs.declared.record.StateRecord.{StateRecord}
+use Rattle.spec_rules.specs.Jobs.{does, journal_records, works}
+use Rattle.spec_rules.specs.Server.{Own}
+use Rattle.spec_rules.specs.Server.{Done as Rule}
+use Rattle.spec_rules.specs.Store.{Store}
+use Rattle.spec_rules.specs.declared.job.Job.{Job}
+use Rattle.server_core.specs.Core.{Core, acted, here_in, left_by_first, server_of}
+use Rattle.server_jobs.specs.Kind.{kind_of}
+use Rattle.server_core.specs.Work.{IsFullLog, IsFullStore, IsFullWork, IsStoreWork}
+use Rattle.server_jobs.specs.declared.queue.Kind.TheVariants.{OfPairs}
+use Rattle.server_core.proofs.Rooms.{few_stored}
+use Rattle.server_core.proofs.Works.{made, pair_left, pair_works}
+use Rattle.server_store.specs.Holdings.{Holdings}
+use Rattle.state_store.specs.Device.{Keeping}
+
+module _ {D : Type 0} (device : Ghosts D) (records : List StateRecord) (old new : Core) (before after : Holdings D) (first : Job)
+    (there : slice_get old.queue 0 ≡ Some first) (kind : kind_of first ≡ OfPairs) where
+  abbrev rule : Rule
+  rule = does (here_in old) (own_of old.side before) first
+
+  -- what a crash within it leaves, as what the first job of the queue leaves
+  pub pair_moments : LeavesOnly device.moment device.left_since before.disk after.disk (StandsAsEither (store_of before) rule.own.store)
+      → LeavesOnly device.moment device.left_since before.disk after.disk
+      (StandsAsEither (store_of before) (left_by_first old (store_of before) records).own.store)
+  pair_moments =
+      subst (λ (left : Store). LeavesOnly device.moment device.left_since before.disk after.disk (StandsAsEither (store_of before) left))
+      (pair_left old (store_of before) records first there kind)
+
+  -- it is done as the rule says
+  pub pair_worked : (done : Done) (letters : List Letter) → IsDone device (here_in old) old.side new.side before after (Ok done) rule
+      → new.running ≡ old.running → new.log ≡ old.log → new.queue ≡ drop 1 old.queue ++ follow_up done.follow → letters ≡ done.letters
+      → device.told → HoldsAt device before → length records ≤ journal_records
+      → acted new (store_of after) records letters ≡ works (here_in old) (server_of old (store_of before) records) old.queue
+  unfolding made
+  pair_worked done letters is running log queue same told holds few_log =
+      let by = is.done told in
+      let few_store : rule.own.store.records ≤ journal_records
+      = let few = few_stored device after (is.holds told holds) in
+      let left : length after.log.records ≡ rule.own.store.records = ap (λ (own : Own). own.store.records) by.own in
+      omega (arith, few, left) in
+      let jobs = queue ∙ ap (λ (js : List Job). drop 1 old.queue ++ js) by.jobs in
+      let inc : new.log.voter.inc ≡ old.log.voter.inc = ap (λ (part : Part). part.voter.inc) log in
+      (λ i. made (running i) (inc i) (log_of (log i) records) (by.own i) (jobs i) ((same ∙ by.letters) i))
+      ∙ sym (pair_works old (store_of before) records first there kind few_store few_log)
+
+  -- and so is the rest
+  pub pair_work : (done : Done) (letters : List Letter) → IsDone device (here_in old) old.side new.side before after (Ok done) rule
+      → new.running ≡ old.running → new.log ≡ old.log → new.queue ≡ drop 1 old.queue ++ follow_up done.follow → letters ≡ done.letters
+      → IsStoreWork device records old new before after (Ok letters)
+  pair_work done letters is running log queue same = record {
+    work = pair_worked done letters is running log queue same;
+    life = (running, ap (λ (part : Part). part.voter) log);
+    keeps = is.keeps;
+    holds = is.holds;
+    moments = λ told holds. pair_moments (is.moments told holds);
+    still = λ no. absurd (cc);
+    same = λ no. absurd (cc);
+    kept = tt;
+    full = λ no. absurd (cc);
+    cause = record { later = is.cause.later; failed = λ no. absurd (cc) };
+    run = is.run;
+  }
+
+-- a full journal of the one device or of the other
+module _ {D E : Type 0} (device : Ghosts D) (other : Ghosts E) (old new : Core) where
+  pub full_store : (before after : Holdings D) (state : Keeping E) → IsFullStore device state.records old new before after
+      → IsFullWork device other old new before after state state
+  full_store before after state full = record {
+    count = inl full.count;
+    same = (full.same.0, full.same.1, refl);
+    stops = λ told also holds kept. full.stops told holds;
+  }
+
+  pub full_log : (store : Holdings D) (before after : Keeping E) → IsFullLog other (store_of store) old new before after
+      → IsFullWork device other old new store store before after
+  full_log store before after full = record {
+    count = inr full.count;
+    same = (full.same.0, refl, full.same.1);
+    stops = λ told also holds kept. full.stops also kept;
+  }

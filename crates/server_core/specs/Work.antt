@@ -1,0 +1,88 @@
+-- What a job leaves of a server: one of the pairs, over the store, and one of the agreed log, over the state store.
+use Rattle.std.specs.Prelude.{◌≡◌, ◌≤◌, ◌⊎◌, length, List, Result, Err, IfOk, OnOk, OnErr}
+use Rattle.kept_chains.specs.Kept.{store_of}
+use Rattle.kept_chains.specs.Standing.{StandsAsEither}
+use Rattle.server_log.specs.Done as logs
+use Rattle.pair_memory.specs.Done.{HasFault, HoldsAt}
+use Rattle.pair_memory.specs.Side.{HasTicketsAt}
+use Rattle.pair_memory.specs.declared.error.WorkError.{WorkError}
+use Rattle.pair_memory.specs.declared.error.WorkError.TheVariants.{Failed, JournalFull, NoMemory}
+use Rattle.petal_disk.specs.declared.disk.Disk.{Ghosts}
+use Rattle.petal_disk.specs.Disk.{LeavesOnly}
+use Rattle.petal_msg.specs.declared.letter.Letter.{Letter}
+use Rattle.spec_paxos.specs.declared.record.StateRecord.{StateRecord}
+use Rattle.spec_rules.specs.Jobs.{journal_records, stops, works}
+use Rattle.spec_rules.specs.Store.{Store}
+use Rattle.server_core.specs.Core.{Core, acted, here_in, left_by_first, server_of}
+use Rattle.server_store.specs.Holdings.{Holdings}
+use Rattle.state_store.specs.Device.{Keeping, StandsForEither}
+use Rattle.state_store.specs.declared.error.StateError.{StateError}
+use Rattle.state_store.specs.declared.error.StateError.TheVariants as state
+
+-- what a refusal of the state store means for a job
+abbrev pub of_state : StateError → WorkError
+of_state state.Failed = Failed
+of_state state.Blank = Failed
+of_state (state.BadRecord index) = Failed
+of_state state.JournalFull = JournalFull
+of_state state.NoMemory = NoMemory
+
+-- there is no room for the record of the first job, and the rule lets the server stop
+abbrev pub Stops : Core → Store → List StateRecord → Type 0
+Stops old store records =
+    works (here_in old) (server_of old store records) old.queue ≡ stops (here_in old) (server_of old store records)
+
+module _ {D : Type 0} where
+  -- the data device's journal has no room for the record of the first job, and nothing changed
+  pub record IsFullStore (device : Ghosts D) (records : List StateRecord) (old new : Core) (before after : Holdings D) : Type 0 where
+    pub count : before.log.region.count ≡ 65536
+    pub same : (new ≡ old) × (after ≡ before)
+    pub stops : device.told → HoldsAt device before → Stops old (store_of before) records
+
+  -- the first job, of the pairs or that applies an entry, is done as the rule says at these records of the state device, where
+  -- the data device tells its bytes and shows the store; the rest is as of each job of the pairs. The state device is not called
+  pub record IsStoreWork (device : Ghosts D) (records : List StateRecord) (old new : Core) (before after : Holdings D)
+      (result : Result (List Letter) WorkError) : Type 0 where
+    pub work : IfOk result (λ letters. device.told → HoldsAt device before → length records ≤ journal_records
+        → acted new (store_of after) records letters ≡ works (here_in old) (server_of old (store_of before) records) old.queue)
+    pub life : (new.running ≡ old.running) × (new.log.voter ≡ old.log.voter)
+    pub keeps : OnOk result (HasTicketsAt new.side after)
+    pub holds : device.told → HoldsAt device before → OnOk result (HoldsAt device after)
+    pub moments : device.told → HoldsAt device before
+        → LeavesOnly device.moment device.left_since before.disk after.disk
+        (StandsAsEither (store_of before) (left_by_first old (store_of before) records).own.store)
+    pub still : result ≡ Err NoMemory → device.told → HoldsAt device before → HoldsAt device after
+    pub same : result ≡ Err NoMemory → (new ≡ old) × (after ≡ record before { disk = after.disk })
+    pub kept : OnErr result (device.told → after.entries ≡ before.entries)
+    pub full : result ≡ Err JournalFull → IsFullStore device records old new before after
+    pub cause : HasFault (device.faults before.disk) (device.faults after.disk) result
+    pub run : device.came_to before.disk after.disk
+
+  -- the state device's journal has no room for the record of the first job, and nothing changed
+  pub record IsFullLog (device : Ghosts D) (store : Store) (old new : Core) (before after : Keeping D) : Type 0 where
+    pub count : before.region.count ≡ 65536
+    pub same : (new ≡ old) × (after ≡ before)
+    pub stops : device.told → logs.HoldsAt device before → Stops old store before.records
+
+  -- the first job, of the agreed log, is done as the rule says at this store, where the device tells its bytes and stands for the
+  -- records; the rest is as of each job of the log. The store is not called
+  pub record IsLogWork (device : Ghosts D) (store : Store) (old new : Core) (before after : Keeping D) (result : Result (List Letter) WorkError) : Type 0 where
+    pub work : IfOk result (λ letters. device.told → logs.HoldsAt device before → store.records ≤ journal_records
+        → acted new store after.records letters ≡ works (here_in old) (server_of old store before.records) old.queue)
+    pub life : (new.running ≡ old.running) × (new.log.voter ≡ old.log.voter)
+    pub side : new.side ≡ record old.side { copies = new.side.copies }
+    pub holds : device.told → logs.HoldsAt device before → OnOk result (logs.HoldsAt device after)
+    pub moments : device.told → logs.HoldsAt device before
+        → LeavesOnly device.moment device.left_since before.disk after.disk
+        (StandsForEither before.records (left_by_first old store before.records).log.records)
+    pub same : result ≡ Err NoMemory → (new ≡ old) × (after ≡ before)
+    pub kept : OnErr result (after.records ≡ before.records)
+    pub full : result ≡ Err JournalFull → IsFullLog device store old new before after
+    pub cause : HasFault (device.faults before.disk) (device.faults after.disk) result
+    pub run : device.came_to before.disk after.disk
+
+-- either journal has no room for the record of the first job; nothing changed, and the rule lets the server stop
+pub record IsFullWork {D E : Type 0} (device : Ghosts D) (other : Ghosts E) (old new : Core) (before after : Holdings D) (state left : Keeping E) : Type 0 where
+  pub count : (before.log.region.count ≡ 65536) ⊎ (state.region.count ≡ 65536)
+  pub same : (new ≡ old) × (after ≡ before) × (left ≡ state)
+  pub stops : device.told → other.told → HoldsAt device before → logs.HoldsAt other state → Stops old (store_of before) state.records

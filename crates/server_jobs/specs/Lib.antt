@@ -1,0 +1,4 @@
+pub mod Kind
+pub mod Wants
+pub mod Noted
+pub mod Ballots

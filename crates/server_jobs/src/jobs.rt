@@ -1,0 +1,133 @@
+//! One job.
+
+ghost use Rattle.std.specs.Prelude.{◌≡◌};
+ghost use Rattle.spec_rules.specs.State.{is_in};
+ghost use Rattle.spec_rules.specs.Jobs.{does, is_from_in, on_letter, stages};
+ghost use Rattle.pair_memory.specs.Side.{own_of, HasTicketsAt};
+ghost use Rattle.pair_memory.specs.Done.{HasVersions, IsDone};
+
+use crate::letters::{at_other_rev, handles};
+use copy_recovery::{copies_on, mends, trims_on};
+use global_state::GlobalState;
+use pair_memory::{Done, Here, Side, WorkError, silent};
+use petal_base::{Cell, Inc, ServerId};
+use petal_disk::Disk;
+use petal_msg::{Actor, Letter};
+use redistribute::sweeps;
+use server_store::Store;
+use spec_rules::Job;
+use write_pair::goes_on;
+
+/// Whether the server is In with this incarnation.
+fn is_in(state: &GlobalState, server: ServerId, inc: Inc) -> bool
+    ensures { result ≡ is_in state.now server inc }
+{
+    match state.inc_in(server) {
+        Some(present) => present == inc,
+        None => false,
+    }
+}
+
+fn is_from_in(state: &GlobalState, inc: Inc, from: Actor) -> bool
+    ensures { result ≡ is_from_in state.now inc from }
+{
+    match from {
+        Actor::Server(server) => is_in(state, server, inc),
+        Actor::Client(_) => true,
+    }
+}
+
+/// Whether this server is In as itself.
+fn is_here_in(here: &Here) -> bool
+    ensures { result ≡ is_in here.now.state here.now.me here.now.inc }
+{
+    is_in(here.state(), here.me(), here.inc())
+}
+
+/// The three tests before a letter is handled.
+fn on_letter<D: Disk>(
+    here: &Here,
+    side: &mut Side,
+    store: &mut Store<D>,
+    letter: &Letter,
+) -> Result<Done, WorkError>
+    requires tickets { HasTicketsAt side.old store.old }
+    requires versions { HasVersions store.old }
+    ensures { IsDone D.Disk here.now side.old side.new store.old store.new result
+        (on_letter here.now (own_of side.old store.old) letter.now) }
+{
+    if !is_here_in(here) {
+        silent(here, side, store)
+    } else if letter.rev != here.rev() {
+        at_other_rev(here, side, store, letter)
+    } else if !is_from_in(here.state(), letter.inc, letter.from) {
+        silent(here, side, store)
+    } else {
+        handles(here, side, store, letter)
+    }
+}
+
+/// What is under way on the cell does its next stage: an operation, a copy, or the last copy of the cell to this server.
+fn stages<D: Disk>(
+    here: &Here,
+    side: &mut Side,
+    store: &mut Store<D>,
+    cell: Cell,
+) -> Result<Done, WorkError>
+    requires tickets { HasTicketsAt side.old store.old }
+    requires versions { HasVersions store.old }
+    ensures { IsDone D.Disk here.now side.old side.new store.old store.new result
+        (stages here.now (own_of side.old store.old) cell) }
+{
+    if side.locks.is_busy(cell) {
+        goes_on(here, side, store, cell)
+    } else if side.copies.copying_on(cell).is_some() {
+        copies_on(here, side, store, cell)
+    } else {
+        trims_on(here, side, store, cell)
+    }
+}
+
+/// One job, with at most one commit.
+///
+/// # Errors
+/// `NoMemory`, and then nothing changed; `Failed` where the device failed, and `JournalFull` only where the store's journal had
+/// all its records: the entries are as they were, and the server is to be stopped.
+#[tactic(auto, unfolding(spec_rules::specs::Jobs::does))]
+pub fn does<D: Disk>(
+    here: &Here,
+    side: &mut Side,
+    store: &mut Store<D>,
+    job: &Job,
+) -> Result<Done, WorkError>
+    requires tickets { HasTicketsAt side.old store.old }
+    requires versions { HasVersions store.old }
+    ensures { IsDone D.Disk here.now side.old side.new store.old store.new result
+        (does here.now (own_of side.old store.old) job.now) }
+{
+    match job {
+        Job::Letter(letter) => on_letter(here, side, store, letter.get()),
+        Job::Stage(cell) => {
+            if is_here_in(here) {
+                stages(here, side, store, *cell)
+            } else {
+                silent(here, side, store)
+            }
+        }
+        Job::Mend(link) => {
+            if is_here_in(here) {
+                mends(here, side, store, *link)
+            } else {
+                silent(here, side, store)
+            }
+        }
+        Job::Sweep => {
+            if is_here_in(here) {
+                sweeps(here, side, store)
+            } else {
+                silent(here, side, store)
+            }
+        }
+        Job::Apply | Job::Start => silent(here, side, store),
+    }
+}

@@ -1,0 +1,8 @@
+use Rattle.server_log.proofs.Said.{said_done}
+use Rattle.server_log.proofs.jobs.asked.Goals as goal
+
+pub returns : goal.returns
+returns g c =
+    let stays = (g.met.D.Disk g.world.𝓛 g.world.𝓜 g.world.𝓡 ((λ s x. x), (λ x. x), (λ x. x), λ x. x)).stays in
+    let only_now = (g.met.D.Disk g.world.𝓛 g.world.𝓜 g.world.𝓡 ((λ s x. x), (λ x. x), (λ x. x), λ x. x)).only_now in
+    said_done g.D.Disk stays only_now c.args.log.now c.args.log.now c.args.state.now c.on_ask.result _ (c.on_ask.ensures)

@@ -1,0 +1,4 @@
+pub mod Done
+pub mod Part
+pub mod Said
+pub mod Entered

@@ -1,2 +1,0 @@
-pub use Rattle.server_work.specs.Core
-pub use Rattle.server_work.specs.Work

@@ -1,5 +1,0 @@
-use Rattle.server_work.proofs.entry.jobs_of_next.Goals as goal
-
-pub returns-in-Some : goal.returns-in-Some
-returns-in-Some c = λ store.
-    rw c.in-Some.is ((rw (c.new-here.ensures, c.state.ensures, c.me.ensures) at c.entry_jobs.ensures) store)

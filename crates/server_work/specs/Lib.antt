@@ -1,3 +1,0 @@
-pub mod Core
-pub mod Work
-pub use Rattle.log_jobs.specs.Wants

@@ -1,6 +1,0 @@
-use Rattle.std.proofs.Common.{ap, length, ◌∙◌}
-use Rattle.store_record.proofs.Spelled.{length-spelling}
-use Rattle.store_record.proofs.reading.decode.Goals as goal
-
-pub returns-then-bytes-ne-RECORD_BYTES-clause-only : goal.returns-then-bytes-ne-RECORD_BYTES-clause-only
-returns-then-bytes-ne-RECORD_BYTES-clause-only c entry fits is = absurd (c.if-bytes-ne-RECORD_BYTES.true (ap length is ∙ length-spelling entry))

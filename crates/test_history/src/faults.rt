@@ -1,0 +1,32 @@
+//! Servers that stop by themselves.
+
+ghost use Rattle.std.specs.Prelude.{◌≡◌, [], ◌∷◌, length, false};
+ghost use Rattle.busy_marks.specs.declared.marks.MarkKind.TheVariants.{Busy};
+ghost use Rattle.petal_base.specs.Block.{fill_block};
+ghost use Rattle.spec_rules.specs.declared.step.CommitEnd.TheVariants.{Before, After};
+ghost use Rattle.spec_history.specs.Examples.{cell_at, chain_at, marks_at, one_entry};
+ghost use Rattle.test_history.specs.Acts.{world_after};
+ghost use Rattle.test_history.specs.Stops.{failed_acts, full_acts, full_world, trio, trio_after};
+
+/// A device fails in the job that puts, before its commit: nothing was put, the server has stopped, and the two others are
+/// told, by the letters after the three of the write.
+pub fn a_device_fails_before_a_put()
+    ensures stopped { ((trio_after (failed_acts Before)).servers 0).life.running ≡ false }
+    ensures chain { chain_at (trio_after (failed_acts Before)) 0 0 ≡ [] }
+    ensures told { length (trio_after (failed_acts Before)).sent ≡ 5 }
+{}
+
+/// The same after the commit: the block was put, and it is marked.
+pub fn a_device_fails_after_a_put()
+    ensures stopped { ((trio_after (failed_acts After)).servers 0).life.running ≡ false }
+    ensures chain { chain_at (trio_after (failed_acts After)) 0 0 ≡ one_entry 1 (fill_block 7) }
+    ensures marked { marks_at (trio_after (failed_acts After)) 0 ≡ record { kind = Busy; cell = cell_at 0 } ∷ [] }
+    ensures told { length (trio_after (failed_acts After)).sent ≡ 5 }
+{}
+
+/// A lead whose journal is full marks nothing: it stops, and the two others are told.
+pub fn a_full_journal_stops_a_server()
+    ensures stopped { ((world_after trio full_world full_acts).servers 0).life.running ≡ false }
+    ensures unmarked { marks_at (world_after trio full_world full_acts) 0 ≡ [] }
+    ensures told { length (world_after trio full_world full_acts).sent ≡ 5 }
+{}

@@ -1,7 +1,0 @@
--- The open line blanks the server, or none does.
-use Rattle.petal_rules.proofs.Tests.{true_false}
-use Rattle.world_actors.proofs.Allowed.{hindered}
-use Rattle.world_actors.proofs.actors.Actors.has_blanked.Goals as goal
-
-pub returns-then-not-is_given_by : goal.returns-then-not-is_given_by
-returns-then-not-is_given_by g c = λ setting w h. hindered (λ done. true_false ((c.is_given_by.ensures setting w h).1 done.by) c.if-not-is_given_by.true)

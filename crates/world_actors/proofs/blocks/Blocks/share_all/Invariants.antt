@@ -1,6 +1,0 @@
--- So far the letters that were taken.
-use Rattle.std.proofs.Common.{◌≡◌}
-use Rattle.world_actors.proofs.blocks.Blocks.share_all.Given as goal
-
-abbrev pub invariant-loop-letter : goal.invariant-loop-letter
-invariant-loop-letter l = l.shared ≡ l.yielded

@@ -1,7 +1,0 @@
--- So far the letters before this one were added.
-use Rattle.std.proofs.Common.{◌≡◌, take}
-use Rattle.world_desks.specs.Sent.{with_letters}
-use Rattle.world_desks.proofs.sent.Sent.add_all.Given as goal
-
-abbrev pub invariant-loop-letter : goal.invariant-loop-letter
-invariant-loop-letter l = l.self ≡ with_letters l.fn.self (take l.letter-index l.letters)

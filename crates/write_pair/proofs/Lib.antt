@@ -1,0 +1,6 @@
+pub mod Ending
+pub mod Moves
+pub mod Leads
+pub mod Opens
+pub mod Begun
+pub mod Follows

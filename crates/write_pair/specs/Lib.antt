@@ -1,0 +1,4 @@
+pub mod Flagged
+pub mod Moved
+pub mod Opened
+pub mod Wanted

@@ -1,0 +1,89 @@
+//! What a tick sends again.
+
+ghost use Rattle.std.specs.Prelude.{◌≡◌, ◌+◌, ◌++◌, length, IfOk};
+ghost use Rattle.std.specs.List.{flat_map};
+ghost use Rattle.spec_rules.specs.Server.{Own, letters_of, sender};
+ghost use Rattle.spec_rules.specs.Jobs.{sent_again};
+ghost use Rattle.pair_memory.specs.Letters.{posts_of};
+
+use crate::lead::stage::next_stage;
+use pair_lock::PairLock;
+use pair_memory::{Here, Side, with_letter};
+use petal_base::{NoMemory, Sequence, ServerId};
+use petal_msg::{Action, Body, Letter, Pending};
+
+/// The letter that an operation sends, with its content, if it waits for an answer.
+fn awaited(here: &Here, op: &Pending) -> Result<Option<(ServerId, Body)>, NoMemory>
+    ensures { IfOk result (λ found. (own : Own) → posts_of found ≡ sent_again here.now own op.now) }
+{
+    match (next_stage(here, op), here.second(op.cell)) {
+        (Action::Reserve, Some(to)) => {
+            let body = Body::Reserve {
+                op: op.op,
+                cell: op.cell,
+            };
+            Ok(Some((to, body)))
+        }
+        (Action::Replicate, Some(to)) => {
+            let body = Body::Replicate {
+                op: op.op,
+                key: op.key,
+                version: op.version,
+                bytes: op.bytes.share()?,
+            };
+            Ok(Some((to, body)))
+        }
+        (Action::Reserve | Action::Replicate, None)
+        | (Action::Mark(_) | Action::Put | Action::Unmark(_) | Action::Answer | Action::Drop, _) =>
+            Ok(None),
+    }
+}
+
+/// The letters of the step so far with those of one operation more, and the number of the next letter.
+fn with_awaited(
+    here: &Here,
+    letters: Sequence<Letter>,
+    nth: u32,
+    op: &Pending,
+) -> Result<(Sequence<Letter>, u32), NoMemory>
+    ensures { IfOk result (λ more. (own : Own) → (more.0 ≡ letters ++ letters_of (sender here.now) nth (sent_again here.now own op.now))
+        × (more.1 ≡ nth + length (sent_again here.now own op.now))) }
+{
+    with_letter(here, letters, nth, awaited(here, op)?)
+}
+
+fn all_after(
+    here: &Here,
+    locks: &PairLock,
+    before: Sequence<Letter>,
+) -> Result<Sequence<Letter>, NoMemory>
+    ensures { IfOk result (λ letters. (own : Own)
+        → letters ≡ before ++ letters_of (sender here.now) (length before) (flat_map (λ row. sent_again here.now own row.1) locks.now)) }
+{
+    let Ok(first) = u32::try_from(before.len()) else {
+        return Err(NoMemory);
+    };
+    let mut letters = before;
+    let mut nth = first;
+    for (_, op) in locks.iter() {
+        let more = with_awaited(here, letters, nth, op)?;
+        letters = more.0;
+        nth = more.1;
+    }
+    Ok(letters)
+}
+
+/// These letters of a step, and after them those of all pending operations that wait for an answer.
+///
+/// # Errors
+/// Out of memory.
+pub fn letters_after(
+    here: &Here,
+    side: &Side,
+    before: Sequence<Letter>,
+) -> Result<Sequence<Letter>, NoMemory>
+    ensures { IfOk result (λ letters. (own : Own)
+        → letters ≡ before ++ letters_of (sender here.now) (length before) (flat_map (λ row. sent_again here.now own row.1) side.now.pending)) }
+{
+    all_after(here, &side.locks, before)
+}

@@ -1,0 +1,259 @@
+//! The second server of a pair.
+
+ghost use Rattle.std.specs.Prelude.{◌≡◌, nat_lt, true, false, Some, Err, IfOk, OnOk, OnErr};
+ghost use Rattle.petal_base.specs.Cells.{cell_of};
+ghost use Rattle.petal_table.specs.Table.{at, put};
+ghost use Rattle.spec_rules.specs.Server.{letters_of, post_to, sender};
+ghost use Rattle.spec_rules.specs.State as rules;
+ghost use Rattle.spec_rules.specs.Store.{cell_cmp, free_of};
+ghost use Rattle.spec_rules.specs.Writes as writes;
+ghost use Rattle.petal_msg.specs.declared.body.Body.TheVariants as body;
+ghost use Rattle.petal_msg.specs.declared.operation.Far.TheVariants as far;
+ghost use Rattle.kept_chains.specs.Kept.{store_of};
+ghost use Rattle.pair_memory.specs.declared.error.WorkError.TheVariants as error;
+ghost use Rattle.pair_memory.specs.Side.{needs_apart, own_of, HasTicketsAt};
+ghost use Rattle.pair_memory.specs.Done.{HasVersions, IsDone, IsSaid};
+
+use kept_chains::next_version;
+use pair_memory::{Done, Here, Side, WorkError, give_back, keep, only, says_to, silent, spend};
+use petal_base::{Cell, Key, NoMemory, Op, Sequence, SharedBlock};
+use petal_disk::Disk;
+use petal_msg::{Body, Far, LastOp, Letter};
+use petal_table::Table;
+use server_store::Store;
+
+/// The second server tells the lead how far it is.
+fn tells<D: Disk>(
+    here: &Here,
+    side: &Side,
+    store: &Store<D>,
+    cell: Cell,
+    op: Op,
+    far: Far,
+) -> Result<Done, WorkError>
+    requires { HasTicketsAt side.now store.now }
+    ensures { IsSaid here.now side.now side.now store.now store.now result
+        (writes.tells here.now (own_of side.now store.now) cell op far) }
+{
+    match far {
+        Far::Reserved => {
+            let body = Body::Reserved { op, cell };
+            says_to(here, side, store, here.first(cell), body)
+        }
+        Far::Replicated => {
+            let body = Body::Replicated { op, cell };
+            says_to(here, side, store, here.first(cell), body)
+        }
+    }
+}
+
+/// The slot that is set apart for the cell serves an operation that is new here.
+fn reserves_again<D: Disk>(
+    here: &Here,
+    side: &mut Side,
+    store: &Store<D>,
+    cell: Cell,
+    op: Op,
+) -> Result<Done, WorkError>
+    requires tickets { HasTicketsAt side.old store.now }
+    requires has { needs_apart (at cell_cmp side.old.last cell) ≡ true }
+    ensures { IsSaid here.now side.old side.new store.now store.now result
+        (writes.reserves here.now (own_of side.old store.now) cell op true (nat_lt 0 (free_of (store_of store.now)))) }
+{
+    let done = tells(here, side, store, cell, op, Far::Reserved)?;
+    let last = LastOp {
+        op,
+        far: Far::Reserved,
+    };
+    side.last.replace(cell, last);
+    Ok(done)
+}
+
+/// The lead is told that its slot is set apart, which is remembered.
+fn promises(
+    here: &Here,
+    last: &mut Table<Cell, LastOp>,
+    cell: Cell,
+    op: Op,
+) -> Result<Sequence<Letter>, NoMemory>
+    ensures letters { IfOk result (λ letters. letters
+        ≡ letters_of (sender here.now) 0 (post_to (rules.first here.now.state cell) (body.Reserved op cell))) }
+    ensures ok { OnOk result (last.new ≡ put cell_cmp last.old cell (record { op = op; far = far.Reserved })) }
+    ensures err { OnErr result (last.new ≡ last.old) }
+{
+    let letters = here.says_to(here.first(cell), Body::Reserved { op, cell })?;
+    let reserved = LastOp {
+        op,
+        far: Far::Reserved,
+    };
+    match last.put(cell, reserved) {
+        Ok(()) => Ok(letters),
+        Err(NoMemory) => Err(NoMemory),
+    }
+}
+
+/// An operation that is new here gets a free slot.
+fn reserves_free_slot<D: Disk>(
+    here: &Here,
+    side: &mut Side,
+    store: &mut Store<D>,
+    cell: Cell,
+    op: Op,
+) -> Result<Done, WorkError>
+    requires tickets { HasTicketsAt side.old store.old }
+    requires has { needs_apart (at cell_cmp side.old.last cell) ≡ false }
+    ensures { IsSaid here.now side.old side.new store.old store.new result
+        (writes.reserves here.now (own_of side.old store.old) cell op false (nat_lt 0 (free_of (store_of store.old)))) }
+{
+    if !keep(&mut side.apart, store, cell)? {
+        let body = Body::PairFull { op, cell };
+        return says_to(here, side, store, here.first(cell), body);
+    }
+    match promises(here, &mut side.last, cell, op) {
+        Ok(letters) => Ok(only(letters)),
+        Err(NoMemory) => {
+            give_back(&mut side.apart, store, cell);
+            Err(WorkError::NoMemory)
+        }
+    }
+}
+
+fn has_slot(far: Far) -> bool
+    ensures { result ≡ writes.has_slot far }
+{
+    match far {
+        Far::Reserved => true,
+        Far::Replicated => false,
+    }
+}
+
+/// An operation that is new here gets the slot that is set apart for the cell, or a free one.
+fn reserves<D: Disk>(
+    here: &Here,
+    side: &mut Side,
+    store: &mut Store<D>,
+    cell: Cell,
+    op: Op,
+    has: bool,
+) -> Result<Done, WorkError>
+    requires tickets { HasTicketsAt side.old store.old }
+    requires has { needs_apart (at cell_cmp side.old.last cell) ≡ has }
+    ensures { IsSaid here.now side.old side.new store.old store.new result
+        (writes.reserves here.now (own_of side.old store.old) cell op has (nat_lt 0 (free_of (store_of store.old)))) }
+{
+    if has {
+        reserves_again(here, side, store, cell, op)
+    } else {
+        reserves_free_slot(here, side, store, cell, op)
+    }
+}
+
+/// The same, where an operation on the cell is known.
+fn reserves_after<D: Disk>(
+    here: &Here,
+    side: &mut Side,
+    store: &mut Store<D>,
+    cell: Cell,
+    op: Op,
+    last: LastOp,
+) -> Result<Done, WorkError>
+    requires tickets { HasTicketsAt side.old store.old }
+    requires last { at cell_cmp side.old.last cell ≡ Some last }
+    ensures { IsSaid here.now side.old side.new store.old store.new result
+        (writes.hears_reserve here.now (own_of side.old store.old) cell op (Some last)) }
+{
+    if op < last.op {
+        return silent(here, side, store);
+    }
+    if op == last.op {
+        return tells(here, side, store, cell, op, last.far);
+    }
+    reserves(here, side, store, cell, op, has_slot(last.far))
+}
+
+/// An older number is dropped, an equal one is answered again, a newer one gets a slot.
+///
+/// # Errors
+/// Out of memory, which changed nothing.
+#[tactic(auto, unfolding(spec_rules::specs::Writes::on_reserve))]
+pub fn on_reserve<D: Disk>(
+    here: &Here,
+    side: &mut Side,
+    store: &mut Store<D>,
+    op: Op,
+    cell: Cell,
+) -> Result<Done, WorkError>
+    requires tickets { HasTicketsAt side.old store.old }
+    ensures { IsSaid here.now side.old side.new store.old store.new result
+        (writes.on_reserve here.now (own_of side.old store.old) op cell) }
+{
+    if !here.is_second(cell) {
+        return silent(here, side, store);
+    }
+    match side.last_on(cell) {
+        None => reserves(here, side, store, cell, op, false),
+        Some(last) => reserves_after(here, side, store, cell, op, last),
+    }
+}
+
+/// The second server puts its copy in the slot that was set apart, with the version after that of its own chain.
+fn follows<D: Disk>(
+    here: &Here,
+    side: &mut Side,
+    store: &mut Store<D>,
+    op: Op,
+    key: Key,
+    bytes: &SharedBlock,
+) -> Result<Done, WorkError>
+    requires tickets { HasTicketsAt side.old store.old }
+    requires versions { HasVersions store.old }
+    requires has { needs_apart (at cell_cmp side.old.last (cell_of key)) ≡ true }
+    ensures job { IsDone D.Disk here.now side.old side.new store.old store.new result
+        (writes.follows here.now (own_of side.old store.old) op key bytes.now) }
+    ensures same { result ≡ Err error.NoMemory → store.new ≡ store.old }
+{
+    let cell = key.cell();
+    let body = Body::Replicated { op, cell };
+    let letters = here.says_to(here.first(cell), body)?;
+    let version = next_version(store, cell);
+    spend(&mut side.apart, store, cell, key, version, bytes)?;
+    let last = LastOp {
+        op,
+        far: Far::Replicated,
+    };
+    side.last.replace(cell, last);
+    Ok(only(letters))
+}
+
+/// A copy is put once, and only for the number whose slot was set apart; an equal number is answered again.
+///
+/// # Errors
+/// `NoMemory`, and then nothing changed; `Failed` where the device failed, and `JournalFull` only where the store's journal had
+/// all its records: the entries are as they were, and the server is to be stopped.
+#[tactic(auto, unfolding(spec_rules::specs::Writes::on_replicate))]
+pub fn on_replicate<D: Disk>(
+    here: &Here,
+    side: &mut Side,
+    store: &mut Store<D>,
+    op: Op,
+    key: Key,
+    bytes: &SharedBlock,
+) -> Result<Done, WorkError>
+    requires tickets { HasTicketsAt side.old store.old }
+    requires versions { HasVersions store.old }
+    ensures job { IsDone D.Disk here.now side.old side.new store.old store.new result
+        (writes.on_replicate here.now (own_of side.old store.old) op key bytes.now) }
+    ensures same { result ≡ Err error.NoMemory → store.new ≡ store.old }
+{
+    let cell = key.cell();
+    if !here.is_second(cell) {
+        return silent(here, side, store);
+    }
+    match side.last_on(cell) {
+        Some(last) if op == last.op => match last.far {
+            Far::Reserved => follows(here, side, store, op, key, bytes),
+            Far::Replicated => tells(here, side, store, cell, op, Far::Replicated),
+        },
+        _ => silent(here, side, store),
+    }
+}
