@@ -68,15 +68,16 @@ const PUTS: &[Row] = &[
         shows: "the second server is stopped right after its put, of which nobody is told: the write has taken effect, and the lead goes on alone",
         script: ONE_WRITE,
         steps: "a calls 2; agree; wait; a calls 4; 1 arms data sync 3 late stop; write a>0; 0 works; reserve 0>1; 1 works; reserved 1>0; 0 works off;
-            replicate 0>1; told begin; 1 works; told begin take; stopped 1; committed 1; failed 0; not sent 1 replicated 1>0; agree without 1; line 4 ok; wait; b calls 6; agree without 1; line 6 fill 7; told begin take end look",
+            replicate 0>1; told begin; 1 works; told begin take; stopped 1; committed 1; failed 0;
+            not sent 1 replicated 1>0; agree without 1; line 4 ok; wait; b calls 6; agree without 1; line 6 fill 7; told begin take end look",
     },
     Row {
         shows: "the lead is alone, and fails right after its put, of which nobody is told: a read shows it before its client sends it again",
         script: ALONE,
         steps: "a calls 2; agree; wait; op calls 4; 1 stops; 1 shows 4; seen 1>op; agree without 1; wait; a calls 6; agree without 1; wait;
-            0 arms data sync 5 late; a calls 8; write a>0; 0 works; told begin; 0 works; told begin take; failed 1; committed 1; op calls 9; 0 boots; 0 shows 9; seen 0>op;
-            line 9 ok; not agree without a; b calls 10; not agree without a; line 10 fill 7; line 8 open; told begin take look;
-            agree without 1; line 8 ok; told begin take look end",
+            0 arms data sync 5 late; a calls 8; write a>0; 0 works; told begin; 0 works; told begin take; failed 1; committed 1;
+            op calls 9; 0 boots; 0 shows 9; seen 0>op; line 9 ok; not agree without a; b calls 10; not agree without a; line 10 fill 7;
+            line 8 open; told begin take look; agree without 1; line 8 ok; told begin take look end",
     },
 ];
 
