@@ -24,7 +24,8 @@ ghost use Rattle.law_answers.specs.Revisions.{HasReason};
 ghost use Rattle.law_answers.specs.Settles.{HasSettled};
 ghost use Rattle.law_answers.specs.Stops.{HasReasonToStop, NoneIsStopped, NoneStopsByItself};
 
-/// Each answer has its cause in the chosen log. The lines rise, so an answer's number names the place of one line.
+/// Each answer has its cause in the chosen log: the verdict of its line's own command, in the first state that has one, or the request's
+/// own Witness, at a place whose state says that it can't be served. The lines rise, so an answer's number names the place of one line.
 pub fn answers_are_caused()
     ensures { (script : Script) (records : List Record) → IsSound script → AreRising script.lines → AreSteps script records
         → AreCaused (setting_of script) (world_after (setting_of script) (start (setting_of script)) records) }

@@ -27,7 +27,9 @@ ghost use Rattle.law_moves.specs.Fills.{AreFilled, HaveComeOver, IsFrozen};
 ghost use Rattle.law_moves.specs.Still.{AreStill};
 ghost use Rattle.law_state.specs.Homes.{stage_at};
 
-/// The copies of a cell that is leaving are what was frozen.
+/// While a cell is leaving, each server that serves its link by what is chosen has exactly what was frozen when its region's fence took
+/// effect. So has one that runs, by each front from its own entries on by which it serves the link while the cell is leaving, also where
+/// the cell is dead since.
 pub fn old_copies_are_still()
     ensures { (script : Script) (records : List Record) → IsSound script → AreSteps script records
         → AreStill (setting_of script) (world_after (setting_of script) (start (setting_of script)) records) }
@@ -40,7 +42,9 @@ pub fn what_is_frozen_stays()
         → (world_after (setting_of script) (start (setting_of script)) (front ++ back)).frozen cell ≡ Some before }
 {}
 
-/// What fills, their letters and old leads know.
+/// Each entry that moves, in a letter or pending, is a frozen one, and of each newer one of its block a letter said that it is there. What
+/// such a letter told of is at each server that serves the link, and no fill of it is under way. What an old lead remembers of a link was
+/// told to it up to that key. A Moved that is chosen comes after letters of all that was frozen of its link.
 pub fn fills_come_newest_first()
     ensures { (script : Script) (records : List Record) → IsSound script → AreSteps script records
         → AreFilled (setting_of script) (world_after (setting_of script) (start (setting_of script)) records) }
@@ -79,7 +83,7 @@ pub fn what_a_second_server_fills_is_under_way()
         → stage_at (chosen_state (setting_of script) (world_after (setting_of script) (start (setting_of script)) records)) cell ≡ 1 }
 {}
 
-/// A region that has moved has all that was frozen.
+/// A region that has moved has all that was frozen, while its cells are live.
 pub fn a_region_that_has_moved_has_all()
     ensures { (script : Script) (records : List Record) → IsSound script → AreSteps script records
         → HaveComeOver (setting_of script) (world_after (setting_of script) (start (setting_of script)) records) }

@@ -12,24 +12,28 @@ use petal_base::{BLOCKS, BlockNo, Name, ServerId};
 /// A call that a plan names is one of the first so many.
 const LAST_CALL: u64 = 1_000_000;
 
+/// A name of a disk or snapshot.
 pub fn name(word: &[u8]) -> Result<Name, Cause>
     ensures { result ≡ a_name word.now }
 {
     Name::read(word).ok_or(Cause::BadName)
 }
 
+/// A byte to fill with.
 pub fn byte(word: &[u8]) -> Result<u8, Cause>
     ensures { result ≡ a_byte word.now }
 {
     Ok(in_limits(word, 0, 255)? as u8)
 }
 
+/// The number of a block.
 pub fn block(word: &[u8]) -> Result<BlockNo, Cause>
     ensures { result ≡ a_block word.now }
 {
     in_limits(word, 0, BLOCKS - 1)
 }
 
+/// The number of one of so many servers.
 pub fn server(servers: u8, word: &[u8]) -> Result<ServerId, Cause>
     requires { 0 < servers }
     ensures { result ≡ a_server servers word.now }
@@ -37,6 +41,7 @@ pub fn server(servers: u8, word: &[u8]) -> Result<ServerId, Cause>
     Ok(in_limits(word, 0, u64::from(servers - 1))? as u8)
 }
 
+/// Which call of a device a plan names.
 pub fn call(word: &[u8]) -> Result<u32, Cause>
     ensures { result ≡ a_call word.now }
 {
@@ -61,6 +66,7 @@ pub fn version(word: &[u8]) -> Result<(Name, Option<Name>), Cause>
     }
 }
 
+/// Which device of a server.
 pub fn device(word: &[u8]) -> Result<Which, Cause>
     ensures { result ≡ a_device word.now }
 {
@@ -73,6 +79,7 @@ pub fn device(word: &[u8]) -> Result<Which, Cause>
     }
 }
 
+/// Which kind of call.
 pub fn call_kind(word: &[u8]) -> Result<CallKind, Cause>
     ensures { result ≡ a_kind word.now }
 {

@@ -23,6 +23,7 @@ impl<'a> Model for Words<'a> {
 }
 
 impl<'a> Words<'a> {
+    /// The words of a line.
     pub fn of(line: &'a [u8]) -> Words<'a>
         ensures { result ≡ words_of line.now }
     {
@@ -31,6 +32,7 @@ impl<'a> Words<'a> {
         }
     }
 
+    /// The next word, where one is left.
     pub fn next(&mut self) -> Option<&'a [u8]>
         ensures { MatchOption result ((self.old ≡ []) × (self.new ≡ [])) (λ word. self.old ≡ word.now ∷ self.new) }
     {
@@ -39,6 +41,7 @@ impl<'a> Words<'a> {
         Some(word)
     }
 
+    /// Whether no word is left.
     #[tactic(auto, using(crate::proofs::Kept::empty_words))]
     pub fn is_empty(&self) -> bool
         ensures { result ≡ (length self.now == 0) }
@@ -83,6 +86,7 @@ impl<'a> Words<'a> {
         Ok((a, b))
     }
 
+    /// The only three words that are left.
     #[tactic(auto, unfolding(crate::specs::Words::three_words))]
     pub fn three(&mut self) -> Result<(&'a [u8], &'a [u8], &'a [u8]), Cause>
         ensures { Gives (λ words. (words.0.now, words.1.now, words.2.now)) result (three_words self.old) }
@@ -92,6 +96,7 @@ impl<'a> Words<'a> {
         Ok((a, b, c))
     }
 
+    /// The only four words that are left.
     #[tactic(auto, unfolding(crate::specs::Words::four_words))]
     pub fn four(&mut self) -> Result<(&'a [u8], &'a [u8], &'a [u8], &'a [u8]), Cause>
         ensures { Gives (λ words. (words.0.now, words.1.now, words.2.now, words.3.now)) result (four_words self.old) }

@@ -46,6 +46,7 @@ Leaves setting w who what stamp new told =
     Shows setting (step who what setting w stamp).world new
     × (told ≡ record { letters = (step who what setting w stamp).letters; answer = (step who what setting w stamp).answer; end = end_in what })
 
+-- so a step does in every world of which this is kept, where the rules allow it and the stamp is above the actor's last
 abbrev pub LeavesIn : Actors → Actor → Step → ℕ → Actors → Stepped → Type 0
 LeavesIn actors who what stamp new told = (setting : Setting) (w : World) → Shows setting w actors → MayStep setting w who what → clock_of w who < stamp
     → Leaves setting w who what stamp new told

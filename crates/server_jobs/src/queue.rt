@@ -50,6 +50,7 @@ pub enum Kind {
     Applies,
 }
 
+/// Which part of a server does the job.
 pub fn kind_of(job: &Job) -> Kind
     ensures { result ≡ kind_of job.now }
 {

@@ -14,6 +14,7 @@ const ALL: usize = REGIONS as usize;
 /// The region with which a move ends.
 const LAST: u8 = REGIONS - 1;
 
+/// Takes a snapshot: what is written from now on is of the next epoch.
 pub fn freeze_row(row: &mut DiskRow, name: &Name) -> Result<(), NoMemory>
     requires { row.old.epoch < 2 ^ 32 - 1 }
     ensures ok { OnOk result (row.new ≡ row_frozen name.now row.old) }
@@ -27,6 +28,7 @@ pub fn freeze_row(row: &mut DiskRow, name: &Name) -> Result<(), NoMemory>
     Ok(())
 }
 
+/// Begins a move to a new map: each region is still at the old one.
 pub fn move_row(alloc: Global, row: &mut DiskRow, map: MapId) -> Result<(), AllocError>
     ensures ok { OnOk result (row.new ≡ row_moving map row.old) }
     ensures err { OnErr result (row.new ≡ row.old) }
@@ -41,6 +43,7 @@ pub fn move_row(alloc: Global, row: &mut DiskRow, map: MapId) -> Result<(), Allo
     Ok(())
 }
 
+/// Fences one region of a disk that moves.
 pub fn fence_row(alloc: Global, row: &mut DiskRow, region: u8) -> Result<(), AllocError>
     ensures ok { OnOk result (row.new ≡ row_fenced region row.old) }
     ensures err { OnErr result (row.new ≡ row.old) }

@@ -15,6 +15,7 @@ fn place_of(rows: &[DiskRow], disk: DiskId) -> Option<usize>
     rows.iter().position(|row| row.id == disk)
 }
 
+/// Takes a snapshot of the disk, where it is known.
 pub fn freeze(rows: &mut [DiskRow], disk: DiskId, name: &Name) -> Result<(), NoMemory>
     requires { ForSome (disk_at rows.old disk) (λ row. row.epoch < 2 ^ 32 - 1) }
     ensures ok { OnOk result (rows.new ≡ change disk (row_frozen name.now) rows.old) }
@@ -29,6 +30,7 @@ pub fn freeze(rows: &mut [DiskRow], disk: DiskId, name: &Name) -> Result<(), NoM
     }
 }
 
+/// Begins a move of the disk, where it is known.
 pub fn start_move(
     alloc: Global,
     rows: &mut [DiskRow],
@@ -47,6 +49,7 @@ pub fn start_move(
     }
 }
 
+/// Fences one region of the disk, where it is known and moves.
 pub fn fence_region(
     alloc: Global,
     rows: &mut [DiskRow],
