@@ -10,10 +10,11 @@ use Rattle.server_store.specs.StoreError.{StoreError}
 use Rattle.server_store.specs.StoreError.TheVariants.{JournalFull, NoMemory}
 use Rattle.kept_chains.specs.Kept.{store_of}
 use Rattle.kept_chains.specs.Standing.{StandsAsEither}
+use Rattle.petal_base.specs.Limits.{journal_records}
 
 -- the rule has one record more than the journal has room for, and nothing changed
 pub record IsFull {D : Type 0} (before after : Holdings D) (rule : Store) : Type 0 where
-  pub count : before.log.region.count ≡ 65536
+  pub count : before.log.region.count ≡ journal_records
   pub over : rule.records ≡ length before.log.records + 1
   pub same : after ≡ before
 

@@ -18,6 +18,7 @@ use Rattle.pair_memory.specs.declared.done.Done.{Done}
 use Rattle.pair_memory.specs.declared.done.FollowUp.{FollowUp}
 use Rattle.pair_memory.specs.declared.done.FollowUp.TheVariants as follow
 use Rattle.pair_memory.specs.Side.{Side, own_of, HasTicketsAt}
+use Rattle.petal_base.specs.Limits.{journal_records}
 
 -- letters and nothing else
 abbrev pub only : List Letter → Done
@@ -59,7 +60,7 @@ module _ {D : Type 0} where
 
   -- the rule has one record more than the journal has room for, and nothing changed
   pub record IsFull (old new : Side) (before after : Holdings D) (rule : Rule) : Type 0 where
-    pub count : before.log.region.count ≡ 65536
+    pub count : before.log.region.count ≡ journal_records
     pub over : rule.own.store.records ≡ length before.log.records + 1
     pub same : (new ≡ old) × (after ≡ before)
 

@@ -4,15 +4,14 @@ ghost use Rattle.std.specs.Prelude.{◌==◌, ◌≡◌, ℕ, ◌⊎◌, ◌≤�
 ghost use Rattle.std.specs.Prelude.{IfErr, OnErr, IsErrOf, IfNone, true, false, not, is_some, if◌then◌else◌, Some, None};
 ghost use Rattle.std.specs.List.Sorted.{IsStrictlySortedBy};
 ghost use Rattle.busy_marks.specs.Marks.{mark_cmp, has_mark, with_mark, without_mark, next_marked, next_marked_map};
-ghost use Rattle.data_device.specs.Records.{Counts};
-ghost use Rattle.petal_base.specs.Block.{zero_block};
+ghost use Rattle.petal_base.specs.Block.{zero_block, block_bytes};
 ghost use Rattle.petal_disk.specs.Disk.{LeavesOnly, Within};
 ghost use Rattle.device_faults.specs.Faults.{HasCause};
 ghost use Rattle.petal_disk.specs.Keeping.{KeepsDevice};
 ghost use Rattle.petal_disk.specs.Plans.{beneath, plan_state};
 ghost use Rattle.physical_map.specs.Entries.{key_of, slot_of, without_key, chain_of, map_entries, top_of, version_of, next_block_of, lesser};
 ghost use Rattle.physical_map.specs.Keys.{placed, newest, IsInOrder};
-ghost use Rattle.data_device.specs.Device.{header, bodies_of, AreSpelled, StandsFor, Logs};
+ghost use Rattle.data_device.specs.Device.{header, bodies_of, AreSpelled, StandsFor, Logs, header_bytes, JournalCounts};
 ghost use Rattle.data_device.specs.Errors.{IsFormatError, IsReserveError, IsCommitError, IsMarkError, HasFault};
 ghost use Rattle.server_store.specs.Holdings.{key_held, listed, free_slots, without_held, content_of, next_map_in};
 ghost use Rattle.data_device.specs.Found.{IsOpenError, IsGoodError};
@@ -24,6 +23,7 @@ ghost use Rattle.data_device.specs.Slots.{slot_start};
 ghost use Rattle.data_device.specs.Tickets.{without};
 ghost use Rattle.data_device.specs.declared.record.StoreRecord.{StoreRecord};
 ghost use Rattle.data_device.specs.declared.record.StoreRecord.TheVariants as records;
+ghost use Rattle.petal_base.specs.Limits.{journal_records};
 
 use crate::Opened;
 use crate::commit::{commit, commit_put};
@@ -128,8 +128,8 @@ impl<D: Disk> Store<D> {
     /// `BadRecord` where the record of this index counts and has no spelling, or puts into a slot that is in use or not there;
     /// `Failed`, where the device failed, and `NoMemory`. The device is handed back, and but for a sync it is as it was.
     pub fn open(alloc: Global, disk: D) -> Result<Opened<D>, (D, StoreError)>
-        ensures headed { IfOk result (λ o. IfStore o (λ store. D.told → take 64 (D.seen disk) ≡ header store.slots store.log.fresh)) }
-        ensures counts { IfOk result (λ o. IfStore o (λ store. D.told → Counts 64 4096 65536 (D.seen disk) (bodies_of store.log.records))) }
+        ensures headed { IfOk result (λ o. IfStore o (λ store. D.told → take header_bytes (D.seen disk) ≡ header store.slots store.log.fresh)) }
+        ensures counts { IfOk result (λ o. IfStore o (λ store. D.told → JournalCounts (D.seen disk) (bodies_of store.log.records))) }
         ensures spelled { IfOk result
             (λ o. IfStore o (λ store. AreSpelled store.log.records × AllFit store.slots (formatted store.log.fresh) store.log.records)) }
         ensures shown { IfOk result (λ o. IfStore o (λ store. picture_of store ≡ picture_in (D.seen disk) (kept_of store.log.fresh store.log.records))) }
@@ -139,7 +139,7 @@ impl<D: Disk> Store<D> {
             → IsStore o (λ store. Reopened slots fresh recorded picture store (D.seen store.disk) (D.may_leave store.disk))) }
         ensures blank { IfOk result (λ o. IfBlank o (λ _. D.told → IsBlank (D.seen disk) (D.size disk))) }
         ensures bad { (index slots : ℕ) (fresh : Bool) → IfErr result (λ e. e.1 ≡ StoreError.BadRecord index → D.told → slots < 2 ^ 32
-            → take 64 (D.seen disk) ≡ header slots fresh → IsBadOn (D.seen disk) slots fresh index) }
+            → take header_bytes (D.seen disk) ≡ header slots fresh → IsBadOn (D.seen disk) slots fresh index) }
         ensures bad_headed { (index : ℕ) → IfErr result (λ e. e.1 ≡ StoreError.BadRecord index → D.told → ¬ IsBlank (D.seen disk) (D.size disk)) }
         ensures good { (slots : ℕ) (fresh : Bool) (recorded : List StoreRecord)
             → IfErr result (λ e. D.told → slots < 2 ^ 32 → StandsFor (D.seen disk) slots fresh recorded → IsGoodError e.1) }
@@ -235,7 +235,7 @@ impl<D: Disk> Store<D> {
         ensures listed { OnErr result (listed self.new.entries ≡ listed self.old.entries) }
         ensures kept { OnErr result (D.told → self.new.entries ≡ self.old.entries) }
         ensures errors { IfErr result IsCommitError }
-        ensures full { IsErrOf result StoreError.JournalFull ↔ (self.old.log.region.count ≡ 65536) }
+        ensures full { IsErrOf result StoreError.JournalFull ↔ (self.old.log.region.count ≡ journal_records) }
         ensures full_rest { IsErrOf result StoreError.JournalFull → self.new ≡ record self.old { tickets = without self.old.tickets ticket } }
 
         ensures records { OnOk result (self.new.log.records ≡ self.old.log.records ++ records.Put key version ticket ∷ []) }
@@ -298,8 +298,8 @@ impl<D: Disk> Store<D> {
         ensures kept { D.told → self.new.entries ≡ self.old.entries }
         ensures errors { IfErr result IsMarkError }
         ensures full { IsErrOf result StoreError.JournalFull
-            → (self.old.log.region.count ≡ 65536) × (not (has_mark (record { kind = kind; cell = cell }) self.old.marks) ≡ true) × (self.new ≡ self.old) }
-        ensures full_comes { self.old.log.region.count ≡ 65536 → not (has_mark (record { kind = kind; cell = cell }) self.old.marks) ≡ true
+            → (self.old.log.region.count ≡ journal_records) × (not (has_mark (record { kind = kind; cell = cell }) self.old.marks) ≡ true) × (self.new ≡ self.old) }
+        ensures full_comes { self.old.log.region.count ≡ journal_records → not (has_mark (record { kind = kind; cell = cell }) self.old.marks) ≡ true
             → IsErrOf result StoreError.JournalFull ⊎ IsErrOf result StoreError.NoMemory }
         ensures memory { IsErrOf result StoreError.NoMemory → self.new ≡ self.old }
         ensures idle { has_mark (record { kind = kind; cell = cell }) self.old.marks ≡ true → self.new ≡ self.old }
@@ -342,7 +342,7 @@ impl<D: Disk> Store<D> {
         ensures listed { listed self.new.entries ≡ listed self.old.entries }
         ensures kept { D.told → self.new.entries ≡ self.old.entries }
         ensures errors { IfErr result IsCommitError }
-        ensures full { IsErrOf result StoreError.JournalFull ↔ (self.old.log.region.count ≡ 65536)
+        ensures full { IsErrOf result StoreError.JournalFull ↔ (self.old.log.region.count ≡ journal_records)
             × (has_mark (record { kind = kind; cell = cell }) self.old.marks ≡ true) }
         ensures full_rest { IsErrOf result StoreError.JournalFull → self.new ≡ self.old }
         ensures idle { has_mark (record { kind = kind; cell = cell }) self.old.marks ≡ false → self.new ≡ self.old }
@@ -380,7 +380,7 @@ impl<D: Disk> Store<D> {
         ensures listed { OnErr result (listed self.new.entries ≡ listed self.old.entries) }
         ensures kept { OnErr result (D.told → self.new.entries ≡ self.old.entries) }
         ensures errors { IfErr result IsCommitError }
-        ensures full { IsErrOf result StoreError.JournalFull ↔ (self.old.log.region.count ≡ 65536) × (is_some (slot_of (listed self.old.entries) key) ≡ true) }
+        ensures full { IsErrOf result StoreError.JournalFull ↔ (self.old.log.region.count ≡ journal_records) × (is_some (slot_of (listed self.old.entries) key) ≡ true) }
         ensures full_rest { IsErrOf result StoreError.JournalFull → self.new ≡ self.old }
 
         ensures records { OnOk result (self.new.log.records
@@ -423,7 +423,7 @@ impl<D: Disk> Store<D> {
         ensures listed { listed self.new.entries ≡ listed self.old.entries }
         ensures kept { D.told → self.new.entries ≡ self.old.entries }
         ensures errors { IfErr result IsCommitError }
-        ensures full { IsErrOf result StoreError.JournalFull ↔ (self.old.log.region.count ≡ 65536) × (self.old.fresh ≡ true) }
+        ensures full { IsErrOf result StoreError.JournalFull ↔ (self.old.log.region.count ≡ journal_records) × (self.old.fresh ≡ true) }
         ensures full_rest { IsErrOf result StoreError.JournalFull → self.new ≡ self.old }
         ensures idle { self.old.fresh ≡ false → self.new ≡ self.old }
 
@@ -456,7 +456,7 @@ impl<D: Disk> Store<D> {
         epoch: Epoch,
         into: &mut [u8],
     ) -> Result<Option<Entry>, Failed>
-        requires { length into.old ≡ 65536 }
+        requires { length into.old ≡ block_bytes }
         ensures found { IfOk result (λ found. found ≡ newest key_of (record { map = map; block = block; epoch = epoch }) (listed self.old.entries)) }
         ensures content { OnOk result (D.told → into.new ≡ content_of (newest key_held (record { map = map; block = block; epoch = epoch }) self.old.entries)) }
         ensures zeros { IfOk result (λ found. IfNone found (into.new ≡ zero_block)) }
@@ -594,7 +594,7 @@ impl<D: Disk> Store<D> {
 
     /// Whether the journal has all its records.
     pub fn is_full(&self) -> bool
-        ensures { result ≡ (self.now.log.region.count == 65536) }
+        ensures { result ≡ (self.now.log.region.count == journal_records) }
     {
         self.log.is_full()
     }
@@ -653,7 +653,7 @@ fn lesser_of(a: Option<u32>, b: Option<u32>) -> Option<u32>
 }
 
 fn write_zeros(into: &mut [u8])
-    requires { length into.old ≡ 65536 }
+    requires { length into.old ≡ block_bytes }
     ensures { into.new ≡ zero_block }
 {
     into.fill(0);
