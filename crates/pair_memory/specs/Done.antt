@@ -9,7 +9,7 @@ use Rattle.spec_rules.specs.Server.{Done as Rule}
 use Rattle.spec_rules.specs.declared.job.Job.{Job}
 use Rattle.spec_rules.specs.declared.job.Job.TheVariants as job
 use Rattle.kept_chains.specs.Holdings.{Holdings, listed}
-use Rattle.kept_chains.specs.Shown.{Holds}
+pub use Rattle.kept_chains.specs.Shown.{HoldsAt}
 use Rattle.kept_chains.specs.Kept.{store_of}
 use Rattle.kept_chains.specs.Standing.{StandsAsEither}
 use Rattle.pair_memory.specs.declared.error.WorkError.{WorkError}
@@ -44,10 +44,6 @@ HasVersions store = top_of (listed store.entries) < 2 ^ 64 - 1
 pub record HasFault {T : Type 0} (before now : ℕ) (result : Result T WorkError) : Type 0 where
   pub later : before ≤ now
   pub failed : result ≡ Err Failed → before < now
-
--- the device shows the store, now and after any crash
-abbrev pub HoldsAt : {D : Type 0} → Ghosts D → Holdings D → Type 0
-HoldsAt device store = Holds store (device.seen store.disk) (device.may_leave store.disk)
 
 module _ {D : Type 0} where
   -- a job without a call of the device is the rule's, and the tickets still stand where they are needed; one that was refused,

@@ -195,7 +195,8 @@ pub(crate) fn run_text<R: Wait, W: Sink>(
     text: &[u8],
     sink: &mut W,
 ) -> Outcome
-    ensures known { (result.status ≡ status_ended) ⊎ (result.status ≡ status_refused) ⊎ (result.status ≡ status_no_memory) ⊎ (result.status ≡ status_sink_failed) }
+    ensures known { (result.status ≡ status_ended) ⊎ (result.status ≡ status_refused) ⊎ (result.status ≡ status_no_memory)
+        ⊎ (result.status ≡ status_sink_failed) }
     ensures done { W.told → result.status ≤ status_refused
         → Done (by_text (script_of text.now)) result.status result.history.records [] (W.taken sink.old) (W.taken sink.new) }
     ensures in_part { W.told → (result.status ≡ status_no_memory) ⊎ (result.status ≡ status_sink_failed)

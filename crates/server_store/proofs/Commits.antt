@@ -86,7 +86,8 @@ pub keeps_after : (slots : ℕ) (log log' : Log) (picture : Picture) (r : StoreR
     → Keeps slots log' (picture_after picture r content) seen' leave'
 keeps_after slots log log' picture r content seen seen' leave leave' h change changes torn follows fresh records logs =
     let shows : (d c : List ℕ) → Shows d slots log.fresh log.records picture → ShowsChange d (kept_of log.fresh log.records) r content
-    → Torn journal_base journal_bytes d c → StandsFor c slots log'.fresh log'.records → Shows c slots log'.fresh log'.records (picture_after picture r content) = λ d c was ch t st.
+    → Torn journal_base journal_bytes d c → StandsFor c slots log'.fresh log'.records
+    → Shows c slots log'.fresh log'.records (picture_after picture r content) = λ d c was ch t st.
     rw (fresh, records) (after_now slots log.fresh log.records picture r content d c was t ch (rw (fresh, records) at st)) in
     record {
       count = logs.count;

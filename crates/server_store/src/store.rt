@@ -1,7 +1,7 @@
 //! The store of one server, over its device.
 
 ghost use Rattle.std.specs.Prelude.{◌==◌, ◌≡◌, ℕ, ◌⊎◌, ◌≤◌, ◌<◌, ◌+◌, ◌^◌, ◌++◌, ◌∷◌, ◌↔◌, [], Bool, List, length, slice_get, take, Contains, Err, IfOk, OnOk};
-ghost use Rattle.std.specs.Prelude.{IfErr, OnErr, IsErrOf, IfNone, true, false, not, is_some, if◌then◌else◌, Some, None};
+ghost use Rattle.std.specs.Prelude.{IfErr, OnErr, IsErrOf, IfNone, true, false, not, is_some, Some, None};
 ghost use Rattle.std.specs.List.Sorted.{IsStrictlySortedBy};
 ghost use Rattle.busy_marks.specs.Marks.{mark_cmp, has_mark, with_mark, without_mark, next_marked, next_marked_map};
 ghost use Rattle.petal_base.specs.Block.{zero_block, block_bytes};
@@ -12,13 +12,14 @@ ghost use Rattle.petal_disk.specs.Plans.{beneath, plan_state};
 ghost use Rattle.physical_map.specs.Entries.{key_of, slot_of, without_key, chain_of, map_entries, top_of, version_of, next_block_of, lesser};
 ghost use Rattle.physical_map.specs.Keys.{placed, newest, IsInOrder};
 ghost use Rattle.data_device.specs.Device.{header, bodies_of, AreSpelled, StandsFor, Logs, header_bytes, JournalCounts};
-ghost use Rattle.data_device.specs.Errors.{IsFormatError, IsReserveError, IsCommitError, IsMarkError, HasFault};
+ghost use Rattle.data_device.specs.Errors.{IsFormatError, IsReserveError, IsCommitError, IsMarkError};
+ghost use Rattle.server_store.specs.Committing.{IsCommitOf};
 ghost use Rattle.server_store.specs.Holdings.{key_held, listed, free_slots, without_held, content_of, next_map_in};
 ghost use Rattle.data_device.specs.Found.{IsOpenError, IsGoodError};
 ghost use Rattle.data_device.specs.Kept.{AllFit, formatted, kept_of};
 ghost use Rattle.server_store.specs.Opening.{IfStore, IfBlank, IsStore, Reopened};
 ghost use Rattle.data_device.specs.Reading.{IsBadOn, IsBlank, LeftByFormat};
-ghost use Rattle.server_store.specs.Shown.{Picture, picture_of, picture_in, Shows, Holds, BeforeOrAfter};
+ghost use Rattle.server_store.specs.Shown.{Picture, picture_of, picture_in, Shows, Holds};
 ghost use Rattle.data_device.specs.Slots.{slot_start};
 ghost use Rattle.data_device.specs.Tickets.{without};
 ghost use Rattle.data_device.specs.declared.record.StoreRecord.{StoreRecord};
@@ -237,20 +238,9 @@ impl<D: Disk> Store<D> {
         ensures errors { IfErr result IsCommitError }
         ensures full { IsErrOf result StoreError.JournalFull ↔ (self.old.log.region.count ≡ journal_records) }
         ensures full_rest { IsErrOf result StoreError.JournalFull → self.new ≡ record self.old { tickets = without self.old.tickets ticket } }
-
-        ensures records { OnOk result (self.new.log.records ≡ self.old.log.records ++ records.Put key version ticket ∷ []) }
-        ensures unrecorded { OnErr result (self.new.log.records ≡ self.old.log.records) }
-        ensures holds { D.told → Holds self.old (D.seen self.old.disk) (D.may_leave self.old.disk)
-            → OnOk result (Holds self.new (D.seen self.new.disk) (D.may_leave self.new.disk)) }
-        ensures either { D.told → Holds self.old (D.seen self.old.disk) (D.may_leave self.old.disk)
-            → BeforeOrAfter (D.seen self.new.disk) self.old (records.Put key version ticket) block.now }
-        ensures any_moment { D.told → Holds self.old (D.seen self.old.disk) (D.may_leave self.old.disk)
-            → LeavesOnly D.moment D.left_since self.old.disk self.new.disk (λ c. BeforeOrAfter c self.old (records.Put key version ticket) block.now) }
-
+        ensures committed { IsCommitOf D.Disk self.old self.new result true (records.Put key version ticket) block.now }
         ensures rest { self.new
             ≡ record self.old { entries = self.new.entries; tickets = without self.old.tickets ticket; log = self.new.log; disk = self.new.disk } }
-        ensures cause { HasFault (D.faults self.old.disk) (D.faults self.new.disk) result }
-        ensures run { D.came_to self.old.disk self.new.disk }
     {
         if self.log.is_full() {
             self.ledger.give_back(ticket);
@@ -298,25 +288,15 @@ impl<D: Disk> Store<D> {
         ensures kept { D.told → self.new.entries ≡ self.old.entries }
         ensures errors { IfErr result IsMarkError }
         ensures full { IsErrOf result StoreError.JournalFull
-            → (self.old.log.region.count ≡ journal_records) × (not (has_mark (record { kind = kind; cell = cell }) self.old.marks) ≡ true) × (self.new ≡ self.old) }
+            → (self.old.log.region.count ≡ journal_records) × (not (has_mark (record { kind = kind; cell = cell }) self.old.marks) ≡ true)
+            × (self.new ≡ self.old) }
         ensures full_comes { self.old.log.region.count ≡ journal_records → not (has_mark (record { kind = kind; cell = cell }) self.old.marks) ≡ true
             → IsErrOf result StoreError.JournalFull ⊎ IsErrOf result StoreError.NoMemory }
         ensures memory { IsErrOf result StoreError.NoMemory → self.new ≡ self.old }
         ensures idle { has_mark (record { kind = kind; cell = cell }) self.old.marks ≡ true → self.new ≡ self.old }
-
-        ensures records { OnOk result (self.new.log.records ≡ (if not (has_mark (record { kind = kind; cell = cell }) self.old.marks)
-            then self.old.log.records ++ records.Mark kind cell ∷ [] else self.old.log.records)) }
-        ensures unrecorded { OnErr result (self.new.log.records ≡ self.old.log.records) }
-        ensures holds { D.told → Holds self.old (D.seen self.old.disk) (D.may_leave self.old.disk)
-            → OnOk result (Holds self.new (D.seen self.new.disk) (D.may_leave self.new.disk)) }
-        ensures either { D.told → Holds self.old (D.seen self.old.disk) (D.may_leave self.old.disk)
-            → BeforeOrAfter (D.seen self.new.disk) self.old (records.Mark kind cell) [] }
-        ensures any_moment { D.told → Holds self.old (D.seen self.old.disk) (D.may_leave self.old.disk)
-            → LeavesOnly D.moment D.left_since self.old.disk self.new.disk (λ c. BeforeOrAfter c self.old (records.Mark kind cell) []) }
-
+        ensures committed { IsCommitOf D.Disk self.old self.new result (not (has_mark (record { kind = kind; cell = cell }) self.old.marks))
+            (records.Mark kind cell) [] }
         ensures rest { self.new ≡ record self.old { entries = self.new.entries; marks = self.new.marks; log = self.new.log; disk = self.new.disk } }
-        ensures cause { HasFault (D.faults self.old.disk) (D.faults self.new.disk) result }
-        ensures run { D.came_to self.old.disk self.new.disk }
     {
         if self.marks.has(kind, cell) {
             return Ok(());
@@ -346,20 +326,9 @@ impl<D: Disk> Store<D> {
             × (has_mark (record { kind = kind; cell = cell }) self.old.marks ≡ true) }
         ensures full_rest { IsErrOf result StoreError.JournalFull → self.new ≡ self.old }
         ensures idle { has_mark (record { kind = kind; cell = cell }) self.old.marks ≡ false → self.new ≡ self.old }
-
-        ensures records { OnOk result (self.new.log.records ≡ (if has_mark (record { kind = kind; cell = cell }) self.old.marks
-            then self.old.log.records ++ records.Unmark kind cell ∷ [] else self.old.log.records)) }
-        ensures unrecorded { OnErr result (self.new.log.records ≡ self.old.log.records) }
-        ensures holds { D.told → Holds self.old (D.seen self.old.disk) (D.may_leave self.old.disk)
-            → OnOk result (Holds self.new (D.seen self.new.disk) (D.may_leave self.new.disk)) }
-        ensures either { D.told → Holds self.old (D.seen self.old.disk) (D.may_leave self.old.disk)
-            → BeforeOrAfter (D.seen self.new.disk) self.old (records.Unmark kind cell) [] }
-        ensures any_moment { D.told → Holds self.old (D.seen self.old.disk) (D.may_leave self.old.disk)
-            → LeavesOnly D.moment D.left_since self.old.disk self.new.disk (λ c. BeforeOrAfter c self.old (records.Unmark kind cell) []) }
-
+        ensures committed { IsCommitOf D.Disk self.old self.new result (has_mark (record { kind = kind; cell = cell }) self.old.marks)
+            (records.Unmark kind cell) [] }
         ensures rest { self.new ≡ record self.old { entries = self.new.entries; marks = self.new.marks; log = self.new.log; disk = self.new.disk } }
-        ensures cause { HasFault (D.faults self.old.disk) (D.faults self.new.disk) result }
-        ensures run { D.came_to self.old.disk self.new.disk }
     {
         if !self.marks.has(kind, cell) {
             return Ok(());
@@ -380,22 +349,11 @@ impl<D: Disk> Store<D> {
         ensures listed { OnErr result (listed self.new.entries ≡ listed self.old.entries) }
         ensures kept { OnErr result (D.told → self.new.entries ≡ self.old.entries) }
         ensures errors { IfErr result IsCommitError }
-        ensures full { IsErrOf result StoreError.JournalFull ↔ (self.old.log.region.count ≡ journal_records) × (is_some (slot_of (listed self.old.entries) key) ≡ true) }
+        ensures full { IsErrOf result StoreError.JournalFull
+            ↔ (self.old.log.region.count ≡ journal_records) × (is_some (slot_of (listed self.old.entries) key) ≡ true) }
         ensures full_rest { IsErrOf result StoreError.JournalFull → self.new ≡ self.old }
-
-        ensures records { OnOk result (self.new.log.records
-            ≡ (if is_some (slot_of (listed self.old.entries) key) then self.old.log.records ++ records.Drop key ∷ [] else self.old.log.records)) }
-        ensures unrecorded { OnErr result (self.new.log.records ≡ self.old.log.records) }
-        ensures holds { D.told → Holds self.old (D.seen self.old.disk) (D.may_leave self.old.disk)
-            → OnOk result (Holds self.new (D.seen self.new.disk) (D.may_leave self.new.disk)) }
-        ensures either { D.told → Holds self.old (D.seen self.old.disk) (D.may_leave self.old.disk)
-            → BeforeOrAfter (D.seen self.new.disk) self.old (records.Drop key) [] }
-        ensures any_moment { D.told → Holds self.old (D.seen self.old.disk) (D.may_leave self.old.disk)
-            → LeavesOnly D.moment D.left_since self.old.disk self.new.disk (λ c. BeforeOrAfter c self.old (records.Drop key) []) }
-
+        ensures committed { IsCommitOf D.Disk self.old self.new result (is_some (slot_of (listed self.old.entries) key)) (records.Drop key) [] }
         ensures rest { self.new ≡ record self.old { entries = self.new.entries; log = self.new.log; disk = self.new.disk } }
-        ensures cause { HasFault (D.faults self.old.disk) (D.faults self.new.disk) result }
-        ensures run { D.came_to self.old.disk self.new.disk }
     {
         if !self.has_key(key) {
             return Ok(());
@@ -426,19 +384,8 @@ impl<D: Disk> Store<D> {
         ensures full { IsErrOf result StoreError.JournalFull ↔ (self.old.log.region.count ≡ journal_records) × (self.old.fresh ≡ true) }
         ensures full_rest { IsErrOf result StoreError.JournalFull → self.new ≡ self.old }
         ensures idle { self.old.fresh ≡ false → self.new ≡ self.old }
-
-        ensures records { OnOk result (self.new.log.records ≡ (if self.old.fresh then self.old.log.records ++ records.Settled ∷ [] else self.old.log.records)) }
-        ensures unrecorded { OnErr result (self.new.log.records ≡ self.old.log.records) }
-        ensures holds { D.told → Holds self.old (D.seen self.old.disk) (D.may_leave self.old.disk)
-            → OnOk result (Holds self.new (D.seen self.new.disk) (D.may_leave self.new.disk)) }
-        ensures either { D.told → Holds self.old (D.seen self.old.disk) (D.may_leave self.old.disk)
-            → BeforeOrAfter (D.seen self.new.disk) self.old (records.Settled) [] }
-        ensures any_moment { D.told → Holds self.old (D.seen self.old.disk) (D.may_leave self.old.disk)
-            → LeavesOnly D.moment D.left_since self.old.disk self.new.disk (λ c. BeforeOrAfter c self.old (records.Settled) []) }
-
+        ensures committed { IsCommitOf D.Disk self.old self.new result self.old.fresh records.Settled [] }
         ensures rest { self.new ≡ record self.old { entries = self.new.entries; fresh = self.new.fresh; log = self.new.log; disk = self.new.disk } }
-        ensures cause { HasFault (D.faults self.old.disk) (D.faults self.new.disk) result }
-        ensures run { D.came_to self.old.disk self.new.disk }
     {
         if !self.fresh {
             return Ok(());
