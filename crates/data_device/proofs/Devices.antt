@@ -11,18 +11,19 @@ use Rattle.block_journal.specs.Region.{Region}
 use Rattle.block_journal.proofs.Frame.{stands_outside}
 use Rattle.data_device.specs.declared.record.StoreRecord.{StoreRecord}
 use Rattle.data_device.specs.Spelling.{spelling, HasSpelling}
-use Rattle.data_device.specs.Device.{header, bodies_of, AreSpelled, StandsFor, Log, Logs, WithOrWithout}
+use Rattle.data_device.specs.Device.{header, bodies_of, AreSpelled, StandsFor, Log, Logs, WithOrWithout, journal_base, journal_bytes, JournalStands}
 use Rattle.data_device.specs.Kept.{Kept, Fits, AllFit, kept_after, kept_of, formatted}
 use Rattle.data_device.specs.Reading.{IsBlank, LeftByFormat}
+use Rattle.petal_base.specs.Limits.{journal_records}
 
 -- the journal of a data device
 pub record IsPlaced (region : Region) : Type 0 where
-  pub base : region.base ≡ 4096
-  pub limit : region.limit ≡ 65536
+  pub base : region.base ≡ journal_base
+  pub limit : region.limit ≡ journal_records
 
 -- a range of that journal is one of the device
-pub in_journal : (region : Region) (x y : List ℕ) → IsPlaced region → Torn region.base (64 * region.limit) x y → Torn 4096 4194304 x y
-in_journal region x y at torn = subst (λ n. Torn 4096 n x y) (let l = at.limit in let e : 64 * region.limit ≡ 4194304 = omega arith in e)
+pub in_journal : (region : Region) (x y : List ℕ) → IsPlaced region → Torn region.base (64 * region.limit) x y → Torn journal_base journal_bytes x y
+in_journal region x y at torn = subst (λ n. Torn journal_base n x y) (let l = at.limit in let e : 64 * region.limit ≡ journal_bytes = omega arith in e)
     (subst (λ b. Torn b (64 * region.limit) x y) at.base torn)
 
 -- its bodies are stored
@@ -31,15 +32,15 @@ pub stored : (slots : ℕ) (log : Log) (seen : List ℕ) (leave : List ℕ → T
 stored slots log seen leave at h = record {
   count = h.count ∙ sym (length-map log.records spelling);
   now = subst (λ b. Stands 64 b log.region.limit seen (bodies_of log.records)) (sym at.base)
-      (subst (λ n. Stands 64 4096 n seen (bodies_of log.records)) (sym at.limit) h.now.stands);
+      (subst (λ n. Stands 64 journal_base n seen (bodies_of log.records)) (sym at.limit) h.now.stands);
   left = λ c i. subst (λ b. Stands 64 b log.region.limit c (bodies_of log.records)) (sym at.base)
-      (subst (λ n. Stands 64 4096 n c (bodies_of log.records)) (sym at.limit) (h.left c i).stands);
+      (subst (λ n. Stands 64 journal_base n c (bodies_of log.records)) (sym at.limit) (h.left c i).stands);
 }
 
 -- back from a journal's region to the device's
 pub placed : (region : Region) (file : List ℕ) (bodies : List (List ℕ)) → IsPlaced region → Stands 64 region.base region.limit file bodies
-    → Stands 64 4096 65536 file bodies
-placed region file bodies at s = subst (λ b. Stands 64 b 65536 file bodies) at.base (subst (λ n. Stands 64 region.base n file bodies) at.limit s)
+    → JournalStands file bodies
+placed region file bodies at s = subst (λ b. Stands 64 b journal_records file bodies) at.base (subst (λ n. Stands 64 region.base n file bodies) at.limit s)
 
 pub bodies_one_more : (records : List StoreRecord) (entry : StoreRecord) → bodies_of (records ++ entry ∷ []) ≡ bodies_of records ++ spelling entry ∷ []
 bodies_one_more records entry = map-append spelling records (entry ∷ [])
@@ -77,12 +78,12 @@ with_or_without slots log file entry body one sp fit at h (inr s) =
       spelled = spelled_more log.records entry sp one.has_spelling;
       fit = fit_more slots
           (formatted log.fresh) log.records entry fit one.fits;
-      stands = subst (Stands 64 4096 65536 file) (sym more) (placed log.region file _ at s);
+      stands = subst (JournalStands file) (sym more) (placed log.region file _ at s);
     })
 
 -- what a crash in an append may leave
 abbrev pub Left : (List ℕ → Type 0) → ℕ → Log → StoreRecord → List ℕ → Type 0
-Left leave slots log entry c = (d : List ℕ) × leave d × Torn 4096 4194304 d c × WithOrWithout c slots log entry
+Left leave slots log entry c = (d : List ℕ) × leave d × Torn journal_base journal_bytes d c × WithOrWithout c slots log entry
 
 -- a crash in an append leaves the records with the new one or without it
 pub left_by_append : (slots : ℕ) (log : Log) (leave : List ℕ → Type 0) (seen : List ℕ) (entry : StoreRecord) (body : List ℕ) → One slots log entry body
@@ -119,7 +120,7 @@ appended slots log log' leave leave' seen seen' entry body one at at' more same 
       headed = head;
       spelled = spelled_more log.records entry h.now.spelled one.has_spelling;
       fit = fit_more slots (formatted log.fresh) log.records entry h.now.fit one.fits;
-      stands = subst (Stands 64 4096 65536 file) (sym bodies) (placed log'.region file _ at' st);
+      stands = subst (JournalStands file) (sym bodies) (placed log'.region file _ at' st);
     } in
     record {
       count = s.count ∙ ap length (sym bodies) ∙ length-map (log.records ++ entry ∷ []) spelling ∙ ap length (sym more);

@@ -1,12 +1,11 @@
 -- What is read of a journal's bodies.
 use Rattle.std.specs.Prelude.{◌≡◌, ◌⊎◌, ℕ, ◌<◌, ◌^◌, Bool, List, [], ◌∷◌, ◌++◌, length, take, slice_index_or, ⊤}
-use Rattle.block_journal.specs.Records.{Counts}
 use Rattle.data_device.specs.Spelling.{spelling, HasSpelling}
 use Rattle.data_device.specs.declared.record.StoreRecord.{StoreRecord}
 use Rattle.data_device.specs.declared.error.StoreError.{StoreError}
 use Rattle.data_device.specs.declared.error.StoreError.TheVariants.{Failed, NoSpace, JournalFull, BadRecord, NoMemory}
 use Rattle.data_device.specs.declared.replay.Replay.{Replay}
-use Rattle.data_device.specs.Device.{header, bodies_of, AreSpelled, StandsFor}
+use Rattle.data_device.specs.Device.{header, bodies_of, AreSpelled, StandsFor, header_bytes, JournalCounts}
 use Rattle.data_device.specs.Kept.{Kept, Fits, AllFit, formatted, kept_after, kept_of}
 use Rattle.data_device.specs.Slots.{slot_start}
 
@@ -54,12 +53,12 @@ pub record IsRead (slots : ℕ) (fresh : Bool) (bodies : List (List ℕ)) (repla
 -- the journal's body of this index is bad
 pub record IsBadOn (file : List ℕ) (slots : ℕ) (fresh : Bool) (index : ℕ) : Type 0 where
   pub bodies : List (List ℕ)
-  pub counts : Counts 64 4096 65536 file bodies
+  pub counts : JournalCounts file bodies
   pub bad : IsBad slots fresh bodies index
 
 -- no header of the device says of slots that fit it
 abbrev pub IsBlank : List ℕ → ℕ → Type 0
-IsBlank file size = (slots : ℕ) (fresh : Bool) → slots < 2 ^ 32 → take 64 file ≡ header slots fresh → size < slot_start slots
+IsBlank file size = (slots : ℕ) (fresh : Bool) → slots < 2 ^ 32 → take header_bytes file ≡ header slots fresh → size < slot_start slots
 
 -- what formatting may leave: what might have been there before, a blank device, or the store without records
 abbrev pub LeftByFormat : (List ℕ → Type 0) → ℕ → ℕ → Bool → List ℕ → Type 0

@@ -5,6 +5,7 @@ ghost use Rattle.petal_disk.specs.Disk.{LeavesOnly};
 ghost use Rattle.data_device.specs.Device.{Logs};
 ghost use Rattle.data_device.specs.Errors.{IsFormatError, HasFault};
 ghost use Rattle.data_device.specs.Reading.{LeftByFormat};
+ghost use Rattle.data_device.specs.Slots.{data_start};
 
 use crate::error::StoreError;
 use crate::header::Header;
@@ -19,7 +20,7 @@ pub fn write_format<D: Disk>(
     disk: &mut D,
     said: Header,
 ) -> Result<(Ledger, RecordLog), StoreError>
-    requires { 4198400 ≤ D.size disk.old }
+    requires { data_start ≤ D.size disk.old }
     ensures ledger { IfOk result (λ out. out.0 ≡ record { entries = []; tickets = []; slots = said.slots }) }
     ensures log { IfOk result (λ out. (out.1.fresh ≡ said.fresh) × (out.1.records ≡ [])) }
     ensures logs { IfOk result (λ out. D.told → Logs said.slots out.1 (D.seen disk.new) (D.may_leave disk.new)) }

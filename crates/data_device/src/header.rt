@@ -1,7 +1,7 @@
 //! The header of a data device.
 
 ghost use Rattle.std.specs.Prelude.{◌≡◌, ◌<◌, ◌^◌, ℕ, Bool, length, Some, IfSome};
-ghost use Rattle.data_device.specs.Device.{header};
+ghost use Rattle.data_device.specs.Device.{header, header_bytes};
 
 use record_fields::{put, put_flag, put_word, put_zeros, word_at};
 
@@ -35,7 +35,7 @@ pub fn spell(said: Header) -> [u8; HEADER_BYTES]
 
 /// What the bytes say; None exactly where they are no header.
 pub fn read(bytes: &[u8]) -> Option<Header>
-    requires { length bytes.now ≡ 64 }
+    requires { length bytes.now ≡ header_bytes }
     ensures found { IfSome result (λ said. bytes.now ≡ header said.slots said.fresh) }
     ensures only { (slots : ℕ) (fresh : Bool) → slots < 2 ^ 32 → bytes.now ≡ header slots fresh → result ≡ Some (record { slots = slots; fresh = fresh }) }
 {

@@ -7,6 +7,7 @@ ghost use Rattle.physical_map.specs.Entries.{key_of, slot_of, without_key};
 ghost use Rattle.physical_map.specs.Keys.{placed, newest, IsInOrder};
 ghost use Rattle.data_device.specs.Accounts.{given};
 ghost use Rattle.data_device.specs.Tickets.{without};
+ghost use Rattle.data_device.specs.Slots.{data_start};
 
 use crate::ticket::{Spent, Ticket};
 use petal_base::{BlockNo, Epoch, GhostList, Key, MapId, NoMemory, Version};
@@ -31,12 +32,13 @@ pub struct Ledger {
 impl Model for Ledger {
     ghost use Rattle.std.specs.Prelude.{◌≡◌, length};
     ghost use Rattle.data_device.specs.Accounts.{Book, Sound};
+    ghost use Rattle.data_device.specs.Slots.{data_start};
 
     ghost Value = { Book };
 
     ghost view = { λ l. record { entries = l.map.entries; tickets = l.tickets.items; slots = length l.slots.used } };
 
-    ghost invariant = { λ l. Sound l.map.entries l.tickets.items l.slots.used l.map.spare l.out × (l.slots.base ≡ 4198400) };
+    ghost invariant = { λ l. Sound l.map.entries l.tickets.items l.slots.used l.map.spare l.out × (l.slots.base ≡ data_start) };
 }
 
 impl Ledger {
@@ -61,7 +63,7 @@ impl Ledger {
 
     /// The slots. No entry has that of a ticket.
     pub fn slots(&self) -> &SlotStore
-        ensures base { result.now.base ≡ 4198400 }
+        ensures base { result.now.base ≡ data_start }
         ensures count { length result.now.used ≡ self.now.slots }
         ensures tickets { All (λ slot. slot < self.now.slots) self.now.tickets }
         ensures apart { All (λ slot. All (λ e. e.slot ≢ slot) self.now.entries) self.now.tickets }

@@ -12,7 +12,7 @@ use Rattle.petal_disk.proofs.Moments.{started, weaker}
 use Rattle.spec_rules.specs.Store.{Store, mark_on, settled, with_entry, with_mark_on, without_entry, without_mark_on}
 use Rattle.physical_map.specs.Keys.{IsInOrder}
 use Rattle.server_store.specs.Holdings.{Holdings, key_held}
-use Rattle.server_store.specs.Shown.{BeforeOrAfter, Holds, Shows, picture_of}
+use Rattle.server_store.specs.Shown.{BeforeOrAfter, HoldsAt, Shows, picture_of}
 use Rattle.data_device.specs.declared.record.StoreRecord.{StoreRecord}
 use Rattle.data_device.specs.declared.record.StoreRecord.TheVariants as kind
 use Rattle.kept_chains.specs.Kept.{store_of}
@@ -145,10 +145,6 @@ module _ {D : Type 0} (file : List ℕ) (before : Holdings D) where
   )
 
 module _ {D : Type 0} (device : Ghosts D) where
-  -- the device shows the store, now and after any crash
-  abbrev HoldsAt : Holdings D → Type 0
-  HoldsAt store = Holds store (device.seen store.disk) (device.may_leave store.disk)
-
   -- a crash at any moment leaves what has P
   abbrev Leaves : Holdings D → Holdings D → (List ℕ → Type 0) → Type 0
   Leaves before after P = LeavesOnly device.moment device.left_since before.disk after.disk P
@@ -169,7 +165,7 @@ module _ {D : Type 0} (device : Ghosts D) where
 
   module _ (only_now : (d : D) (c : List ℕ) → device.left_since d (device.moment d) c → device.may_leave d c) where
     -- where no call of the device was made, a crash leaves the store as it is
-    pub still_moments : (before after : Holdings D) (rule : Store) → after.disk ≡ before.disk → HoldsAt before
+    pub still_moments : (before after : Holdings D) (rule : Store) → after.disk ≡ before.disk → HoldsAt device before
         → Leaves before after (StandsAsEither (store_of before) rule)
     still_moments before after rule same holds =
         subst (λ (d : D). LeavesOnly device.moment device.left_since before.disk d (StandsAsEither (store_of before) rule)) (sym same)
@@ -177,12 +173,13 @@ module _ {D : Type 0} (device : Ghosts D) where
         (λ c left. inl (stands_before c before (holds.left c (only_now before.disk c left)))))
 
     -- where it was changed nothing
-    idle_moments : (before after : Holdings D) (rule : Store) → after ≡ before → HoldsAt before → Leaves before after (StandsAsEither (store_of before) rule)
+    idle_moments : (before after : Holdings D) (rule : Store) → after ≡ before → HoldsAt device before
+        → Leaves before after (StandsAsEither (store_of before) rule)
     idle_moments before after rule same = still_moments before after rule (ap (λ (s : Holdings D). s.disk) same)
 
     -- what a crash within the commit of a mark leaves
     pub mark_moments : (before after : Holdings D) (k : MarkKind) (cell : Cell) → (has_mark (mark_on k cell) before.marks ≡ true → after ≡ before)
-        → HoldsAt before → Leaves before after (λ c. BeforeOrAfter c before (kind.Mark k cell) [])
+        → HoldsAt device before → Leaves before after (λ c. BeforeOrAfter c before (kind.Mark k cell) [])
         → Leaves before after (StandsAsEither (store_of before) (with_mark_on (store_of before) k cell))
     mark_moments before after k cell idle holds run = elim (cases_Bool (has_mark (mark_on k cell) before.marks)) [
       | inl has ↦ idle_moments before after (with_mark_on (store_of before) k cell) (idle has) holds
@@ -191,7 +188,7 @@ module _ {D : Type 0} (device : Ghosts D) where
 
     -- so within one that takes a mark away
     pub unmark_moments : (before after : Holdings D) (k : MarkKind) (cell : Cell) → (has_mark (mark_on k cell) before.marks ≡ false → after ≡ before)
-        → HoldsAt before → Leaves before after (λ c. BeforeOrAfter c before (kind.Unmark k cell) [])
+        → HoldsAt device before → Leaves before after (λ c. BeforeOrAfter c before (kind.Unmark k cell) [])
         → Leaves before after (StandsAsEither (store_of before) (without_mark_on (store_of before) k cell))
     unmark_moments before after k cell idle holds run = elim (cases_Bool (has_mark (mark_on k cell) before.marks)) [
       | inl has ↦ weaker device.moment device.left_since before.disk after.disk _ _ run (λ c. unmark_after c before k cell has)
@@ -200,7 +197,7 @@ module _ {D : Type 0} (device : Ghosts D) where
 
     -- so within one by which the store waits no more
     pub settle_moments : (before after : Holdings D) → (before.fresh ≡ false → after ≡ before)
-        → HoldsAt before → Leaves before after (λ c. BeforeOrAfter c before kind.Settled [])
+        → HoldsAt device before → Leaves before after (λ c. BeforeOrAfter c before kind.Settled [])
         → Leaves before after (StandsAsEither (store_of before) (settled (store_of before)))
     settle_moments before after idle holds run = elim (cases_Bool before.fresh) [
       | inl waits ↦ weaker device.moment device.left_since before.disk after.disk _ _ run (λ c. settled_after c before waits)

@@ -5,15 +5,16 @@ use Rattle.petal_disk.specs.declared.disk.Disk.{Ghosts}
 use Rattle.spec_rules.specs.Store.{Store}
 use Rattle.server_store.specs.Errors.{IsMarkError, HasFault}
 use Rattle.server_store.specs.Holdings.{Holdings}
-use Rattle.server_store.specs.Shown.{Holds}
+use Rattle.server_store.specs.Shown.{HoldsAt}
 use Rattle.server_store.specs.StoreError.{StoreError}
 use Rattle.server_store.specs.StoreError.TheVariants.{JournalFull, NoMemory}
 use Rattle.kept_chains.specs.Kept.{store_of}
 use Rattle.kept_chains.specs.Standing.{StandsAsEither}
+use Rattle.petal_base.specs.Limits.{journal_records}
 
 -- the rule has one record more than the journal has room for, and nothing changed
 pub record IsFull {D : Type 0} (before after : Holdings D) (rule : Store) : Type 0 where
-  pub count : before.log.region.count ≡ 65536
+  pub count : before.log.region.count ≡ journal_records
   pub over : rule.records ≡ length before.log.records + 1
   pub same : after ≡ before
 
@@ -22,9 +23,8 @@ pub record IsFull {D : Type 0} (before after : Holdings D) (rule : Store) : Type
 -- for memory changed nothing
 pub record IsCommit {D T : Type 0} (device : Ghosts D) (before after : Holdings D) (result : Result T StoreError) (rule : Store) : Type 0 where
   pub done : OnOk result (device.told → store_of after ≡ rule)
-  pub holds : device.told → Holds before (device.seen before.disk) (device.may_leave before.disk)
-      → OnOk result (Holds after (device.seen after.disk) (device.may_leave after.disk))
-  pub moments : device.told → Holds before (device.seen before.disk) (device.may_leave before.disk)
+  pub holds : device.told → HoldsAt device before → OnOk result (HoldsAt device after)
+  pub moments : device.told → HoldsAt device before
       → LeavesOnly device.moment device.left_since before.disk after.disk (StandsAsEither (store_of before) rule)
   pub tickets : after.tickets ≡ before.tickets
   pub kept : device.told → after.entries ≡ before.entries
@@ -37,9 +37,8 @@ pub record IsCommit {D T : Type 0} (device : Ghosts D) (before after : Holdings 
 -- so of a commit that changes the entries: they stay where it was refused. A slot that it needed was set apart and used at once
 pub record IsChange {D T : Type 0} (device : Ghosts D) (before after : Holdings D) (result : Result T StoreError) (rule : Store) : Type 0 where
   pub done : OnOk result (device.told → store_of after ≡ rule)
-  pub holds : device.told → Holds before (device.seen before.disk) (device.may_leave before.disk)
-      → OnOk result (Holds after (device.seen after.disk) (device.may_leave after.disk))
-  pub moments : device.told → Holds before (device.seen before.disk) (device.may_leave before.disk)
+  pub holds : device.told → HoldsAt device before → OnOk result (HoldsAt device after)
+  pub moments : device.told → HoldsAt device before
       → LeavesOnly device.moment device.left_since before.disk after.disk (StandsAsEither (store_of before) rule)
   pub tickets : after.tickets ≡ before.tickets
   pub kept : OnErr result (device.told → after.entries ≡ before.entries)

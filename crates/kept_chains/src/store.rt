@@ -15,6 +15,8 @@ ghost use Rattle.server_store.specs.Shown.{Holds};
 ghost use Rattle.kept_chains.specs.Kept.{chains_of, store_of};
 ghost use Rattle.kept_chains.specs.Marking.{IsChange, IsCommit};
 ghost use Rattle.kept_chains.specs.Reading.{IsReadFault};
+ghost use Rattle.petal_base.specs.Block.{block_bytes};
+ghost use Rattle.petal_base.specs.Limits.{journal_records};
 
 use busy_marks::MarkKind;
 use petal_base::{BLOCK_BYTES, Block, Cell, Epoch, Key, NoMemory, SharedBlock, Version};
@@ -54,7 +56,7 @@ pub fn set_apart<D: Disk>(store: &mut Store<D>) -> Result<Option<Ticket>, NoMemo
 }
 
 fn buffer(alloc: Global) -> Result<Vec<u8>, AllocError>
-    ensures { IfOk result (λ v. length v.items ≡ 65536) }
+    ensures { IfOk result (λ v. length v.items ≡ block_bytes) }
 {
     Ok(vec![in alloc; 0; BLOCK_BYTES]?)
 }
@@ -125,7 +127,7 @@ pub fn drop_entry<D: Disk>(store: &mut Store<D>, key: Key) -> Result<(), StoreEr
 pub fn settle<D: Disk>(store: &mut Store<D>) -> Result<(), StoreError>
     ensures commit { IsCommit D.Disk store.old store.new result (settled (store_of store.old)) }
     ensures errors { IfErr result IsCommitError }
-    ensures full { IsErrOf result StoreError.JournalFull → (store.old.log.region.count ≡ 65536) × (store.old.fresh ≡ true) }
+    ensures full { IsErrOf result StoreError.JournalFull → (store.old.log.region.count ≡ journal_records) × (store.old.fresh ≡ true) }
 {
     store.settle_fresh()
 }

@@ -8,7 +8,7 @@ use Rattle.petal_script.specs.Words.{Word, is_word, ◌>>=◌, front_word, no_wo
 use Rattle.petal_script.specs.Client.{client_request}
 use Rattle.petal_script.specs.Operator.{operator_request}
 use Rattle.script_lines.specs.declared.script.Script.{Script}
-use Rattle.petal_script.specs.Script.{TextLine, script_of, text_lines, first_line, line_verdict, later_line, line_by, adds}
+use Rattle.petal_script.specs.Script.{TextLine, script_of, text_lines, first_line, line_verdict, later_line, line_by, adds, longest_script, longest_line}
 use Rattle.petal_script.specs.Script.{client_of, is_skipped, too_many, no_majority}
 use Rattle.law_script.specs.Laws.{Does, skipped, nets, waits, asks, Asks, line_at, Taken, Follows, IsAccepted}
 use Rattle.law_script.proofs.Firsts.{is_script}
@@ -95,7 +95,7 @@ pub taken_does : (s : Script) (told : TextLine) (after : Option Script) → line
 unfolding line_verdict
 taken_does s told after is =
     let ascii = passed (not (list_all is_ascii told.text)) NotAscii _ after is in
-    let short = passed (nat_lt 256 (length told.text) || nat_lt 1048576 told.reach) TooLong _ after ascii.1 in
+    let short = passed (nat_lt longest_line (length told.text) || nat_lt longest_script told.reach) TooLong _ after ascii.1 in
     elim (chosen (is_skipped told.text) _ _ (Ok after) short.1) [
       | inl h ↦ (let e : after ≡ Some s = cc (h.1) in (s, e, skipped h.0 refl))
       | inr h ↦ (
@@ -116,7 +116,7 @@ begun : (told : TextLine) (after : Option Script) → line_verdict None told ≡
 unfolding line_verdict
 begun told after taken =
     let ascii = passed (not (list_all is_ascii told.text)) NotAscii _ after taken in
-    let short = passed (nat_lt 256 (length told.text) || nat_lt 1048576 told.reach) TooLong _ after ascii.1 in
+    let short = passed (nat_lt longest_line (length told.text) || nat_lt longest_script told.reach) TooLong _ after ascii.1 in
     elim (chosen (is_skipped told.text) _ _ (Ok after) short.1) [
       | inl h ↦ (let e : after ≡ None = cc (h.1) in inl (h.0, e))
       | inr h ↦ (

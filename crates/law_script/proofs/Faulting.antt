@@ -13,7 +13,7 @@ use Rattle.petal_script.specs.Words.{Word, ◌>>=◌, or_else, is_word, no_word,
 use Rattle.petal_script.specs.Fields.{a_name, in_limits, a_server, a_call, numbers_of, a_tuple, version_by, version_of}
 use Rattle.petal_script.specs.Client.{spread_of, disk_of, move_of, filled_of, halves_of, write_of, read_of, snap_of, client_request}
 use Rattle.petal_script.specs.Operator.{stop_at, stop_of, fault_of, boot_of, operator_request}
-use Rattle.petal_script.specs.Script.{TextLine, is_skipped, is_client, servers_line, net_line, adds, later_line, first_line}
+use Rattle.petal_script.specs.Script.{TextLine, is_skipped, is_client, servers_line, net_line, adds, later_line, first_line, longest_script, longest_line}
 use Rattle.petal_script.specs.Script.{counted, line_verdict, too_many, no_majority}
 use Rattle.law_script.specs.Faults.{Positions, place, numbers_only, server_place, servers_positions, net_positions, bare_positions, spread_positions}
 use Rattle.law_script.specs.Faults.{write_positions, version_names, read_positions, snap_positions, client_positions, stop_positions, boot_positions, is_device}
@@ -444,6 +444,6 @@ line_split true false false a b c d e f g before r same = told_last r Some ∙ s
 pub first_fault : (before : Option Script) (line : TextLine) → told (line_verdict before line) ≡ find (λ cause. has_fault cause before line) in_order
 unfolding line_verdict
 first_fault before line =
-    line_split (list_all is_ascii line.text) (nat_lt 256 (length line.text) || nat_lt 1048576 line.reach) (is_skipped line.text) _ _ _ _ _ _ _ before
-    (counted before line.number (words_of line.text))
+    line_split (list_all is_ascii line.text) (nat_lt longest_line (length line.text) || nat_lt longest_script line.reach) (is_skipped line.text)
+    _ _ _ _ _ _ _ before (counted before line.number (words_of line.text))
     (counted_told before line.number (words_of line.text))

@@ -11,7 +11,7 @@ use Rattle.petal_script.specs.Words.{Word, is_word}
 use Rattle.petal_script.specs.Fields.{numbers_of}
 use Rattle.petal_script.specs.Client.{client_request}
 use Rattle.petal_script.specs.Operator.{operator_request}
-use Rattle.petal_script.specs.Script.{TextLine, is_skipped, is_client, too_many, no_majority}
+use Rattle.petal_script.specs.Script.{TextLine, is_skipped, is_client, too_many, no_majority, longest_script, longest_line}
 use Rattle.script_lines.specs.declared.script.Script.{Script}
 use Rattle.script_lines.specs.declared.request.Line.{Line}
 use Rattle.script_lines.specs.declared.request.Request.{Request}
@@ -235,7 +235,7 @@ servers_in (Some s) = s.servers
 -- a line after these lines has this fault
 abbrev pub has_fault : Cause → Option Script → TextLine → Bool
 has_fault NotAscii before line = not (list_all is_ascii line.text)
-has_fault TooLong before line = nat_lt 256 (length line.text) || nat_lt 1048576 line.reach
+has_fault TooLong before line = nat_lt longest_line (length line.text) || nat_lt longest_script line.reach
 has_fault NoServersLine before line = counts line && lacks_servers before (words_of line.text)
 has_fault BadLine before line = counts line && is_none (line_positions before (words_of line.text))
 has_fault BadName before line = counts line && bad_name (line_positions before (words_of line.text))

@@ -19,6 +19,7 @@ use Rattle.pair_memory.specs.Crossed.{IsCrossed, IsEntered, lacks_room}
 use Rattle.pair_memory.specs.Done.{HoldsAt}
 use Rattle.pair_memory.specs.Side.{Side, HasTicketsAt, own_of}
 use Rattle.pair_memory.specs.declared.error.WorkError.TheVariants.{Failed}
+use Rattle.petal_base.specs.Limits.{journal_records}
 
 -- the own part with a store that waits no more
 abbrev settled_own : Own → Own
@@ -26,12 +27,12 @@ settled_own own = record own { store = settled own.store }
 
 -- where the journal has no room, the rule has one record more than that
 pub lacking : {D : Type 0} (here : Here) (entry : Option Command) (side : Side) (before : Holdings D) → lacks_room here.me here.inc entry before ≡ true
-    → (before.log.region.count ≡ 65536) × ((crossed_by here entry (own_of side before)).store.records ≡ length before.log.records + 1)
+    → (before.log.region.count ≡ journal_records) × ((crossed_by here entry (own_of side before)).store.records ≡ length before.log.records + 1)
 lacking here None side before is = absurd (cc)
 lacking here (Some entry) side before is =
     let own : is_blank_join entry here.me here.inc ≡ true = search rules in
     let waits : before.fresh ≡ true = search rules in
-    let full : (before.log.region.count == 65536) ≡ true = search rules in
+    let full : (before.log.region.count == journal_records) ≡ true = search rules in
     (grind arith, rw (own, waits) refl)
 
 module _ {D : Type 0} (device : Ghosts D) (stays : (d : D) → device.came_to d d)
@@ -108,15 +109,15 @@ module _ {D : Type 0} (device : Ghosts D) (stays : (d : D) → device.came_to d 
       run = run_of commit;
     }
 
-    no_room : lacks_room here.me here.inc (Some entry) before ≡ false → (mid.log.region.count ≡ 65536) × (mid.fresh ≡ true) → ⊥
+    no_room : lacks_room here.me here.inc (Some entry) before ≡ false → (mid.log.region.count ≡ journal_records) × (mid.fresh ≡ true) → ⊥
     no_room room full =
-        let count : before.log.region.count ≡ 65536 = sym (ap (λ (s : Holdings D). s.log.region.count) cross.store) ∙ full.0 in
+        let count : before.log.region.count ≡ journal_records = sym (ap (λ (s : Holdings D). s.log.region.count) cross.store) ∙ full.0 in
         let waits : before.fresh ≡ true = sym (ap (λ (s : Holdings D). s.fresh) cross.store) ∙ full.1 in
         absurd (let lacks : lacks_room here.me here.inc (Some entry) before ≡ true = rw (blank, waits, count) refl in cc)
 
     -- and a device that failed in it failed
     pub entered_failed : {T R : Type 0} (e : StoreError) → IsCommitError e → lacks_room here.me here.inc (Some entry) before ≡ false
-        → (IsErrOf {T = R} (Err e) store.JournalFull → (mid.log.region.count ≡ 65536) × (mid.fresh ≡ true))
+        → (IsErrOf {T = R} (Err e) store.JournalFull → (mid.log.region.count ≡ journal_records) × (mid.fresh ≡ true))
         → IsCommit {T = R} device mid after (Err e) (settled (store_of mid))
         → IsEntered {T = T} device here (Some entry) old new before after (Err Failed)
     entered_failed store.Failed is room full commit = record {

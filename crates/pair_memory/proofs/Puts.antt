@@ -18,6 +18,7 @@ use Rattle.kept_chains.specs.Marking.{IsChange}
 use Rattle.kept_chains.specs.Standing.{StandsAsEither}
 use Rattle.pair_memory.specs.Slots.{with_new}
 use Rattle.pair_memory.proofs.Tickets.{kept_is, spent_is, undone}
+use Rattle.petal_base.specs.Limits.{journal_records}
 
 -- what the store says of a put with a ticket
 pub record IsPut {D T : Type 0} (device : Ghosts D) (mid after : Holdings D) (result : Result T StoreError) (slot : ℕ) (key : Key) (version : ℕ)
@@ -29,7 +30,7 @@ pub record IsPut {D T : Type 0} (device : Ghosts D) (mid after : Holdings D) (re
   pub rest : after ≡ record mid { entries = after.entries; tickets = lists.without mid.tickets slot; log = after.log; disk = after.disk }
   pub kept : OnErr result (device.told → after.entries ≡ mid.entries)
   pub errors : IfErr result IsCommitError
-  pub full : IsErrOf result JournalFull → mid.log.region.count ≡ 65536
+  pub full : IsErrOf result JournalFull → mid.log.region.count ≡ journal_records
   pub full_rest : IsErrOf result JournalFull → after ≡ record mid { tickets = lists.without mid.tickets slot }
   pub holds : device.told → Holds mid (device.seen mid.disk) (device.may_leave mid.disk)
       → OnOk result (Holds after (device.seen after.disk) (device.may_leave after.disk))

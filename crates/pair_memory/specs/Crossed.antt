@@ -16,6 +16,7 @@ use Rattle.pair_memory.specs.declared.error.WorkError.{WorkError}
 use Rattle.pair_memory.specs.declared.error.WorkError.TheVariants.{Failed}
 use Rattle.pair_memory.specs.Done.{HasFault, HoldsAt}
 use Rattle.pair_memory.specs.Side.{Side, HasTicketsAt, own_of, times}
+use Rattle.petal_base.specs.Limits.{journal_records}
 
 -- the tickets on the cells that a test takes were given back, and no other
 pub record AreFreed {D : Type 0} (test : Cell → Bool) (apart left : Table Cell ℕ) (before after : Holdings D) : Type 0 where
@@ -34,7 +35,7 @@ module _ {D : Type 0} (state : State) (entry : Command) where
 -- by the entry the store is to wait for nobody any more, and its journal has no room for that
 abbrev pub lacks_room : {D : Type 0} → (me inc : ℕ) → Option Command → Holdings D → Bool
 lacks_room me inc None store = false
-lacks_room me inc (Some entry) store = is_blank_join entry me inc && (store.fresh && (store.log.region.count == 65536))
+lacks_room me inc (Some entry) store = is_blank_join entry me inc && (store.fresh && (store.log.region.count == journal_records))
 
 module _ {D T : Type 0} where
   -- a server's own part is what the rule says of the entry, if there is one, where the device tells its bytes, and the tickets

@@ -9,7 +9,7 @@ use Rattle.spec_rules.specs.Server.{Done as Rule}
 use Rattle.spec_rules.specs.declared.job.Job.{Job}
 use Rattle.spec_rules.specs.declared.job.Job.TheVariants as job
 use Rattle.kept_chains.specs.Holdings.{Holdings, listed}
-use Rattle.kept_chains.specs.Shown.{Holds}
+pub use Rattle.kept_chains.specs.Shown.{HoldsAt}
 use Rattle.kept_chains.specs.Kept.{store_of}
 use Rattle.kept_chains.specs.Standing.{StandsAsEither}
 use Rattle.pair_memory.specs.declared.error.WorkError.{WorkError}
@@ -18,6 +18,7 @@ use Rattle.pair_memory.specs.declared.done.Done.{Done}
 use Rattle.pair_memory.specs.declared.done.FollowUp.{FollowUp}
 use Rattle.pair_memory.specs.declared.done.FollowUp.TheVariants as follow
 use Rattle.pair_memory.specs.Side.{Side, own_of, HasTicketsAt}
+use Rattle.petal_base.specs.Limits.{journal_records}
 
 -- letters and nothing else
 abbrev pub only : List Letter → Done
@@ -44,10 +45,6 @@ pub record HasFault {T : Type 0} (before now : ℕ) (result : Result T WorkError
   pub later : before ≤ now
   pub failed : result ≡ Err Failed → before < now
 
--- the device shows the store, now and after any crash
-abbrev pub HoldsAt : {D : Type 0} → Ghosts D → Holdings D → Type 0
-HoldsAt device store = Holds store (device.seen store.disk) (device.may_leave store.disk)
-
 module _ {D : Type 0} where
   -- a job without a call of the device is the rule's, and the tickets still stand where they are needed; one that was refused,
   -- for memory alone, left all as it was
@@ -59,7 +56,7 @@ module _ {D : Type 0} where
 
   -- the rule has one record more than the journal has room for, and nothing changed
   pub record IsFull (old new : Side) (before after : Holdings D) (rule : Rule) : Type 0 where
-    pub count : before.log.region.count ≡ 65536
+    pub count : before.log.region.count ≡ journal_records
     pub over : rule.own.store.records ≡ length before.log.records + 1
     pub same : (new ≡ old) × (after ≡ before)
 

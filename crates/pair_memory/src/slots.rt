@@ -13,6 +13,7 @@ ghost use Rattle.kept_chains.specs.Standing.{StandsAsEither};
 ghost use Rattle.pair_memory.specs.declared.error.WorkError.TheVariants as error;
 ghost use Rattle.pair_memory.specs.Done.{HasFault, HoldsAt};
 ghost use Rattle.pair_memory.specs.Slots.{IsKept, IsStop, IsOutAt, with_new};
+ghost use Rattle.petal_base.specs.Limits.{journal_records};
 
 use crate::error::WorkError;
 use kept_chains::{Store, StoreError, Ticket, set_apart};
@@ -63,7 +64,7 @@ pub fn spend<D: Disk>(
     ensures moments { D.told → HoldsAt D.Disk store.old → LeavesOnly D.moment D.left_since store.old.disk store.new.disk
         (StandsAsEither (store_of store.old) (with_entry (store_of store.old) key (record { version = version; bytes = block.now }))) }
     ensures errors { IfErr result IsStop }
-    ensures full { IsErrOf result error.JournalFull → (store.old.log.region.count ≡ 65536) × (table.new ≡ table.old) × (store.new ≡ store.old) }
+    ensures full { IsErrOf result error.JournalFull → (store.old.log.region.count ≡ journal_records) × (table.new ≡ table.old) × (store.new ≡ store.old) }
     ensures cause { HasFault (D.faults store.old.disk) (D.faults store.new.disk) result }
     ensures run { D.came_to store.old.disk store.new.disk }
 {

@@ -10,6 +10,7 @@ ghost use Rattle.state_store.specs.Errors.{IsCommitError};
 ghost use Rattle.spec_paxos.specs.Kept.{acceptor_of, committed};
 ghost use Rattle.spec_paxos.specs.declared.record.StateRecord.TheVariants as kind;
 ghost use Rattle.state_store.specs.declared.error.StateError.TheVariants as error;
+ghost use Rattle.petal_base.specs.Limits.{journal_records};
 
 use petal_command::{Ballot, Command, Pax};
 use petal_disk::Disk;
@@ -39,9 +40,9 @@ pub fn on_prepare<D: Disk>(
         (if is_open (acceptor_of store.old.records place) ballot then committed store.old.records (kind.Promise place ballot) else store.old.records)) }
     ensures either { D.told → Holds store.old.region (D.seen store.old.disk) (D.may_leave store.old.disk) store.old.records
         → WithOrWithout (D.seen store.new.disk) store.old.records (kind.Promise place ballot) }
-    ensures full { IsErrOf result error.JournalFull → (store.old.region.count ≡ 65536) × Needs store.old.records place ballot (kind.Promise place ballot)
-        × (store.new ≡ store.old) }
-    ensures full_comes { store.old.region.count ≡ 65536 → Needs store.old.records place ballot (kind.Promise place ballot)
+    ensures full { IsErrOf result error.JournalFull
+        → (store.old.region.count ≡ journal_records) × Needs store.old.records place ballot (kind.Promise place ballot) × (store.new ≡ store.old) }
+    ensures full_comes { store.old.region.count ≡ journal_records → Needs store.old.records place ballot (kind.Promise place ballot)
         → IsErrOf result error.JournalFull ⊎ IsErrOf result error.NoMemory }
     ensures memory { IsErrOf result error.NoMemory → store.new ≡ store.old }
     ensures only { IfErr result IsCommitError }
@@ -92,8 +93,8 @@ pub fn on_accept<D: Disk>(
     ensures either { D.told → Holds store.old.region (D.seen store.old.disk) (D.may_leave store.old.disk) store.old.records
         → WithOrWithout (D.seen store.new.disk) store.old.records (kind.Accepted place ballot command.now) }
     ensures full { IsErrOf result error.JournalFull
-        → (store.old.region.count ≡ 65536) × Needs store.old.records place ballot (kind.Accepted place ballot command.now) × (store.new ≡ store.old) }
-    ensures full_comes { store.old.region.count ≡ 65536 → Needs store.old.records place ballot (kind.Accepted place ballot command.now)
+        → (store.old.region.count ≡ journal_records) × Needs store.old.records place ballot (kind.Accepted place ballot command.now) × (store.new ≡ store.old) }
+    ensures full_comes { store.old.region.count ≡ journal_records → Needs store.old.records place ballot (kind.Accepted place ballot command.now)
         → IsErrOf result error.JournalFull ⊎ IsErrOf result error.NoMemory }
     ensures memory { IsErrOf result error.NoMemory → store.new ≡ store.old }
     ensures only { IfErr result IsCommitError }

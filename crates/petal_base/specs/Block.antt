@@ -2,13 +2,17 @@
 use Rattle.std.specs.Prelude.{ℕ, ◌+◌, ◌%◌, ◌≡◌, List, ◌++◌, length, map, replicate}
 use Rattle.std.specs.List.{range_with_len}
 
--- a list of 65,536 bytes
+-- how many bytes a block has
+abbrev pub block_bytes : ℕ
+block_bytes = 65536
+
+-- a list of so many bytes
 abbrev pub IsBlock : List ℕ → Type 0
-IsBlock bytes = length bytes ≡ 65536
+IsBlock bytes = length bytes ≡ block_bytes
 
 -- one byte throughout
 unfoldable pub fill_block : ℕ → List ℕ
-fill_block x = replicate 65536 x
+fill_block x = replicate block_bytes x
 
 -- what a read gives where nothing was written
 abbrev pub zero_block : List ℕ
@@ -20,4 +24,4 @@ halves_block x y = replicate 32768 x ++ replicate 32768 y
 
 -- byte i is (x + i) mod 256
 unfoldable pub ramp_block : ℕ → List ℕ
-ramp_block x = map (λ i. (x + i) % 256) (range_with_len 0 65536)
+ramp_block x = map (λ i. (x + i) % 256) (range_with_len 0 block_bytes)

@@ -2,3 +2,4 @@ pub mod Block
 pub mod Name
 pub mod Cells
 pub mod Tuple
+pub mod Limits

@@ -3,7 +3,7 @@
 
 ghost use Rattle.std.specs.Prelude.{◌≡◌, ◌↔◌, ◌≤◌, ◌+◌, ◌%◌, List, ℕ, length, map, replicate, take, drop, IfOk, IsTrue};
 ghost use Rattle.std.specs.List.{range_with_len};
-ghost use Rattle.petal_base.specs.Block.{IsBlock, zero_block, fill_block, halves_block, ramp_block};
+ghost use Rattle.petal_base.specs.Block.{IsBlock, zero_block, fill_block, halves_block, ramp_block, block_bytes};
 
 use crate::NoMemory;
 use std::alloc::{AllocError, Global};
@@ -101,7 +101,7 @@ fn copies(alloc: Global, x: u8, n: usize) -> Result<Vec<u8>, AllocError>
 }
 
 fn counted(alloc: Global, x: u8, n: usize) -> Result<Vec<u8>, AllocError>
-    requires { n ≤ 65536 }
+    requires { n ≤ block_bytes }
     ensures { IfOk result (λ v. v.items ≡ map (λ i. (x + i) % 256) (range_with_len 0 n)) }
 {
     (0..n)

@@ -21,8 +21,8 @@ pub use ghost_list::{Change, GhostList};
 pub use memory::NoMemory;
 pub use name::{NAME_BYTES, Name};
 pub use number::{
-    BLOCKS, BlockNo, CLIENTS, ClientId, DiskId, Epoch, Inc, MAX_SERVERS, MapId, OPERATOR, Op,
-    REGIONS, Rev, Seq, ServerId, Stamp, Version,
+    BLOCKS, BlockNo, CLIENTS, ClientId, DiskId, Epoch, Inc, JOURNAL_RECORDS, MAX_SERVERS, MapId,
+    OPERATOR, Op, REGIONS, Rev, Seq, ServerId, Stamp, Version,
 };
 pub use sequence::Sequence;
 pub use shared::SharedBlock;

@@ -50,3 +50,6 @@ pub const MAX_SERVERS: u8 = 8;
 
 /// A disk's blocks fall into so many regions, which redistribution moves one by one.
 pub const REGIONS: u8 = 16;
+
+/// A device's journal has room for so many records.
+pub const JOURNAL_RECORDS: u32 = 65_536;

@@ -1,4 +1,5 @@
 pub mod Asked
 pub mod Said
+pub mod Statuses
 pub mod Words
 pub mod Written

@@ -8,6 +8,7 @@ use Rattle.spec_history.specs.Legal.{IsLegal}
 use Rattle.spec_history.specs.Text.{answers_of, text_of}
 use Rattle.spec_history.specs.Order.{AnswersPhases, IsFront, all_answered}
 use Rattle.petal_run.specs.Asked.{Asked, Refuse, Play}
+use Rattle.petal_run.specs.Statuses.{status_ended}
 
 -- a whole run of a script: each record is a real step of its servers and clients, each line is answered, and what the plain
 -- machine is told of it is a run of that machine, whose contents are those of the disk
@@ -20,7 +21,7 @@ pub record Plays (script : Script) (history : List Record) : Type 0 where
 -- history is written
 abbrev pub Done : Asked → (status : ℕ) → List Record → (left old new : List ℕ) → Type 0
 Done (Refuse of bytes) status history left old new = (status ≡ of) × (history ≡ []) × (new ≡ old ++ bytes)
-Done (Play script) status history left old new = (status ≡ 0) × (left ≡ []) × Plays script history × (new ≡ old ++ text_of history)
+Done (Play script) status history left old new = (status ≡ status_ended) × (left ≡ []) × Plays script history × (new ≡ old ++ text_of history)
 
 -- a part of what was asked for is done: some of a refusal is written; or the script was played so far, and some of the text of
 -- the history is written

@@ -1,9 +1,10 @@
 //! The top call, and how it ends.
 
-ghost use Rattle.std.specs.Prelude.{◌≡◌, ◌≤◌, ◌<◌, ◌⊎◌, [], false, map, take};
+ghost use Rattle.std.specs.Prelude.{◌≡◌, ◌≤◌, ◌<◌, ◌⊎◌, [], false, map};
 ghost use Rattle.std.specs.String.{string_bytes};
-ghost use Rattle.petal_run.specs.Asked.{asked};
+ghost use Rattle.petal_run.specs.Asked.{asked, text_read};
 ghost use Rattle.petal_run.specs.Said.{Done, DoneInPart, EndsWithPhase, WrittenByPhases, WrittenInPhase};
+ghost use Rattle.petal_run.specs.Statuses.{status_no_form, status_refused, status_no_memory, status_source_failed, status_sink_failed};
 ghost use Rattle.petal_run.specs.Words.{is_run};
 
 use crate::laws::nothing_is_a_part;
@@ -26,17 +27,22 @@ pub struct Outcome {
     pub history: History,
 }
 
+/// The status of a run that ended, with all its answers written.
 pub(crate) const ENDED: u8 = 0;
 
+/// The status of a call whose words are no form.
 pub(crate) const NO_FORM: u8 = 1;
 
+/// The status of a call that refused a line of its script.
 pub(crate) const REFUSED: u8 = 2;
 
 /// The status of a call that is out of memory.
 pub const NO_MEMORY: u8 = 3;
 
+/// The status of a call whose source failed.
 pub(crate) const SOURCE_FAILED: u8 = 4;
 
+/// The status of a call whose sink failed.
 pub(crate) const SINK_FAILED: u8 = 5;
 
 const USAGE: &str = "usage: petal run [FOLDER] | petal drill SEED COUNT\n";
@@ -55,30 +61,30 @@ pub fn petal<T: Wait, R: Source, W: Sink, S: Shelf>(
     sink: &mut W,
     shelf: &mut S,
 ) -> Outcome
-    ensures known { result.status ≤ 5 }
+    ensures known { result.status ≤ status_sink_failed }
 
     // What is written, and what the history is.
-    ensures done { R.told → W.told → result.status ≤ 2
-        → Done (asked (map string_bytes words.now) (take 1048577 (R.left source.old))) result.status result.history.records
+    ensures done { R.told → W.told → result.status ≤ status_refused
+        → Done (asked (map string_bytes words.now) (text_read (R.left source.old))) result.status result.history.records
         (R.left source.new) (W.taken sink.old) (W.taken sink.new) }
-    ensures usage { result.status ≡ 1 → is_run (map string_bytes words.now) ≡ false }
-    ensures in_part { R.told → W.told → (result.status ≡ 3) ⊎ (result.status ≡ 5)
-        → DoneInPart (asked (map string_bytes words.now) (take 1048577 (R.left source.old))) result.history.records
+    ensures usage { result.status ≡ status_no_form → is_run (map string_bytes words.now) ≡ false }
+    ensures in_part { R.told → W.told → (result.status ≡ status_no_memory) ⊎ (result.status ≡ status_sink_failed)
+        → DoneInPart (asked (map string_bytes words.now) (text_read (R.left source.old))) result.history.records
         (W.taken sink.old) (W.taken sink.new) }
-    ensures whole_phase { R.told → result.status ≡ 5
-        → EndsWithPhase (asked (map string_bytes words.now) (take 1048577 (R.left source.old))) result.history.records }
-    ensures by_phases { R.told → W.told → result.status ≡ 3
-        → WrittenByPhases (asked (map string_bytes words.now) (take 1048577 (R.left source.old))) result.history.records
+    ensures whole_phase { R.told → result.status ≡ status_sink_failed
+        → EndsWithPhase (asked (map string_bytes words.now) (text_read (R.left source.old))) result.history.records }
+    ensures by_phases { R.told → W.told → result.status ≡ status_no_memory
+        → WrittenByPhases (asked (map string_bytes words.now) (text_read (R.left source.old))) result.history.records
         (W.taken sink.old) (W.taken sink.new) }
-    ensures last_phase { R.told → W.told → result.status ≡ 5
-        → WrittenInPhase (asked (map string_bytes words.now) (take 1048577 (R.left source.old))) result.history.records
+    ensures last_phase { R.told → W.told → result.status ≡ status_sink_failed
+        → WrittenInPhase (asked (map string_bytes words.now) (text_read (R.left source.old))) result.history.records
         (W.taken sink.old) (W.taken sink.new) }
-    ensures nothing { result.status ≡ 4 → sink.new ≡ sink.old }
-    ensures empty { result.status ≡ 4 → result.history.records ≡ [] }
+    ensures nothing { result.status ≡ status_source_failed → sink.new ≡ sink.old }
+    ensures empty { result.status ≡ status_source_failed → result.history.records ≡ [] }
 
     // Why it stops early.
-    ensures source_failed { result.status ≡ 4 → R.faults source.old < R.faults source.new }
-    ensures sink_failed { result.status ≡ 5 → W.faults sink.old < W.faults sink.new }
+    ensures source_failed { result.status ≡ status_source_failed → R.faults source.old < R.faults source.new }
+    ensures sink_failed { result.status ≡ status_sink_failed → W.faults sink.old < W.faults sink.new }
     ensures source_later { R.faults source.old ≤ R.faults source.new }
     ensures sink_later { W.faults sink.old ≤ W.faults sink.new }
     ensures unasked { is_run (map string_bytes words.now) ≡ false → source.new ≡ source.old }

@@ -1,20 +1,23 @@
 //! Reading the whole script.
 
-ghost use Rattle.std.specs.Prelude.{◌≡◌, ◌≤◌, ◌<◌, ℕ, length, take, drop, IfOk, IsErrOf};
+ghost use Rattle.std.specs.Prelude.{◌≡◌, ◌+◌, ◌≤◌, ◌<◌, ℕ, length, drop, IfOk, IsErrOf};
 ghost use Rattle.device_faults.specs.declared.failure.DeviceError.TheVariants as error;
+ghost use Rattle.petal_run.specs.Asked.{text_read};
+ghost use Rattle.petal_script.specs.Script.{longest_script};
 
 use crate::buffer::make_buffer;
 use byte_streams::{Source, read_full};
 use petal_disk::DeviceError;
+use petal_script::SCRIPT_BYTES;
 use std::alloc::Global;
 
-/// A script has at most 1,048,576 bytes. One byte more shows that it is too long.
-const LIMIT: usize = 1_048_577;
+/// One byte more than the longest script has, which shows that a text is too long.
+const LIMIT: usize = SCRIPT_BYTES + 1;
 
-/// The bytes of the source up to its end, or the first 1,048,577 of them.
+/// The bytes of the source up to its end, or the first so many of them.
 pub(crate) fn read_text<R: Source>(alloc: Global, source: &mut R) -> Result<Vec<u8>, DeviceError>
-    ensures bytes { IfOk result (λ text. R.told → text.items ≡ take 1048577 (R.left source.old)) }
-    ensures rest { IfOk result (λ _. R.told → R.left source.new ≡ drop 1048577 (R.left source.old)) }
+    ensures bytes { IfOk result (λ text. R.told → text.items ≡ text_read (R.left source.old)) }
+    ensures rest { IfOk result (λ _. R.told → R.left source.new ≡ drop (longest_script + 1) (R.left source.old)) }
     ensures later { R.faults source.old ≤ R.faults source.new }
     ensures failed { IsErrOf result error.Failed → R.faults source.old < R.faults source.new }
 {

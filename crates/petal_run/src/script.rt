@@ -4,13 +4,14 @@ ghost use Rattle.std.specs.Prelude.{◌≡◌, ◌≤◌, ◌<◌, ◌⊎◌, �
 ghost use Rattle.spec_history.specs.Order.{AreRising, all_answered};
 ghost use Rattle.byte_streams.specs.Streams.{Adds};
 ghost use Rattle.script_lines.specs.Printed.{refusal_line};
-ghost use Rattle.petal_script.specs.Script.{script_of};
+ghost use Rattle.petal_script.specs.Script.{script_of, longest_script};
 ghost use Rattle.spec_history.specs.Sound.{IsSound};
 ghost use Rattle.spec_history.specs.Text.{answers_of, text_of};
 ghost use Rattle.plain_schedule.specs.Phases.{GoesByPhases, records_of};
 ghost use Rattle.petal_run.specs.Asked.{Play, by_text};
 ghost use Rattle.server_host.specs.Playable.{AreOrdered};
 ghost use Rattle.petal_run.specs.Said.{Done, DoneInPart, EndsWithPhase, WrittenByPhases, WrittenInPhase, WroteInPhase, WrotePhases};
+ghost use Rattle.petal_run.specs.Statuses.{status_ended, status_refused, status_no_memory, status_sink_failed};
 ghost use Rattle.petal_run.specs.Written.{Wrote, text_of_answers};
 ghost use Rattle.device_faults.specs.declared.failure.DeviceError.TheVariants as error;
 
@@ -50,12 +51,12 @@ pub(crate) fn without_history(alloc: Global, status: u8) -> Outcome
 
 /// Writes these bytes and ends with the status, or with that of a sink that failed.
 pub(crate) fn say<W: Sink>(alloc: Global, sink: &mut W, bytes: &[u8], status: u8) -> Outcome
-    requires { status ≤ 2 }
-    ensures known { (result.status ≡ status) ⊎ (result.status ≡ 5) }
+    requires { status ≤ status_refused }
+    ensures known { (result.status ≡ status) ⊎ (result.status ≡ status_sink_failed) }
     ensures history { result.history.records ≡ [] }
     ensures all { W.told → result.status ≡ status → W.taken sink.new ≡ W.taken sink.old ++ bytes.now }
     ensures front { W.told → Adds (W.taken sink.old) bytes.now (W.taken sink.new) }
-    ensures failed { result.status ≡ 5 → W.faults sink.old < W.faults sink.new }
+    ensures failed { result.status ≡ status_sink_failed → W.faults sink.old < W.faults sink.new }
     ensures later { W.faults sink.old ≤ W.faults sink.new }
 {
     match write_all(sink, bytes) {
@@ -66,12 +67,12 @@ pub(crate) fn say<W: Sink>(alloc: Global, sink: &mut W, bytes: &[u8], status: u8
 
 /// Refuses a line of the script.
 fn refuse<W: Sink>(alloc: Global, sink: &mut W, line: u32, cause: &str) -> Outcome
-    ensures known { (result.status ≡ 2) ⊎ (result.status ≡ 3) ⊎ (result.status ≡ 5) }
+    ensures known { (result.status ≡ status_refused) ⊎ (result.status ≡ status_no_memory) ⊎ (result.status ≡ status_sink_failed) }
     ensures history { result.history.records ≡ [] }
-    ensures all { W.told → result.status ≡ 2 → W.taken sink.new ≡ W.taken sink.old ++ refusal_line line cause.now }
+    ensures all { W.told → result.status ≡ status_refused → W.taken sink.new ≡ W.taken sink.old ++ refusal_line line cause.now }
     ensures front { W.told → Adds (W.taken sink.old) (refusal_line line cause.now) (W.taken sink.new) }
-    ensures nothing { result.status ≡ 3 → sink.new ≡ sink.old }
-    ensures failed { result.status ≡ 5 → W.faults sink.old < W.faults sink.new }
+    ensures nothing { result.status ≡ status_no_memory → sink.new ≡ sink.old }
+    ensures failed { result.status ≡ status_sink_failed → W.faults sink.old < W.faults sink.new }
     ensures later { W.faults sink.old ≤ W.faults sink.new }
 {
     match refusal_text(alloc, line, cause) {
@@ -106,18 +107,18 @@ fn play_and_tell<R: Wait, W: Sink>(
     requires since { playing.old.since ≡ [] }
     ensures script { playing.new.script ≡ playing.old.script }
     ensures by_phases { GoesByPhases playing.new }
-    ensures known { IfSome result (λ status. (status ≡ 0) ⊎ (status ≡ 3) ⊎ (status ≡ 5)) }
-    ensures since { (result ≡ Some 3 → ⊥) → playing.new.since ≡ [] }
-    ensures whole { result ≡ Some 0 → all_answered (answers_of playing.new.ended) playing.new.script.lines ≡ true }
+    ensures known { IfSome result (λ status. (status ≡ status_ended) ⊎ (status ≡ status_no_memory) ⊎ (status ≡ status_sink_failed)) }
+    ensures since { (result ≡ Some status_no_memory → ⊥) → playing.new.since ≡ [] }
+    ensures whole { result ≡ Some status_ended → all_answered (answers_of playing.new.ended) playing.new.script.lines ≡ true }
     ensures goes_on { W.told → (base : List ℕ) → result ≡ None → Wrote base playing.old.ended (W.taken sink.old)
         → Wrote base playing.new.ended (W.taken sink.new) }
-    ensures all { W.told → (base : List ℕ) → result ≡ Some 0 → Wrote base playing.old.ended (W.taken sink.old)
+    ensures all { W.told → (base : List ℕ) → result ≡ Some status_ended → Wrote base playing.old.ended (W.taken sink.old)
         → Wrote base playing.new.ended (W.taken sink.new) }
-    ensures phases { W.told → (base : List ℕ) → result ≡ Some 3 → Wrote base playing.old.ended (W.taken sink.old)
+    ensures phases { W.told → (base : List ℕ) → result ≡ Some status_no_memory → Wrote base playing.old.ended (W.taken sink.old)
         → WrotePhases playing.new.script (records_of playing.new) base (W.taken sink.new) }
-    ensures last { W.told → (base : List ℕ) → result ≡ Some 5 → Wrote base playing.old.ended (W.taken sink.old)
+    ensures last { W.told → (base : List ℕ) → result ≡ Some status_sink_failed → Wrote base playing.old.ended (W.taken sink.old)
         → WroteInPhase playing.new.script (records_of playing.new) base (W.taken sink.new) }
-    ensures failed { result ≡ Some 5 → W.faults sink.old < W.faults sink.new }
+    ensures failed { result ≡ Some status_sink_failed → W.faults sink.old < W.faults sink.new }
     ensures later { W.faults sink.old ≤ W.faults sink.new }
 {
     phases_come_one_after_the_other();
@@ -139,13 +140,13 @@ fn play_phases<R: Wait, W: Sink>(rt: &R, alloc: Global, playing: &mut Playing, s
     requires begins { (playing.old.ended ≡ []) × (playing.old.since ≡ []) }
     ensures script { playing.new.script ≡ playing.old.script }
     ensures by_phases { GoesByPhases playing.new }
-    ensures known { (result ≡ 0) ⊎ (result ≡ 3) ⊎ (result ≡ 5) }
-    ensures since { (result ≡ 3 → ⊥) → playing.new.since ≡ [] }
-    ensures whole { result ≡ 0 → all_answered (answers_of playing.new.ended) playing.new.script.lines ≡ true }
-    ensures all { W.told → result ≡ 0 → Wrote (W.taken sink.old) playing.new.ended (W.taken sink.new) }
-    ensures phases { W.told → result ≡ 3 → WrotePhases playing.new.script (records_of playing.new) (W.taken sink.old) (W.taken sink.new) }
-    ensures last { W.told → result ≡ 5 → WroteInPhase playing.new.script (records_of playing.new) (W.taken sink.old) (W.taken sink.new) }
-    ensures failed { result ≡ 5 → W.faults sink.old < W.faults sink.new }
+    ensures known { (result ≡ status_ended) ⊎ (result ≡ status_no_memory) ⊎ (result ≡ status_sink_failed) }
+    ensures since { (result ≡ status_no_memory → ⊥) → playing.new.since ≡ [] }
+    ensures whole { result ≡ status_ended → all_answered (answers_of playing.new.ended) playing.new.script.lines ≡ true }
+    ensures all { W.told → result ≡ status_ended → Wrote (W.taken sink.old) playing.new.ended (W.taken sink.new) }
+    ensures phases { W.told → result ≡ status_no_memory → WrotePhases playing.new.script (records_of playing.new) (W.taken sink.old) (W.taken sink.new) }
+    ensures last { W.told → result ≡ status_sink_failed → WroteInPhase playing.new.script (records_of playing.new) (W.taken sink.old) (W.taken sink.new) }
+    ensures failed { result ≡ status_sink_failed → W.faults sink.old < W.faults sink.new }
     ensures later { W.faults sink.old ≤ W.faults sink.new }
 {
     let mut ended = ENDED;
@@ -163,14 +164,14 @@ fn play<R: Wait, W: Sink>(rt: &R, alloc: Global, script: Script, sink: &mut W) -
     requires sound { IsSound script }
     requires ordered { AreOrdered script.lines }
     requires rising { AreRising script.lines }
-    ensures known { (result.status ≡ 0) ⊎ (result.status ≡ 3) ⊎ (result.status ≡ 5) }
-    ensures done { W.told → result.status ≡ 0 → Done (Play script) result.status result.history.records [] (W.taken sink.old) (W.taken sink.new) }
-    ensures in_part { W.told → (result.status ≡ 3) ⊎ (result.status ≡ 5)
+    ensures known { (result.status ≡ status_ended) ⊎ (result.status ≡ status_no_memory) ⊎ (result.status ≡ status_sink_failed) }
+    ensures done { W.told → result.status ≡ status_ended → Done (Play script) result.status result.history.records [] (W.taken sink.old) (W.taken sink.new) }
+    ensures in_part { W.told → (result.status ≡ status_no_memory) ⊎ (result.status ≡ status_sink_failed)
         → DoneInPart (Play script) result.history.records (W.taken sink.old) (W.taken sink.new) }
-    ensures whole_phase { result.status ≡ 5 → EndsWithPhase (Play script) result.history.records }
-    ensures by_phases { W.told → result.status ≡ 3 → WrotePhases script result.history.records (W.taken sink.old) (W.taken sink.new) }
-    ensures last_phase { W.told → result.status ≡ 5 → WroteInPhase script result.history.records (W.taken sink.old) (W.taken sink.new) }
-    ensures failed { result.status ≡ 5 → W.faults sink.old < W.faults sink.new }
+    ensures whole_phase { result.status ≡ status_sink_failed → EndsWithPhase (Play script) result.history.records }
+    ensures by_phases { W.told → result.status ≡ status_no_memory → WrotePhases script result.history.records (W.taken sink.old) (W.taken sink.new) }
+    ensures last_phase { W.told → result.status ≡ status_sink_failed → WroteInPhase script result.history.records (W.taken sink.old) (W.taken sink.new) }
+    ensures failed { result.status ≡ status_sink_failed → W.faults sink.old < W.faults sink.new }
     ensures later { W.faults sink.old ≤ W.faults sink.new }
 {
     every_history_keeps_the_law();
@@ -194,18 +195,19 @@ pub(crate) fn run_text<R: Wait, W: Sink>(
     text: &[u8],
     sink: &mut W,
 ) -> Outcome
-    ensures known { (result.status ≡ 0) ⊎ (result.status ≡ 2) ⊎ (result.status ≡ 3) ⊎ (result.status ≡ 5) }
-    ensures done { W.told → result.status ≤ 2
+    ensures known { (result.status ≡ status_ended) ⊎ (result.status ≡ status_refused) ⊎ (result.status ≡ status_no_memory)
+        ⊎ (result.status ≡ status_sink_failed) }
+    ensures done { W.told → result.status ≤ status_refused
         → Done (by_text (script_of text.now)) result.status result.history.records [] (W.taken sink.old) (W.taken sink.new) }
-    ensures in_part { W.told → (result.status ≡ 3) ⊎ (result.status ≡ 5)
+    ensures in_part { W.told → (result.status ≡ status_no_memory) ⊎ (result.status ≡ status_sink_failed)
         → DoneInPart (by_text (script_of text.now)) result.history.records (W.taken sink.old) (W.taken sink.new) }
-    ensures whole_phase { result.status ≡ 5 → EndsWithPhase (by_text (script_of text.now)) result.history.records }
-    ensures by_phases { W.told → result.status ≡ 3
+    ensures whole_phase { result.status ≡ status_sink_failed → EndsWithPhase (by_text (script_of text.now)) result.history.records }
+    ensures by_phases { W.told → result.status ≡ status_no_memory
         → WrittenByPhases (by_text (script_of text.now)) result.history.records (W.taken sink.old) (W.taken sink.new) }
-    ensures last_phase { W.told → result.status ≡ 5
+    ensures last_phase { W.told → result.status ≡ status_sink_failed
         → WrittenInPhase (by_text (script_of text.now)) result.history.records (W.taken sink.old) (W.taken sink.new) }
-    ensures short { result.status ≡ 0 → length text.now ≤ 1048576 }
-    ensures failed { result.status ≡ 5 → W.faults sink.old < W.faults sink.new }
+    ensures short { result.status ≡ status_ended → length text.now ≤ longest_script }
+    ensures failed { result.status ≡ status_sink_failed → W.faults sink.old < W.faults sink.new }
     ensures later { W.faults sink.old ≤ W.faults sink.new }
 {
     read_scripts_are_sound();

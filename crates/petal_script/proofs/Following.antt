@@ -2,7 +2,7 @@
 use Rattle.std.proofs.Common.{◌≡◌, ℕ, ◌+◌, ◌-◌, ◌≤◌, List, [], ◌∷◌, length, refl, ap, ◌∙◌, arith, Option, None, Ok, Err}
 use Rattle.petal_script.specs.Text.{pieces, without_end}
 use Rattle.script_lines.specs.declared.script.Script.{Script}
-use Rattle.petal_script.specs.Script.{TextLine, lines_after, script_from, script_of, line_verdict, goes_on, ended}
+use Rattle.petal_script.specs.Script.{TextLine, lines_after, script_from, script_of, line_verdict, goes_on, ended, longest_script}
 use Rattle.petal_script.specs.declared.cause.Cause.{Cause}
 
 -- what is still to be read after n lines of a text of so many bytes
@@ -42,7 +42,7 @@ pub record IsReading (bytes rest : List ℕ) (number : ℕ) (draft : Option Scri
   pub same : script_of bytes ≡ script_from (left number (length bytes) rest) draft
   pub room : length rest ≤ length bytes
   pub few : number + length rest ≤ length bytes
-  pub reach : length bytes - length rest ≤ 1048576
+  pub reach : length bytes - length rest ≤ longest_script
 
 pub begins : (bytes : List ℕ) → IsReading bytes bytes 0 None
 unfolding script_of

@@ -99,6 +99,14 @@ counted (Some s) number words = later_line s number words
 
 -- ### The lines of a text
 
+-- the bytes of the longest script, the ends of its lines counted
+abbrev pub longest_script : ℕ
+longest_script = 1048576
+
+-- the bytes of the longest line, its end not counted
+abbrev pub longest_line : ℕ
+longest_line = 256
+
 pub record TextLine : Type 0 where
   pub number : ℕ
   pub text : List ℕ
@@ -117,7 +125,7 @@ is_skipped text = is_comment text || length (words_of text) == 0
 unfoldable pub line_verdict : Option Script → TextLine → Result (Option Script) Cause
 line_verdict before line =
     if not (list_all is_ascii line.text) then Err NotAscii
-    else if nat_lt 256 (length line.text) || nat_lt 1048576 line.reach then Err TooLong
+    else if nat_lt longest_line (length line.text) || nat_lt longest_script line.reach then Err TooLong
     else if is_skipped line.text then Ok before
     else counted before line.number (words_of line.text) >>= (λ s. Ok (Some s))
 

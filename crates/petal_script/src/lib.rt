@@ -24,5 +24,5 @@ mod words;
 pub use cause::Cause;
 pub use error::ScriptError;
 pub use print::{write_answer, write_refusal};
-pub use reading::read_script;
+pub use reading::{SCRIPT_BYTES, read_script};
 pub use script_lines::{Answer, Line, Pattern, Request, Script};

@@ -4,7 +4,7 @@ ghost use Rattle.std.specs.Prelude.{◌≡◌, ℕ, ◌≤◌, ◌<◌, ◌+◌,
 ghost use Rattle.std.specs.List.{list_all};
 ghost use Rattle.std.specs.Char.{is_ascii};
 ghost use Rattle.petal_script.specs.Text.{without_end};
-ghost use Rattle.petal_script.specs.Script.{is_comment, is_skipped, client_of, later_line, first_line, line_verdict, script_of};
+ghost use Rattle.petal_script.specs.Script.{is_comment, is_skipped, client_of, later_line, first_line, line_verdict, script_of, longest_script};
 ghost use Rattle.petal_script.specs.Told.{AddsTo, Tells, Reads};
 
 use crate::cause::Cause;
@@ -22,7 +22,7 @@ use std::alloc::Global;
 const LINE_BYTES: usize = 256;
 
 /// A script's greatest length, the ends of its lines counted.
-const SCRIPT_BYTES: usize = 1_048_576;
+pub const SCRIPT_BYTES: usize = 1_048_576;
 
 fn is_ascii(text: &[u8]) -> bool
     ensures { result ≡ list_all is_ascii text.now }
@@ -106,7 +106,7 @@ fn line(
 ) -> Result<Option<Draft>, LineError>
     requires { IfSome before (λ s. s.phases + 1 < 2 ^ 32) }
     ensures rule { Tells result (line_verdict before (record { number = number; text = without_end line.now; reach = reach })) }
-    ensures reach { OnOk result (reach ≤ 1048576) }
+    ensures reach { OnOk result (reach ≤ longest_script) }
     ensures phases { (n : ℕ) → IfSome before (λ s. s.phases ≤ n) → IfOk result (λ after. IfSome after (λ t. t.phases ≤ n + 1)) }
 {
     let text = text::without_end(line);

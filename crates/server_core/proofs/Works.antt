@@ -12,7 +12,7 @@ use Rattle.petal_msg.specs.declared.letter.Letter.{Letter}
 use Rattle.spec_paxos.specs.declared.record.StateRecord.{StateRecord}
 use Rattle.spec_rules.specs.Crossing.{crossed_by, jobs_by}
 use Rattle.spec_rules.specs.Entries.{applies}
-use Rattle.spec_rules.specs.Jobs.{Acted, crossing, does, is_log_job, job_done, journal_records, stops, voter_of, where_room, worked, works}
+use Rattle.spec_rules.specs.Jobs.{Acted, crossing, does, is_log_job, job_done, stops, voter_of, where_room, worked, works}
 use Rattle.spec_rules.specs.Log.{Log, Voter, known, next_place}
 use Rattle.spec_rules.specs.Server.{Done, Here, Own, Server, letters_of, sender}
 use Rattle.spec_rules.specs.Store.{Store}
@@ -23,6 +23,7 @@ use Rattle.server_jobs.specs.Wants.{own_in}
 use Rattle.server_jobs.specs.Kind.{kind_of}
 use Rattle.server_jobs.specs.Ballots.{IsLeft, log_rule, own_left}
 use Rattle.server_jobs.specs.declared.queue.Kind.TheVariants.{Applies, OfLog, OfPairs}
+use Rattle.petal_base.specs.Limits.{journal_records}
 
 -- ### Which part does it
 

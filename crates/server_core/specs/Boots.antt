@@ -20,6 +20,7 @@ use Rattle.spec_rules.specs.Store.{Store}
 use Rattle.spec_rules.specs.declared.step.WorkEnd.TheVariants.{Done}
 use Rattle.server_core.specs.Core.{Core, acted, here_in, server_of}
 use Rattle.state_store.specs.Device.{Keeping, StandsForEither}
+use Rattle.petal_base.specs.Limits.{journal_records}
 
 -- the same server as its next incarnation
 abbrev pub next_voter : Voter → Voter
@@ -49,7 +50,7 @@ shut store = record store { tickets = 0 }
 module _ {D : Type 0} where
   -- the state device's journal has no room for the incarnation; nothing changed, and the rule lets the server be
   pub record IsFullBoot (device : Ghosts D) (old new : Core) (before after : Keeping D) : Type 0 where
-    pub count : before.region.count ≡ 65536
+    pub count : before.region.count ≡ journal_records
     pub same : (new ≡ old) × (after ≡ before)
     pub stays : device.told → logs.HoldsAt device before → (store : Store)
         → boots (here_in old) (server_of old store before.records) Done ≡ stays (server_of old store before.records)

@@ -18,6 +18,7 @@ use Rattle.server_store.specs.Holdings.{Holdings}
 use Rattle.state_store.specs.Device.{Keeping, StandsForEither}
 use Rattle.state_store.specs.declared.error.StateError.{StateError}
 use Rattle.state_store.specs.declared.error.StateError.TheVariants as state
+use Rattle.petal_base.specs.Limits.{journal_records}
 
 -- what a refusal of the state store means for a job
 abbrev pub of_state : StateError → WorkError
@@ -35,7 +36,7 @@ Stops old store records =
 module _ {D : Type 0} where
   -- the data device's journal has no room for the record of the first job, and nothing changed
   pub record IsFullStore (device : Ghosts D) (records : List StateRecord) (old new : Core) (before after : Holdings D) : Type 0 where
-    pub count : before.log.region.count ≡ 65536
+    pub count : before.log.region.count ≡ journal_records
     pub same : (new ≡ old) × (after ≡ before)
     pub stops : device.told → HoldsAt device before → Stops old (store_of before) records
 
@@ -60,7 +61,7 @@ module _ {D : Type 0} where
 
   -- the state device's journal has no room for the record of the first job, and nothing changed
   pub record IsFullLog (device : Ghosts D) (store : Store) (old new : Core) (before after : Keeping D) : Type 0 where
-    pub count : before.region.count ≡ 65536
+    pub count : before.region.count ≡ journal_records
     pub same : (new ≡ old) × (after ≡ before)
     pub stops : device.told → logs.HoldsAt device before → Stops old store before.records
 
@@ -83,6 +84,6 @@ module _ {D : Type 0} where
 
 -- either journal has no room for the record of the first job; nothing changed, and the rule lets the server stop
 pub record IsFullWork {D E : Type 0} (device : Ghosts D) (other : Ghosts E) (old new : Core) (before after : Holdings D) (state left : Keeping E) : Type 0 where
-  pub count : (before.log.region.count ≡ 65536) ⊎ (state.region.count ≡ 65536)
+  pub count : (before.log.region.count ≡ journal_records) ⊎ (state.region.count ≡ journal_records)
   pub same : (new ≡ old) × (after ≡ before) × (left ≡ state)
   pub stops : device.told → other.told → HoldsAt device before → logs.HoldsAt other state → Stops old (store_of before) state.records

@@ -17,6 +17,7 @@ use Rattle.server_log.specs.declared.memory.done.LogDone.{LogDone}
 use Rattle.server_log.specs.Part.{Part}
 use Rattle.server_log.specs.Said.{IsLogSaid}
 use Rattle.server_log.specs.Done.{HoldsAt, IsLogDone}
+use Rattle.petal_base.specs.Limits.{journal_records}
 
 -- a commit was refused for what the job was refused for
 refusal_is : {T : Type 0} (answer : Result LogDone StateError) (refusal : Result T StateError) (e f : StateError)
@@ -74,7 +75,7 @@ module _ {D : Type 0} (device : Ghosts D) where
   pub refused_done : {T X : Type 0} (part : Part) (before after : Keeping D) (made : List StateRecord) (e : StateError) (rule : Rule)
       → made ≡ rule.log.records → (X → length made ≡ length before.records + 1)
       → (refusal : Result T StateError) → refusal ≡ Err e
-      → (IsErrOf refusal JournalFull → (before.region.count ≡ 65536) × X × (after ≡ before))
+      → (IsErrOf refusal JournalFull → (before.region.count ≡ journal_records) × X × (after ≡ before))
       → (IsErrOf refusal NoMemory → after ≡ before)
       → (IsErrOf refusal Failed → device.faults before.disk < device.faults after.disk)
       → after.records ≡ before.records → IsCommitError e

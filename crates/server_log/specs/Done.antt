@@ -10,6 +10,7 @@ use Rattle.state_store.specs.declared.error.StateError.TheVariants.{Failed, Jour
 use Rattle.server_log.specs.declared.memory.done.LogDone.{LogDone}
 use Rattle.server_log.specs.Part.{Part, log_of, sender_of}
 use Rattle.server_log.specs.Said.{IsBy}
+use Rattle.petal_base.specs.Limits.{journal_records}
 
 -- the device stands for the records, now and after any crash
 abbrev pub HoldsAt : {D : Type 0} → Ghosts D → Keeping D → Type 0
@@ -18,7 +19,7 @@ HoldsAt device store = Holds store.region (device.seen store.disk) (device.may_l
 module _ {D : Type 0} where
   -- the rule has one record more than the journal has room for, and nothing changed
   pub record IsFull (old new : Part) (before after : Keeping D) (rule : Rule) : Type 0 where
-    pub count : before.region.count ≡ 65536
+    pub count : before.region.count ≡ journal_records
     pub over : length rule.log.records ≡ length before.records + 1
     pub same : (new ≡ old) × (after ≡ before)
 

@@ -8,24 +8,26 @@ use Rattle.data_device.proofs.Frame.{stands_outside}
 use Rattle.physical_map.specs.declared.entry.Entry.{Entry}
 use Rattle.data_device.specs.declared.record.StoreRecord.{StoreRecord}
 use Rattle.data_device.specs.declared.record.StoreRecord.TheVariants as kind
-use Rattle.data_device.specs.Device.{StandsFor, Log, Logs, WithOrWithout}
+use Rattle.data_device.specs.Device.{StandsFor, Log, Logs, WithOrWithout, record_bytes, journal_base, header_bytes, journal_bytes}
 use Rattle.server_store.specs.Holdings.{Held, held_in}
 use Rattle.data_device.specs.Kept.{Kept, Fits, kept_of, kept_after, formatted}
 use Rattle.server_store.specs.Shown.{Picture, picture_in, picture_after, PutsNothing, Shows, Keeps, ShowsEither}
 use Rattle.data_device.specs.Slots.{slot_start, slot_bytes}
 use Rattle.data_device.proofs.Readings.{kept_more}
 use Rattle.server_store.proofs.Contents.{part-following, held-apart, map-placed, map-without}
+use Rattle.petal_base.specs.Block.{block_bytes}
+use Rattle.petal_base.specs.Limits.{journal_records}
 
 -- Slots lie after the journal.
 
-pub slot-following : (slot : ℕ) (x y : List ℕ) → Torn 4096 4194304 x y → slot_bytes y slot ≡ slot_bytes x slot
-slot-following slot x y torn = part-following 4096 4194304 (slot_start slot) 65536 x y torn (omega arith)
+pub slot-following : (slot : ℕ) (x y : List ℕ) → Torn journal_base journal_bytes x y → slot_bytes y slot ≡ slot_bytes x slot
+slot-following slot x y torn = part-following journal_base journal_bytes (slot_start slot) block_bytes x y torn (omega arith)
 
-pub held-following : (es : List Entry) (x y : List ℕ) → Torn 4096 4194304 x y → map (held_in y) es ≡ map (held_in x) es
+pub held-following : (es : List Entry) (x y : List ℕ) → Torn journal_base journal_bytes x y → map (held_in y) es ≡ map (held_in x) es
 held-following [] x y torn = refl
 held-following (e ∷ es) x y torn = rw (slot-following e.slot x y torn, held-following es x y torn) refl
 
-pub same_in : (kept : Kept) (x y : List ℕ) → Torn 4096 4194304 x y → picture_in y kept ≡ picture_in x kept
+pub same_in : (kept : Kept) (x y : List ℕ) → Torn journal_base journal_bytes x y → picture_in y kept ≡ picture_in x kept
 same_in kept x y torn = ap (λ (hs : List Held). record { entries = hs; marks = kept.marks; fresh = kept.fresh }) (held-following kept.entries x y torn)
 
 -- a record shows its change in this content
@@ -51,11 +53,11 @@ shows-other file kept kind.Settled other = refl
 -- What a commit leaves of the device.
 
 pub before_still : (slots : ℕ) (fresh : Bool) (records : List StoreRecord) (picture : Picture) (d c : List ℕ) → Shows d slots fresh records picture
-    → Torn 4096 4194304 d c → StandsFor c slots fresh records → Shows c slots fresh records picture
+    → Torn journal_base journal_bytes d c → StandsFor c slots fresh records → Shows c slots fresh records picture
 before_still slots fresh records picture d c shows torn stands = record { stands = stands; shown = same_in (kept_of fresh records) d c torn ∙ shows.shown }
 
 pub after_now : (slots : ℕ) (fresh : Bool) (records : List StoreRecord) (picture : Picture) (r : StoreRecord) (content d c : List ℕ)
-    → Shows d slots fresh records picture → Torn 4096 4194304 d c → ShowsChange d (kept_of fresh records) r content
+    → Shows d slots fresh records picture → Torn journal_base journal_bytes d c → ShowsChange d (kept_of fresh records) r content
     → StandsFor c slots fresh (records ++ r ∷ [])
     → Shows c slots fresh (records ++ r ∷ []) (picture_after picture r content)
 after_now slots fresh records picture r content d c shows torn change stands = record {
@@ -65,7 +67,7 @@ after_now slots fresh records picture r content d c shows torn change stands = r
 }
 
 pub committed : (slots : ℕ) (log : Log) (picture : Picture) (r : StoreRecord) (content d c : List ℕ) → Shows d slots log.fresh log.records picture
-    → Torn 4096 4194304 d c → ShowsChange d (kept_of log.fresh log.records) r content
+    → Torn journal_base journal_bytes d c → ShowsChange d (kept_of log.fresh log.records) r content
     → WithOrWithout c slots log r → ShowsEither c slots log picture r content
 committed slots log picture r content d c shows torn change (inl without) = inl (before_still slots log.fresh log.records picture d c shows torn without)
 committed slots log picture r content d c shows torn change (inr with) =
@@ -79,12 +81,13 @@ logs_of slots log picture seen leave h = record { count = h.count; now = h.now.s
 pub keeps_after : (slots : ℕ) (log log' : Log) (picture : Picture) (r : StoreRecord) (content seen seen' : List ℕ) (leave leave' : List ℕ → Type 0)
     → Keeps slots log picture seen leave
     → ShowsChange seen (kept_of log.fresh log.records) r content → ((d : List ℕ) → leave d → ShowsChange d (kept_of log.fresh log.records) r content)
-    → Torn 4096 4194304 seen seen' → Follows (Torn 4096 4194304) leave leave'
+    → Torn journal_base journal_bytes seen seen' → Follows (Torn journal_base journal_bytes) leave leave'
     → log'.fresh ≡ log.fresh → log'.records ≡ log.records ++ r ∷ [] → Logs slots log' seen' leave'
     → Keeps slots log' (picture_after picture r content) seen' leave'
 keeps_after slots log log' picture r content seen seen' leave leave' h change changes torn follows fresh records logs =
-    let shows : (d c : List ℕ) → Shows d slots log.fresh log.records picture → ShowsChange d (kept_of log.fresh log.records) r content → Torn 4096 4194304 d c
-    → StandsFor c slots log'.fresh log'.records → Shows c slots log'.fresh log'.records (picture_after picture r content) = λ d c was ch t st.
+    let shows : (d c : List ℕ) → Shows d slots log.fresh log.records picture → ShowsChange d (kept_of log.fresh log.records) r content
+    → Torn journal_base journal_bytes d c → StandsFor c slots log'.fresh log'.records
+    → Shows c slots log'.fresh log'.records (picture_after picture r content) = λ d c was ch t st.
     rw (fresh, records) (after_now slots log.fresh log.records picture r content d c was t ch (rw (fresh, records) at st)) in
     record {
       count = logs.count;
@@ -97,17 +100,17 @@ keeps_after slots log log' picture r content seen seen' leave leave' h change ch
 abbrev pub Free : Kept → ℕ → Type 0
 Free kept slot = All (λ e. e.slot ≢ slot) kept.entries
 
-stands-still : (slots : ℕ) (fresh : Bool) (records : List StoreRecord) (slot : ℕ) (d c : List ℕ) → Torn (slot_start slot) 65536 d c
+stands-still : (slots : ℕ) (fresh : Bool) (records : List StoreRecord) (slot : ℕ) (d c : List ℕ) → Torn (slot_start slot) block_bytes d c
     → StandsFor d slots fresh records → StandsFor c slots fresh records
 stands-still slots fresh records slot d c torn s = record {
-  headed = torn_front 64 (slot_start slot) 65536 d c (omega arith) torn ∙ s.headed;
+  headed = torn_front header_bytes (slot_start slot) block_bytes d c (omega arith) torn ∙ s.headed;
   spelled = s.spelled;
   fit = s.fit;
-  stands = stands_outside 64 4096 65536 (slot_start slot) 65536 d c _ (omega arith) (inl (omega arith)) torn s.stands;
+  stands = stands_outside record_bytes journal_base journal_records (slot_start slot) block_bytes d c _ (omega arith) (inl (omega arith)) torn s.stands;
 }
 
 pub shows-still : (slots : ℕ) (fresh : Bool) (records : List StoreRecord) (picture : Picture) (slot : ℕ) (d c : List ℕ) → Free (kept_of fresh records) slot
-    → Torn (slot_start slot) 65536 d c → Shows d slots fresh records picture → Shows c slots fresh records picture
+    → Torn (slot_start slot) block_bytes d c → Shows d slots fresh records picture → Shows c slots fresh records picture
 shows-still slots fresh records picture slot d c free torn s = record {
   stands = stands-still slots fresh records slot d c torn s.stands;
   shown = ap (λ (hs : List Held). record { entries = hs; marks = (kept_of fresh records).marks; fresh = (kept_of fresh records).fresh })
@@ -115,7 +118,7 @@ shows-still slots fresh records picture slot d c free torn s = record {
 }
 
 pub keeps-still : (slots : ℕ) (log : Log) (picture : Picture) (slot : ℕ) (x y : List ℕ) (leave leave' : List ℕ → Type 0)
-    → Free (kept_of log.fresh log.records) slot → Torn (slot_start slot) 65536 x y → Follows (Torn (slot_start slot) 65536) leave leave'
+    → Free (kept_of log.fresh log.records) slot → Torn (slot_start slot) block_bytes x y → Follows (Torn (slot_start slot) block_bytes) leave leave'
     → Keeps slots log picture x leave
     → Keeps slots log picture y leave'
 keeps-still slots log picture slot x y leave leave' free torn follows h = record {

@@ -12,6 +12,7 @@ use Rattle.physical_map.specs.Entries.{key_of, without_key}
 use Rattle.physical_map.specs.Keys.{placed, newest, later, sees, key_below, same_key, IsAbove, IsInOrder}
 use Rattle.server_store.specs.Holdings.{held_in, key_held, listed, content_of, without_held}
 use Rattle.data_device.specs.Slots.{slot_start, slot_bytes}
+use Rattle.petal_base.specs.Block.{block_bytes}
 
 -- a range that lies before or after another
 part-apart : (at n low m : ℕ) (x y : List ℕ) → Torn at n x y → low + m ≤ at → part y low m ≡ part x low m
@@ -21,14 +22,15 @@ part-apart at n low m x y torn fits =
 pub part-following : (at n low m : ℕ) (x y : List ℕ) → Torn at n x y → at + n ≤ low → part y low m ≡ part x low m
 part-following at n low m x y torn fits = ap (λ (l : List ℕ). take m l) (torn_rest low at n x y fits torn)
 
-pub slot-apart : (slot other : ℕ) (x y : List ℕ) → other ≢ slot → Torn (slot_start slot) 65536 x y → slot_bytes y other ≡ slot_bytes x other
+pub slot-apart : (slot other : ℕ) (x y : List ℕ) → other ≢ slot → Torn (slot_start slot) block_bytes x y → slot_bytes y other ≡ slot_bytes x other
 slot-apart slot other x y apart torn = elim (cases_lt other slot) [
-  | inl before ↦ part-apart (slot_start slot) 65536 (slot_start other) 65536 x y torn (omega arith)
-  | inr following ↦ part-following (slot_start slot) 65536 (slot_start other) 65536 x y torn (let more : slot < other = omega (arith, apart) in omega arith)
+  | inl before ↦ part-apart (slot_start slot) block_bytes (slot_start other) block_bytes x y torn (omega arith)
+  | inr following ↦ part-following (slot_start slot) block_bytes (slot_start other) block_bytes x y torn
+      (let more : slot < other = omega (arith, apart) in omega arith)
 ]
 
 -- contents stay where no entry has the slot
-pub held-apart : (es : List Entry) (slot : ℕ) (x y : List ℕ) → All (λ e. e.slot ≢ slot) es → Torn (slot_start slot) 65536 x y
+pub held-apart : (es : List Entry) (slot : ℕ) (x y : List ℕ) → All (λ e. e.slot ≢ slot) es → Torn (slot_start slot) block_bytes x y
     → map (held_in y) es ≡ map (held_in x) es
 held-apart [] slot x y apart torn = refl
 held-apart (e ∷ es) slot x y apart torn =
@@ -68,7 +70,7 @@ newest-held file at (x ∷ xs) = elim (cases_Bool (sees at x.key)) [
 ]
 
 -- a slot has what was written into it
-pub slot-written : (slot : ℕ) (file block : List ℕ) → length block ≡ 65536 → slot_start slot + 65536 ≤ length file
+pub slot-written : (slot : ℕ) (file block : List ℕ) → length block ≡ block_bytes → slot_start slot + block_bytes ≤ length file
     → slot_bytes (written file (slot_start slot) block) slot ≡ block
 slot-written slot file block whole fits =
     ap (λ (n : ℕ). part (written file (slot_start slot) block) (slot_start slot) n) (sym whole)

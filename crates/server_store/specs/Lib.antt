@@ -5,6 +5,7 @@ pub use Rattle.data_device.specs.Kept
 pub use Rattle.data_device.specs.Reading
 pub use Rattle.data_device.specs.Slots
 pub use Rattle.data_device.specs.Tickets
+pub mod Committing
 pub mod Holdings
 pub mod Opening
 pub mod Shown

@@ -2,6 +2,7 @@
 use Rattle.std.specs.Prelude.{ℕ, ◌≡◌, ◌⊎◌, Bool, false, List, [], ◌∷◌, ◌++◌, map, length, ⊤}
 use Rattle.busy_marks.specs.declared.marks.Mark.{Mark}
 use Rattle.busy_marks.specs.Marks.{with_mark, without_mark}
+use Rattle.petal_disk.specs.declared.disk.Disk.{Ghosts}
 use Rattle.physical_map.specs.Keys.{placed}
 use Rattle.data_device.specs.declared.record.StoreRecord.{StoreRecord}
 use Rattle.data_device.specs.declared.record.StoreRecord.TheVariants as kind
@@ -59,6 +60,10 @@ ShowsEither file slots log picture entry content =
 -- the device shows the store, now and after any crash
 abbrev pub Holds : {D : Type 0} → Holdings D → List ℕ → (List ℕ → Type 0) → Type 0
 Holds store seen may_leave = Keeps store.slots store.log (picture_of store) seen may_leave
+
+-- so says the device of its own bytes
+abbrev pub HoldsAt : {D : Type 0} → Ghosts D → Holdings D → Type 0
+HoldsAt device store = Holds store (device.seen store.disk) (device.may_leave store.disk)
 
 -- the device shows the store, or the store after this one commit
 abbrev pub BeforeOrAfter : {D : Type 0} → List ℕ → Holdings D → StoreRecord → List ℕ → Type 0

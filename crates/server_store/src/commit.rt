@@ -8,7 +8,8 @@ ghost use Rattle.data_device.specs.Errors.{IsCommitError, HasFault};
 ghost use Rattle.server_store.specs.Holdings.{held_in};
 ghost use Rattle.data_device.specs.Kept.{kept_of};
 ghost use Rattle.server_store.specs.Shown.{Picture, PutsNothing, Keeps, ShowsEither, picture_after};
-ghost use Rattle.data_device.specs.Slots.{slot_start, slot_bytes};
+ghost use Rattle.data_device.specs.Slots.{slot_start, slot_bytes, data_start};
+ghost use Rattle.petal_base.specs.Limits.{journal_records};
 
 use data_device::record::StoreRecord;
 use data_device::{RecordLog, SlotStore, StoreError};
@@ -23,11 +24,11 @@ pub fn commit<D: Disk>(
     change: &StoreRecord,
 ) -> Result<(), StoreError>
     requires change { PutsNothing change.now }
-    requires room { 4198400 ≤ D.size disk.old }
+    requires room { data_start ≤ D.size disk.old }
     ensures ok { OnOk result (log.new.records ≡ log.old.records ++ change.now ∷ []) }
     ensures err { OnErr result (log.new.records ≡ log.old.records) }
     ensures fresh { log.new.fresh ≡ log.old.fresh }
-    ensures full { IsErrOf result StoreError.JournalFull ↔ (log.old.region.count ≡ 65536) }
+    ensures full { IsErrOf result StoreError.JournalFull ↔ (log.old.region.count ≡ journal_records) }
     ensures unchanged { IsErrOf result StoreError.JournalFull → (log.new ≡ log.old) × (disk.new ≡ disk.old) }
     ensures errors { IfErr result IsCommitError }
     ensures contents { D.told → (es : List Entry) → map (held_in (D.seen disk.new)) es ≡ map (held_in (D.seen disk.old)) es }
@@ -54,9 +55,9 @@ pub fn commit_put<D: Disk>(
     block: &Block,
 ) -> Result<(), StoreError>
     requires slot { entry.now.slot < length slots.now.used }
-    requires base { slots.now.base ≡ 4198400 }
+    requires base { slots.now.base ≡ data_start }
     requires room { slot_start (length slots.now.used) ≤ D.size disk.old }
-    requires not_full { ¬ (log.old.region.count ≡ 65536) }
+    requires not_full { ¬ (log.old.region.count ≡ journal_records) }
     ensures ok { OnOk result (log.new.records ≡ log.old.records ++ kind.Put entry.now.key entry.now.version entry.now.slot ∷ []) }
     ensures err { OnErr result (log.new.records ≡ log.old.records) }
     ensures fresh { log.new.fresh ≡ log.old.fresh }

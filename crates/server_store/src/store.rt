@@ -1,29 +1,30 @@
 //! The store of one server, over its device.
 
 ghost use Rattle.std.specs.Prelude.{◌==◌, ◌≡◌, ℕ, ◌⊎◌, ◌≤◌, ◌<◌, ◌+◌, ◌^◌, ◌++◌, ◌∷◌, ◌↔◌, [], Bool, List, length, slice_get, take, Contains, Err, IfOk, OnOk};
-ghost use Rattle.std.specs.Prelude.{IfErr, OnErr, IsErrOf, IfNone, true, false, not, is_some, if◌then◌else◌, Some, None};
+ghost use Rattle.std.specs.Prelude.{IfErr, OnErr, IsErrOf, IfNone, true, false, not, is_some, Some, None};
 ghost use Rattle.std.specs.List.Sorted.{IsStrictlySortedBy};
 ghost use Rattle.busy_marks.specs.Marks.{mark_cmp, has_mark, with_mark, without_mark, next_marked, next_marked_map};
-ghost use Rattle.data_device.specs.Records.{Counts};
-ghost use Rattle.petal_base.specs.Block.{zero_block};
+ghost use Rattle.petal_base.specs.Block.{zero_block, block_bytes};
 ghost use Rattle.petal_disk.specs.Disk.{LeavesOnly, Within};
 ghost use Rattle.device_faults.specs.Faults.{HasCause};
 ghost use Rattle.petal_disk.specs.Keeping.{KeepsDevice};
 ghost use Rattle.petal_disk.specs.Plans.{beneath, plan_state};
 ghost use Rattle.physical_map.specs.Entries.{key_of, slot_of, without_key, chain_of, map_entries, top_of, version_of, next_block_of, lesser};
 ghost use Rattle.physical_map.specs.Keys.{placed, newest, IsInOrder};
-ghost use Rattle.data_device.specs.Device.{header, bodies_of, AreSpelled, StandsFor, Logs};
-ghost use Rattle.data_device.specs.Errors.{IsFormatError, IsReserveError, IsCommitError, IsMarkError, HasFault};
+ghost use Rattle.data_device.specs.Device.{header, bodies_of, AreSpelled, StandsFor, Logs, header_bytes, JournalCounts};
+ghost use Rattle.data_device.specs.Errors.{IsFormatError, IsReserveError, IsCommitError, IsMarkError};
+ghost use Rattle.server_store.specs.Committing.{IsCommitOf};
 ghost use Rattle.server_store.specs.Holdings.{key_held, listed, free_slots, without_held, content_of, next_map_in};
 ghost use Rattle.data_device.specs.Found.{IsOpenError, IsGoodError};
 ghost use Rattle.data_device.specs.Kept.{AllFit, formatted, kept_of};
 ghost use Rattle.server_store.specs.Opening.{IfStore, IfBlank, IsStore, Reopened};
 ghost use Rattle.data_device.specs.Reading.{IsBadOn, IsBlank, LeftByFormat};
-ghost use Rattle.server_store.specs.Shown.{Picture, picture_of, picture_in, Shows, Holds, BeforeOrAfter};
+ghost use Rattle.server_store.specs.Shown.{Picture, picture_of, picture_in, Shows, Holds};
 ghost use Rattle.data_device.specs.Slots.{slot_start};
 ghost use Rattle.data_device.specs.Tickets.{without};
 ghost use Rattle.data_device.specs.declared.record.StoreRecord.{StoreRecord};
 ghost use Rattle.data_device.specs.declared.record.StoreRecord.TheVariants as records;
+ghost use Rattle.petal_base.specs.Limits.{journal_records};
 
 use crate::Opened;
 use crate::commit::{commit, commit_put};
@@ -128,8 +129,8 @@ impl<D: Disk> Store<D> {
     /// `BadRecord` where the record of this index counts and has no spelling, or puts into a slot that is in use or not there;
     /// `Failed`, where the device failed, and `NoMemory`. The device is handed back, and but for a sync it is as it was.
     pub fn open(alloc: Global, disk: D) -> Result<Opened<D>, (D, StoreError)>
-        ensures headed { IfOk result (λ o. IfStore o (λ store. D.told → take 64 (D.seen disk) ≡ header store.slots store.log.fresh)) }
-        ensures counts { IfOk result (λ o. IfStore o (λ store. D.told → Counts 64 4096 65536 (D.seen disk) (bodies_of store.log.records))) }
+        ensures headed { IfOk result (λ o. IfStore o (λ store. D.told → take header_bytes (D.seen disk) ≡ header store.slots store.log.fresh)) }
+        ensures counts { IfOk result (λ o. IfStore o (λ store. D.told → JournalCounts (D.seen disk) (bodies_of store.log.records))) }
         ensures spelled { IfOk result
             (λ o. IfStore o (λ store. AreSpelled store.log.records × AllFit store.slots (formatted store.log.fresh) store.log.records)) }
         ensures shown { IfOk result (λ o. IfStore o (λ store. picture_of store ≡ picture_in (D.seen disk) (kept_of store.log.fresh store.log.records))) }
@@ -139,7 +140,7 @@ impl<D: Disk> Store<D> {
             → IsStore o (λ store. Reopened slots fresh recorded picture store (D.seen store.disk) (D.may_leave store.disk))) }
         ensures blank { IfOk result (λ o. IfBlank o (λ _. D.told → IsBlank (D.seen disk) (D.size disk))) }
         ensures bad { (index slots : ℕ) (fresh : Bool) → IfErr result (λ e. e.1 ≡ StoreError.BadRecord index → D.told → slots < 2 ^ 32
-            → take 64 (D.seen disk) ≡ header slots fresh → IsBadOn (D.seen disk) slots fresh index) }
+            → take header_bytes (D.seen disk) ≡ header slots fresh → IsBadOn (D.seen disk) slots fresh index) }
         ensures bad_headed { (index : ℕ) → IfErr result (λ e. e.1 ≡ StoreError.BadRecord index → D.told → ¬ IsBlank (D.seen disk) (D.size disk)) }
         ensures good { (slots : ℕ) (fresh : Bool) (recorded : List StoreRecord)
             → IfErr result (λ e. D.told → slots < 2 ^ 32 → StandsFor (D.seen disk) slots fresh recorded → IsGoodError e.1) }
@@ -235,22 +236,11 @@ impl<D: Disk> Store<D> {
         ensures listed { OnErr result (listed self.new.entries ≡ listed self.old.entries) }
         ensures kept { OnErr result (D.told → self.new.entries ≡ self.old.entries) }
         ensures errors { IfErr result IsCommitError }
-        ensures full { IsErrOf result StoreError.JournalFull ↔ (self.old.log.region.count ≡ 65536) }
+        ensures full { IsErrOf result StoreError.JournalFull ↔ (self.old.log.region.count ≡ journal_records) }
         ensures full_rest { IsErrOf result StoreError.JournalFull → self.new ≡ record self.old { tickets = without self.old.tickets ticket } }
-
-        ensures records { OnOk result (self.new.log.records ≡ self.old.log.records ++ records.Put key version ticket ∷ []) }
-        ensures unrecorded { OnErr result (self.new.log.records ≡ self.old.log.records) }
-        ensures holds { D.told → Holds self.old (D.seen self.old.disk) (D.may_leave self.old.disk)
-            → OnOk result (Holds self.new (D.seen self.new.disk) (D.may_leave self.new.disk)) }
-        ensures either { D.told → Holds self.old (D.seen self.old.disk) (D.may_leave self.old.disk)
-            → BeforeOrAfter (D.seen self.new.disk) self.old (records.Put key version ticket) block.now }
-        ensures any_moment { D.told → Holds self.old (D.seen self.old.disk) (D.may_leave self.old.disk)
-            → LeavesOnly D.moment D.left_since self.old.disk self.new.disk (λ c. BeforeOrAfter c self.old (records.Put key version ticket) block.now) }
-
+        ensures committed { IsCommitOf D.Disk self.old self.new result true (records.Put key version ticket) block.now }
         ensures rest { self.new
             ≡ record self.old { entries = self.new.entries; tickets = without self.old.tickets ticket; log = self.new.log; disk = self.new.disk } }
-        ensures cause { HasFault (D.faults self.old.disk) (D.faults self.new.disk) result }
-        ensures run { D.came_to self.old.disk self.new.disk }
     {
         if self.log.is_full() {
             self.ledger.give_back(ticket);
@@ -298,25 +288,15 @@ impl<D: Disk> Store<D> {
         ensures kept { D.told → self.new.entries ≡ self.old.entries }
         ensures errors { IfErr result IsMarkError }
         ensures full { IsErrOf result StoreError.JournalFull
-            → (self.old.log.region.count ≡ 65536) × (not (has_mark (record { kind = kind; cell = cell }) self.old.marks) ≡ true) × (self.new ≡ self.old) }
-        ensures full_comes { self.old.log.region.count ≡ 65536 → not (has_mark (record { kind = kind; cell = cell }) self.old.marks) ≡ true
+            → (self.old.log.region.count ≡ journal_records) × (not (has_mark (record { kind = kind; cell = cell }) self.old.marks) ≡ true)
+            × (self.new ≡ self.old) }
+        ensures full_comes { self.old.log.region.count ≡ journal_records → not (has_mark (record { kind = kind; cell = cell }) self.old.marks) ≡ true
             → IsErrOf result StoreError.JournalFull ⊎ IsErrOf result StoreError.NoMemory }
         ensures memory { IsErrOf result StoreError.NoMemory → self.new ≡ self.old }
         ensures idle { has_mark (record { kind = kind; cell = cell }) self.old.marks ≡ true → self.new ≡ self.old }
-
-        ensures records { OnOk result (self.new.log.records ≡ (if not (has_mark (record { kind = kind; cell = cell }) self.old.marks)
-            then self.old.log.records ++ records.Mark kind cell ∷ [] else self.old.log.records)) }
-        ensures unrecorded { OnErr result (self.new.log.records ≡ self.old.log.records) }
-        ensures holds { D.told → Holds self.old (D.seen self.old.disk) (D.may_leave self.old.disk)
-            → OnOk result (Holds self.new (D.seen self.new.disk) (D.may_leave self.new.disk)) }
-        ensures either { D.told → Holds self.old (D.seen self.old.disk) (D.may_leave self.old.disk)
-            → BeforeOrAfter (D.seen self.new.disk) self.old (records.Mark kind cell) [] }
-        ensures any_moment { D.told → Holds self.old (D.seen self.old.disk) (D.may_leave self.old.disk)
-            → LeavesOnly D.moment D.left_since self.old.disk self.new.disk (λ c. BeforeOrAfter c self.old (records.Mark kind cell) []) }
-
+        ensures committed { IsCommitOf D.Disk self.old self.new result (not (has_mark (record { kind = kind; cell = cell }) self.old.marks))
+            (records.Mark kind cell) [] }
         ensures rest { self.new ≡ record self.old { entries = self.new.entries; marks = self.new.marks; log = self.new.log; disk = self.new.disk } }
-        ensures cause { HasFault (D.faults self.old.disk) (D.faults self.new.disk) result }
-        ensures run { D.came_to self.old.disk self.new.disk }
     {
         if self.marks.has(kind, cell) {
             return Ok(());
@@ -342,24 +322,13 @@ impl<D: Disk> Store<D> {
         ensures listed { listed self.new.entries ≡ listed self.old.entries }
         ensures kept { D.told → self.new.entries ≡ self.old.entries }
         ensures errors { IfErr result IsCommitError }
-        ensures full { IsErrOf result StoreError.JournalFull ↔ (self.old.log.region.count ≡ 65536)
+        ensures full { IsErrOf result StoreError.JournalFull ↔ (self.old.log.region.count ≡ journal_records)
             × (has_mark (record { kind = kind; cell = cell }) self.old.marks ≡ true) }
         ensures full_rest { IsErrOf result StoreError.JournalFull → self.new ≡ self.old }
         ensures idle { has_mark (record { kind = kind; cell = cell }) self.old.marks ≡ false → self.new ≡ self.old }
-
-        ensures records { OnOk result (self.new.log.records ≡ (if has_mark (record { kind = kind; cell = cell }) self.old.marks
-            then self.old.log.records ++ records.Unmark kind cell ∷ [] else self.old.log.records)) }
-        ensures unrecorded { OnErr result (self.new.log.records ≡ self.old.log.records) }
-        ensures holds { D.told → Holds self.old (D.seen self.old.disk) (D.may_leave self.old.disk)
-            → OnOk result (Holds self.new (D.seen self.new.disk) (D.may_leave self.new.disk)) }
-        ensures either { D.told → Holds self.old (D.seen self.old.disk) (D.may_leave self.old.disk)
-            → BeforeOrAfter (D.seen self.new.disk) self.old (records.Unmark kind cell) [] }
-        ensures any_moment { D.told → Holds self.old (D.seen self.old.disk) (D.may_leave self.old.disk)
-            → LeavesOnly D.moment D.left_since self.old.disk self.new.disk (λ c. BeforeOrAfter c self.old (records.Unmark kind cell) []) }
-
+        ensures committed { IsCommitOf D.Disk self.old self.new result (has_mark (record { kind = kind; cell = cell }) self.old.marks)
+            (records.Unmark kind cell) [] }
         ensures rest { self.new ≡ record self.old { entries = self.new.entries; marks = self.new.marks; log = self.new.log; disk = self.new.disk } }
-        ensures cause { HasFault (D.faults self.old.disk) (D.faults self.new.disk) result }
-        ensures run { D.came_to self.old.disk self.new.disk }
     {
         if !self.marks.has(kind, cell) {
             return Ok(());
@@ -380,22 +349,11 @@ impl<D: Disk> Store<D> {
         ensures listed { OnErr result (listed self.new.entries ≡ listed self.old.entries) }
         ensures kept { OnErr result (D.told → self.new.entries ≡ self.old.entries) }
         ensures errors { IfErr result IsCommitError }
-        ensures full { IsErrOf result StoreError.JournalFull ↔ (self.old.log.region.count ≡ 65536) × (is_some (slot_of (listed self.old.entries) key) ≡ true) }
+        ensures full { IsErrOf result StoreError.JournalFull
+            ↔ (self.old.log.region.count ≡ journal_records) × (is_some (slot_of (listed self.old.entries) key) ≡ true) }
         ensures full_rest { IsErrOf result StoreError.JournalFull → self.new ≡ self.old }
-
-        ensures records { OnOk result (self.new.log.records
-            ≡ (if is_some (slot_of (listed self.old.entries) key) then self.old.log.records ++ records.Drop key ∷ [] else self.old.log.records)) }
-        ensures unrecorded { OnErr result (self.new.log.records ≡ self.old.log.records) }
-        ensures holds { D.told → Holds self.old (D.seen self.old.disk) (D.may_leave self.old.disk)
-            → OnOk result (Holds self.new (D.seen self.new.disk) (D.may_leave self.new.disk)) }
-        ensures either { D.told → Holds self.old (D.seen self.old.disk) (D.may_leave self.old.disk)
-            → BeforeOrAfter (D.seen self.new.disk) self.old (records.Drop key) [] }
-        ensures any_moment { D.told → Holds self.old (D.seen self.old.disk) (D.may_leave self.old.disk)
-            → LeavesOnly D.moment D.left_since self.old.disk self.new.disk (λ c. BeforeOrAfter c self.old (records.Drop key) []) }
-
+        ensures committed { IsCommitOf D.Disk self.old self.new result (is_some (slot_of (listed self.old.entries) key)) (records.Drop key) [] }
         ensures rest { self.new ≡ record self.old { entries = self.new.entries; log = self.new.log; disk = self.new.disk } }
-        ensures cause { HasFault (D.faults self.old.disk) (D.faults self.new.disk) result }
-        ensures run { D.came_to self.old.disk self.new.disk }
     {
         if !self.has_key(key) {
             return Ok(());
@@ -423,22 +381,11 @@ impl<D: Disk> Store<D> {
         ensures listed { listed self.new.entries ≡ listed self.old.entries }
         ensures kept { D.told → self.new.entries ≡ self.old.entries }
         ensures errors { IfErr result IsCommitError }
-        ensures full { IsErrOf result StoreError.JournalFull ↔ (self.old.log.region.count ≡ 65536) × (self.old.fresh ≡ true) }
+        ensures full { IsErrOf result StoreError.JournalFull ↔ (self.old.log.region.count ≡ journal_records) × (self.old.fresh ≡ true) }
         ensures full_rest { IsErrOf result StoreError.JournalFull → self.new ≡ self.old }
         ensures idle { self.old.fresh ≡ false → self.new ≡ self.old }
-
-        ensures records { OnOk result (self.new.log.records ≡ (if self.old.fresh then self.old.log.records ++ records.Settled ∷ [] else self.old.log.records)) }
-        ensures unrecorded { OnErr result (self.new.log.records ≡ self.old.log.records) }
-        ensures holds { D.told → Holds self.old (D.seen self.old.disk) (D.may_leave self.old.disk)
-            → OnOk result (Holds self.new (D.seen self.new.disk) (D.may_leave self.new.disk)) }
-        ensures either { D.told → Holds self.old (D.seen self.old.disk) (D.may_leave self.old.disk)
-            → BeforeOrAfter (D.seen self.new.disk) self.old (records.Settled) [] }
-        ensures any_moment { D.told → Holds self.old (D.seen self.old.disk) (D.may_leave self.old.disk)
-            → LeavesOnly D.moment D.left_since self.old.disk self.new.disk (λ c. BeforeOrAfter c self.old (records.Settled) []) }
-
+        ensures committed { IsCommitOf D.Disk self.old self.new result self.old.fresh records.Settled [] }
         ensures rest { self.new ≡ record self.old { entries = self.new.entries; fresh = self.new.fresh; log = self.new.log; disk = self.new.disk } }
-        ensures cause { HasFault (D.faults self.old.disk) (D.faults self.new.disk) result }
-        ensures run { D.came_to self.old.disk self.new.disk }
     {
         if !self.fresh {
             return Ok(());
@@ -456,7 +403,7 @@ impl<D: Disk> Store<D> {
         epoch: Epoch,
         into: &mut [u8],
     ) -> Result<Option<Entry>, Failed>
-        requires { length into.old ≡ 65536 }
+        requires { length into.old ≡ block_bytes }
         ensures found { IfOk result (λ found. found ≡ newest key_of (record { map = map; block = block; epoch = epoch }) (listed self.old.entries)) }
         ensures content { OnOk result (D.told → into.new ≡ content_of (newest key_held (record { map = map; block = block; epoch = epoch }) self.old.entries)) }
         ensures zeros { IfOk result (λ found. IfNone found (into.new ≡ zero_block)) }
@@ -594,7 +541,7 @@ impl<D: Disk> Store<D> {
 
     /// Whether the journal has all its records.
     pub fn is_full(&self) -> bool
-        ensures { result ≡ (self.now.log.region.count == 65536) }
+        ensures { result ≡ (self.now.log.region.count == journal_records) }
     {
         self.log.is_full()
     }
@@ -653,7 +600,7 @@ fn lesser_of(a: Option<u32>, b: Option<u32>) -> Option<u32>
 }
 
 fn write_zeros(into: &mut [u8])
-    requires { length into.old ≡ 65536 }
+    requires { length into.old ≡ block_bytes }
     ensures { into.new ≡ zero_block }
 {
     into.fill(0);

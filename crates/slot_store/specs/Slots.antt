@@ -1,5 +1,6 @@
 -- Slots after a base, and how many are free.
 use Rattle.std.specs.Prelude.{ℕ, ◌+◌, ◌*◌, Bool, true, false, List, [], ◌∷◌}
+use Rattle.petal_base.specs.Block.{block_bytes}
 
 -- where the slots begin, and which are in use
 pub record Slots : Type 0 where
@@ -8,7 +9,7 @@ pub record Slots : Type 0 where
 
 -- the first byte of a slot
 abbrev pub slot_start : ℕ → ℕ → ℕ
-slot_start base slot = base + 65536 * slot
+slot_start base slot = base + block_bytes * slot
 
 -- how many are not in use
 abbrev pub free_in : List Bool → ℕ

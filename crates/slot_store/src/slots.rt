@@ -3,19 +3,19 @@
 ghost use Rattle.std.specs.Prelude.{◌≡◌, ◌≤◌, ◌<◌, ◌+◌, ◌↔◌, true, false, length, replicate, slice_get, slice_set, IsTrue};
 ghost use Rattle.std.specs.Prelude.{IsNone, IfOk, IfSome, IfNone, OnOk, Some, ◌^◌};
 ghost use Rattle.std.specs.Bool.{OnFalse, OnTrue};
-ghost use Rattle.petal_base.specs.Block.{IsBlock};
+ghost use Rattle.petal_base.specs.Block.{IsBlock, block_bytes};
 ghost use Rattle.petal_disk.specs.Disk.{part, written, Torn, Follows, Within, Only, Elapses, LeavesOnly, LeftByWrite};
 ghost use Rattle.device_faults.specs.Faults.{HasCause};
 ghost use Rattle.slot_store.specs.Slots.{free_in, slot_start};
 
 use crate::usage::Usage;
-use petal_base::{Block, NoMemory};
+use petal_base::{BLOCK_BYTES, Block, NoMemory};
 use petal_disk::{Disk, Failed, write_kept};
 use std::alloc::Global;
 use std::marker::Model;
 
 /// How many bytes a slot has: those of one block.
-pub const SLOT_BYTES: u64 = 65_536;
+pub const SLOT_BYTES: u64 = BLOCK_BYTES as u64;
 
 /// The slots of a device from `base` on. Contracts see for each whether it is in use.
 #[derive(Drop)]
@@ -90,15 +90,15 @@ impl SlotStore {
     /// The device failed. The slot may then have any bytes.
     pub fn write<D: Disk>(&self, disk: &mut D, slot: u32, block: &Block) -> Result<(), Failed>
         requires slot { slot < length self.now.used }
-        requires room { slot_start self.now.base slot + 65536 ≤ D.size disk.old }
+        requires room { slot_start self.now.base slot + block_bytes ≤ D.size disk.old }
         ensures written { OnOk result (D.told → D.seen disk.new ≡ written (D.seen disk.old) (slot_start self.now.base slot) block.now) }
         ensures block { IsBlock block.now }
         ensures durable { OnOk result (D.told → Only (D.seen disk.new) (D.may_leave disk.new)) }
-        ensures torn { D.told → Torn (slot_start self.now.base slot) 65536 (D.seen disk.old) (D.seen disk.new) }
+        ensures torn { D.told → Torn (slot_start self.now.base slot) block_bytes (D.seen disk.old) (D.seen disk.new) }
         ensures size { D.size disk.new ≡ D.size disk.old }
-        ensures crash { Follows (Torn (slot_start self.now.base slot) 65536) (D.may_leave disk.old) (D.may_leave disk.new) }
+        ensures crash { Follows (Torn (slot_start self.now.base slot) block_bytes) (D.may_leave disk.old) (D.may_leave disk.new) }
         ensures any_moment { LeavesOnly D.moment D.left_since disk.old disk.new
-            (LeftByWrite (slot_start self.now.base slot) 65536 (D.may_leave disk.old)) }
+            (LeftByWrite (slot_start self.now.base slot) block_bytes (D.may_leave disk.old)) }
         ensures cause { HasCause (D.faults disk.old) (D.faults disk.new) result }
         ensures run { D.came_to disk.old disk.new }
     {
@@ -114,9 +114,9 @@ impl SlotStore {
     /// The device failed.
     pub fn read<D: Disk>(&self, disk: &mut D, slot: u32, into: &mut [u8]) -> Result<(), Failed>
         requires slot { slot < length self.now.used }
-        requires room { slot_start self.now.base slot + 65536 ≤ D.size disk.old }
+        requires room { slot_start self.now.base slot + block_bytes ≤ D.size disk.old }
         requires block { IsBlock into.old }
-        ensures bytes { OnOk result (D.told → into.new ≡ part (D.seen disk.old) (slot_start self.now.base slot) 65536) }
+        ensures bytes { OnOk result (D.told → into.new ≡ part (D.seen disk.old) (slot_start self.now.base slot) block_bytes) }
         ensures size { D.size disk.new ≡ D.size disk.old }
         ensures seen { D.seen disk.new ≡ D.seen disk.old }
         ensures crash { Within (D.may_leave disk.old) (D.may_leave disk.new) }

@@ -33,6 +33,7 @@ use Rattle.spec_rules.specs.declared.step.CommitEnd.{CommitEnd}
 use Rattle.spec_rules.specs.declared.step.CommitEnd.TheVariants.{Before, After}
 use Rattle.spec_rules.specs.declared.job.Job.{Job}
 use Rattle.spec_rules.specs.declared.job.Job.TheVariants as job
+use Rattle.petal_base.specs.Limits.{journal_records}
 
 -- what is done with the content of a letter of the pairs, at a server of its revision that handles it
 unfoldable pub handles : Here → Own → Body → Done
@@ -207,10 +208,6 @@ job_done here server first rest =
     else worked here server rest (does here server.own first)
 
 -- ### Stops
-
--- how many records a journal has room for
-abbrev pub journal_records : ℕ
-journal_records = 65536
 
 -- to each other server
 abbrev pub down_posts : (me inc servers : ℕ) → List Post

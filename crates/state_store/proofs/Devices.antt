@@ -6,7 +6,7 @@ use Rattle.petal_disk.specs.Disk.{Torn, Only, LeavesOnly, written}
 use Rattle.petal_disk.proofs.Moments.{joined, weaker}
 use Rattle.petal_disk.proofs.Tearing.{torn_front, torn_written}
 use Rattle.block_journal.specs.Gate.{IsShut}
-use Rattle.block_journal.specs.Records.{contents, Stands, Stored, Counts, LeftByAppend}
+use Rattle.block_journal.specs.Records.{contents, Stands, Stored, LeftByAppend}
 use Rattle.block_journal.specs.Records as journal
 use Rattle.block_journal.specs.Region.{Region}
 use Rattle.block_journal.proofs.Frame.{stands_outside}
@@ -15,11 +15,13 @@ use Rattle.spec_paxos.specs.declared.record.StateRecord.{StateRecord}
 use Rattle.spec_paxos.specs.declared.record.StateRecord.TheVariants.{Inc}
 use Rattle.state_store.specs.Body.{body_of, HasBody}
 use Rattle.state_store.specs.Device.{header, bodies_of, AreSpelled, StandsFor, WithOrWithout, Holds, IsBlank, LeftByFormat}
+use Rattle.state_store.specs.Device.{record_bytes, journal_base, JournalStands}
+use Rattle.petal_base.specs.Limits.{journal_records}
 
 -- the journal of a state device
 pub record IsPlaced (region : Region) : Type 0 where
-  pub base : region.base ≡ 4096
-  pub limit : region.limit ≡ 65536
+  pub base : region.base ≡ journal_base
+  pub limit : region.limit ≡ journal_records
 
 -- its bodies are stored
 pub stored : (region : Region) (seen : List ℕ) (leave : List ℕ → Type 0) (records : List StateRecord) → IsPlaced region → Holds region seen leave records
@@ -27,15 +29,15 @@ pub stored : (region : Region) (seen : List ℕ) (leave : List ℕ → Type 0) (
 stored region seen leave records at h = record {
   count = h.count ∙ sym (length-map records body_of);
   now = subst (λ b. Stands 128 b region.limit seen (bodies_of records)) (sym at.base)
-      (subst (λ n. Stands 128 4096 n seen (bodies_of records)) (sym at.limit) h.now.stands);
+      (subst (λ n. Stands 128 journal_base n seen (bodies_of records)) (sym at.limit) h.now.stands);
   left = λ c i. subst (λ b. Stands 128 b region.limit c (bodies_of records)) (sym at.base)
-      (subst (λ n. Stands 128 4096 n c (bodies_of records)) (sym at.limit) (h.left c i).stands);
+      (subst (λ n. Stands 128 journal_base n c (bodies_of records)) (sym at.limit) (h.left c i).stands);
 }
 
 -- back from a journal's region to the device's
 pub placed : (region : Region) (file : List ℕ) (bodies : List (List ℕ)) → IsPlaced region → Stands 128 region.base region.limit file bodies
-    → Stands 128 4096 65536 file bodies
-placed region file bodies at s = subst (λ b. Stands 128 b 65536 file bodies) at.base (subst (λ n. Stands 128 region.base n file bodies) at.limit s)
+    → JournalStands file bodies
+placed region file bodies at s = subst (λ b. Stands 128 b journal_records file bodies) at.base (subst (λ n. Stands 128 region.base n file bodies) at.limit s)
 
 pub bodies_one_more : (records : List StateRecord) (entry : StateRecord) → bodies_of (records ++ entry ∷ []) ≡ bodies_of records ++ body_of entry ∷ []
 bodies_one_more records entry = map-append body_of records (entry ∷ [])
@@ -55,7 +57,7 @@ with_or_without region file records entry fits sp at h (inl s) = inl (record { h
 with_or_without region file records entry fits sp at h (inr s) = inr (record {
   headed = h;
   spelled = spelled_more records entry sp fits;
-  stands = subst (Stands 128 4096 65536 file) (sym (bodies_one_more records entry)) (placed region file _ at s);
+  stands = subst (JournalStands file) (sym (bodies_one_more records entry)) (placed region file _ at s);
 })
 
 -- a crash in an append leaves the records with the new one or without it
@@ -87,12 +89,12 @@ appended region region' leave leave' seen seen' records entry body e fits at at'
       now = record {
         headed = headed_still region seen seen' at torn h.now.headed;
         spelled = spelled_more records entry h.now.spelled fits;
-        stands = subst (Stands 128 4096 65536 seen') (sym more) (placed region' seen' _ at' s.now);
+        stands = subst (JournalStands seen') (sym more) (placed region' seen' _ at' s.now);
       };
       left = λ c i. let l = each c i in record {
         headed = headed_still region l.from c at l.outside (h.left l.from l.from_left).headed;
         spelled = spelled_more records entry h.now.spelled fits;
-        stands = subst (Stands 128 4096 65536 c) (sym more) (placed region' c _ at' (s.left c i));
+        stands = subst (JournalStands c) (sym more) (placed region' c _ at' (s.left c i));
       };
     }
 
@@ -105,14 +107,14 @@ pub headed : (file : List ℕ) → take 64 (written file 0 header) ≡ header
 headed file = refl
 
 -- a header over a journal
-pub headed_device : (file c : List ℕ) (inc : ℕ) → IsWord inc → 64 ≤ length file → Stands 128 4096 65536 file (bodies_of (Inc inc ∷ []))
+pub headed_device : (file c : List ℕ) (inc : ℕ) → IsWord inc → 64 ≤ length file → JournalStands file (bodies_of (Inc inc ∷ []))
     → c ≡ written file 0 header → StandsFor c (Inc inc ∷ [])
 headed_device file c inc word fits stands is =
     let torn : Torn 0 64 file c = subst (λ f. Torn 0 64 file f) (sym is) (torn_written file 0 header fits) in
     record {
       headed = ap (take 64) is ∙ headed file;
       spelled = (word, tt);
-      stands = stands_outside 128 4096 65536 0 64 file c (bodies_of (Inc inc ∷ [])) (omega arith) (inr (omega arith)) torn stands;
+      stands = stands_outside record_bytes journal_base journal_records 0 64 file c (bodies_of (Inc inc ∷ [])) (omega arith) (inr (omega arith)) torn stands;
     }
 
 -- a closed gate, or what was there before, may be left by formatting
@@ -122,13 +124,13 @@ left_by_clearing before inc c (inr shut) = inr (inl (shut_blank c shut))
 
 -- so may a header over the one record
 pub left_by_header : (before : List ℕ → Type 0) (inc : ℕ) (file c : List ℕ) → IsWord inc → 64 ≤ length file
-    → Stands 128 4096 65536 file (bodies_of (Inc inc ∷ [])) → IsShut c ⊎ (c ≡ written file 0 header) → LeftByFormat before inc c
+    → JournalStands file (bodies_of (Inc inc ∷ [])) → IsShut c ⊎ (c ≡ written file 0 header) → LeftByFormat before inc c
 left_by_header before inc file c word fits stands (inl shut) = inr (inl (shut_blank c shut))
 left_by_header before inc file c word fits stands (inr is) = inr (inr (headed_device file c inc word fits stands is))
 
 -- at each moment of both
 pub formatting : {D : Type 0} (moment : D → ℕ) (left_since : D → ℕ → List ℕ → Type 0) (d0 d1 d2 : D) (before : List ℕ → Type 0) (inc : ℕ) (file : List ℕ)
-    → IsWord inc → 64 ≤ length file → Stands 128 4096 65536 file (bodies_of (Inc inc ∷ []))
+    → IsWord inc → 64 ≤ length file → JournalStands file (bodies_of (Inc inc ∷ []))
     → LeavesOnly moment left_since d0 d1 (λ c. before c ⊎ IsShut c) → LeavesOnly moment left_since d1 d2 (λ c. IsShut c ⊎ (c ≡ written file 0 header))
     → LeavesOnly moment left_since d0 d2 (LeftByFormat before inc)
 formatting moment left_since d0 d1 d2 before inc file word fits stands first second =
@@ -154,7 +156,7 @@ formatted region seen leave records count stands only =
 
 -- what an opened device stands for
 pub opened : (region : Region) (seen : List ℕ) (leave : List ℕ → Type 0) (records : List StateRecord) → region.count ≡ length records
-    → take 64 seen ≡ header → AreSpelled records → Stands 128 4096 65536 seen (bodies_of records) → Only seen leave → Holds region seen leave records
+    → take 64 seen ≡ header → AreSpelled records → JournalStands seen (bodies_of records) → Only seen leave → Holds region seen leave records
 opened region seen leave records count head sp stands only =
     let now : StandsFor seen records = record { headed = head; spelled = sp; stands = stands } in
     record { count = count; now = now; left = λ c i. subst (λ f. StandsFor f records) (sym (only c i)) now }

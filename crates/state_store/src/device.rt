@@ -7,21 +7,22 @@ ghost use Rattle.petal_disk.specs.Disk.{LeavesOnly, Only, Within};
 ghost use Rattle.device_faults.specs.Faults.{HasCause};
 ghost use Rattle.petal_disk.specs.Keeping.{KeepsDevice};
 ghost use Rattle.block_journal.specs.Gate.{IsShut};
-ghost use Rattle.block_journal.specs.Records.{Counts, Stands};
 ghost use Rattle.state_store.specs.Device.{header, bodies_of, AreSpelled, Holds, WithOrWithout, StandsFor, LeftByFormat, IsBadOn};
+ghost use Rattle.state_store.specs.Device.{journal_base, header_bytes, device_bytes, JournalStands, JournalCounts};
 ghost use Rattle.state_store.specs.Errors.{IsAppendError, HasJournalCause};
 ghost use Rattle.spec_paxos.specs.Kept.{row_of, inc_of};
 ghost use Rattle.state_store.specs.Rows.{row_at};
 ghost use Rattle.spec_paxos.specs.declared.record.StateRecord.{StateRecord};
 ghost use Rattle.spec_paxos.specs.declared.record.StateRecord.TheVariants as kind;
 ghost use Rattle.state_store.specs.declared.error.StateError.TheVariants as error;
+ghost use Rattle.petal_base.specs.Limits.{journal_records};
 
 use crate::error::StateError;
 use crate::places::Places;
 use crate::record::body_of;
 use crate::register::{Register, read_records};
 use block_journal::{Journal, read_front, write_header};
-use petal_base::{GhostList, Inc};
+use petal_base::{GhostList, Inc, JOURNAL_RECORDS};
 use petal_disk::{Disk, Failed, Plan, Planned};
 use spec_paxos::StateRecord;
 use std::alloc::Global;
@@ -29,9 +30,6 @@ use std::marker::Model;
 
 /// Where the journal begins.
 pub const JOURNAL_BASE: u64 = 4096;
-
-/// How many records the journal has.
-pub const JOURNAL_RECORDS: u32 = 65_536;
 
 /// How many bytes a state device has at least.
 pub const DEVICE_BYTES: u64 = 8_392_704;
@@ -46,13 +44,14 @@ pub struct Device<D: Disk> {
 
 impl<D: Disk> Model for Device<D> {
     ghost use Rattle.std.specs.Prelude.{◌≡◌, ◌≤◌};
-    ghost use Rattle.state_store.specs.Device.{Keeping};
+    ghost use Rattle.state_store.specs.Device.{Keeping, journal_base, device_bytes};
+    ghost use Rattle.petal_base.specs.Limits.{journal_records};
 
     ghost Value = { Keeping D };
 
     ghost view = { λ s. record { records = s.history.items; region = s.journal; disk = s.disk } };
 
-    ghost invariant = { λ s. (s.journal.base ≡ 4096) × (s.journal.limit ≡ 65536) × (8392704 ≤ D.size s.disk) };
+    ghost invariant = { λ s. (s.journal.base ≡ journal_base) × (s.journal.limit ≡ journal_records) × (device_bytes ≤ D.size s.disk) };
 }
 
 /// What the records of a device give.
@@ -65,7 +64,7 @@ pub struct Kept {
 impl<D: Disk> Device<D> {
     /// A device that stands for the one record of an incarnation.
     pub fn format(disk: D, inc: Inc) -> Result<Device<D>, (D, StateError)>
-        requires { 8392704 ≤ D.size disk }
+        requires { device_bytes ≤ D.size disk }
         ensures ok { IfOk result (λ d. (d.records ≡ kind.Inc inc ∷ []) × (d.region.count ≡ 1)) }
         ensures holds { IfOk result (λ d. D.told → Holds d.region (D.seen d.disk) (D.may_leave d.disk) d.records) }
         ensures errors { IfErr result (λ e. e.1 ≡ error.Failed) }
@@ -91,18 +90,18 @@ impl<D: Disk> Device<D> {
 
     /// The device with the records that it stands for, and what these give.
     pub fn open(alloc: Global, disk: D) -> Result<(Device<D>, Kept), (D, StateError)>
-        ensures found { IfOk result (λ o. D.told → (take 64 (D.seen disk) ≡ header) × Counts 128 4096 65536 (D.seen disk) (bodies_of o.0.records)) }
+        ensures found { IfOk result (λ o. D.told → (take header_bytes (D.seen disk) ≡ header) × JournalCounts (D.seen disk) (bodies_of o.0.records)) }
         ensures spelled { IfOk result (λ o. AreSpelled o.0.records) }
         ensures same { (records : List StateRecord) → IfOk result (λ o. D.told → StandsFor (D.seen disk) records → o.0.records ≡ records) }
         ensures holds { (records : List StateRecord)
             → IfOk result (λ o. D.told → StandsFor (D.seen disk) records → Holds o.0.region (D.seen o.0.disk) (D.may_leave o.0.disk) o.0.records) }
         ensures rows { IfOk result (λ o. (place : ℕ) → row_at o.1.places place ≡ row_of o.0.records place) }
         ensures inc { IfOk result (λ o. o.1.inc ≡ inc_of o.0.records) }
-        ensures blank { IfErr result (λ e. e.1 ≡ error.Blank → D.told → 8392704 ≤ D.size disk → take 64 (D.seen disk) ≢ header) }
+        ensures blank { IfErr result (λ e. e.1 ≡ error.Blank → D.told → device_bytes ≤ D.size disk → take header_bytes (D.seen disk) ≢ header) }
         ensures bad { (index : ℕ) → IfErr result (λ e. e.1 ≡ error.BadRecord index → D.told → IsBadOn (D.seen disk) index) }
         ensures failed { IfErr result (λ e. e.1 ≡ error.Failed → D.faults disk < D.faults e.0) }
         ensures bad_headed { (index : ℕ)
-            → IfErr result (λ e. e.1 ≡ error.BadRecord index → (8392704 ≤ D.size disk) × (D.told → take 64 (D.seen disk) ≡ header)) }
+            → IfErr result (λ e. e.1 ≡ error.BadRecord index → (device_bytes ≤ D.size disk) × (D.told → take header_bytes (D.seen disk) ≡ header)) }
         ensures not_full { IfErr result (λ e. e.1 ≢ error.JournalFull) }
         ensures device { IfOk result (λ o. KeepsDevice D.size D.seen D.may_leave D.moment D.left_since disk o.0.disk) }
         ensures err_device { IfErr result (λ e. KeepsDevice D.size D.seen D.may_leave D.moment D.left_since disk e.0) }
@@ -162,7 +161,7 @@ impl<D: Disk> Device<D> {
     pub fn append(&mut self, entry: &StateRecord) -> Result<(), StateError>
         ensures ok { OnOk result (self.new.records ≡ self.old.records ++ entry.now ∷ []) }
         ensures err { IfErr result (λ e. self.new.records ≡ self.old.records) }
-        ensures full { IsErrOf result error.JournalFull ↔ (self.old.region.count ≡ 65536) }
+        ensures full { IsErrOf result error.JournalFull ↔ (self.old.region.count ≡ journal_records) }
         ensures unchanged { IsErrOf result error.JournalFull → self.new ≡ self.old }
         ensures failed { IsErrOf result error.Failed → D.faults self.old.disk < D.faults self.new.disk }
         ensures errors { ¬ IsErrOf result error.NoMemory }
@@ -198,8 +197,8 @@ const HEADER: [u8; 64] = [
 
 /// Closes the gate of the device, writes a journal of the one record, writes the header, and opens the gate last.
 fn write_format<D: Disk>(disk: &mut D, inc: Inc) -> Result<Journal<128>, StateError>
-    requires { 8392704 ≤ D.size disk.old }
-    ensures region { IfOk result (λ j. (j.base ≡ 4096) × (j.limit ≡ 65536) × (j.count ≡ 1)) }
+    requires { device_bytes ≤ D.size disk.old }
+    ensures region { IfOk result (λ j. (j.base ≡ journal_base) × (j.limit ≡ journal_records) × (j.count ≡ 1)) }
     ensures holds { IfOk result (λ j. D.told → Holds j (D.seen disk.new) (D.may_leave disk.new) (kind.Inc inc ∷ [])) }
     ensures errors { IfErr result (λ e. e ≡ error.Failed) }
     ensures any_moment { D.told → LeavesOnly D.moment D.left_since disk.old disk.new (LeftByFormat (D.may_leave disk.old) inc) }
@@ -216,9 +215,9 @@ fn write_format<D: Disk>(disk: &mut D, inc: Inc) -> Result<Journal<128>, StateEr
 
 /// Closes the gate of the device, and writes a journal of the one record.
 fn write_first<D: Disk>(disk: &mut D, inc: Inc) -> Result<Journal<128>, StateError>
-    requires { 8392704 ≤ D.size disk.old }
-    ensures region { IfOk result (λ j. (j.base ≡ 4096) × (j.limit ≡ 65536) × (j.count ≡ 1)) }
-    ensures stands { IfOk result (λ j. D.told → Stands 128 4096 65536 (D.seen disk.new) (bodies_of (kind.Inc inc ∷ []))) }
+    requires { device_bytes ≤ D.size disk.old }
+    ensures region { IfOk result (λ j. (j.base ≡ journal_base) × (j.limit ≡ journal_records) × (j.count ≡ 1)) }
+    ensures stands { IfOk result (λ j. D.told → JournalStands (D.seen disk.new) (bodies_of (kind.Inc inc ∷ []))) }
     ensures durable { OnOk result (D.told → Only (D.seen disk.new) (D.may_leave disk.new)) }
     ensures shut { OnOk result (D.told → IsShut (D.seen disk.new)) }
     ensures errors { IfErr result (λ e. e ≡ error.Failed) }
@@ -236,9 +235,9 @@ fn write_first<D: Disk>(disk: &mut D, inc: Inc) -> Result<Journal<128>, StateErr
 
 /// Whether the header of a state device stands there; then a crash leaves what a read gives.
 fn has_header<D: Disk>(disk: &mut D) -> Result<bool, Failed>
-    ensures size { IfOk result (λ found. OnTrue found (8392704 ≤ D.size disk.old)) }
-    ensures headed { IfOk result (λ found. OnTrue found (D.told → take 64 (D.seen disk.old) ≡ header)) }
-    ensures blank { IfOk result (λ found. OnFalse found (D.told → 8392704 ≤ D.size disk.old → take 64 (D.seen disk.old) ≢ header)) }
+    ensures size { IfOk result (λ found. OnTrue found (device_bytes ≤ D.size disk.old)) }
+    ensures headed { IfOk result (λ found. OnTrue found (D.told → take header_bytes (D.seen disk.old) ≡ header)) }
+    ensures blank { IfOk result (λ found. OnFalse found (D.told → device_bytes ≤ D.size disk.old → take header_bytes (D.seen disk.old) ≢ header)) }
     ensures durable { IfOk result (λ found. OnTrue found (D.told → Only (D.seen disk.new) (D.may_leave disk.new))) }
     ensures device { KeepsDevice D.size D.seen D.may_leave D.moment D.left_since disk.old disk.new }
     ensures cause { HasCause (D.faults disk.old) (D.faults disk.new) result }
@@ -257,9 +256,9 @@ fn read_journal<D: Disk>(
     alloc: Global,
     disk: &mut D,
 ) -> Result<(Journal<128>, Register), StateError>
-    requires { 8392704 ≤ D.size disk.old }
-    ensures region { IfOk result (λ o. (o.0.base ≡ 4096) × (o.0.limit ≡ 65536)) }
-    ensures counts { IfOk result (λ o. D.told → Counts 128 4096 65536 (D.seen disk.old) (bodies_of o.1.history.items)) }
+    requires { device_bytes ≤ D.size disk.old }
+    ensures region { IfOk result (λ o. (o.0.base ≡ journal_base) × (o.0.limit ≡ journal_records)) }
+    ensures counts { IfOk result (λ o. D.told → JournalCounts (D.seen disk.old) (bodies_of o.1.history.items)) }
     ensures spelled { IfOk result (λ o. AreSpelled o.1.history.items) }
     ensures same { (records : List StateRecord) → IfOk result (λ o. D.told → StandsFor (D.seen disk.old) records → o.1.history.items ≡ records) }
     ensures holds { (records : List StateRecord)
@@ -282,21 +281,21 @@ fn read_journal<D: Disk>(
 
 /// Reads the header and the journal.
 fn read_device<D: Disk>(alloc: Global, disk: &mut D) -> Result<(Journal<128>, Register), StateError>
-    ensures region { IfOk result (λ o. (o.0.base ≡ 4096) × (o.0.limit ≡ 65536)) }
-    ensures size { IfOk result (λ o. 8392704 ≤ D.size disk.new) }
-    ensures found { IfOk result (λ o. D.told → (take 64 (D.seen disk.old) ≡ header) × Counts 128 4096 65536 (D.seen disk.old) (bodies_of o.1.history.items)) }
+    ensures region { IfOk result (λ o. (o.0.base ≡ journal_base) × (o.0.limit ≡ journal_records)) }
+    ensures size { IfOk result (λ o. device_bytes ≤ D.size disk.new) }
+    ensures found { IfOk result (λ o. D.told → (take header_bytes (D.seen disk.old) ≡ header) × JournalCounts (D.seen disk.old) (bodies_of o.1.history.items)) }
     ensures spelled { IfOk result (λ o. AreSpelled o.1.history.items) }
     ensures same { (records : List StateRecord) → IfOk result (λ o. D.told → StandsFor (D.seen disk.old) records → o.1.history.items ≡ records) }
     ensures holds { (records : List StateRecord)
         → IfOk result (λ o. D.told → StandsFor (D.seen disk.old) records → Holds o.0 (D.seen disk.new) (D.may_leave disk.new) o.1.history.items) }
     ensures rows { IfOk result (λ o. (place : ℕ) → row_at o.1.places place ≡ row_of o.1.history.items place) }
     ensures inc { IfOk result (λ o. o.1.inc ≡ inc_of o.1.history.items) }
-    ensures blank { IsErrOf result error.Blank → D.told → 8392704 ≤ D.size disk.old → take 64 (D.seen disk.old) ≢ header }
+    ensures blank { IsErrOf result error.Blank → D.told → device_bytes ≤ D.size disk.old → take header_bytes (D.seen disk.old) ≢ header }
     ensures bad { (index : ℕ) → IfErr result (λ e. e ≡ error.BadRecord index → D.told → IsBadOn (D.seen disk.old) index) }
     ensures failed { IsErrOf result error.Failed → D.faults disk.old < D.faults disk.new }
     ensures later { D.faults disk.old ≤ D.faults disk.new }
     ensures bad_headed { (index : ℕ)
-        → IfErr result (λ e. e ≡ error.BadRecord index → (8392704 ≤ D.size disk.old) × (D.told → take 64 (D.seen disk.old) ≡ header)) }
+        → IfErr result (λ e. e ≡ error.BadRecord index → (device_bytes ≤ D.size disk.old) × (D.told → take header_bytes (D.seen disk.old) ≡ header)) }
     ensures not_full { ¬ IsErrOf result error.JournalFull }
     ensures device { KeepsDevice D.size D.seen D.may_leave D.moment D.left_since disk.old disk.new }
     ensures run { D.came_to disk.old disk.new }

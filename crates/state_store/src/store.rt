@@ -5,14 +5,15 @@ ghost use Rattle.std.specs.Prelude.{IfErr, IsErrOf, IsOk, take, length, Some, No
 ghost use Rattle.petal_disk.specs.Plans.{beneath, plan_state};
 ghost use Rattle.petal_disk.specs.Disk.{LeavesOnly, Within};
 ghost use Rattle.petal_disk.specs.Keeping.{KeepsDevice};
-ghost use Rattle.block_journal.specs.Records.{Counts};
 ghost use Rattle.state_store.specs.Device.{header, bodies_of, AreSpelled, StandsFor, StandsForEither, Holds, WithOrWithout, LeftByFormat, IsBadOn};
+ghost use Rattle.state_store.specs.Device.{header_bytes, device_bytes, JournalCounts};
 ghost use Rattle.state_store.specs.Errors.{IsAppendError, IsCommitError};
 ghost use Rattle.spec_paxos.specs.declared.record.StateRecord.{StateRecord};
 ghost use Rattle.spec_paxos.specs.Kept.{row_of, row_after, inc_of, inc_after, AddsNothing, Commits, committed};
 ghost use Rattle.spec_paxos.specs.declared.record.Row.{Row};
 ghost use Rattle.spec_paxos.specs.declared.record.StateRecord.TheVariants as kind;
 ghost use Rattle.state_store.specs.declared.error.StateError.TheVariants as error;
+ghost use Rattle.petal_base.specs.Limits.{journal_records};
 
 use crate::device::Device;
 use crate::error::StateError;
@@ -53,7 +54,7 @@ impl<D: Disk> StateStore<D> {
     /// # Errors
     /// `Failed`, where the device failed. The device is handed back.
     pub fn format(alloc: Global, disk: D, inc: Inc) -> Result<StateStore<D>, (D, StateError)>
-        requires { 8392704 ≤ D.size disk }
+        requires { device_bytes ≤ D.size disk }
         ensures ok { IfOk result (λ s. s.records ≡ kind.Inc inc ∷ []) }
         ensures count { IfOk result (λ s. D.told → s.region.count ≡ 1) }
         ensures holds { IfOk result (λ s. D.told → Holds s.region (D.seen s.disk) (D.may_leave s.disk) s.records) }
@@ -84,16 +85,16 @@ impl<D: Disk> StateStore<D> {
     /// record of this index has no spelling, and its gate and all before it are open; `Failed`, where the device failed, and `NoMemory`. The device
     /// is handed back, and but for a sync it is as it was.
     pub fn open(alloc: Global, disk: D) -> Result<StateStore<D>, (D, StateError)>
-        ensures found { IfOk result (λ s. D.told → (take 64 (D.seen disk) ≡ header) × Counts 128 4096 65536 (D.seen disk) (bodies_of s.records)) }
+        ensures found { IfOk result (λ s. D.told → (take header_bytes (D.seen disk) ≡ header) × JournalCounts (D.seen disk) (bodies_of s.records)) }
         ensures spelled { IfOk result (λ s. AreSpelled s.records) }
         ensures same { (records : List StateRecord) → IfOk result (λ s. D.told → StandsFor (D.seen disk) records → s.records ≡ records) }
         ensures holds { (records : List StateRecord)
             → IfOk result (λ s. D.told → StandsFor (D.seen disk) records → Holds s.region (D.seen s.disk) (D.may_leave s.disk) s.records) }
-        ensures blank { IfErr result (λ e. e.1 ≡ error.Blank → D.told → 8392704 ≤ D.size disk → take 64 (D.seen disk) ≢ header) }
+        ensures blank { IfErr result (λ e. e.1 ≡ error.Blank → D.told → device_bytes ≤ D.size disk → take header_bytes (D.seen disk) ≢ header) }
         ensures bad { (index : ℕ) → IfErr result (λ e. e.1 ≡ error.BadRecord index → D.told → IsBadOn (D.seen disk) index) }
         ensures failed { IfErr result (λ e. e.1 ≡ error.Failed → D.faults disk < D.faults e.0) }
         ensures bad_headed { (index : ℕ)
-            → IfErr result (λ e. e.1 ≡ error.BadRecord index → (8392704 ≤ D.size disk) × (D.told → take 64 (D.seen disk) ≡ header)) }
+            → IfErr result (λ e. e.1 ≡ error.BadRecord index → (device_bytes ≤ D.size disk) × (D.told → take header_bytes (D.seen disk) ≡ header)) }
         ensures not_full { IfErr result (λ e. e.1 ≢ error.JournalFull) }
         ensures device { IfOk result (λ s. KeepsDevice D.size D.seen D.may_leave D.moment D.left_since disk s.disk) }
         ensures err_device { IfErr result (λ e. KeepsDevice D.size D.seen D.may_leave D.moment D.left_since disk e.0) }
@@ -174,8 +175,8 @@ impl<D: Disk> StateStore<D> {
         ensures ok { OnOk result (self.new.records
             ≡ (if inc_of self.old.records == 4294967295 then self.old.records else self.old.records ++ kind.Inc (inc_of self.old.records + 1) ∷ [])) }
         ensures err { OnErr result (self.new.records ≡ self.old.records) }
-        ensures full { IsErrOf result error.JournalFull → (self.old.region.count ≡ 65536) × (self.new ≡ self.old) }
-        ensures full_comes { self.old.region.count ≡ 65536 → inc_of self.old.records ≢ 4294967295 → IsErrOf result error.JournalFull }
+        ensures full { IsErrOf result error.JournalFull → (self.old.region.count ≡ journal_records) × (self.new ≡ self.old) }
+        ensures full_comes { self.old.region.count ≡ journal_records → inc_of self.old.records ≢ 4294967295 → IsErrOf result error.JournalFull }
         ensures memory { ¬ IsErrOf result error.NoMemory }
         ensures only { IfErr result IsAppendError }
         ensures failed { IsErrOf result error.Failed → D.faults self.old.disk < D.faults self.new.disk }
@@ -206,9 +207,10 @@ impl<D: Disk> StateStore<D> {
     pub fn promise(&mut self, place: u32, ballot: Ballot) -> Result<(), StateError>
         ensures ok { OnOk result (Commits self.old.records self.new.records (kind.Promise place ballot)) }
         ensures err { OnErr result (self.new.records ≡ self.old.records) }
-        ensures full { IsErrOf result error.JournalFull → (self.old.region.count ≡ 65536) × (¬ AddsNothing self.old.records (kind.Promise place ballot))
+        ensures full { IsErrOf result error.JournalFull
+            → (self.old.region.count ≡ journal_records) × (¬ AddsNothing self.old.records (kind.Promise place ballot))
             × (self.new ≡ self.old) }
-        ensures full_comes { self.old.region.count ≡ 65536 → ¬ AddsNothing self.old.records (kind.Promise place ballot)
+        ensures full_comes { self.old.region.count ≡ journal_records → ¬ AddsNothing self.old.records (kind.Promise place ballot)
             → IsErrOf result error.JournalFull ⊎ IsErrOf result error.NoMemory }
         ensures memory { IsErrOf result error.NoMemory → self.new ≡ self.old }
         ensures only { IfErr result IsCommitError }
@@ -241,8 +243,8 @@ impl<D: Disk> StateStore<D> {
         ensures ok { OnOk result (Commits self.old.records self.new.records (kind.Accepted place ballot command.now)) }
         ensures err { OnErr result (self.new.records ≡ self.old.records) }
         ensures full { IsErrOf result error.JournalFull
-            → (self.old.region.count ≡ 65536) × (¬ AddsNothing self.old.records (kind.Accepted place ballot command.now)) × (self.new ≡ self.old) }
-        ensures full_comes { self.old.region.count ≡ 65536 → ¬ AddsNothing self.old.records (kind.Accepted place ballot command.now)
+            → (self.old.region.count ≡ journal_records) × (¬ AddsNothing self.old.records (kind.Accepted place ballot command.now)) × (self.new ≡ self.old) }
+        ensures full_comes { self.old.region.count ≡ journal_records → ¬ AddsNothing self.old.records (kind.Accepted place ballot command.now)
             → IsErrOf result error.JournalFull ⊎ IsErrOf result error.NoMemory }
         ensures memory { IsErrOf result error.NoMemory → self.new ≡ self.old }
         ensures only { IfErr result IsCommitError }
@@ -277,8 +279,8 @@ impl<D: Disk> StateStore<D> {
         ensures ok { OnOk result (Commits self.old.records self.new.records (kind.Chosen place command.now)) }
         ensures err { OnErr result (self.new.records ≡ self.old.records) }
         ensures full { IsErrOf result error.JournalFull
-            → (self.old.region.count ≡ 65536) × (¬ AddsNothing self.old.records (kind.Chosen place command.now)) × (self.new ≡ self.old) }
-        ensures full_comes { self.old.region.count ≡ 65536 → ¬ AddsNothing self.old.records (kind.Chosen place command.now)
+            → (self.old.region.count ≡ journal_records) × (¬ AddsNothing self.old.records (kind.Chosen place command.now)) × (self.new ≡ self.old) }
+        ensures full_comes { self.old.region.count ≡ journal_records → ¬ AddsNothing self.old.records (kind.Chosen place command.now)
             → IsErrOf result error.JournalFull ⊎ IsErrOf result error.NoMemory }
         ensures memory { IsErrOf result error.NoMemory → self.new ≡ self.old }
         ensures only { IfErr result IsCommitError }
@@ -308,8 +310,9 @@ impl<D: Disk> StateStore<D> {
         requires inc { (i : ℕ) → inc_after i entry.now ≡ i }
         ensures ok { OnOk result (Commits self.old.records self.new.records entry.now) }
         ensures err { OnErr result (self.new.records ≡ self.old.records) }
-        ensures full { IsErrOf result error.JournalFull → (self.old.region.count ≡ 65536) × (¬ AddsNothing self.old.records entry.now) × (self.new ≡ self.old) }
-        ensures full_comes { self.old.region.count ≡ 65536 → ¬ AddsNothing self.old.records entry.now
+        ensures full { IsErrOf result error.JournalFull
+            → (self.old.region.count ≡ journal_records) × (¬ AddsNothing self.old.records entry.now) × (self.new ≡ self.old) }
+        ensures full_comes { self.old.region.count ≡ journal_records → ¬ AddsNothing self.old.records entry.now
             → IsErrOf result error.JournalFull ⊎ IsErrOf result error.NoMemory }
         ensures memory { IsErrOf result error.NoMemory → self.new ≡ self.old }
         ensures only { IfErr result IsCommitError }
@@ -335,8 +338,8 @@ impl<D: Disk> StateStore<D> {
         requires inc { (i : ℕ) → inc_after i entry.now ≡ i }
         ensures ok { OnOk result (self.new.records ≡ self.old.records ++ entry.now ∷ []) }
         ensures err { OnErr result (self.new.records ≡ self.old.records) }
-        ensures full { IsErrOf result error.JournalFull → (self.old.region.count ≡ 65536) × (self.new ≡ self.old) }
-        ensures full_comes { self.old.region.count ≡ 65536 → IsErrOf result error.JournalFull ⊎ IsErrOf result error.NoMemory }
+        ensures full { IsErrOf result error.JournalFull → (self.old.region.count ≡ journal_records) × (self.new ≡ self.old) }
+        ensures full_comes { self.old.region.count ≡ journal_records → IsErrOf result error.JournalFull ⊎ IsErrOf result error.NoMemory }
         ensures memory { IsErrOf result error.NoMemory → self.new ≡ self.old }
         ensures only { IfErr result IsCommitError }
         ensures failed { IsErrOf result error.Failed → D.faults self.old.disk < D.faults self.new.disk }

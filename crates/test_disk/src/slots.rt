@@ -2,6 +2,7 @@
 
 ghost use Rattle.std.specs.Prelude.{◌≡◌, ◌<◌, ◌≤◌, ◌+◌, length};
 ghost use Rattle.slot_store.specs.Slots.{slot_start};
+ghost use Rattle.petal_base.specs.Block.{block_bytes};
 
 use petal_base::{BLOCK_BYTES, Block};
 use petal_disk::{Disk, MemDisk};
@@ -28,8 +29,8 @@ fn slots(rt: HostRuntime) -> Result<(), Fail> {
 // The last byte of a slot.
 fn last_byte<D: Disk>(disk: &mut D, store: &SlotStore, content: &mut [u8], slot: u32) -> Option<u8>
     requires slot { slot < length store.now.used }
-    requires room { slot_start store.now.base slot + 65536 ≤ D.size disk.old }
-    requires content { length content.old ≡ 65536 }
+    requires room { slot_start store.now.base slot + block_bytes ≤ D.size disk.old }
+    requires content { length content.old ≡ block_bytes }
 {
     store.read(disk, slot, content).ok()?;
     content.last().copied()
@@ -38,7 +39,7 @@ fn last_byte<D: Disk>(disk: &mut D, store: &SlotStore, content: &mut [u8], slot:
 // Writes a block into a slot.
 fn is_written<D: Disk>(disk: &mut D, store: &SlotStore, slot: u32, block: &Block) -> bool
     requires slot { slot < length store.now.used }
-    requires room { slot_start store.now.base slot + 65536 ≤ D.size disk.old }
+    requires room { slot_start store.now.base slot + block_bytes ≤ D.size disk.old }
     ensures size { D.size disk.new ≡ D.size disk.old }
 {
     store.write(disk, slot, block).is_ok()

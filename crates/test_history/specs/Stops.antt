@@ -5,7 +5,7 @@ use Rattle.petal_command.specs.declared.command.Command.TheVariants.{Leave}
 use Rattle.script_lines.specs.declared.request.Line.{Line}
 use Rattle.script_lines.specs.declared.request.Request.TheVariants as request
 use Rattle.spec_rules.specs.Clients.{first_client}
-use Rattle.spec_rules.specs.Jobs.{journal_records}
+use Rattle.petal_base.specs.Limits.{journal_records}
 use Rattle.spec_rules.specs.Server.{Server, Own, first_server}
 use Rattle.spec_rules.specs.Store.{empty_store}
 use Rattle.spec_rules.specs.World.{Setting, World, start}

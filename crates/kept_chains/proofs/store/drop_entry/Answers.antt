@@ -18,14 +18,14 @@ returns-clause-change g c =
       done = on_ok c.drop_key.result _ _ _
           (λ content records told. dropped_is old new c.args.key order (content told) c.drop_key.ensures.rest
           (ap length (rw there at records) ∙ length-append old.log.records (kind.Drop c.args.key ∷ [])))
-          c.drop_key.ensures.content c.drop_key.ensures.records;
-      holds = c.drop_key.ensures.holds;
-      moments = λ told holds. drop_moments g.D.Disk old new c.args.key order (c.drop_key.ensures.any_moment told holds);
+          c.drop_key.ensures.content c.drop_key.ensures.committed.records;
+      holds = c.drop_key.ensures.committed.holds;
+      moments = λ told holds. drop_moments g.D.Disk old new c.args.key order (c.drop_key.ensures.committed.any_moment told holds);
       tickets = ap (λ (s : Holdings _). s.tickets) c.drop_key.ensures.rest;
       kept = c.drop_key.ensures.kept;
       errors = grind (arith, common_steps);
       memory = grind (arith, common_steps);
       full = λ is. record { count = (c.drop_key.ensures.full.0 is).0; over = refl; same = c.drop_key.ensures.full_rest is };
-      cause = c.drop_key.ensures.cause;
-      run = c.drop_key.ensures.run;
+      cause = c.drop_key.ensures.committed.cause;
+      run = c.drop_key.ensures.committed.run;
     }

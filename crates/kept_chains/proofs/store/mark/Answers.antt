@@ -8,15 +8,15 @@ returns g c =
     let only_now = (g.met.D.Disk g.world.𝓛 g.world.𝓜 g.world.𝓡 ((λ s x. x), (λ x. x), (λ x. x), λ x. x)).only_now in
     record {
       done = grind (arith, common_steps);
-      holds = c.mark.ensures.holds;
+      holds = c.mark.ensures.committed.holds;
       moments = λ told holds.
           mark_moments g.D.Disk only_now c.args.store.now c.mark.new.self c.args.kind c.args.cell c.mark.ensures.idle holds
-          (c.mark.ensures.any_moment told holds);
+          (c.mark.ensures.committed.any_moment told holds);
       tickets = grind (arith, common_steps);
       kept = c.mark.ensures.kept;
       errors = grind (arith, common_steps);
       memory = grind (arith, common_steps);
       full = grind (arith, common_steps);
-      cause = c.mark.ensures.cause;
-      run = c.mark.ensures.run;
+      cause = c.mark.ensures.committed.cause;
+      run = c.mark.ensures.committed.run;
     }

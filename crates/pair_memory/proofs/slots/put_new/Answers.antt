@@ -20,17 +20,17 @@ returns-in-Ok-clause-change g c =
     (record {
       out = out;
       content = rw c.block.ensures at c.in-Ok.ensures.content;
-      counted = ap length c.in-Ok.ensures.records ∙ length-append mid.log.records _;
+      counted = ap length c.in-Ok.ensures.committed.records ∙ length-append mid.log.records _;
       rest = c.put.ensures.rest;
       kept = tt;
       errors = tt;
       full = λ no. absurd (cc);
       full_rest = λ no. absurd (cc);
-      holds = c.in-Ok.ensures.holds;
+      holds = c.in-Ok.ensures.committed.holds;
       moments = λ told holds. put_moments g.D.Disk mid c.put.new.self c.args.key c.args.version c.in-Some.ticket c.args.block.now
-          (rw c.block.ensures at (c.put.ensures.any_moment told holds));
-      cause = record { later = c.put.ensures.cause.later; failed = λ no. absurd (cc) };
-      run = c.put.ensures.run;
+          (rw c.block.ensures at (c.put.ensures.committed.any_moment told holds));
+      cause = record { later = c.put.ensures.committed.cause.later; failed = λ no. absurd (cc) };
+      run = c.put.ensures.committed.run;
     }) _ (sym room)
 
 pub returns-in-Err-clause-change : goal.returns-in-Err-clause-change
@@ -53,7 +53,11 @@ returns-in-Err-clause-change g c =
       full_rest = λ is. c.in-Err.ensures.full_rest (ap Err (err_is c.in-Err.error JournalFull is));
       holds = λ _ _. tt;
       moments = λ told holds. put_moments g.D.Disk mid c.put.new.self c.args.key c.args.version c.in-Some.ticket c.args.block.now
-          (rw c.block.ensures at (c.put.ensures.any_moment told holds));
-      cause = record { later = c.put.ensures.cause.later; failed = λ is. c.in-Err.ensures.cause.failed (ap Err (err_is c.in-Err.error Failed is)) };
-      run = c.put.ensures.run;
+          (rw c.block.ensures at (c.put.ensures.committed.any_moment told holds));
+      cause = record {
+        later = c.put.ensures.committed.cause.later;
+        failed = λ is. c.in-Err.ensures.committed.cause.failed
+            (ap Err (err_is c.in-Err.error Failed is));
+      };
+      run = c.put.ensures.committed.run;
     }) _ (sym room)

@@ -1,6 +1,6 @@
-use Rattle.std.proofs.Common.{◌≡◌, ◌<◌, true, false, map, take, length, sym, ◌∙◌, arith, []}
+use Rattle.std.proofs.Common.{◌≡◌, ◌+◌, ◌<◌, true, false, map, take, length, sym, ◌∙◌, arith, []}
 use Rattle.std.specs.String.{string_bytes}
-use Rattle.petal_script.specs.Script.{script_of}
+use Rattle.petal_script.specs.Script.{script_of, longest_script}
 use Rattle.petal_run.specs.Asked.{by_text}
 use Rattle.petal_run.specs.Words.{is_run}
 use Rattle.petal_run.proofs.Ends.{read-whole}
@@ -20,10 +20,11 @@ returns-then-not-is_run-clause-last_phase g c = λ reads writes failed.
 pub returns-clause-done : goal.returns-clause-done
 returns-clause-done g c = λ reads writes ended.
     let known : is_run (map string_bytes c.args.words.now) ≡ true = sym c.is_run.ensures ∙ c.if-not-is_run.false in
-    let text_is : c.deref.result.now ≡ take 1048577 (g.R.Source.left c.args.source.now) = c.deref.ensures.value ∙ c.in-Ok.ensures.bytes reads in
+    let text_is : c.deref.result.now ≡ take (longest_script + 1) (g.R.Source.left c.args.source.now) = c.deref.ensures.value ∙ c.in-Ok.ensures.bytes reads in
     let whole : c.run_text.result.status ≡ 0 → g.R.Source.left c.read_text.new.source ≡ [] = λ played.
-    let short : length (take 1048577 (g.R.Source.left c.args.source.now)) < 1048577 = rw (← text_is) (omega (arith, c.run_text.ensures.short played)) in
-    c.in-Ok.ensures.rest reads ∙ short-drop 1048577 (g.R.Source.left c.args.source.now) short in
+    let short : length (take (longest_script + 1) (g.R.Source.left c.args.source.now)) < longest_script + 1 =
+    rw (← text_is) (omega (arith, c.run_text.ensures.short played)) in
+    c.in-Ok.ensures.rest reads ∙ short-drop (longest_script + 1) (g.R.Source.left c.args.source.now) short in
     rw (known, ← text_is)
     (read-whole (by_text (script_of c.deref.result.now)) c.run_text.result.status c.run_text.result.history.records
     (g.R.Source.left c.read_text.new.source) (g.W.Sink.taken c.args.sink.now) (g.W.Sink.taken c.run_text.new.sink)
@@ -33,10 +34,10 @@ pub returns-in-Err-NoMemory-clause-in_part : goal.returns-in-Err-NoMemory-clause
 returns-in-Err-NoMemory-clause-in_part g c = λ reads writes three.
     let known : is_run (map string_bytes c.args.words.now) ≡ true = sym c.is_run.ensures ∙ c.if-not-is_run.false in
     rw (known, c.without_history-in-Err-NoMemory.ensures.history)
-    (c.nothing_is_a_part.ensures.part (take 1048577 (g.R.Source.left c.args.source.now)) (g.W.Sink.taken c.args.sink.now))
+    (c.nothing_is_a_part.ensures.part (take (longest_script + 1) (g.R.Source.left c.args.source.now)) (g.W.Sink.taken c.args.sink.now))
 
 pub returns-in-Err-NoMemory-clause-by_phases : goal.returns-in-Err-NoMemory-clause-by_phases
 returns-in-Err-NoMemory-clause-by_phases g c = λ reads writes three.
     let known : is_run (map string_bytes c.args.words.now) ≡ true = sym c.is_run.ensures ∙ c.if-not-is_run.false in
     rw (known, c.without_history-in-Err-NoMemory.ensures.history)
-    (c.nothing_is_a_part.ensures.by_phases (take 1048577 (g.R.Source.left c.args.source.now)) (g.W.Sink.taken c.args.sink.now))
+    (c.nothing_is_a_part.ensures.by_phases (take (longest_script + 1) (g.R.Source.left c.args.source.now)) (g.W.Sink.taken c.args.sink.now))

@@ -9,11 +9,12 @@ use Rattle.data_device.specs.Slots.{slot_start, slot_bytes}
 use Rattle.server_store.proofs.Commits.{held-following, slot-following, keeps_after, keeps-still, shows-still, committed, logs_of, shows-put, ShowsChange, on_ok}
 use Rattle.server_store.proofs.Contents.{held-apart, slot-written}
 use Rattle.server_store.proofs.commit.commit_put.Goals as goal
+use Rattle.petal_base.specs.Block.{block_bytes}
 
 pub returns-in_err-write-clause-contents : goal.returns-in_err-write-clause-contents
 returns-in_err-write-clause-contents g c told es free =
     let slot = c.args.entry.now.slot in
-    let torn : Torn (slot_start slot) 65536 (g.D.Disk.seen c.args.disk.now) (g.D.Disk.seen c.write.new.disk) =
+    let torn : Torn (slot_start slot) block_bytes (g.D.Disk.seen c.args.disk.now) (g.D.Disk.seen c.write.new.disk) =
     rw c.requires.base at c.write.ensures.torn told in
     held-apart es slot _ _ free torn
 
@@ -21,7 +22,7 @@ pub returns-in_err-write-clause-either : goal.returns-in_err-write-clause-either
 returns-in_err-write-clause-either g c told picture h free =
     let log = c.args.log.now in
     let slot = c.args.entry.now.slot in
-    let torn : Torn (slot_start slot) 65536 (g.D.Disk.seen c.args.disk.now) (g.D.Disk.seen c.write.new.disk) =
+    let torn : Torn (slot_start slot) block_bytes (g.D.Disk.seen c.args.disk.now) (g.D.Disk.seen c.write.new.disk) =
     rw c.requires.base at c.write.ensures.torn told in
     inl (shows-still (length c.args.slots.now.used) log.fresh log.records picture slot _ _ free torn h.now)
 
@@ -30,14 +31,14 @@ returns-in_err-write-clause-any_moment g c told picture h free =
     let log = c.args.log.now in
     let slot = c.args.entry.now.slot in
     let moments : LeavesOnly g.D.Disk.moment g.D.Disk.left_since c.args.disk.now c.write.new.disk
-    (LeftByWrite (slot_start slot) 65536 (g.D.Disk.may_leave c.args.disk.now)) = rw c.requires.base at c.write.ensures.any_moment in
+    (LeftByWrite (slot_start slot) block_bytes (g.D.Disk.may_leave c.args.disk.now)) = rw c.requires.base at c.write.ensures.any_moment in
     weaker g.D.Disk.moment g.D.Disk.left_since _ _ _ _ moments
     (λ x l. inl (shows-still (length c.args.slots.now.used) log.fresh log.records picture slot l.0 x free l.2 (h.left l.0 l.1)))
 
 pub returns-clause-contents : goal.returns-clause-contents
 returns-clause-contents g c told es free =
     let slot = c.args.entry.now.slot in
-    let torn : Torn (slot_start slot) 65536 (g.D.Disk.seen c.args.disk.now) (g.D.Disk.seen c.write.new.disk) =
+    let torn : Torn (slot_start slot) block_bytes (g.D.Disk.seen c.args.disk.now) (g.D.Disk.seen c.write.new.disk) =
     rw c.requires.base at c.write.ensures.torn told in
     held-following es _ _ (c.append.ensures.outside told) ∙ held-apart es slot _ _ free torn
 
@@ -49,7 +50,7 @@ returns-clause-content g c =
     let y = g.D.Disk.seen c.write.new.disk in
     let block = c.args.block.now in
     on_ok c.append.result _ _ _ (λ records after told.
-    let fits : slot_start slot + 65536 ≤ length x = omega (arith, laws.whole c.args.disk.now told, c.requires.slot, c.requires.room) in
+    let fits : slot_start slot + block_bytes ≤ length x = omega (arith, laws.whole c.args.disk.now told, c.requires.slot, c.requires.room) in
     let now : y ≡ written x (slot_start slot) block = rw c.requires.base at c.in_ok-write.ensures.written told in
     slot-following slot _ _ (c.append.ensures.outside told) ∙ ap (λ f. slot_bytes f slot) now ∙ slot-written slot x block c.write.ensures.block fits)
     c.append.ensures.ok c.append.ensures.ok
@@ -66,11 +67,11 @@ returns-clause-keeps g c told picture h free =
     let y = g.D.Disk.seen c.write.new.disk in
     let block = c.args.block.now in
     let kept = kept_of log.fresh log.records in
-    let torn : Torn (slot_start slot) 65536 x y = rw c.requires.base at c.write.ensures.torn told in
-    let follows : Follows (Torn (slot_start slot) 65536) (g.D.Disk.may_leave c.args.disk.now) (g.D.Disk.may_leave c.write.new.disk) =
+    let torn : Torn (slot_start slot) block_bytes x y = rw c.requires.base at c.write.ensures.torn told in
+    let follows : Follows (Torn (slot_start slot) block_bytes) (g.D.Disk.may_leave c.args.disk.now) (g.D.Disk.may_leave c.write.new.disk) =
     rw c.requires.base at c.write.ensures.crash in
     let still = keeps-still n log picture slot x y _ _ free torn follows h in
-    let within : slot_start slot + 65536 ≤ length x = omega (arith, laws.whole c.args.disk.now told, c.requires.slot, c.requires.room) in
+    let within : slot_start slot + block_bytes ≤ length x = omega (arith, laws.whole c.args.disk.now told, c.requires.slot, c.requires.room) in
     let now : y ≡ written x (slot_start slot) block = rw c.requires.base at c.in_ok-write.ensures.written told in
     let content : slot_bytes y slot ≡ block = ap (λ f. slot_bytes f slot) now ∙ slot-written slot x block c.write.ensures.block within in
     let change = shows-put y kept e block content in
@@ -93,11 +94,11 @@ returns-clause-either g c told picture h free =
     let y = g.D.Disk.seen c.write.new.disk in
     let block = c.args.block.now in
     let kept = kept_of log.fresh log.records in
-    let torn : Torn (slot_start slot) 65536 x y = rw c.requires.base at c.write.ensures.torn told in
-    let follows : Follows (Torn (slot_start slot) 65536) (g.D.Disk.may_leave c.args.disk.now) (g.D.Disk.may_leave c.write.new.disk) =
+    let torn : Torn (slot_start slot) block_bytes x y = rw c.requires.base at c.write.ensures.torn told in
+    let follows : Follows (Torn (slot_start slot) block_bytes) (g.D.Disk.may_leave c.args.disk.now) (g.D.Disk.may_leave c.write.new.disk) =
     rw c.requires.base at c.write.ensures.crash in
     let still = keeps-still n log picture slot x y _ _ free torn follows h in
-    let within : slot_start slot + 65536 ≤ length x = omega (arith, laws.whole c.args.disk.now told, c.requires.slot, c.requires.room) in
+    let within : slot_start slot + block_bytes ≤ length x = omega (arith, laws.whole c.args.disk.now told, c.requires.slot, c.requires.room) in
     let now : y ≡ written x (slot_start slot) block = rw c.requires.base at c.in_ok-write.ensures.written told in
     let content : slot_bytes y slot ≡ block = ap (λ f. slot_bytes f slot) now ∙ slot-written slot x block c.write.ensures.block within in
     committed n log picture r block y _ still.now (c.append.ensures.outside told) (shows-put y kept e block content)
@@ -115,17 +116,17 @@ returns-clause-any_moment g c told picture h free =
     let y = g.D.Disk.seen c.write.new.disk in
     let block = c.args.block.now in
     let kept = kept_of log.fresh log.records in
-    let torn : Torn (slot_start slot) 65536 x y = rw c.requires.base at c.write.ensures.torn told in
-    let follows : Follows (Torn (slot_start slot) 65536) (g.D.Disk.may_leave c.args.disk.now) (g.D.Disk.may_leave c.write.new.disk) =
+    let torn : Torn (slot_start slot) block_bytes x y = rw c.requires.base at c.write.ensures.torn told in
+    let follows : Follows (Torn (slot_start slot) block_bytes) (g.D.Disk.may_leave c.args.disk.now) (g.D.Disk.may_leave c.write.new.disk) =
     rw c.requires.base at c.write.ensures.crash in
     let still = keeps-still n log picture slot x y _ _ free torn follows h in
-    let within : slot_start slot + 65536 ≤ length x = omega (arith, laws.whole c.args.disk.now told, c.requires.slot, c.requires.room) in
+    let within : slot_start slot + block_bytes ≤ length x = omega (arith, laws.whole c.args.disk.now told, c.requires.slot, c.requires.room) in
     let now : y ≡ written x (slot_start slot) block = rw c.requires.base at c.in_ok-write.ensures.written told in
     let content : slot_bytes y slot ≡ block = ap (λ f. slot_bytes f slot) now ∙ slot-written slot x block c.write.ensures.block within in
     let change = shows-put y kept e block content in
     let only = c.in_ok-write.ensures.durable told in
     let moments : LeavesOnly g.D.Disk.moment g.D.Disk.left_since c.args.disk.now c.write.new.disk
-    (LeftByWrite (slot_start slot) 65536 (g.D.Disk.may_leave c.args.disk.now)) = rw c.requires.base at c.write.ensures.any_moment in
+    (LeftByWrite (slot_start slot) block_bytes (g.D.Disk.may_leave c.args.disk.now)) = rw c.requires.base at c.write.ensures.any_moment in
     let first = weaker g.D.Disk.moment g.D.Disk.left_since _ _ _ (λ f. ShowsEither f n log picture r block) moments
     (λ f l. inl (shows-still n log.fresh log.records picture slot l.0 f free l.2 (h.left l.0 l.1))) in
     joined g.D.Disk.moment g.D.Disk.left_since _ _ _ _ _ first (c.append.ensures.any_moment told n (logs_of n log picture _ _ still) (c.requires.slot, free))

@@ -1,8 +1,8 @@
 use Rattle.std.proofs.Common.{◌∙◌, ◌*◌, inr, List, ℕ, [], ◌∷◌, arith, ap, subst}
-use Rattle.block_journal.specs.Records.{Stands}
 use Rattle.block_journal.proofs.Gates.{shut_still}
 use Rattle.state_store.proofs.Devices.{IsPlaced, placed, first_record}
 use Rattle.state_store.proofs.device.write_first.Goals as goal
+use Rattle.state_store.specs.Device.{JournalStands}
 
 pub returns-in_err-append-clause-any_moment : goal.returns-in_err-append-clause-any_moment
 returns-in_err-append-clause-any_moment g c told =
@@ -49,5 +49,5 @@ returns-clause-stands g c told =
     let region = c.in_ok-journal.ensures.region in
     let at : IsPlaced c.append.new.self = record { base = place.0 ∙ ap (λ r. r.base) region; limit = place.1 ∙ ap (λ r. r.limit) region } in
     let now = (c.in_ok-append.ensures.appended told [] (c.in_ok-journal.ensures.stored told)).now in
-    subst (λ (body : List ℕ). Stands 128 4096 65536 (g.D.Disk.seen c.append.new.disk) (body ∷ [])) c.body_of.ensures.spelled
+    subst (λ (body : List ℕ). JournalStands (g.D.Disk.seen c.append.new.disk) (body ∷ [])) c.body_of.ensures.spelled
     (placed c.append.new.self _ _ at now)

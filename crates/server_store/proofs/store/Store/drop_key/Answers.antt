@@ -1,4 +1,5 @@
-use Rattle.std.proofs.Common.{◌∙◌, List, sym, ap}
+use Rattle.std.proofs.Common.{◌∙◌, List, sym, ap, arith}
+use Rattle.std.proofs.lemmas.Grind.{common_steps}
 use Rattle.physical_map.specs.declared.entry.Entry.{Entry}
 use Rattle.physical_map.specs.Entries.{without_key}
 use Rattle.server_store.specs.Holdings.{listed}
@@ -16,9 +17,6 @@ pub returns-in_err-commit-clause-listed : goal.returns-in_err-commit-clause-list
 returns-in_err-commit-clause-listed g c = on_err c.from_residual.result
     _ (rw (← c.self.view_is) (listed_still (g.D.Disk.seen c.self.inside.disk) (g.D.Disk.seen c.commit.new.disk) c.self.inside.ledger.entries))
 
-pub returns-in_err-commit-clause-either : goal.returns-in_err-commit-clause-either
-returns-in_err-commit-clause-either g c told = rw (← c.self.view_is) (λ h. c.commit.ensures.either told c.self.inside.ledger.slots _ h)
-
 pub returns-clause-ok : goal.returns-clause-ok
 returns-clause-ok g c =
     let x = g.D.Disk.seen c.self.inside.disk in
@@ -32,12 +30,29 @@ returns-clause-content g c told =
     let es = c.self.inside.ledger.entries in
     rw (c.drop_key.ensures, c.commit.ensures.contents told (without_key es c.args.key), ← c.self.view_is) (map-without x es c.args.key)
 
-pub returns-clause-holds : goal.returns-clause-holds
-returns-clause-holds g c told =
+pub returns-in_err-commit-clause-committed : goal.returns-in_err-commit-clause-committed
+returns-in_err-commit-clause-committed g c =
+    record {
+      records = grind (arith, common_steps);
+      unrecorded = grind (arith, common_steps);
+      holds = grind (arith, common_steps);
+      either = λ told. rw (← c.self.view_is) (λ h. c.commit.ensures.either told c.self.inside.ledger.slots _ h);
+      any_moment = λ told. rw (← c.self.view_is) (λ h. c.commit.ensures.any_moment told c.self.inside.ledger.slots _ h);
+      cause = grind (arith, common_steps);
+      run = grind (arith, common_steps);
+    }
+
+pub returns-clause-committed : goal.returns-clause-committed
+returns-clause-committed g c =
     let x = g.D.Disk.seen c.self.inside.disk in
     let es = c.self.inside.ledger.entries in
-    rw (← c.self.view_is, c.drop_key.ensures, c.commit.ensures.contents told (without_key es c.args.key) ∙ map-without x es c.args.key)
-    (λ h. c.in_ok-commit.ensures.keeps told c.self.inside.ledger.slots _ h)
-
-pub returns-clause-either : goal.returns-clause-either
-returns-clause-either g c told = rw (← c.self.view_is) (λ h. c.commit.ensures.either told c.self.inside.ledger.slots _ h)
+    record {
+      records = grind (arith, common_steps);
+      unrecorded = grind (arith, common_steps);
+      holds = λ told. rw (← c.self.view_is, c.drop_key.ensures, c.commit.ensures.contents told (without_key es c.args.key) ∙ map-without x es c.args.key)
+          (λ h. c.in_ok-commit.ensures.keeps told c.self.inside.ledger.slots _ h);
+      either = λ told. rw (← c.self.view_is) (λ h. c.commit.ensures.either told c.self.inside.ledger.slots _ h);
+      any_moment = λ told. rw (← c.self.view_is) (λ h. c.commit.ensures.any_moment told c.self.inside.ledger.slots _ h);
+      cause = grind (arith, common_steps);
+      run = grind (arith, common_steps);
+    }

@@ -1,4 +1,5 @@
-use Rattle.std.proofs.Common.{◌≡◌, ◌∙◌, List, true, false, not, refl, sym, ap, subst}
+use Rattle.std.proofs.Common.{◌≡◌, ◌∙◌, List, true, false, not, refl, sym, ap, subst, arith}
+use Rattle.std.proofs.lemmas.Grind.{common_steps}
 use Rattle.std.specs.List.Sorted.{IsStrictlySortedBy}
 use Rattle.busy_marks.specs.declared.marks.Mark.{Mark}
 use Rattle.busy_marks.specs.Marks.{has_mark, mark_cmp, without_mark}
@@ -19,13 +20,6 @@ invariant_of-self-in-Err g c =
 pub returns-in-Ok-clause-listed : goal.returns-in-Ok-clause-listed
 returns-in-Ok-clause-listed g c = rw (← c.self.view_is) (listed_still _ _ c.self.inside.ledger.entries)
 
-pub returns-in-Ok-clause-holds : goal.returns-in-Ok-clause-holds
-returns-in-Ok-clause-holds g c told = rw (← c.self.view_is, c.in_ok-set.ensures.ok, c.commit.ensures.contents told c.self.inside.ledger.entries)
-    (λ h. c.in-Ok.ensures.keeps told c.self.inside.ledger.slots _ h)
-
-pub returns-in-Ok-clause-either : goal.returns-in-Ok-clause-either
-returns-in-Ok-clause-either g c told = rw (← c.self.view_is) (λ h. c.commit.ensures.either told c.self.inside.ledger.slots _ h)
-
 pub returns-in-Err-clause-err : goal.returns-in-Err-clause-err
 returns-in-Err-clause-err g c =
     let m : Mark = record { kind = c.args.kind; cell = c.args.cell } in
@@ -45,9 +39,6 @@ returns-in-Err-clause-full g c is =
     let same = c.in-Err.ensures.unchanged is in
     rw (← c.self.view_is) (c.in-Err.ensures.full.0 is, ap not none, rw (back, same.0, same.1) refl)
 
-pub returns-in-Err-clause-either : goal.returns-in-Err-clause-either
-returns-in-Err-clause-either g c told = rw (← c.self.view_is) (λ h. c.commit.ensures.either told c.self.inside.ledger.slots _ h)
-
 pub returns-then-has-clause-ok : goal.returns-then-has-clause-ok
 returns-then-has-clause-ok g c =
     let m : Mark = record { kind = c.args.kind; cell = c.args.cell } in
@@ -56,3 +47,28 @@ returns-then-has-clause-ok g c =
     let order : IsStrictlySortedBy mark_cmp marks =
     subst (λ (k : Kept). IsStrictlySortedBy mark_cmp k.marks) c.self.invariant.1 (marks_sorted c.self.inside.log.fresh c.self.inside.log.records) in
     rw (← c.self.view_is) (sym (set_already m marks order there))
+
+pub returns-in-Ok-clause-committed : goal.returns-in-Ok-clause-committed
+returns-in-Ok-clause-committed g c =
+    record {
+      records = grind (arith, common_steps);
+      unrecorded = grind (arith, common_steps);
+      holds = λ told. rw (← c.self.view_is, c.in_ok-set.ensures.ok, c.commit.ensures.contents told c.self.inside.ledger.entries)
+          (λ h. c.in-Ok.ensures.keeps told c.self.inside.ledger.slots _ h);
+      either = λ told. rw (← c.self.view_is) (λ h. c.commit.ensures.either told c.self.inside.ledger.slots _ h);
+      any_moment = λ told. rw (← c.self.view_is) (λ h. c.commit.ensures.any_moment told c.self.inside.ledger.slots _ h);
+      cause = grind (arith, common_steps);
+      run = grind (arith, common_steps);
+    }
+
+pub returns-in-Err-clause-committed : goal.returns-in-Err-clause-committed
+returns-in-Err-clause-committed g c =
+    record {
+      records = grind (arith, common_steps);
+      unrecorded = grind (arith, common_steps);
+      holds = grind (arith, common_steps);
+      either = λ told. rw (← c.self.view_is) (λ h. c.commit.ensures.either told c.self.inside.ledger.slots _ h);
+      any_moment = λ told. rw (← c.self.view_is) (λ h. c.commit.ensures.any_moment told c.self.inside.ledger.slots _ h);
+      cause = grind (arith, common_steps);
+      run = grind (arith, common_steps);
+    }

@@ -1,4 +1,5 @@
-use Rattle.std.proofs.Common.{◌≢◌, ◌∙◌, ℕ, List, sym, ap, subst}
+use Rattle.std.proofs.Common.{◌≢◌, ◌∙◌, ℕ, List, sym, ap, subst, arith}
+use Rattle.std.proofs.lemmas.Grind.{common_steps}
 use Rattle.std.specs.List.{All, Contains}
 use Rattle.physical_map.specs.declared.entry.Entry.{Entry}
 use Rattle.physical_map.specs.Entries.{key_of}
@@ -29,55 +30,46 @@ returns-in-Ok-clause-content g c told =
     rw (c.settle.ensures, ← c.self.view_is)
     (put_shown (g.D.Disk.seen own.disk) (g.D.Disk.seen c.commit_put.new.disk) es e c.args.block.now (contents apart) content)
 
-pub returns-in-Ok-clause-holds : goal.returns-in-Ok-clause-holds
-returns-in-Ok-clause-holds g c told =
+pub returns-in-Err-clause-listed : goal.returns-in-Err-clause-listed
+returns-in-Err-clause-listed g c = rw (c.give_back-in-Err.ensures, ← c.self.view_is) (listed_still _ _ c.self.inside.ledger.entries)
+
+pub returns-in-Ok-clause-committed : goal.returns-in-Ok-clause-committed
+returns-in-Ok-clause-committed g c =
     let own = c.self.inside in
     let es = own.ledger.entries in
     let slot = c.args.ticket in
     let e : Entry = record { key = c.args.key; slot = slot; version = c.args.version } in
     let has : Contains own.ledger.tickets slot = rw (← c.self.view_is) at c.requires in
     let apart = of-all (λ (s : ℕ). All (λ (e : Entry). e.slot ≢ s) es) own.ledger.tickets slot c.slots.ensures.apart has in
-    let contents = rw c.slot.ensures at c.commit_put.ensures.contents told es in
-    let content = rw c.slot.ensures at c.in-Ok.ensures.content told in
-    let shown = put_shown (g.D.Disk.seen own.disk) (g.D.Disk.seen c.commit_put.new.disk) es e c.args.block.now (contents apart) content in
     let free = subst (λ (k : Kept). All (λ (e : Entry). e.slot ≢ slot) k.entries) (sym c.self.invariant.1) apart in
-    rw (c.settle.ensures, ← c.self.view_is, shown) (λ h. (rw (c.slot.ensures, c.slots.ensures.count) at c.in-Ok.ensures.keeps told) _ h free)
+    record {
+      records = grind (arith, common_steps);
+      unrecorded = grind (arith, common_steps);
+      holds = λ told.
+          let contents = rw c.slot.ensures at c.commit_put.ensures.contents told es in
+          let content = rw c.slot.ensures at c.in-Ok.ensures.content told in
+          let shown = put_shown (g.D.Disk.seen own.disk) (g.D.Disk.seen c.commit_put.new.disk) es e c.args.block.now (contents apart) content in
+          rw (c.settle.ensures, ← c.self.view_is, shown) (λ h. (rw (c.slot.ensures, c.slots.ensures.count) at c.in-Ok.ensures.keeps told) _ h free);
+      either = λ told. rw (← c.self.view_is) (λ h. (rw (c.slot.ensures, c.slots.ensures.count) at c.commit_put.ensures.either told) _ h free);
+      any_moment = λ told. rw (← c.self.view_is) (λ h. (rw (c.slot.ensures, c.slots.ensures.count) at c.commit_put.ensures.any_moment told) _ h free);
+      cause = grind (arith, common_steps);
+      run = grind (arith, common_steps);
+    }
 
-pub returns-in-Ok-clause-either : goal.returns-in-Ok-clause-either
-returns-in-Ok-clause-either g c told =
+pub returns-in-Err-clause-committed : goal.returns-in-Err-clause-committed
+returns-in-Err-clause-committed g c =
     let own = c.self.inside in
+    let es = own.ledger.entries in
     let slot = c.args.ticket in
     let has : Contains own.ledger.tickets slot = rw (← c.self.view_is) at c.requires in
-    let apart = of-all (λ (s : ℕ). All (λ (e : Entry). e.slot ≢ s) own.ledger.entries) own.ledger.tickets slot c.slots.ensures.apart has in
+    let apart = of-all (λ (s : ℕ). All (λ (e : Entry). e.slot ≢ s) es) own.ledger.tickets slot c.slots.ensures.apart has in
     let free = subst (λ (k : Kept). All (λ (e : Entry). e.slot ≢ slot) k.entries) (sym c.self.invariant.1) apart in
-    rw (← c.self.view_is) (λ h. (rw (c.slot.ensures, c.slots.ensures.count) at c.commit_put.ensures.either told) _ h free)
-
-pub returns-in-Ok-clause-any_moment : goal.returns-in-Ok-clause-any_moment
-returns-in-Ok-clause-any_moment g c told =
-    let own = c.self.inside in
-    let slot = c.args.ticket in
-    let has : Contains own.ledger.tickets slot = rw (← c.self.view_is) at c.requires in
-    let apart = of-all (λ (s : ℕ). All (λ (e : Entry). e.slot ≢ s) own.ledger.entries) own.ledger.tickets slot c.slots.ensures.apart has in
-    let free = subst (λ (k : Kept). All (λ (e : Entry). e.slot ≢ slot) k.entries) (sym c.self.invariant.1) apart in
-    rw (← c.self.view_is) (λ h. (rw (c.slot.ensures, c.slots.ensures.count) at c.commit_put.ensures.any_moment told) _ h free)
-
-pub returns-in-Err-clause-listed : goal.returns-in-Err-clause-listed
-returns-in-Err-clause-listed g c = rw (c.give_back-in-Err.ensures, ← c.self.view_is) (listed_still _ _ c.self.inside.ledger.entries)
-
-pub returns-in-Err-clause-either : goal.returns-in-Err-clause-either
-returns-in-Err-clause-either g c told =
-    let own = c.self.inside in
-    let slot = c.args.ticket in
-    let has : Contains own.ledger.tickets slot = rw (← c.self.view_is) at c.requires in
-    let apart = of-all (λ (s : ℕ). All (λ (e : Entry). e.slot ≢ s) own.ledger.entries) own.ledger.tickets slot c.slots.ensures.apart has in
-    let free = subst (λ (k : Kept). All (λ (e : Entry). e.slot ≢ slot) k.entries) (sym c.self.invariant.1) apart in
-    rw (← c.self.view_is) (λ h. (rw (c.slot.ensures, c.slots.ensures.count) at c.commit_put.ensures.either told) _ h free)
-
-pub returns-in-Err-clause-any_moment : goal.returns-in-Err-clause-any_moment
-returns-in-Err-clause-any_moment g c told =
-    let own = c.self.inside in
-    let slot = c.args.ticket in
-    let has : Contains own.ledger.tickets slot = rw (← c.self.view_is) at c.requires in
-    let apart = of-all (λ (s : ℕ). All (λ (e : Entry). e.slot ≢ s) own.ledger.entries) own.ledger.tickets slot c.slots.ensures.apart has in
-    let free = subst (λ (k : Kept). All (λ (e : Entry). e.slot ≢ slot) k.entries) (sym c.self.invariant.1) apart in
-    rw (← c.self.view_is) (λ h. (rw (c.slot.ensures, c.slots.ensures.count) at c.commit_put.ensures.any_moment told) _ h free)
+    record {
+      records = grind (arith, common_steps);
+      unrecorded = grind (arith, common_steps);
+      holds = grind (arith, common_steps);
+      either = λ told. rw (← c.self.view_is) (λ h. (rw (c.slot.ensures, c.slots.ensures.count) at c.commit_put.ensures.either told) _ h free);
+      any_moment = λ told. rw (← c.self.view_is) (λ h. (rw (c.slot.ensures, c.slots.ensures.count) at c.commit_put.ensures.any_moment told) _ h free);
+      cause = grind (arith, common_steps);
+      run = grind (arith, common_steps);
+    }

@@ -3,6 +3,7 @@ use Rattle.petal_disk.specs.Disk.{part}
 use Rattle.data_device.specs.Slots.{slot_start}
 use Rattle.server_store.proofs.Contents.{found-listed, found-content}
 use Rattle.server_store.proofs.store.Store.read.Goals as goal
+use Rattle.petal_base.specs.Block.{block_bytes}
 
 pub returns-in_ok-read-in-Some-clause-found : goal.returns-in_ok-read-in-Some-clause-found
 returns-in_ok-read-in-Some-clause-found g c =
@@ -12,7 +13,8 @@ returns-in_ok-read-in-Some-clause-found g c =
 pub returns-in_ok-read-in-Some-clause-content : goal.returns-in_ok-read-in-Some-clause-content
 returns-in_ok-read-in-Some-clause-content g c told =
     let file = g.D.Disk.seen c.self.inside.disk in
-    let bytes : c.read.new.into ≡ part file (slot_start c.in-Some.entry.slot) 65536 = rw c.slots.ensures.base at c.in_ok-read-in-Some.ensures.bytes told in
+    let bytes : c.read.new.into ≡ part file (slot_start c.in-Some.entry.slot) block_bytes =
+    rw c.slots.ensures.base at c.in_ok-read-in-Some.ensures.bytes told in
     rw (← c.self.view_is) (bytes ∙ found-content file (record { map = c.args.map; block = c.args.block; epoch = c.args.epoch }) c.self.inside.ledger.entries
     (Some c.in-Some.entry) (sym c.in-Some.is ∙ c.lookup-found.ensures.found))
 

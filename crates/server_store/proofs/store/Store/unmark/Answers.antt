@@ -1,4 +1,5 @@
-use Rattle.std.proofs.Common.{◌≡◌, ◌∙◌, false, sym}
+use Rattle.std.proofs.Common.{◌≡◌, ◌∙◌, false, sym, arith}
+use Rattle.std.proofs.lemmas.Grind.{common_steps}
 use Rattle.busy_marks.specs.declared.marks.Mark.{Mark}
 use Rattle.busy_marks.specs.Marks.{has_mark}
 use Rattle.busy_marks.proofs.Sets.{not_marked}
@@ -15,15 +16,30 @@ returns-then-not-has-clause-ok g c =
 pub returns-in_err-commit-clause-listed : goal.returns-in_err-commit-clause-listed
 returns-in_err-commit-clause-listed g c = rw (← c.self.view_is) (listed_still _ _ c.self.inside.ledger.entries)
 
-pub returns-in_err-commit-clause-either : goal.returns-in_err-commit-clause-either
-returns-in_err-commit-clause-either g c told = rw (← c.self.view_is) (λ h. c.commit.ensures.either told c.self.inside.ledger.slots _ h)
-
 pub returns-clause-listed : goal.returns-clause-listed
 returns-clause-listed g c = rw (← c.self.view_is) (listed_still _ _ c.self.inside.ledger.entries)
 
-pub returns-clause-holds : goal.returns-clause-holds
-returns-clause-holds g c told = rw (← c.self.view_is, c.clear.ensures, c.commit.ensures.contents told c.self.inside.ledger.entries)
-    (λ h. c.in_ok-commit.ensures.keeps told c.self.inside.ledger.slots _ h)
+pub returns-in_err-commit-clause-committed : goal.returns-in_err-commit-clause-committed
+returns-in_err-commit-clause-committed g c =
+    record {
+      records = grind (arith, common_steps);
+      unrecorded = grind (arith, common_steps);
+      holds = grind (arith, common_steps);
+      either = λ told. rw (← c.self.view_is) (λ h. c.commit.ensures.either told c.self.inside.ledger.slots _ h);
+      any_moment = λ told. rw (← c.self.view_is) (λ h. c.commit.ensures.any_moment told c.self.inside.ledger.slots _ h);
+      cause = grind (arith, common_steps);
+      run = grind (arith, common_steps);
+    }
 
-pub returns-clause-either : goal.returns-clause-either
-returns-clause-either g c told = rw (← c.self.view_is) (λ h. c.commit.ensures.either told c.self.inside.ledger.slots _ h)
+pub returns-clause-committed : goal.returns-clause-committed
+returns-clause-committed g c =
+    record {
+      records = grind (arith, common_steps);
+      unrecorded = grind (arith, common_steps);
+      holds = λ told. rw (← c.self.view_is, c.clear.ensures, c.commit.ensures.contents told c.self.inside.ledger.entries)
+          (λ h. c.in_ok-commit.ensures.keeps told c.self.inside.ledger.slots _ h);
+      either = λ told. rw (← c.self.view_is) (λ h. c.commit.ensures.either told c.self.inside.ledger.slots _ h);
+      any_moment = λ told. rw (← c.self.view_is) (λ h. c.commit.ensures.any_moment told c.self.inside.ledger.slots _ h);
+      cause = grind (arith, common_steps);
+      run = grind (arith, common_steps);
+    }
