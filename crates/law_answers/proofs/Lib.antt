@@ -23,10 +23,9 @@ pub mod Settled
 pub mod Frames
 pub mod Slots
 pub mod Jobs
-pub mod Leads
 pub mod Sent
+pub mod Reasons
 pub mod Seconds
-pub mod Filled
 pub mod Refused
 pub mod Copies
 pub mod StepRefusals

@@ -26,7 +26,7 @@ use Rattle.law_steps.proofs.Letters.{said}
 use Rattle.law_copies.specs.Pair.{owns_of}
 use Rattle.law_requests.proofs.Frames.{SaysOk, Scene}
 use Rattle.law_requests.specs.Known.{Lives}
-use Rattle.law_requests.proofs.Jobs.{job_tells}
+use Rattle.law_requests.proofs.LeadJobs.{job_tells}
 use Rattle.law_moves.proofs.Chains.{NeverDead}
 use Rattle.law_run.proofs.Grounds.{never_dead}
 use Rattle.law_run.proofs.Looks.{is_looked}

@@ -47,7 +47,7 @@ pub record SentBy (setting : Setting) (w : World) (who : Actor) (what : Step) (l
   pub sent : Said (sender (own_place setting w server)) stamp done.posts letter
   pub open sent use {post, there, to, body}
 
-logged_aside : (subject : Subject) → is_logged subject ≡ true → is_aside subject ≡ true
+pub logged_aside : (subject : Subject) → is_logged subject ≡ true → is_aside subject ≡ true
 logged_aside Logged e = refl
 logged_aside _ e = true_false e refl
 

@@ -11,21 +11,17 @@ use Rattle.petal_msg.specs.declared.letter.Actor.TheVariants as actor
 use Rattle.petal_msg.specs.declared.letter.Letter.{Letter}
 use Rattle.petal_msg.specs.declared.operation.Ending.{Ending}
 use Rattle.petal_msg.specs.declared.operation.Ending.TheVariants as ending
-use Rattle.petal_msg.specs.declared.operation.Far.{Far}
-use Rattle.petal_msg.specs.declared.operation.Far.TheVariants as far
 use Rattle.petal_msg.specs.declared.operation.Finished.{Finished}
 use Rattle.petal_msg.specs.declared.operation.Pending.{Pending}
 use Rattle.spec_rules.specs.Lists.{In}
 use Rattle.spec_rules.specs.State.{first, is_in}
 use Rattle.spec_rules.specs.Store.{cell_cmp}
-use Rattle.spec_rules.specs.Server.{Own, Here, Post, post_to}
+use Rattle.spec_rules.specs.Server.{Own, Post, post_to}
 use Rattle.spec_rules.specs.Writes.{is_clients, moved_as}
-use Rattle.spec_rules.specs.Writes.{tells}
 use Rattle.spec_rules.specs.World.{Setting, World, server_state}
 use Rattle.spec_rules.proofs.Tests.{true_false}
 use Rattle.law_state.specs.Firm.{Firm}
 use Rattle.law_steps.specs.Ready.{Rests}
-use Rattle.law_steps.proofs.Letters.{posted}
 use Rattle.law_steps.proofs.Restages.{Was, was_same}
 use Rattle.law_answers.specs.Refusals.{IsNumbered, Refusals}
 
@@ -59,7 +55,7 @@ not_full said subject is other = by said (ap is_slot_subject is ∙ other)
     by (body.Reserve number cell) e = true_false refl e
     by _ e = refl
 
-moved_not_full : (key : Key) (how : Ending) → is_of_slots (moved_as key how) ≡ false
+pub moved_not_full : (key : Key) (how : Ending) → is_of_slots (moved_as key how) ≡ false
 moved_not_full key ending.Written = refl
 moved_not_full key ending.Full = refl
 
@@ -69,16 +65,8 @@ logged_not_full (body.PairFull number cell) e = true_false e refl
 logged_not_full (body.Reserve number cell) e = true_false e refl
 logged_not_full _ e = refl
 
-pub tells_not_full : (here : Here) (new : Own) (cell : Cell) (number : ℕ) (how : Far) (post : Post) → In post (tells here new cell number how).posts
-    → is_of_slots post.body ≡ false
-tells_not_full here new cell number far.Reserved post i = ap is_of_slots (posted _ _ post i)
-tells_not_full here new cell number far.Replicated post i = ap is_of_slots (posted _ _ post i)
-
 pub one_client : {c d : ℕ} → actor.Client c ≡ actor.Client d → c ≡ d
 one_client e = cc
-
-pub full_seq : {seq other : ℕ} → body.Full seq ≡ body.Full other → seq ≡ other
-full_seq e = cc
 
 -- a slot is asked for, for an operation of this number on a cell that the server leads in Both
 pub record AsksFor (setting : Setting) (w : World) (n : ℕ) (new : Own) (number : ℕ) (cell : Cell) : Type 0 where

@@ -49,7 +49,8 @@ use Rattle.law_copies.proofs.Holding.{HolderStep, step_on}
 use Rattle.law_copies.proofs.Left.{IsNext, next_is}
 use Rattle.law_copies.proofs.Onward.{IsOnward, begun_onward, closed_onward, copied_itself, ended_onward, going_onward, onward_by, onward_tables}
 use Rattle.law_copies.proofs.Pacing.{IsPaced, link_itself, paced_beside, paced_copied}
-use Rattle.law_copies.proofs.Sent.{at_away, filling_not, holder_says, none_in, other_says, paired_not, read_not, refused_not, untold}
+use Rattle.law_jobs.proofs.JobsSay.{none_in}
+use Rattle.law_copies.proofs.Sent.{at_away, filling_not, holder_says, other_says, paired_not, read_not, refused_not, untold}
 use Rattle.law_copies.proofs.Standing.{alone_not_row, alone_not_second, cell_map, holder_not_other, idle_on}
 use Rattle.law_copies.proofs.Standing.{kept_lives, named_id, one_named, page_on}
 use Rattle.law_copies.proofs.Working.{Away, IsHeldBy, copy_step_beside, filler_beside, holder_beside, holder_cell, other_beside}

@@ -39,7 +39,8 @@ use Rattle.law_copies.proofs.Lasts.{past_last, past_of, stays_told, to_put, to_t
 use Rattle.law_copies.proofs.Left.{among_marked, least_below, on_itself}
 use Rattle.law_copies.proofs.Rising.{did_rising}
 use Rattle.law_copies.proofs.Rows.{in_kept}
-use Rattle.law_copies.proofs.Sent.{at_away, filling_not, holder_says, lead_sends, logged_not, none_in, other_says, page_after, page_block, page_link}
+use Rattle.law_jobs.proofs.JobsSay.{none_in}
+use Rattle.law_copies.proofs.Sent.{at_away, filling_not, holder_says, lead_sends, logged_not, other_says, page_after, page_block, page_link}
 use Rattle.law_copies.proofs.Sent.{page_map, page_sent, paired_not, read_not, refused_not, untold}
 use Rattle.law_copies.proofs.Standing.{IsHeldHere, IsOtherOf, alone_not_row, alone_not_second, copying_held, holder_works, kept_lives, named_id}
 use Rattle.law_copies.proofs.Standing.{one_named, other_alone, other_not_alone, other_not_leading, other_row}

@@ -22,22 +22,25 @@ use Rattle.petal_msg.specs.declared.operation.Pending.{Pending}
 use Rattle.spec_state.specs.CellState.{cell_link}
 use Rattle.spec_rules.specs.Copies.{begins_copy, least, marked_blocks, page_wanted}
 use Rattle.spec_rules.specs.Lists.{In}
-use Rattle.spec_rules.specs.Server.{Own, Here, Post, Done, post_to, says_to}
+use Rattle.spec_rules.specs.Server.{Own, Here, Post, Done, post_to}
 use Rattle.spec_rules.specs.State.{holder_of, link_named, live}
 use Rattle.spec_rules.specs.Store.{chain_in, epochs_of}
 use Rattle.spec_rules.specs.Writes.{acts, ended, ends, gives_back, moved_as, next_stage, without_pending}
 use Rattle.spec_rules.proofs.Tests.{none_some, same_some, true_false}
-use Rattle.law_steps.specs.DidLead.{DidLead, Asks, An_entry_to_move, Of_the_log, Asks_for, Repeats, Is_full}
+use Rattle.law_steps.specs.DidLead.{DidLead, Asks, Of_the_log, Asks_for, Repeats, Is_full}
 use Rattle.law_steps.specs.DidLead.{Opens, Gives_up, Closes, Closes_alone}
 use Rattle.law_steps.specs.DidLead.{Opens_fill, Has_fill, Has_no_room, Goes_on_dead}
 use Rattle.law_steps.specs.DidHolder.{DidHolder, CopyStep, Asks_to_trim, Sends, Asks_page}
 use Rattle.law_steps.specs.DidHolder.{Begins_copy, Goes_on_copying, first_copy}
-use Rattle.law_steps.specs.DidOther.{OtherReply, Replies, DidOther, first_last, TrimStep, Is_trimmed, Drops_entry, Answers_page, Is_copied_to}
+use Rattle.law_steps.specs.DidOther.{Replies, DidOther, first_last, TrimStep, Is_trimmed, Drops_entry, Is_copied_to}
 use Rattle.law_steps.specs.DidOther.{Goes_on_trimming, Puts_entry}
-use Rattle.law_steps.specs.Did.{Did, Ignores, Refuses, By_read, By_lead, By_second, By_holder, By_other, By_filler, By_sweep}
+use Rattle.law_steps.specs.Did.{Did, Refuses}
 use Rattle.law_steps.proofs.Letters.{one_post, posted}
 use Rattle.law_steps.proofs.Resting.{among_least}
-use Rattle.law_steps.proofs.Subjects.{HasData, HasNothing, of_filler, of_read, of_second, of_sweep}
+use Rattle.law_steps.proofs.Subjects.{HasData, HasNothing}
+use Rattle.law_jobs.specs.Sayings as says
+use Rattle.law_jobs.specs.Sayings.{Ends, Ends_fill, Moves, Moves_on, Says, Tells_page}
+use Rattle.law_jobs.proofs.JobsSay.{letters_of_job, none_in}
 use Rattle.law_copies.specs.Copied.{IsOfLink, IsTold}
 use Rattle.law_copies.proofs.Left.{marked_on}
 use Rattle.law_copies.proofs.Rows.{in_left}
@@ -103,10 +106,6 @@ moved_fills key ending.Full = refl
 ended_answers : (seq : ℕ) (how : Ending) → subject_of (ended seq how) ≡ Answered
 ended_answers seq ending.Written = refl
 ended_answers seq ending.Full = refl
-
-pub none_in : {A : Type 0} (post : Post) → In post [] → A
-unfolding In
-none_in post i = absurd i
 
 -- a post stands where there is somebody to send it to
 pub addressed : (to : Option ℕ) (what : Body) (post : Post) → In post (post_to to what) → (n : ℕ) × (to ≡ Some n)
@@ -231,75 +230,26 @@ module _ (heard : Body → Type 0) (here : Here) (own : Own) where
     pub is : said ≡ body.Hello row.map row.link after (least (filter (above after) (marked_blocks here.state row own)))
     pub same : done.own ≡ own
 
-  no_page : {A : Type 0} (post : Post) (what : Body) → post.body ≡ what → is_page what ≡ false → is_page post.body ≡ true → A
-  no_page post what is e f = true_false f (ap is_page is ∙ e)
+  uncopied : (done : Done) (said : Body) → (subject_of said ≡ Copied → ⊥) → is_page said ≡ true → IsAnswered done said
+  uncopied done said ne f = absurd (ne (page_copied said f))
 
-  copied_page : {A : Type 0} (post : Post) → (subject_of post.body ≡ Copied → ⊥) → is_page post.body ≡ true → A
-  copied_page post ne f = absurd (ne (page_copied post.body f))
-
-  asks_no_page : {A : Type 0} (post : Post) → Asks here own post → is_page post.body ≡ true → A
-  asks_no_page post (An_entry_to_move _ next) f = copied_page post (filling_not post.body (ap (λ (p : Post). subject_of p.body) next.is)) f
-  asks_no_page post (Of_the_log _ logged) f = copied_page post (logged_not (subject_of post.body) logged) f
-  asks_no_page _ _ f = true_false f refl
-
-  step_no_page : {A : Type 0} (now : Own) (cell : Cell) (copy : Copying) (done : Done) → CopyStep here now cell copy done → (post : Post)
-      → In post done.posts → is_page post.body ≡ true → A
-  step_no_page now cell copy _ (Asks_to_trim fresh) post i = no_page post _
-      (posted _ (body.Trim copy.op cell (epochs_of (chain_in now.store.chains cell))) post i) refl
-  step_no_page now cell copy _ (Sends row trimmed is) post i =
-      no_page post _ (posted _ (body.Sync copy.op (key_at cell row.0) row.1.version copy.index row.1.bytes) post i) refl
-  step_no_page now cell copy _ _ post i = none_in post i
-
-  holder_no_page : {A : Type 0} (done : Done) → DidHolder heard here own done → (post : Post) → In post done.posts
-      → is_page post.body ≡ true → A
-  holder_no_page _ (Asks_page id row other held fresh) post i = no_page post _ (posted (Some other) (page_wanted own row) post i) refl
-  holder_no_page done (Begins_copy id row other cell _ held next step) post i =
-      step_no_page (begins_copy own cell) cell (first_copy own.pairs.next) done step post i
-  holder_no_page done (Goes_on_copying cell now copy _ taken step) post i = step_no_page now cell copy done step post i
-  holder_no_page _ _ post i = none_in post i
-
-  reply_page : (to : Option ℕ) (said : Body) → OtherReply heard here own to said → (post : Post) → In post (post_to to said) → is_page post.body ≡ true
-      → IsAnswered (says_to own to said) post.body
-  reply_page _ _ (Answers_page id row after h named) post i f = record {
-    id = id;
-    row = row;
-    after = after;
-    named = named;
-    holder = (addressed (holder_of here.me row) _ post i).0;
-    held = (addressed (holder_of here.me row) _ post i).1;
-    is = posted _ (body.Hello row.map row.link after (least (filter (above after) (marked_blocks here.state row own)))) post i;
-    same = refl;
-  }
-  reply_page to said _ post i f = no_page post said (posted to said post i) refl f
-
-  other_page : (done : Done) → DidOther heard here own done → (post : Post) → In post done.posts → is_page post.body ≡ true
-      → IsAnswered done post.body
-  other_page _ (Replies to said reply) post i f = reply_page to said reply post i f
-  other_page done (Is_copied_to number cell epochs holder _ h held newer step) post i f =
-      no_page post _ (trim_says _ cell (first_last number epochs) holder done step post i) refl f
-  other_page done (Goes_on_trimming cell holder last _ held is step) post i f = no_page post _
-      (trim_says own cell last holder done step post i) refl f
-  other_page _ (Puts_entry entry holder last of_copy at room) post i f =
-      no_page post _ (posted (Some holder) (body.Synced entry.op (cell_of entry.key) entry.index) post i) refl f
-
-  page_answered : (done : Done) → Did heard here own done → (post : Post) → In post done.posts → is_page post.body ≡ true
-      → IsAnswered done post.body
-  page_answered _ Ignores post i f = none_in post i
-  page_answered _ (Refuses to said is why because) post i f = copied_page post
-      (refused_not post.body (ap subject_of (one_post _ _ post i).1 ∙ is.refused)) f
-  page_answered _ (By_read done d) post i f =
-      copied_page post (read_not post ((of_read heard here own done d).says post i)) f
-  page_answered _ (By_lead done d) post i f = elim
-      (lead_sends done d post i) [ inl asks ↦ asks_no_page post asks.0 f | inr ne ↦ copied_page post ne f ]
-  page_answered _ (By_second done d) post i f = copied_page post (paired_not post.body ((of_second heard here own done d).says post i)) f
-  page_answered _ (By_holder done d) post i f = holder_no_page done d post i f
-  page_answered _ (By_other done d) post i f = other_page done d post i f
-  page_answered _ (By_filler done d) post i f = copied_page post (filling_not post.body ((of_filler heard here own done d).says post i)) f
-  page_answered _ (By_sweep done d) post i f = absurd ((of_sweep heard here own done d).silent post i)
+  page_answered : (done : Done) (post : Post) → Says heard here own done.own post → is_page post.body ≡ true → IsAnswered done post.body
+  page_answered done _ (Tells_page id row after to same h named held) f =
+      record { id = id; row = row; after = after; named = named; holder = to; held = held; is = refl; same = same }
+  page_answered done _ (says.Refuses to said is busy held) f = uncopied done said (refused_not said is.refused) f
+  page_answered done _ (says.Repeats want last same h lead is e) f = uncopied done _ (answered_not _ (ended_answers want.seq last.ending)) f
+  page_answered done _ (Ends client last why is) f = uncopied done _ (answered_not _ (ended_answers last.seq last.ending)) f
+  page_answered done _ (Ends_fill op how to ended is none lead) f = uncopied done _ (filling_not _ (moved_fills op.key how)) f
+  page_answered done post (Moves _ same next) f = uncopied done post.body (filling_not post.body (ap (λ (p : Post). subject_of p.body) next.is)) f
+  page_answered done post (Moves_on key row _ same h is next) f =
+      uncopied done post.body (filling_not post.body (ap (λ (p : Post). subject_of p.body) next.is)) f
+  page_answered done post (says.Of_the_log _ logged) f = uncopied done post.body (logged_not (subject_of post.body) logged) f
+  page_answered done _ _ f = true_false f refl
 
   pub page_sent : (done : Done) → Did heard here own done → (post : Post) → In post done.posts → (map link : ℕ) (after block : Option ℕ)
       → post.body ≡ body.Hello map link after block → IsAnswered done post.body
-  page_sent done d post i map link after block e = page_answered done d post i (ap is_page e)
+  page_sent done d post i map link after block e =
+      page_answered done post (letters_of_job heard here own done d post i) (ap is_page e)
 
   -- a page that is sent tells of a block of its own link
   pub pages_sent : (done : Done) → Did heard here own done → (post : Post) → In post done.posts → (map link block : ℕ) (after : Option ℕ)

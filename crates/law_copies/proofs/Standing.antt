@@ -203,7 +203,7 @@ module _ (heard : Body → Type 0) (here : Here) (own : Own) (fit : IsFit heard 
 
   -- ### What is worked on is live
 
-  entry_lives : (entry : Entry) (holder : ℕ) (last : LastCopy) → IsOfCopy heard here own entry holder last
+  pub entry_lives : (entry : Entry) (holder : ℕ) (last : LastCopy) → IsOfCopy heard here own entry holder last
       → live here.state (cell_of entry.key) ≡ true
   entry_lives entry holder last of =
       fit.lives (body.Sync entry.op entry.key entry.stored.version entry.index entry.stored.bytes) of.said refl (cell_of entry.key) refl

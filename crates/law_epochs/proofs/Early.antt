@@ -43,7 +43,7 @@ use Rattle.law_steps.proofs.Histories.{last_happens, own_plain}
 use Rattle.law_steps.proofs.Letters.{said}
 use Rattle.law_steps.proofs.Sending.{turned_asks}
 use Rattle.law_jobs.proofs.Runs.{At, by_run, run_of}
-use Rattle.law_copies.proofs.Sent.{none_in}
+use Rattle.law_jobs.proofs.JobsSay.{none_in}
 use Rattle.law_epochs.specs.Early.{AreEarly, HaveEarlyEntries}
 use Rattle.law_epochs.proofs.Keys.{at_key}
 use Rattle.law_epochs.proofs.Present.{firm}

@@ -7,15 +7,19 @@ use Rattle.petal_table.specs.Table.{at}
 use Rattle.petal_msg.specs.Kinds.{subject_of}
 use Rattle.petal_msg.specs.declared.body.Body.{Body}
 use Rattle.petal_msg.specs.declared.body.Body.TheVariants as body
+use Rattle.petal_msg.specs.declared.operation.Ending.{Ending}
 use Rattle.petal_msg.specs.declared.operation.Ending.TheVariants as ending
 use Rattle.petal_msg.specs.declared.operation.Pending.{Pending}
 use Rattle.spec_rules.specs.Lists.{In}
 use Rattle.spec_rules.specs.Server.{Own, Here, Post, Done}
 use Rattle.spec_rules.specs.Store.{cell_cmp, chain_in}
+use Rattle.spec_rules.specs.Writes.{ended, moved_as}
 use Rattle.law_steps.specs.Did.{Did}
 use Rattle.law_steps.specs.DidFiller.{IsNextKey, filled_to}
 use Rattle.law_steps.specs.DidLead.{IsNextFill}
-use Rattle.law_jobs.specs.Sayings.{Says, Ends, Refuses, Asks_copy, Syncs, Has_moved, Moves, Moves_on, Of_the_log}
+use Rattle.law_jobs.specs.Effects.{Becomes}
+use Rattle.law_jobs.specs.Sayings.{Says, Asks_copy, Ends, Ends_fill, Moves, Moves_on, Of_the_log, Refuses, Repeats, Syncs}
+use Rattle.law_jobs.proofs.JobsAreEffects.{effects_of}
 use Rattle.law_jobs.proofs.JobsSay.{letters_of_job}
 use Rattle.law_epochs.proofs.Keys.{at_key}
 use Rattle.law_epochs.proofs.Puts.{becomes_kept}
@@ -41,21 +45,28 @@ module _ (bound : Cell → ℕ → Type 0) (heard : Body → Type 0) (here : Her
     (pending : (cell : Cell) (op : Pending) → at cell_cmp own.pairs.pending cell ≡ Some op → IsWithin bound op.key)
     (told : (said : Body) → heard said → OfKey (IsWithin bound) said)
     (moves : (now : Own) (post : Post) → IsMoverOwn heard here own now → IsNextFill here now post → OfKey (IsWithin bound) post.body) where
-  says_within : (said : Body) → Says heard here own said → OfKey (IsWithin bound) said
-  says_within _ (Ends seq ending.Written) = tt
-  says_within _ (Ends seq ending.Full) = tt
-  says_within _ (Refuses said is) = of_no_key (IsWithin bound) said (ap is_of_entries is.refused)
-  says_within _ (Asks_copy op is) = pending op.cell op is
-  says_within _ (Syncs now so number index cell row is) =
-      let there = at_key (chain_in now.store.chains cell) index row is in
-      becomes_kept bound heard here own all pending told now so cell row.0 there.0 there.1
-  says_within _ (Has_moved key ending.Written) = tt
-  says_within _ (Has_moved key ending.Full) = tt
-  says_within _ (Moves post next) = moves own post (inl refl) next
-  says_within _ (Moves_on key row post h next fills) =
-      moves (filled_to own row key) post (inr (record { key = key; row = row; told = h; next = next; is = refl })) fills
-  says_within _ (Of_the_log said logged) = of_no_key (IsWithin bound) said (logged_none (subject_of said) logged)
-  says_within _ _ = tt
+  ended_within : (seq : ℕ) (how : Ending) → OfKey (IsWithin bound) (ended seq how)
+  ended_within seq ending.Written = tt
+  ended_within seq ending.Full = tt
+
+  moved_within : (key : Key) (how : Ending) → OfKey (IsWithin bound) (moved_as key how)
+  moved_within key ending.Written = tt
+  moved_within key ending.Full = tt
+
+  says_within : (new : Own) → Becomes heard here own new → (post : Post) → Says heard here own new post → OfKey (IsWithin bound) post.body
+  says_within new so _ (Refuses to said is busy held) = of_no_key (IsWithin bound) said (ap is_of_entries is.refused)
+  says_within new so _ (Repeats want last same h lead is e) = ended_within want.seq last.ending
+  says_within new so _ (Ends client last why is) = ended_within last.seq last.ending
+  says_within new so _ (Asks_copy op to same is stage next) = pending op.cell op is
+  says_within new so _ (Syncs cell copy row to copies trimmed is next) =
+      let there = at_key (chain_in new.store.chains cell) copy.index row is in
+      becomes_kept bound heard here own all pending told new so cell row.0 there.0 there.1
+  says_within new so _ (Ends_fill op how to ended is none lead) = moved_within op.key how
+  says_within new so _ (Moves post same next) = moves own post (inl refl) next
+  says_within new so _ (Moves_on key row post is h next fills) =
+      moves new post (inr (record { key = key; row = row; told = h; next = next; is = is })) fills
+  says_within new so _ (Of_the_log post logged) = of_no_key (IsWithin bound) post.body (logged_none (subject_of post.body) logged)
+  says_within new so _ _ = tt
 
   pub did_said : (done : Done) → Did heard here own done → (post : Post) → In post done.posts → OfKey (IsWithin bound) post.body
-  did_said done d post i = says_within post.body (letters_of_job heard here own done d post i)
+  did_said done d post i = says_within done.own (effects_of heard here own done d) post (letters_of_job heard here own done d post i)

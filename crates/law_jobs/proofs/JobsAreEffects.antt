@@ -29,8 +29,8 @@ use Rattle.spec_rules.specs.Progress.{progress_on, with_progress, without_copyin
 use Rattle.spec_rules.specs.Server.{Own, Here, Done}
 use Rattle.spec_rules.specs.Copies.{begins_copy, cell_at}
 use Rattle.spec_rules.specs.Store.{Stored, chain_in, version_of}
-use Rattle.spec_rules.specs.Writes.{acts, ends, gives_back, gives_up, last_on, pending_on, puts, next_stage, operation, tells, with_flag, with_mark_at, with_opened, with_paired, with_pending, with_reserved, without_pending}
-use Rattle.spec_rules.proofs.CellTables.{cell_same}
+use Rattle.spec_rules.specs.Writes.{acts, ends, gives_back, gives_up, last_on, marks, pending_on, puts, next_stage, operation, tells, with_flag, with_mark_at, with_opened, with_paired, with_pending, with_reserved, without_pending}
+use Rattle.spec_rules.proofs.CellTables.{cell_gone, cell_same}
 use Rattle.spec_rules.proofs.Tests.{by_test, true_false}
 use Rattle.law_steps.specs.DidLead.{DidLead, Is_full, Opens, Opens_alone, Opens_fill, Opens_fill_alone, Gives_up, Closes_alone, Goes_on_dead}
 use Rattle.law_steps.specs.DidLead.{Marks_alone, Puts_alone, Unmarks_alone, Taken, As_it_is, As_told, told}
@@ -43,14 +43,15 @@ use Rattle.law_steps.specs.DidFiller.{DidFiller, Is_filled, Is_out_of_slots}
 use Rattle.law_steps.specs.DidSweep.{DidSweep, Sweeps}
 use Rattle.law_steps.specs.Did.{Did, Ignores, Refuses, By_read, By_lead, By_second, By_holder, By_other, By_filler, By_sweep}
 use Rattle.petal_msg.specs.declared.copying.LinkId.{LinkId}
-use Rattle.spec_rules.specs.State.{id_of, link_named}
+use Rattle.spec_rules.specs.State.{id_of, link_named, live}
 use Rattle.law_steps.specs.Operations.{progress}
 use Rattle.law_steps.proofs.Resting.{row_named}
 use Rattle.law_steps.proofs.Subjects.{of_read}
 use Rattle.law_steps.proofs.Taking.{taking}
 use Rattle.law_jobs.proofs.ChainsApart.{entry_put}
 use Rattle.law_jobs.specs.Effects as effect
-use Rattle.law_jobs.specs.Effects.{Effect, applied, May, Becomes, As_it_was, Then, IsFilledAs, IsPutFor, IsSetFor, Is_begun, Is_further, Is_opened, Goes_on, Has_put, An_operation, A_lead, A_copy}
+use Rattle.law_jobs.specs.Effects.{Effect, applied, May, Becomes, As_it_was, Then, Alone_has, Both_have, By_operation, For_a_fill, For_a_write, Had_no_slot, HasEnded, Is_dead, Is_declined}
+use Rattle.law_jobs.specs.Effects.{IsFilledAs, IsOpening, IsPutFor, IsSetFor, Is_begun, Is_further, Is_opened, Goes_on, Has_put, An_operation, A_lead, A_copy}
 
 module _ (heard : Body → Type 0) (here : Here) (own : Own) where
   abbrev To : Own → Type 0
@@ -61,44 +62,48 @@ module _ (heard : Body → Type 0) (here : Here) (own : Own) where
   taken_to : (now : Own) (op : Pending) → Taken own now op → To now
   taken_to _ _ (As_it_is op is) = As_it_was
   taken_to _ _ (As_told op reserved paired is) = Then own (effect.Sets (told op reserved paired)) As_it_was
-      (Goes_on op (record op.stage { reserved = reserved; paired = paired }) is refl)
+      (Goes_on op (record op.stage { reserved = reserved; paired = paired }) is refl, refl)
 
   chains_taken : (now : Own) (op : Pending) → Taken own now op → now.store.chains ≡ own.store.chains
   chains_taken _ _ (As_it_is op is) = refl
   chains_taken _ _ (As_told op reserved paired is) = refl
 
-  ends_to : (now : Own) (op : Pending) (how : Ending) → To now → To (ends here now op op.kind how).own
-  ends_to now op how so = by op.kind
+  ends_to : (now : Own) (op : Pending) (how : Ending) → HasEnded heard here own op how → pending_on now op.cell ≡ None
+      → now.pairs.finished ≡ own.pairs.finished → To now → To (ends here now op op.kind how).own
+  ends_to now op how ended none same so = by op.kind refl
     where
-      by : (of : OpKind) → To (ends here now op of how).own
-      by kind.Write = Then now (effect.Finishes op.client (record { seq = op.seq; ending = how })) so tt
-      by kind.Fill = so
-      by kind.Copy = so
+      by : (of : OpKind) → op.kind ≡ of → To (ends here now op of how).own
+      by kind.Write e = Then now (effect.Finishes op.client (record { seq = op.seq; ending = how })) so (By_operation op how ended e none, same)
+      by kind.Fill e = so
+      by kind.Copy e = so
 
-  closes_to : (now : Own) (op : Pending) → To now → To (ends here (without_pending now op.cell) op op.kind ending.Written).own
-  closes_to now op so = ends_to (without_pending now op.cell) op ending.Written (Then now (effect.Closes op.cell) so tt)
+  closes_to : (now : Own) (op : Pending) → HasEnded heard here own op ending.Written → now.pairs.finished ≡ own.pairs.finished → To now
+      → To (ends here (without_pending now op.cell) op op.kind ending.Written).own
+  closes_to now op ended same so =
+      ends_to (without_pending now op.cell) op ending.Written ended (cell_gone now.pairs.pending op.cell) same (Then now (effect.Closes op.cell) so tt)
 
   flag_put : (stage : Stage) (which : MarkKind) (is : Bool) → (with_flag stage which is).put ≡ stage.put
   flag_put stage mark.Busy is = refl
   flag_put stage mark.Stale is = refl
 
-  marks_to : (now : Own) (op : Pending) (which : MarkKind) → pending_on now op.cell ≡ Some op → To now
-      → To (with_pending (applied now (effect.Marks which op.cell)) (with_mark_at op which true))
-  marks_to now op which there so =
+  marks_to : (now : Own) (op : Pending) (which : MarkKind) → pending_on now op.cell ≡ Some op → now.pairs.finished ≡ own.pairs.finished
+      → To now → To (with_pending (applied now (effect.Marks which op.cell)) (with_mark_at op which true))
+  marks_to now op which there same so =
       Then (applied now (effect.Marks which op.cell)) (effect.Sets (with_mark_at op which true)) (Then now (effect.Marks which op.cell) so tt)
-      (Goes_on op (with_flag op.stage which true) there (flag_put op.stage which true))
+      (Goes_on op (with_flag op.stage which true) there (flag_put op.stage which true), same)
 
-  unmarks_to : (now : Own) (op : Pending) (which : MarkKind) → pending_on now op.cell ≡ Some op → To now
-      → To (with_pending (applied now (effect.Unmarks which op.cell)) (with_mark_at op which false))
-  unmarks_to now op which there so =
+  unmarks_to : (now : Own) (op : Pending) (which : MarkKind) → pending_on now op.cell ≡ Some op → now.pairs.finished ≡ own.pairs.finished
+      → To now → To (with_pending (applied now (effect.Unmarks which op.cell)) (with_mark_at op which false))
+  unmarks_to now op which there same so =
       Then (applied now (effect.Unmarks which op.cell)) (effect.Sets (with_mark_at op which false)) (Then now (effect.Unmarks which op.cell) so tt)
-      (Goes_on op (with_flag op.stage which false) there (flag_put op.stage which false))
+      (Goes_on op (with_flag op.stage which false) there (flag_put op.stage which false), same)
 
-  opened_to : (op : Pending) → op.op ≡ own.pairs.next → op.stage.put ≡ false → To (with_opened own op)
-  opened_to op number fresh =
-      let set = applied own (effect.Sets op) in
-      Then (applied set effect.Counts) (effect.Holds_slots (own.store.tickets + 1))
-      (Then set effect.Counts (Then own (effect.Sets op) As_it_was (Is_opened op number fresh)) tt) tt
+  opened_to : (op : Pending) → IsOpening heard here own op → To (with_opened own op)
+  opened_to op opening =
+      let counted = applied own effect.Counts in
+      let set = applied counted (effect.Sets op) in
+      Then set (effect.Holds_slots (own.store.tickets + 1))
+      (Then counted (effect.Sets op) (Then own effect.Counts As_it_was tt) (Is_opened op opening refl, refl)) tt
 
   puts_to : (now : Own) (op : Pending) → Taken own now op → To (puts now op).own
   puts_to now op taken =
@@ -106,10 +111,10 @@ module _ (heard : Body → Type 0) (here : Here) (own : Own) where
       let stored : Stored = record { version = version; bytes = op.bytes } in
       Then (applied now (effect.Puts op.key stored)) (effect.Sets (record op { version = version; stage = record op.stage { put = true } }))
       (Then now (effect.Puts op.key stored) (taken_to now op taken) (for_taken now op taken version, chains_taken now op taken))
-      (put_taken now op taken version stored)
+      (put_taken now op taken version stored, (taking own now op taken).finished)
     where
       put_taken : (now : Own) (op : Pending) → Taken own now op → (version : ℕ) (stored : Stored)
-          → IsSetFor own (applied now (effect.Puts op.key stored)) (record op { version = version; stage = record op.stage { put = true } })
+          → IsSetFor heard here own (applied now (effect.Puts op.key stored)) (record op { version = version; stage = record op.stage { put = true } })
       put_taken _ _ (As_it_is op is) version stored =
           Has_put op version (record op.stage { put = true }) is (ap is_some (entry_put own.store.chains op.key stored))
       put_taken _ _ (As_told op reserved paired is) version stored =
@@ -127,42 +132,55 @@ module _ (heard : Body → Type 0) (here : Here) (own : Own) where
       by_test To op.stage.put (without_pending now op.cell) (gives_back (without_pending now op.cell)) (λ put. closed)
       (λ fresh. Then (without_pending now op.cell) (effect.Holds_slots (now.store.tickets - 1)) closed tt)
 
-  acts_to : (now : Own) (op : Pending) → Taken own now op → (next : Action) → To (acts here now op next).own
-  acts_to now op taken action.Reserve = taken_to now op taken
-  acts_to now op taken (action.Mark which) = marks_to now op which (taking own now op taken).there (taken_to now op taken)
-  acts_to now op taken action.Put = puts_to now op taken
-  acts_to now op taken action.Replicate = taken_to now op taken
-  acts_to now op taken (action.Unmark which) = unmarks_to now op which (taking own now op taken).there (taken_to now op taken)
-  acts_to now op taken action.Answer = closes_to now op (taken_to now op taken)
-  acts_to now op taken action.Drop = drops_to now op (taken_to now op taken)
+  marks_taken : (now : Own) (op : Pending) → Taken own now op → (which : MarkKind)
+      → To (with_pending (applied now (effect.Marks which op.cell)) (with_mark_at op which true))
+  marks_taken now op taken which = let t = taking own now op taken in marks_to now op which t.there t.finished (taken_to now op taken)
+
+  unmarks_taken : (now : Own) (op : Pending) → Taken own now op → (which : MarkKind)
+      → To (with_pending (applied now (effect.Unmarks which op.cell)) (with_mark_at op which false))
+  unmarks_taken now op taken which = let t = taking own now op taken in unmarks_to now op which t.there t.finished (taken_to now op taken)
+
+  closes_taken : (now : Own) (op : Pending) → Taken own now op → HasEnded heard here own op ending.Written
+      → To (ends here (without_pending now op.cell) op op.kind ending.Written).own
+  closes_taken now op taken ended = closes_to now op ended (taking own now op taken).finished (taken_to now op taken)
+
+  acts_to : (now : Own) (op : Pending) → Taken own now op → live here.state op.cell ≡ false → (next : Action) → To (acts here now op next).own
+  acts_to now op taken off action.Reserve = taken_to now op taken
+  acts_to now op taken off (action.Mark which) = marks_taken now op taken which
+  acts_to now op taken off action.Put = puts_to now op taken
+  acts_to now op taken off action.Replicate = taken_to now op taken
+  acts_to now op taken off (action.Unmark which) = unmarks_taken now op taken which
+  acts_to now op taken off action.Answer = closes_taken now op taken (Is_dead now op taken off)
+  acts_to now op taken off action.Drop = drops_to now op (taken_to now op taken)
+
+  opens_alone_to : (op : Pending) → IsOpening heard here own op → To (marks (with_opened own op) op mark.Stale).own
+  opens_alone_to op opening =
+      marks_to (with_opened own op) op mark.Stale (cell_same own.pairs.pending op.cell op) refl (opened_to op opening)
 
   lead_to : (done : Done) → DidLead heard here own done → To done.own
-  lead_to _ (Is_full want new full) = Then own (effect.Finishes want.client (record { seq = want.seq; ending = ending.Full })) As_it_was tt
+  lead_to _ (Is_full want new full) =
+      Then own (effect.Finishes want.client (record { seq = want.seq; ending = ending.Full })) As_it_was (Had_no_slot want new full new.none, refl)
   lead_to _ (Gives_up op h is reserved put) =
       let closed = without_pending own op.cell in
-      ends_to (gives_back closed) op ending.Full
+      ends_to (gives_back closed) op ending.Full (Is_declined op h is reserved put) (cell_gone own.pairs.pending op.cell) refl
       (Then closed (effect.Holds_slots (own.store.tickets - 1)) (Then own (effect.Closes op.cell) As_it_was tt) tt)
-  lead_to _ (Opens want new both) = opened_to (operation here own.pairs.next want) refl refl
+  lead_to _ (Opens want new both) = opened_to (operation here own.pairs.next want) (For_a_write want new)
   lead_to _ (Marks op h is both stage) =
-      marks_to (with_pending own (with_reserved op)) (with_reserved op) mark.Busy (cell_same own.pairs.pending op.cell (with_reserved op))
-      (Then own (effect.Sets (with_reserved op)) As_it_was (Goes_on op (record op.stage { reserved = true }) is refl))
+      marks_to (with_pending own (with_reserved op)) (with_reserved op) mark.Busy (cell_same own.pairs.pending op.cell (with_reserved op)) refl
+      (Then own (effect.Sets (with_reserved op)) As_it_was (Goes_on op (record op.stage { reserved = true }) is refl, refl))
   lead_to _ (Puts op is both stage) = puts_to own op (As_it_is op is)
   lead_to _ (Unmarks op h is both stage) =
-      unmarks_to (with_pending own (with_paired op)) (with_paired op) mark.Busy (cell_same own.pairs.pending op.cell (with_paired op))
-      (Then own (effect.Sets (with_paired op)) As_it_was (Goes_on op (record op.stage { paired = true }) is refl))
-  lead_to _ (Closes op is both stage) = closes_to own op As_it_was
-  lead_to _ (Opens_alone want new alone) =
-      let op = operation here own.pairs.next want in
-      marks_to (with_opened own op) op mark.Stale (cell_same own.pairs.pending op.cell op) (opened_to op refl refl)
-  lead_to _ (Marks_alone now op taken alone fresh) = marks_to now op mark.Stale (taking own now op taken).there (taken_to now op taken)
+      unmarks_to (with_pending own (with_paired op)) (with_paired op) mark.Busy (cell_same own.pairs.pending op.cell (with_paired op)) refl
+      (Then own (effect.Sets (with_paired op)) As_it_was (Goes_on op (record op.stage { paired = true }) is refl, refl))
+  lead_to _ (Closes op is both stage) = closes_to own op (Both_have op is both stage) refl As_it_was
+  lead_to _ (Opens_alone want new alone) = opens_alone_to (operation here own.pairs.next want) (For_a_write want new)
+  lead_to _ (Marks_alone now op taken alone fresh) = marks_taken now op taken mark.Stale
   lead_to _ (Puts_alone now op taken alone stale put) = puts_to now op taken
-  lead_to _ (Unmarks_alone now op taken alone stale put busy) = unmarks_to now op mark.Busy (taking own now op taken).there (taken_to now op taken)
-  lead_to _ (Closes_alone now op taken alone stale put free) = closes_to now op (taken_to now op taken)
-  lead_to _ (Opens_fill moving new room both) = opened_to (fill_operation here own.pairs.next moving) refl refl
-  lead_to _ (Opens_fill_alone moving new room alone) =
-      let op = fill_operation here own.pairs.next moving in
-      marks_to (with_opened own op) op mark.Stale (cell_same own.pairs.pending op.cell op) (opened_to op refl refl)
-  lead_to _ (Goes_on_dead now op taken off) = acts_to now op taken (next_stage here.state here.me op)
+  lead_to _ (Unmarks_alone now op taken alone stale put busy) = unmarks_taken now op taken mark.Busy
+  lead_to _ (Closes_alone now op taken alone stale put free) = closes_taken now op taken (Alone_has now op taken alone stale put free)
+  lead_to _ (Opens_fill moving new room both) = opened_to (fill_operation here own.pairs.next moving) (For_a_fill moving new)
+  lead_to _ (Opens_fill_alone moving new room alone) = opens_alone_to (fill_operation here own.pairs.next moving) (For_a_fill moving new)
+  lead_to _ (Goes_on_dead now op taken off) = acts_to now op taken off (next_stage here.state here.me op)
   lead_to _ _ = As_it_was
 
   -- ### The second server

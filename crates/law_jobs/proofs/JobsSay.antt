@@ -1,10 +1,9 @@
 -- Each letter of a job is one that it may say.
-use Rattle.std.proofs.Common.{[], ◌∷◌, ℕ, List, Option, Some, sym, subst, inl, inr}
+use Rattle.std.proofs.Common.{[], ◌∷◌, ◌≡◌, ℕ, true, false, List, Option, Some, None, refl, sym, ap, subst, inl, inr}
+use Rattle.std.specs.Ordering.{nat_cmp}
 use Rattle.petal_base.specs.declared.cell.Cell.{Cell}
-use Rattle.petal_base.specs.Cells.{cell_of, key_at}
-use Rattle.petal_table.specs.Table.{at}
+use Rattle.petal_base.specs.Cells.{cell_of}
 use Rattle.petal_msg.specs.declared.body.Body.{Body}
-use Rattle.petal_msg.specs.declared.body.Body.TheVariants as body
 use Rattle.petal_msg.specs.declared.copying.Copying.{Copying}
 use Rattle.petal_msg.specs.declared.copying.LastCopy.{LastCopy}
 use Rattle.petal_msg.specs.declared.operation.Action.{Action}
@@ -13,153 +12,164 @@ use Rattle.petal_msg.specs.declared.operation.Ending.{Ending}
 use Rattle.petal_msg.specs.declared.operation.Ending.TheVariants as ending
 use Rattle.petal_msg.specs.declared.operation.Far.{Far}
 use Rattle.petal_msg.specs.declared.operation.Far.TheVariants as far
+use Rattle.petal_msg.specs.declared.operation.Finished.{Finished}
 use Rattle.petal_msg.specs.declared.operation.OpKind.{OpKind}
 use Rattle.petal_msg.specs.declared.operation.OpKind.TheVariants as kind
 use Rattle.petal_msg.specs.declared.operation.Pending.{Pending}
-use Rattle.spec_rules.specs.Copies.{begins_copy, page_wanted}
+use Rattle.petal_table.specs.Table.{put}
+use Rattle.spec_rules.specs.Copies.{cell_holder}
+use Rattle.spec_rules.specs.Fills.{fill_operation}
 use Rattle.spec_rules.specs.Lists.{In}
+use Rattle.spec_rules.specs.Progress.{last_copy}
 use Rattle.spec_rules.specs.Server.{Own, Here, Post, Done, post_to}
-use Rattle.spec_rules.specs.Store.{chain_in, epochs_of}
-use Rattle.spec_rules.specs.Writes.{acts, old_lead, ends, follows, gives_back, moved_as, next_stage, tells, with_last, without_pending}
+use Rattle.spec_rules.specs.State.{live}
+use Rattle.spec_rules.specs.Writes.{acts, ends, gives_back, next_stage, operation, pending_on, tells, without_pending}
+use Rattle.spec_rules.proofs.CellTables.{cell_gone, cell_same}
+use Rattle.spec_rules.proofs.Tests.{none_some}
 use Rattle.law_steps.specs.DidLead.{DidLead, Asks_for, Repeats, Is_full, Opens, Gives_up, Closes}
-use Rattle.law_steps.specs.DidLead.{Closes_alone, Opens_fill, Has_fill, Has_no_room, Goes_on_dead, Taken, As_it_is, As_told, Asks}
+use Rattle.law_steps.specs.DidLead.{Closes_alone, Opens_fill, Has_fill, Has_no_room, Goes_on_dead, Taken, Asks}
 use Rattle.law_steps.specs.DidLead.{A_slot, A_copy, A_trim, A_copied_entry, A_page, An_entry_to_move, Of_the_log}
 use Rattle.law_steps.specs.DidFiller.{Is_filled, Is_out_of_slots}
-use Rattle.law_steps.specs.DidSecond.{DidSecond, with_tickets, Sets_apart, Promises, Declines, Follows}
-use Rattle.law_steps.specs.DidHolder.{DidHolder, CopyStep, Asks_to_trim, Sends, Asks_page}
+use Rattle.law_steps.specs.DidRead.{DidRead, Not_here, Shows}
+use Rattle.law_steps.specs.DidSecond.{DidSecond, Sets_apart, Promises, Declines, Follows}
+use Rattle.law_steps.specs.DidHolder.{DidHolder, CopyStep, Asks_to_trim, Sends, Asks_page, Copy_as_is}
 use Rattle.law_steps.specs.DidHolder.{Begins_copy, Goes_on_copying}
 use Rattle.law_steps.specs.DidOther.{OtherReply, Replies, DidOther, TrimStep, Is_trimmed, Drops_entry, Answers_page, Has_entry, Has_no_slot, Is_copied_to}
-use Rattle.law_steps.specs.DidOther.{Goes_on_trimming, Puts_entry}
+use Rattle.law_steps.specs.DidOther.{Goes_on_trimming, Puts_entry, first_last}
 use Rattle.law_steps.specs.Did.{Did, Ignores, Refuses, By_read, By_lead, By_second, By_holder, By_other, By_filler, By_sweep}
-use Rattle.law_steps.proofs.Letters.{one_post, posted}
-use Rattle.law_steps.proofs.Subjects.{of_read, of_sweep}
-use Rattle.law_jobs.specs.Effects.{As_it_was, Becomes}
+use Rattle.law_steps.proofs.Leading.{dead_second}
+use Rattle.law_steps.proofs.Subjects.{of_sweep}
+use Rattle.law_steps.proofs.Taking.{taking}
 use Rattle.law_jobs.specs.Sayings as says
-use Rattle.law_jobs.specs.Sayings.{Says}
-use Rattle.law_jobs.proofs.JobsAreEffects.{begun_to, copy_to}
-use Rattle.spec_rules.specs.State.{first, second}
-use Rattle.petal_msg.specs.declared.letter.Actor.{Actor}
+use Rattle.law_jobs.specs.Effects.{Alone_has, Both_have, By_operation, Had_no_slot, HasEnded, Is_dead, Is_declined}
+use Rattle.law_jobs.specs.Sayings.{IsCopying, Says, to_server}
+use Rattle.spec_rules.specs.State.{is_second}
 
-none_in : {A : Type 0} (post : Post) → In post [] → A
+pub none_in : {A : Type 0} (post : Post) → In post [] → A
 unfolding In
 none_in post i = absurd i
 
 module _ (heard : Body → Type 0) (here : Here) (own : Own) where
-  abbrev S : Body → Type 0
-  S said = Says heard here own said
+  abbrev AreSaid : Own → List Post → Type 0
+  AreSaid new posts = (post : Post) → In post posts → Says heard here own new post
 
-  abbrev AreSaid : List Post → Type 0
-  AreSaid posts = (post : Post) → In post posts → S post.body
+  alone : (new : Own) (it : Post) → Says heard here own new it → AreSaid new (it ∷ [])
+  unfolding In
+  alone new it so post (inl e) = subst (Says heard here own new) (sym e) so
+  alone new it so post (inr none) = absurd none
 
-  -- the one letter, to a server or a client
-  one : (to : Option ℕ) (what : Body) → S what → AreSaid (post_to to what)
-  one to what so post i = subst S (sym (posted to what post i)) so
+  -- one letter, where there is a server to send it to
+  one : (new : Own) (to : Option ℕ) (what : Body) → ((n : ℕ) → to ≡ Some n → Says heard here own new (to_server n what)) → AreSaid new (post_to to what)
+  one new None what so post i = none_in post i
+  one new (Some n) what so post i = alone new (to_server n what) (so n refl) post i
 
-  client : (to : Actor) (what : Body) → S what → AreSaid (record { to = to; body = what } ∷ [])
-  client to what so post i = subst S (sym (one_post to what post i).1) so
+  -- what a server asks for
+  pub asks_said : (post : Post) → Asks here own post → Says heard here own own post
+  asks_said _ (A_slot op to is stage so) = says.Asks_slot op to refl is stage so
+  asks_said _ (A_copy op to is stage so) = says.Asks_copy op to refl is stage so
+  asks_said _ (A_trim cell copy to is fresh so) = says.Trims cell copy to (says.Goes_on own copy (Copy_as_is copy is)) fresh so
+  asks_said _ (A_copied_entry cell copy row to is trimmed spot so) =
+      says.Syncs cell copy row to (says.Goes_on own copy (Copy_as_is copy is)) trimmed spot so
+  asks_said _ (A_page row to there so fresh) = says.Asks_page row to refl so fresh
+  asks_said post (An_entry_to_move _ next) = says.Moves post refl next
+  asks_said post (Of_the_log _ logged) = says.Of_the_log post logged
 
-  asks_said : (post : Post) → Asks here own post → S post.body
-  asks_said _ (A_slot op to is stage so) = says.Asks_slot op.op op.cell
-  asks_said _ (A_copy op to is stage so) = says.Asks_copy op is
-  asks_said _ (A_trim cell copy to is fresh so) = says.Trims copy.op cell _
-  asks_said _ (A_copied_entry cell copy row to is trimmed spot so) = says.Syncs own As_it_was copy.op copy.index cell row spot
-  asks_said _ (A_page row to there so fresh) = says.Asks_page row
-  asks_said post (An_entry_to_move _ next) = says.Moves post next
-  asks_said post (Of_the_log _ logged) = says.Of_the_log post.body logged
+  ends_said : (now : Own) (op : Pending) (of : OpKind) (how : Ending) → op.kind ≡ of → HasEnded heard here own op how → pending_on now op.cell ≡ None
+      → now.pairs.finished ≡ own.pairs.finished → AreSaid (ends here now op of how).own (ends here now op of how).posts
+  ends_said now op kind.Write how is ended none same =
+      let last : Finished = record { seq = op.seq; ending = how } in
+      alone _ _ (says.Ends op.client last (By_operation op how ended is none) (ap (λ t. put nat_cmp t op.client last) same))
+  ends_said now op kind.Fill how is ended none same = one _ _ _ (λ to so. says.Ends_fill op how to ended is none so)
+  ends_said now op kind.Copy how is ended none same = λ post i. none_in post i
 
-  ends_said : (now : Own) (op : Pending) (of : OpKind) (how : Ending) → AreSaid (ends here now op of how).posts
-  ends_said now op kind.Write how = client _ _ (says.Ends op.seq how)
-  ends_said now op kind.Fill how = one (old_lead here.state op.cell) (moved_as op.key how) (says.Has_moved op.key how)
-  ends_said now op kind.Copy how = λ post i. none_in post i
+  -- a cell that is not live has no second server
+  acts_said : (now : Own) (op : Pending) → Taken own now op → live here.state op.cell ≡ false → (next : Action)
+      → AreSaid (acts here now op next).own (acts here now op next).posts
+  acts_said now op taken off action.Reserve = one _ _ _ (λ to so. none_some (dead_second here.state op.cell off) so)
+  acts_said now op taken off (action.Mark which) = λ post i. none_in post i
+  acts_said now op taken off action.Put = λ post i. none_in post i
+  acts_said now op taken off action.Replicate = one _ _ _ (λ to so. none_some (dead_second here.state op.cell off) so)
+  acts_said now op taken off (action.Unmark which) = λ post i. none_in post i
+  acts_said now op taken off action.Answer =
+      ends_said (without_pending now op.cell) op op.kind ending.Written refl (Is_dead now op taken off) (cell_gone now.pairs.pending op.cell)
+      (taking own now op taken).finished
+  acts_said now op taken off action.Drop = λ post i. none_in post i
 
-  copy_said : (now : Own) (op : Pending) → Taken own now op → S (body.Replicate op.op op.key op.version op.bytes)
-  copy_said _ _ (As_it_is op is) = says.Asks_copy op is
-  copy_said _ _ (As_told op reserved paired is) = says.Asks_copy op is
+  lead_said : (done : Done) → DidLead heard here own done → AreSaid done.own done.posts
+  lead_said _ (Asks_for posts h) = λ post i. asks_said post (h post i)
+  lead_said _ (Repeats want last h lead is e) = alone _ _ (says.Repeats want last refl h lead is e)
+  lead_said _ (Is_full want new no_room) = alone _ _ (says.Ends want.client _ (Had_no_slot want new no_room new.none) refl)
+  lead_said _ (Gives_up op h is reserved put) =
+      ends_said (gives_back (without_pending own op.cell)) op op.kind ending.Full refl (Is_declined op h is reserved put)
+      (cell_gone own.pairs.pending op.cell) refl
+  lead_said _ (Opens want new both) =
+      let op = operation here own.pairs.next want in
+      one _ _ _ (λ to so. says.Opens op to new.lead both new.none (cell_same own.pairs.pending want.cell op) refl refl so)
+  lead_said _ (Closes op is both stage) =
+      ends_said (without_pending own op.cell) op op.kind ending.Written refl (Both_have op is both stage) (cell_gone own.pairs.pending op.cell) refl
+  lead_said _ (Closes_alone now op taken alone stale put free) =
+      ends_said (without_pending now op.cell) op op.kind ending.Written refl (Alone_has now op taken alone stale put free)
+      (cell_gone now.pairs.pending op.cell) (taking own now op taken).finished
+  lead_said _ (Opens_fill moving new room both) =
+      let op = fill_operation here own.pairs.next moving in
+      one _ _ _ (λ to so. says.Opens op to new.lead both new.none (cell_same own.pairs.pending (cell_of moving.key) op) refl refl so)
+  lead_said _ (Has_fill moving filled) = one _ _ _ (λ to so. says.Has_fill moving to refl filled so)
+  lead_said _ (Has_no_room moving new no_room) = one _ _ _ (λ to so. says.Has_no_room moving to refl new no_room so)
+  lead_said _ (Goes_on_dead now op taken off) = acts_said now op taken off (next_stage here.state here.me op)
+  lead_said _ _ = λ post i. none_in post i
 
-  acts_said : (now : Own) (op : Pending) → Taken own now op → (next : Action) → AreSaid (acts here now op next).posts
-  acts_said now op taken action.Reserve = one (second here.state op.cell) (body.Reserve op.op op.cell) (says.Asks_slot op.op op.cell)
-  acts_said now op taken (action.Mark which) = λ post i. none_in post i
-  acts_said now op taken action.Put = λ post i. none_in post i
-  acts_said now op taken action.Replicate = one (second here.state op.cell) (body.Replicate op.op op.key op.version op.bytes) (copy_said now op taken)
-  acts_said now op taken (action.Unmark which) = λ post i. none_in post i
-  acts_said now op taken action.Answer = ends_said (without_pending now op.cell) op op.kind ending.Written
-  acts_said now op taken action.Drop = λ post i. none_in post i
+  tells_said : (now : Own) (cell : Cell) (number : ℕ) (how : Far) → is_second here.state here.me cell ≡ true
+      → AreSaid (tells here now cell number how).own (tells here now cell number how).posts
+  tells_said now cell number far.Reserved follows = one _ _ _ (λ to so. says.Has_slot number cell to follows so)
+  tells_said now cell number far.Replicated follows = one _ _ _ (λ to so. says.Has_copy number cell to follows so)
 
-  lead_said : (done : Done) → DidLead heard here own done → AreSaid done.posts
-  lead_said _ (Asks_for posts h) post i = asks_said post (h post i)
-  lead_said _ (Repeats want last h lead is e) post i = client _ _ (says.Ends want.seq last.ending) post i
-  lead_said _ (Is_full want new no_room) post i = client _ _ (says.Ends want.seq ending.Full) post i
-  lead_said _ (Gives_up op h is reserved put) post i = ends_said (gives_back (without_pending own op.cell)) op op.kind ending.Full post i
-  lead_said _ (Opens want new both) post i =
-      one (second here.state want.cell) (body.Reserve own.pairs.next want.cell) (says.Asks_slot own.pairs.next want.cell) post i
-  lead_said _ (Closes op is both stage) post i = ends_said (without_pending own op.cell) op op.kind ending.Written post i
-  lead_said _ (Closes_alone now op taken alone stale put free) post i = ends_said (without_pending now op.cell) op op.kind ending.Written post i
-  lead_said _ (Opens_fill moving new room both) post i =
-      let cell = cell_of moving.key in
-      one (second here.state cell) (body.Reserve own.pairs.next cell) (says.Asks_slot own.pairs.next cell) post i
-  lead_said _ (Has_fill moving filled) post i =
-      one (old_lead here.state (cell_of moving.key)) (body.Filled moving.key) (says.Has_moved moving.key ending.Written) post i
-  lead_said _ (Has_no_room moving new no_room) post i =
-      one (old_lead here.state (cell_of moving.key)) (body.FillFull moving.key) (says.Has_moved moving.key ending.Full) post i
-  lead_said _ (Goes_on_dead now op taken off) post i = acts_said now op taken (next_stage here.state here.me op) post i
-  lead_said _ _ post i = none_in post i
+  second_said : (done : Done) → DidSecond heard here own done → AreSaid done.own done.posts
+  second_said _ (Sets_apart number cell tickets h so le) = tells_said _ cell number far.Reserved so
+  second_said _ (Promises number cell how so is) = tells_said own cell number how so
+  second_said _ (Declines number cell h follows found) = one _ _ _ (λ to so. says.Has_no_slot number cell to refl h follows found so)
+  second_said _ (Follows number key version bytes h so is) = tells_said _ (cell_of key) number far.Replicated so
 
-  tells_said : (new : Own) (cell : Cell) (number : ℕ) (how : Far) → AreSaid (tells here new cell number how).posts
-  tells_said new cell number far.Reserved = one (first here.state cell) (body.Reserved number cell) (says.Has_slot number cell)
-  tells_said new cell number far.Replicated = one (first here.state cell) (body.Replicated number cell) (says.Has_copy number cell)
+  step_said : (now : Own) (cell : Cell) (copy : Copying) (done : Done) → IsCopying heard here own cell now copy → CopyStep here now cell copy done
+      → AreSaid done.own done.posts
+  step_said now cell copy _ so (Asks_to_trim fresh) = one _ _ _ (λ to is. says.Trims cell copy to so fresh is)
+  step_said now cell copy _ so (Sends row trimmed spot) = one _ _ _ (λ to is. says.Syncs cell copy row to so trimmed spot is)
+  step_said now cell copy _ so _ = λ post i. none_in post i
 
-  second_said : (done : Done) → DidSecond heard here own done → AreSaid done.posts
-  second_said _ (Sets_apart number cell tickets h so le) =
-      tells_said (with_last (with_tickets own tickets) cell number far.Reserved) cell number far.Reserved
-  second_said _ (Promises number cell how so is) = tells_said own cell number how
-  second_said _ (Declines number cell h so found) = one (first here.state cell) (body.PairFull number cell) (says.Has_no_slot number cell)
-  second_said _ (Follows number key version bytes h so is) =
-      tells_said (follows here own number key bytes).own (cell_of key) number far.Replicated
+  holder_said : (done : Done) → DidHolder heard here own done → AreSaid done.own done.posts
+  holder_said _ (Asks_page id row other held fresh) = alone _ _ (says.Asks_page row other refl held.other_is fresh)
+  holder_said done (Begins_copy id row other cell _ held next step) = step_said _ cell _ done (says.Begins id row other held next) step
+  holder_said done (Goes_on_copying cell now copy _ taken step) = step_said now cell copy done (says.Goes_on now copy taken) step
+  holder_said _ _ = λ post i. none_in post i
 
-  step_said : (now : Own) (cell : Cell) (copy : Copying) (done : Done) → Becomes heard here own now → CopyStep here now cell copy done
-      → AreSaid done.posts
-  step_said now cell copy _ so (Asks_to_trim fresh) post i =
-      subst S (sym (posted _ (body.Trim copy.op cell (epochs_of (chain_in now.store.chains cell))) post i)) (says.Trims copy.op cell _)
-  step_said now cell copy _ so (Sends row trimmed is) post i =
-      subst S (sym (posted _ (body.Sync copy.op (key_at cell row.0) row.1.version copy.index row.1.bytes) post i))
-      (says.Syncs now so copy.op copy.index cell row is)
-  step_said now cell copy _ so _ post i = none_in post i
+  trim_said : (now : Own) (cell : Cell) (last : LastCopy) (holder : ℕ) (done : Done) → cell_holder here cell ≡ Some holder
+      → last_copy now cell ≡ Some last → TrimStep now cell last holder done → AreSaid done.own done.posts
+  trim_said now cell last holder _ held is (Is_trimmed none) = alone _ _ (says.Is_trimmed cell last holder held is none)
+  trim_said now cell last holder _ held is (Drops_entry epoch epochs more) = λ post i. none_in post i
 
-  holder_said : (done : Done) → DidHolder heard here own done → AreSaid done.posts
-  holder_said _ (Asks_page id row other held fresh) post i = one (Some other) (page_wanted own row) (says.Asks_page row) post i
-  holder_said done (Begins_copy id row other cell _ held next step) post i =
-      step_said (begins_copy own cell) cell _ done (begun_to heard here own cell) step post i
-  holder_said done (Goes_on_copying cell now copy _ taken step) post i =
-      step_said now cell copy done (copy_to heard here own cell now copy taken) step post i
-  holder_said _ _ post i = none_in post i
+  reply_said : (to : Option ℕ) (said : Body) → OtherReply heard here own to said → AreSaid own (post_to to said)
+  reply_said _ _ (Answers_page id row after h named) = one _ _ _ (λ to so. says.Tells_page id row after to refl h named so)
+  reply_said _ _ (Has_entry entry holder last of_copy lt) = alone _ _ (says.Is_synced entry holder last of_copy)
+  reply_said _ _ (Has_no_slot entry holder last of_copy spot full) = alone _ _ (says.Is_sync_full entry holder last refl of_copy spot full)
 
-  trim_said : (now : Own) (cell : Cell) (last : LastCopy) (holder : ℕ) (done : Done) → TrimStep now cell last holder done → AreSaid done.posts
-  trim_said now cell last holder _ (Is_trimmed none) post i = one (Some holder) (body.Trimmed last.op cell) (says.Is_trimmed last.op cell) post i
-  trim_said now cell last holder _ (Drops_entry epoch epochs is) post i = none_in post i
+  other_said : (done : Done) → DidOther heard here own done → AreSaid done.own done.posts
+  other_said _ (Replies to said reply) = reply_said to said reply
+  other_said done (Is_copied_to number cell epochs holder _ h held newer step) =
+      trim_said _ cell (first_last number epochs) holder done held (cell_same own.copies.last cell (first_last number epochs)) step
+  other_said done (Goes_on_trimming cell holder last _ held is step) = trim_said own cell last holder done held is step
+  other_said _ (Puts_entry entry holder last of_copy spot room) = alone _ _ (says.Is_synced entry holder last of_copy)
 
-  reply_said : (to : Option ℕ) (said : Body) → OtherReply heard here own to said → S said
-  reply_said _ _ (Answers_page id row after h named) = says.Tells_page row.map row.link after _
-  reply_said _ _ (Has_entry entry holder last of_copy lt) = says.Is_synced entry.op entry.index (cell_of entry.key)
-  reply_said _ _ (Has_no_slot entry holder last of_copy at full) = says.Is_sync_full entry.op (cell_of entry.key)
+  read_said : (done : Done) → DidRead heard here own done → AreSaid done.own done.posts
+  read_said _ (Shows client seq cell epoch may so) = alone _ _ (says.Shows client seq cell epoch may so)
+  read_said _ (Not_here client seq cell epoch may comes none) = alone _ _ (says.Shows_nothing client seq cell epoch may comes none)
 
-  other_said : (done : Done) → DidOther heard here own done → AreSaid done.posts
-  other_said _ (Replies to said reply) = one to said (reply_said to said reply)
-  other_said done (Is_copied_to number cell epochs holder _ h held newer step) = trim_said _ cell _ holder done step
-  other_said done (Goes_on_trimming cell holder last _ held is step) = trim_said own cell last holder done step
-  other_said _ (Puts_entry entry holder last of_copy spot room) =
-      one (Some holder) (body.Synced entry.op (cell_of entry.key) entry.index) (says.Is_synced entry.op entry.index (cell_of entry.key))
-
-  pub letters_of_job : (done : Done) → Did heard here own done → AreSaid done.posts
-  letters_of_job _ Ignores post i = none_in post i
-  letters_of_job _ (Refuses to what is why kept) post i = client to what (says.Refuses what is) post i
-  letters_of_job _ (By_read done d) post i = elim ((of_read heard here own done d).says post i) [
-    | inl data_of ↦ subst S (sym data_of.is) (says.Shows data_of.seq data_of.bytes)
-    | inr nothing ↦ subst S (sym nothing.is) (says.Shows_nothing nothing.seq)
-  ]
-  letters_of_job _ (By_lead done d) post i = lead_said done d post i
-  letters_of_job _ (By_second done d) post i = second_said done d post i
-  letters_of_job _ (By_holder done d) post i = holder_said done d post i
-  letters_of_job _ (By_other done d) post i = other_said done d post i
-  letters_of_job _ (By_filler _ (Is_filled key row posts h next fills)) post i = says.Moves_on key row post h next (fills post i)
-  letters_of_job _ (By_filler _ (Is_out_of_slots key row h next)) post i = none_in post i
-  letters_of_job _ (By_sweep done d) post i = absurd ((of_sweep heard here own done d).silent post i)
+  pub letters_of_job : (done : Done) → Did heard here own done → AreSaid done.own done.posts
+  letters_of_job _ Ignores = λ post i. none_in post i
+  letters_of_job _ (Refuses to what is busy held) = alone _ _ (says.Refuses to what is busy held)
+  letters_of_job _ (By_read done d) = read_said done d
+  letters_of_job _ (By_lead done d) = lead_said done d
+  letters_of_job _ (By_second done d) = second_said done d
+  letters_of_job _ (By_holder done d) = holder_said done d
+  letters_of_job _ (By_other done d) = other_said done d
+  letters_of_job _ (By_filler _ (Is_filled key row posts h next fills)) = λ post i. says.Moves_on key row post refl h next (fills post i)
+  letters_of_job _ (By_filler _ (Is_out_of_slots key row h next)) = λ post i. none_in post i
+  letters_of_job _ (By_sweep done d) = λ post i. absurd ((of_sweep heard here own done d).silent post i)

@@ -5,5 +5,6 @@ pub mod MarksApart
 pub mod JobsAreEffects
 pub mod JobsKeepChains
 pub mod CountsGrow
+pub mod OperationsCome
 pub mod FilledAsTold
 pub mod JobsSay

@@ -1,5 +1,5 @@
 -- Of what a job is made: effects, each on one place of a server's own part, with what was so when it was had.
-use Rattle.std.specs.Prelude.{◌≡◌, ◌≤◌, ◌<◌, ◌+◌, ◌⊎◌, ℕ, Bool, true, false, Some, List, length, is_some}
+use Rattle.std.specs.Prelude.{◌≡◌, ◌≤◌, ◌<◌, ◌+◌, ◌⊎◌, ℕ, Bool, true, false, Some, None, List, length, is_some}
 use Rattle.std.specs.Ordering.{nat_cmp}
 use Rattle.busy_marks.specs.declared.marks.MarkKind.{MarkKind}
 use Rattle.global_tables.specs.declared.link.LinkRow.{LinkRow}
@@ -11,22 +11,26 @@ use Rattle.petal_msg.specs.declared.body.Body.TheVariants as body
 use Rattle.petal_msg.specs.declared.copying.Copying.{Copying}
 use Rattle.petal_msg.specs.declared.copying.LastCopy.{LastCopy}
 use Rattle.petal_msg.specs.declared.copying.Progress.{Progress}
+use Rattle.petal_msg.specs.declared.operation.Ending.{Ending}
+use Rattle.petal_msg.specs.declared.operation.Ending.TheVariants.{Full, Written}
 use Rattle.petal_msg.specs.declared.operation.Finished.{Finished}
+use Rattle.petal_msg.specs.declared.operation.OpKind.TheVariants.{Write}
 use Rattle.petal_msg.specs.declared.operation.LastOp.{LastOp}
 use Rattle.petal_msg.specs.declared.operation.Pending.{Pending}
 use Rattle.petal_msg.specs.declared.operation.Stage.{Stage}
-use Rattle.petal_table.specs.Table.{at, put}
+use Rattle.petal_table.specs.Table.{Table, at, put}
 use Rattle.spec_rules.specs.Copies.{Entry}
-use Rattle.spec_rules.specs.Fills.{with_filled}
+use Rattle.spec_rules.specs.Fills.{Moving, fill_operation, with_filled}
 use Rattle.spec_rules.specs.Progress.{copying_on, last_copy, with_copying, without_copying, with_full, with_last_copy, with_progress}
 use Rattle.petal_msg.specs.declared.copying.LinkId.{LinkId}
 use Rattle.spec_rules.specs.Server.{Own, Here}
-use Rattle.spec_rules.specs.State.{link_named}
-use Rattle.spec_rules.specs.Store.{Stored, cell_cmp, chain_in, with_mark_on, with_entry, without_entry, without_mark_on}
-use Rattle.spec_rules.specs.Writes.{last_on, pending_on, with_pending, without_pending}
+use Rattle.spec_rules.specs.State.{in_both, is_alone_on, link_named, live}
+use Rattle.spec_rules.specs.Store.{Stored, cell_cmp, chain_in, free_of, with_mark_on, with_entry, without_entry, without_mark_on}
+use Rattle.spec_rules.specs.Writes.{Wanted, last_on, operation, pending_on, with_pending, without_pending}
 use Rattle.law_steps.specs.DidFiller.{IsNextKey}
+use Rattle.law_steps.specs.DidLead.{IsNew, IsNewFill, Taken}
 use Rattle.law_steps.specs.DidOther.{first_last}
-use Rattle.law_steps.specs.Operations.{far_of, progress}
+use Rattle.law_steps.specs.Operations.{answering, far_of, progress}
 
 pub data Effect : Type 0 where
   -- an operation is opened on its cell, or is at another stage
@@ -77,14 +81,38 @@ pub data IsPutFor (heard : Body → Type 0) (own : Own) : Key → Stored → Typ
   A_copy : (entry : Entry) → heard (body.Sync entry.op entry.key entry.stored.version entry.index entry.stored.bytes)
       → IsPutFor heard own entry.key entry.stored
 
--- how an operation is set: it is new, under the next number, and not put; or it goes on at another stage, put or not as it was; or its entry
--- has been put
-pub data IsSetFor (own now : Own) : Pending → Type 0 where
-  Is_opened : (op : Pending) → op.op ≡ own.pairs.next → op.stage.put ≡ false → IsSetFor own now op
-  Goes_on : (op : Pending) (stage : Stage) → pending_on now op.cell ≡ Some op → stage.put ≡ op.stage.put → IsSetFor own now (record op { stage = stage })
+-- for what an operation is opened under the next number
+pub data IsOpening (heard : Body → Type 0) (here : Here) (own : Own) : Pending → Type 0 where
+  For_a_write : (want : Wanted) → IsNew heard here own want → IsOpening heard here own (operation here own.pairs.next want)
+  For_a_fill : (moving : Moving) → IsNewFill heard here own moving → IsOpening heard here own (fill_operation here own.pairs.next moving)
+
+-- how an operation is set: it is new; or it goes on at another stage, put or not as it was; or its entry has been put
+pub data IsSetFor (heard : Body → Type 0) (here : Here) (own now : Own) : Pending → Type 0 where
+  Is_opened : (op : Pending) → IsOpening heard here own op → now.pairs.next ≡ own.pairs.next + 1 → IsSetFor heard here own now op
+  Goes_on : (op : Pending) (stage : Stage) → pending_on now op.cell ≡ Some op → stage.put ≡ op.stage.put
+      → IsSetFor heard here own now (record op { stage = stage })
   Has_put : (op : Pending) (version : ℕ) (stage : Stage) → pending_on own op.cell ≡ Some op
       → is_some (at nat_cmp (chain_in now.store.chains (cell_of op.key)) op.key.epoch) ≡ true
-      → IsSetFor own now (record op { version = version; stage = stage })
+      → IsSetFor heard here own now (record op { version = version; stage = stage })
+
+-- how an operation that was pending at its lead has ended: its second server has no slot for it, or it has been put where its copies are, or it
+-- is of a cell that is no longer live
+pub data HasEnded (heard : Body → Type 0) (here : Here) (own : Own) : Pending → Ending → Type 0 where
+  Is_declined : (op : Pending) → heard (body.PairFull op.op op.cell) → pending_on own op.cell ≡ Some op → op.stage.reserved ≡ false
+      → op.stage.put ≡ false → HasEnded heard here own op Full
+  Both_have : (op : Pending) → pending_on own op.cell ≡ Some op → in_both here.state op.cell ≡ true → op.stage ≡ answering
+      → HasEnded heard here own op Written
+  Alone_has : (now : Own) (op : Pending) → Taken own now op → is_alone_on here.state here.me op.cell ≡ true → op.stage.stale ≡ true
+      → op.stage.put ≡ true → op.stage.busy ≡ false → HasEnded heard here own op Written
+  Is_dead : (now : Own) (op : Pending) → Taken own now op → live here.state op.cell ≡ false → HasEnded heard here own op Written
+
+-- with which request of a client a lead is done: a new one for which it has no slot, or that of an operation that has ended. Nothing is pending
+-- then on its cell
+pub data IsFinishedFor (heard : Body → Type 0) (here : Here) (own : Own) (pending : Table Cell Pending) : ℕ → Finished → Type 0 where
+  Had_no_slot : (want : Wanted) → IsNew heard here own want → free_of own.store ≡ 0 → at cell_cmp pending want.cell ≡ None
+      → IsFinishedFor heard here own pending want.client (record { seq = want.seq; ending = Full })
+  By_operation : (op : Pending) (how : Ending) → HasEnded heard here own op how → op.kind ≡ Write → at cell_cmp pending op.cell ≡ None
+      → IsFinishedFor heard here own pending op.client (record { seq = op.seq; ending = how })
 
 -- how the last copy of a cell to this server is noted: the holder has begun it, or an entry of it has come
 pub data IsCopiedFor (heard : Body → Type 0) (own : Own) (cell : Cell) : LastCopy → Type 0 where
@@ -118,9 +146,10 @@ pub record IsFilledAs (heard : Body → Type 0) (here : Here) (own : Own) (row :
   pub is : old ≡ record { map = row.map; block = key.block; epoch = key.epoch }
 
 -- what was so when a server did it that handled only such letters as `heard` knows: by its own part as the job began, `own`, and as it is
--- by now. A job puts one entry at most
+-- by now. A job puts one entry at most, and is done with one request
 abbrev pub May : (heard : Body → Type 0) (here : Here) (own now : Own) → Effect → Type 0
-May heard here own now (Sets op) = IsSetFor own now op
+May heard here own now (Sets op) = IsSetFor heard here own now op × (now.pairs.finished ≡ own.pairs.finished)
+May heard here own now (Finishes client last) = IsFinishedFor heard here own now.pairs.pending client last × (now.pairs.finished ≡ own.pairs.finished)
 May heard here own now (Puts key stored) = IsPutFor heard own key stored × (now.store.chains ≡ own.store.chains)
 May heard here own now (Drops key) = (now.store.chains ≡ own.store.chains) × (now.pairs.pending ≡ own.pairs.pending)
 May heard here own now (Follows cell last) = progress (last_on now cell) ≤ far_of last.op last.far

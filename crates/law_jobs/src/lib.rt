@@ -23,5 +23,5 @@ pub fn a_job_is_a_list_of_effects()
 /// Each letter of a job is one that the server may say.
 pub fn a_job_says_what_it_may()
     ensures { (setting : Setting) (w : World) (n : ℕ) (done : Done) → Did (Handled w n) (own_place setting w n) (w.servers n).own done
-        → (post : Post) → In post done.posts → Says (Handled w n) (own_place setting w n) (w.servers n).own post.body }
+        → (post : Post) → In post done.posts → Says (Handled w n) (own_place setting w n) (w.servers n).own done.own post }
 {}

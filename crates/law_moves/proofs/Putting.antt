@@ -7,7 +7,6 @@ use Rattle.petal_base.specs.declared.cell.Key.{Key}
 use Rattle.petal_table.specs.Table.{Table, at, put}
 use Rattle.petal_msg.specs.declared.body.Body.{Body}
 use Rattle.petal_msg.specs.declared.operation.Pending.{Pending}
-use Rattle.petal_msg.specs.declared.operation.Stage.{Stage}
 use Rattle.spec_rules.specs.Server.{Own, Here, Done}
 use Rattle.spec_rules.specs.Store.{Chain, Stored, cell_cmp, chain_in, chains_with}
 use Rattle.spec_rules.proofs.CellTables.{cell_apart, cell_same}
@@ -15,9 +14,10 @@ use Rattle.spec_rules.proofs.Tests.{same_some}
 use Rattle.law_steps.specs.Did.{Did}
 use Rattle.law_steps.proofs.Restages.{IsSame, same_itself, same_on, stood}
 use Rattle.law_steps.proofs.Staged.{same_cell_or_apart}
-use Rattle.law_jobs.specs.Effects.{Closes, Drops, Effect, Goes_on, Has_put, Is_opened, IsSetFor, May, Puts, Sets, applied}
+use Rattle.law_jobs.specs.Effects.{Closes, Drops, Effect, For_a_fill, For_a_write, Goes_on, Has_put, Is_opened, IsSetFor, May, Puts, Sets, applied}
 use Rattle.law_jobs.proofs.ChainsApart.{entry_stays}
 use Rattle.law_jobs.proofs.JobsAreEffects.{job_keeps}
+use Rattle.law_jobs.proofs.OperationsCome.{restaged}
 use Rattle.law_moves.specs.Fills.{Has}
 
 -- the operation was pending, or is new
@@ -25,9 +25,6 @@ pub data WasSo (own : Own) (chains : Table Cell Chain) (q : Cell) (op : Pending)
   It_was : (o : Pending) → at cell_cmp own.pairs.pending q ≡ Some o → IsSame o op
       → (op.stage.put ≡ true → (o.stage.put ≡ true) ⊎ Has (chain_in chains q) op.key.epoch) → WasSo own chains q op
   Is_new : op.op ≡ own.pairs.next → op.stage.put ≡ false → WasSo own chains q op
-
-restaged : (op : Pending) (version : ℕ) (stage : Stage) → IsSame op (record op { version = version; stage = stage })
-restaged op version stage = record { number = refl; kind = refl; client = refl; seq = refl; rev = refl; key = refl; bytes = refl }
 
 module _ (heard : Body → Type 0) (here : Here) (own : Own)
     (keyed : (cell : Cell) (op : Pending) → at cell_cmp own.pairs.pending cell ≡ Some op → cell_of op.key ≡ cell) where
@@ -38,8 +35,9 @@ module _ (heard : Body → Type 0) (here : Here) (own : Own)
   stands chains q op is = It_was op is (same_itself op) (λ put. inl put)
 
   -- one that is set
-  set_so : (now : Own) (next : Pending) → IsSetFor own now next → AreSo now → (q : Cell) → q ≡ next.cell → WasSo own now.store.chains q next
-  set_so now _ (Is_opened op number fresh) so q e = Is_new number fresh
+  set_so : (now : Own) (next : Pending) → IsSetFor heard here own now next → AreSo now → (q : Cell) → q ≡ next.cell → WasSo own now.store.chains q next
+  set_so now _ (Is_opened _ (For_a_write want new) number) so q e = Is_new refl refl
+  set_so now _ (Is_opened _ (For_a_fill moving new) number) so q e = Is_new refl refl
   set_so now _ (Goes_on op stage is put) so q e = elim (so q op (ap (at cell_cmp now.pairs.pending) e ∙ is)) [
     | Is_new number fresh ↦ Is_new number (put ∙ fresh)
     | It_was o was same how ↦ It_was o was (same_on o op _ same (restaged op op.version stage)) (λ done. how (sym put ∙ done))
@@ -59,7 +57,7 @@ module _ (heard : Body → Type 0) (here : Here) (own : Own)
     | inl e ↦
         let t = now.pairs.pending in
         let same = same_some (sym (cell_same t next.cell next) ∙ ap (at cell_cmp (put cell_cmp t next.cell next)) (sym e) ∙ there) in
-        subst (WasSo own now.store.chains q) same (set_so now next may so q e)
+        subst (WasSo own now.store.chains q) same (set_so now next may.0 so q e)
     | inr ne ↦ so q op (sym (cell_apart now.pairs.pending next.cell next q ne) ∙ there)
   ]
   each now (Closes cell) may so q op there = so q op (stood now.pairs.pending cell q op there)

@@ -10,7 +10,6 @@ pub mod Frames
 pub mod Drained
 pub mod Ended
 pub mod LeadJobs
-pub mod Jobs
 pub mod Turns
 pub mod Turning
 pub mod Stepped

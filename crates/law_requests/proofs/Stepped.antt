@@ -39,8 +39,7 @@ use Rattle.law_requests.specs.Known.{LedBy, done_by, IsLedAlong}
 use Rattle.law_requests.specs.Known.{asked_for, IsUsed, Has_pending, Has_finished}
 use Rattle.law_requests.proofs.Ended.{bound_now, pending_new, rises}
 use Rattle.law_requests.proofs.Frames.{Scene, IsSettled, IsStepped}
-use Rattle.law_requests.proofs.Jobs.{job_tells, kept_tells}
-use Rattle.law_requests.proofs.LeadJobs.{Shows}
+use Rattle.law_requests.proofs.LeadJobs.{Shows, job_tells, kept_tells}
 use Rattle.law_requests.proofs.Later.{one_log}
 use Rattle.law_requests.proofs.Lives.{Goes_on, Begins}
 use Rattle.law_requests.proofs.Minds.{worked_flags}

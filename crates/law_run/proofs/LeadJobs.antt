@@ -2,8 +2,6 @@
 -- has had its bytes.
 use Rattle.std.proofs.Common.{◌≡◌, ◌≢◌, ◌≤◌, ◌+◌, ℕ, Bool, true, false, Some, refl, sym, ap, ◌∙◌, subst, inl, inr, Option, None}
 use Rattle.spec_rules.specs.Fills.{fill_operation}
-use Rattle.petal_msg.specs.declared.operation.OpKind.TheVariants as kind
-use Rattle.petal_msg.specs.declared.operation.OpKind.{OpKind}
 use Rattle.std.specs.Ordering.{nat_cmp}
 use Rattle.busy_marks.specs.declared.marks.MarkKind.TheVariants.{Busy, Stale}
 use Rattle.global_tables.specs.declared.link.LinkRow.{LinkRow}
@@ -11,10 +9,8 @@ use Rattle.petal_base.specs.declared.cell.Cell.{Cell}
 use Rattle.petal_base.specs.declared.cell.Key.{Key}
 use Rattle.petal_base.specs.Cells.{cell_of}
 use Rattle.petal_table.specs.Table.{Table, at, put}
-use Rattle.petal_table.proofs.Rows.{at_same, at_apart}
 use Rattle.spec_machine.specs.Machine.{Plain}
 use Rattle.petal_msg.specs.declared.body.Body.TheVariants as body
-use Rattle.petal_msg.specs.declared.operation.Ending.{Ending}
 use Rattle.petal_msg.specs.declared.operation.Ending.TheVariants as ending
 use Rattle.petal_msg.specs.declared.operation.Finished.{Finished}
 use Rattle.petal_msg.specs.declared.operation.Pending.{Pending}
@@ -22,19 +18,20 @@ use Rattle.petal_msg.specs.declared.operation.Stage.{Stage}
 use Rattle.spec_rules.specs.State.{authority, in_both, is_alone_on}
 use Rattle.spec_rules.specs.Store.{Chain, Store, Stored, cell_cmp, chain_in, chains_with, version_of}
 use Rattle.spec_rules.specs.Server.{Own, Done}
-use Rattle.spec_rules.specs.Writes.{operation, puts, with_reserved, with_paired, with_mark_at, is_clients, gives_back, ends, without_pending}
+use Rattle.spec_rules.specs.Writes.{operation, puts, with_reserved, with_paired, with_mark_at, is_clients, gives_back, without_pending}
 use Rattle.spec_rules.specs.World.{chosen_state, kept}
 use Rattle.spec_rules.proofs.CellTables.{cell_same, cell_apart}
-use Rattle.spec_rules.proofs.Tests.{same_or_apart, same_some, true_false}
+use Rattle.spec_rules.proofs.Tests.{same_some, true_false}
 use Rattle.law_state.proofs.Alone.{alone_not_both, so_both}
 use Rattle.law_state.proofs.Roles.{secondary_is_one}
 use Rattle.law_steps.specs.Operations.{answering, putting}
-use Rattle.law_steps.specs.DidLead.{DidLead, Taken, Is_full, Gives_up, Opens, Marks, Puts, Unmarks, Closes, Opens_alone, Marks_alone}
+use Rattle.law_steps.specs.DidLead.{DidLead, Taken, Gives_up, Opens, Marks, Puts, Unmarks, Closes, Opens_alone, Marks_alone}
 use Rattle.law_steps.specs.DidLead.{Puts_alone, Unmarks_alone, Closes_alone, Opens_fill, Opens_fill_alone, Goes_on_dead}
 use Rattle.law_steps.proofs.Restages.{stood}
 use Rattle.law_steps.proofs.Staged.{same_cell_or_apart}
 use Rattle.law_steps.proofs.Subjects.{of_ending}
 use Rattle.law_steps.proofs.Taking.{taking}
+use Rattle.law_jobs.specs.Effects.{Alone_has, Both_have, By_operation, Had_no_slot, Is_dead, Is_declined, IsFinishedFor}
 use Rattle.law_copies.specs.Pair.{AreCopies, PairOk, Working, far, pair_of}
 use Rattle.law_copies.specs.Visits.{IsLinked, half}
 use Rattle.law_jobs.proofs.ChainsApart.{chain_apart, chain_put}
@@ -342,55 +339,26 @@ module _ (this : ServerStep) (k : Plain) where
         → is_held k c ≡ true
     old_finished = kept_finished this k onward runs own refl
 
-    -- a request of this client is finished, for want of a slot, or as written
-    finish : (t : Table ℕ Finished) (client seq : ℕ) (how : Ending) → t ≡ own.pairs.finished
-        → (how ≡ ending.Written → IsOpen (this.w.clients client) seq → is_held k client ≡ true)
-        → (c : ℕ) (last : Finished) → at nat_cmp (put nat_cmp t client (record { seq = seq; ending = how })) c ≡ Some last
-        → last.ending ≡ ending.Written → IsOpen (this.w.clients c) last.seq → is_held k c ≡ true
-    finish t client seq how same held c last is written still = elim (same_or_apart c client) [
-      | inl e ↦
-          let now : Finished = record { seq = seq; ending = how } in
-          let one : now ≡ last = same_some (sym (at_same t client now) ∙ subst (λ i. at nat_cmp (put nat_cmp t client now) i ≡ Some last) e is) in
-          subst (λ i. is_held k i ≡ true) (sym e)
-          (held (ap (λ (f : Finished). f.ending) one ∙ written)
-          (subst (IsOpen (this.w.clients client)) (sym (ap (λ (f : Finished). f.seq) one)) (subst (λ i. IsOpen (this.w.clients i) last.seq) e still)))
-      | inr ne ↦ old_finished c last (ap (λ u. at nat_cmp u c) (sym same) ∙ sym (at_apart t client _ c ne) ∙ is) written still
-    ]
-
-    -- how an operation ends
-    ends_finish : (own_then : Own) (op : Pending) (of : OpKind) (how : Ending) → own_then.pairs.finished ≡ own.pairs.finished
-        → (how ≡ ending.Written → is_clients of ≡ true → IsOpen (this.w.clients op.client) op.seq → is_held k op.client ≡ true)
-        → (c : ℕ) (last : Finished) → at nat_cmp (ends here own_then op of how).own.pairs.finished c ≡ Some last
-        → last.ending ≡ ending.Written → IsOpen (this.w.clients c) last.seq → is_held k c ≡ true
-    ends_finish own_then op kind.Write how same held = finish own_then.pairs.finished op.client op.seq how same (λ e. held e refl)
-    ends_finish own_then op kind.Fill how same held = kept_finished this k onward runs own_then same
-    ends_finish own_then op kind.Copy how same held = kept_finished this k onward runs own_then same
-
     full_unwritten : {B : Type 0} → ending.Full ≡ ending.Written → B
     full_unwritten e = cc
 
     -- an operation that is closed has had its bytes
-    pub closed_held : (op : Pending) → at cell_cmp own.pairs.pending op.cell ≡ Some op → in_both here.state op.cell ≡ true → op.stage ≡ answering → Held op
+    closed_held : (op : Pending) → at cell_cmp own.pairs.pending op.cell ≡ Some op → in_both here.state op.cell ≡ true → op.stage ≡ answering → Held op
     closed_held op is both stage =
         was_held op.cell op is (Is_told both (ap (λ (s : Stage). s.paired) stage))
 
-    pub closed_alone : (now : Own) (op : Pending) → Taken own now op → is_alone_on here.state this.n op.cell ≡ true → op.stage.put ≡ true → Held op
+    closed_alone : (now : Own) (op : Pending) → Taken own now op → is_alone_on here.state this.n op.cell ≡ true → op.stage.put ≡ true → Held op
     closed_alone now op taken alone put =
         let t = taking own now op taken in
         taken_held now op op taken alone refl refl refl (λ e. e) (mine op.cell)
         (Is_counted put (op_alone (grounded this) this.n op.cell t.old runs t.was alone))
 
-    pub lead_finished : (done : Done) → DidLead hears here own done → (c : ℕ) (last : Finished) → at nat_cmp done.own.pairs.finished c ≡ Some last
-        → last.ending ≡ ending.Written → IsOpen (this.w.clients c) last.seq → is_held k c ≡ true
-    lead_finished _ (Is_full want new no_room) = finish own.pairs.finished want.client want.seq ending.Full refl full_unwritten
-    lead_finished _ (Gives_up op h there reserved put) =
-        ends_finish (gives_back (without_pending own op.cell)) op op.kind ending.Full refl full_unwritten
-    lead_finished _ (Closes op there both stage) =
-        ends_finish (without_pending own op.cell) op op.kind ending.Written refl (λ e. closed_held op there both stage)
-    lead_finished _ (Marks_alone now op taken alone fresh) = kept_finished this k onward runs now (taking own now op taken).finished
-    lead_finished _ (Puts_alone now op taken alone stale put) = kept_finished this k onward runs now (taking own now op taken).finished
-    lead_finished _ (Unmarks_alone now op taken alone stale put busy) = kept_finished this k onward runs now (taking own now op taken).finished
-    lead_finished _ (Closes_alone now op taken alone stale put free) =
-        ends_finish (without_pending now op.cell) op op.kind ending.Written (taking own now op taken).finished (λ e. closed_alone now op taken alone put)
-    lead_finished _ (Goes_on_dead now op taken off) = absurd (never now op taken off)
-    lead_finished _ _ = old_finished
+    -- a request is finished, for want of a slot, or as written
+    pub finish_held : (t : Table Cell Pending) (client : ℕ) (last : Finished) → IsFinishedFor hears here own t client last → last.ending ≡ ending.Written
+        → IsOpen (this.w.clients client) last.seq → is_held k client ≡ true
+    finish_held t _ _ (Had_no_slot want new full gone) e = full_unwritten e
+    finish_held t _ _ (By_operation _ _ (Is_declined op h is reserved put) write gone) e = full_unwritten e
+    finish_held t _ _ (By_operation _ _ (Both_have op is both stage) write gone) e = closed_held op is both stage (ap is_clients write)
+    finish_held t _ _ (By_operation _ _ (Alone_has now op taken alone stale put free) write gone) e =
+        closed_alone now op taken alone put (ap is_clients write)
+    finish_held t _ _ (By_operation _ _ (Is_dead now op taken off) write gone) e = absurd (never now op taken off)

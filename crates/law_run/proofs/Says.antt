@@ -2,27 +2,23 @@
 use Rattle.std.proofs.Common.{◌≡◌, ℕ, List, [], ◌∷◌, Bool, true, false, refl, sym, ap, ◌∙◌, subst, inl, inr}
 use Rattle.std.specs.Prelude.{map, filter, not, ◌==◌}
 use Rattle.std.specs.List.{range_with_len}
-use Rattle.std.specs.Ordering.{nat_cmp}
-use Rattle.petal_table.specs.Table.{at}
 use Rattle.spec_machine.specs.Machine.{Plain}
-use Rattle.petal_base.specs.Cells.{cell_of}
 use Rattle.petal_msg.specs.Kinds.{Subject, Answered, Glanced, Refused, about, is_logged, is_refused, subject_of}
 use Rattle.petal_msg.specs.declared.body.Body.{Body}
 use Rattle.petal_msg.specs.declared.body.Body.TheVariants as body
-use Rattle.petal_msg.specs.declared.letter.Actor.{Actor}
 use Rattle.petal_msg.specs.declared.letter.Actor.TheVariants as actor
 use Rattle.petal_msg.specs.declared.letter.Letter.{Letter}
 use Rattle.petal_msg.specs.declared.operation.Ending.{Ending}
 use Rattle.petal_msg.specs.declared.operation.Ending.TheVariants as ending
+use Rattle.petal_msg.specs.declared.operation.Finished.{Finished}
 use Rattle.petal_msg.specs.declared.operation.OpKind.{OpKind}
 use Rattle.petal_msg.specs.declared.operation.OpKind.TheVariants as kind
 use Rattle.petal_msg.specs.declared.operation.Pending.{Pending}
 use Rattle.spec_rules.specs.Ballots.{post_of}
 use Rattle.spec_rules.specs.Jobs.{down_posts}
 use Rattle.spec_rules.specs.Lists.{In}
-use Rattle.spec_rules.specs.Server.{Own, Here, Post, Sender, Done, letters_of, post_to}
-use Rattle.spec_rules.specs.State.{second}
-use Rattle.spec_rules.specs.Writes.{ended, ends, gives_back, is_clients, old_lead, without_pending}
+use Rattle.spec_rules.specs.Server.{Own, Here, Post, Sender, Done, letters_of}
+use Rattle.spec_rules.specs.Writes.{ended, ends, gives_back, old_lead, without_pending}
 use Rattle.spec_rules.specs.World.{stamped}
 use Rattle.spec_rules.proofs.Tests.{same_some, true_false}
 use Rattle.law_steps.specs.DidLead.{DidLead, Asks, An_entry_to_move, Of_the_log, Asks_for, Repeats, Is_full}
@@ -33,14 +29,17 @@ use Rattle.law_steps.specs.Did.{Did, IsRefusal, Ignores, Refuses, By_read, By_le
 use Rattle.law_steps.proofs.CopyFrames.{of_holder, of_other}
 use Rattle.law_steps.specs.Happens.{own_place}
 use Rattle.law_steps.proofs.Letters.{said, one_post, posted}
-use Rattle.law_steps.proofs.Subjects.{of_filler, of_read, of_second, of_sweep}
+use Rattle.law_steps.proofs.Subjects.{of_filler, of_second, of_sweep}
+use Rattle.law_jobs.specs.Sayings as says
+use Rattle.law_jobs.specs.Sayings.{Ends_fill, Moves, Moves_on, Says, to_client}
+use Rattle.law_jobs.proofs.JobsSay.{letters_of_job}
 use Rattle.law_copies.specs.Pair.{owns_of}
 use Rattle.law_requests.specs.Asked.{IsOpen}
 use Rattle.law_run.specs.Onward.{is_held, Onward}
 use Rattle.law_moves.proofs.Chains.{NeverDead}
 use Rattle.law_run.proofs.Looks.{is_looked}
 use Rattle.law_run.proofs.Machine.{held_onward}
-use Rattle.law_run.proofs.LeadJobs.{closed_held, closed_alone}
+use Rattle.law_run.proofs.LeadJobs.{finish_held}
 use Rattle.law_run.proofs.Steps.{ServerStep, ends_of}
 
 -- a letter ends a write as written
@@ -184,87 +183,37 @@ module _ (this : ServerStep) (k : Plain) (runs : (this.w.servers this.n).life.ru
     (never : NeverDead (own_place this.setting this.w this.n) (owns_of this.w this.n)) where
   open ends_of this use {own, here, hears}
 
+  abbrev IsOk : Post → Type 0
+  IsOk post = (c seq : ℕ) → post.to ≡ actor.Client c → post.body ≡ body.Written seq → IsOpen (this.w.clients c) seq → is_held k c ≡ true
+
   abbrev PostsOk : List Post → Type 0
-  PostsOk posts = (post : Post) → In post posts → (c seq : ℕ) → post.to ≡ actor.Client c → post.body ≡ body.Written seq → IsOpen (this.w.clients c) seq
-      → is_held k c ≡ true
+  PostsOk posts = (post : Post) → In post posts → IsOk post
 
-  unwritten : (posts : List Post) → ((post : Post) → In post posts → is_written post.body ≡ false) → PostsOk posts
-  unwritten posts h post i c seq to says still = true_false (ap is_written says) (h post i)
+  unwritten : (post : Post) → is_written post.body ≡ false → IsOk post
+  unwritten post other c seq to says still = true_false (ap is_written says) other
 
-  one_unwritten : (to : Actor) (what : Body) → is_written what ≡ false → PostsOk (record { to = to; body = what } ∷ [])
-  one_unwritten to what e = unwritten (record { to = to; body = what } ∷ []) (λ post i. ap is_written (one_post to what post i).1 ∙ e)
+  -- a client is told how a request was finished
+  ended_ok : (client : ℕ) (last : Finished) → (last.ending ≡ ending.Written → IsOpen (this.w.clients client) last.seq → is_held k client ≡ true) → (number : ℕ)
+      → number ≡ last.seq → IsOk (to_client client (ended number last.ending))
+  ended_ok client last held number e c seq to what still =
+      let same : client ≡ c = one_client to in
+      let of : seq ≡ last.seq = sym (ended_seq number last.ending seq what) ∙ e in
+      subst (λ i. is_held k i ≡ true) same (held (ended_written number last.ending seq what)
+      (subst (IsOpen (this.w.clients client)) of (subst (λ i. IsOpen (this.w.clients i) seq) (sym same) still)))
 
-  -- a reply to a client whose write has had its bytes
-  one_held : (client seq : ℕ) → (IsOpen (this.w.clients client) seq → is_held k client ≡ true)
-      → PostsOk (record { to = actor.Client client; body = body.Written seq } ∷ [])
-  one_held client seq held post i c other to says still =
-      let p = one_post (actor.Client client) (body.Written seq) post i in
-      let same : client ≡ c = one_client (sym p.0 ∙ to) in
-      let number : seq ≡ other = same_some (ap (λ b. (about b).seq) (sym p.1 ∙ says)) in
-      subst (λ j. is_held k j ≡ true) same
-      (held (subst (IsOpen (this.w.clients client)) (sym number) (subst (λ j. IsOpen (this.w.clients j) other) (sym same) still)))
-
-  none_says : PostsOk []
-  unfolding In
-  none_says post i = absurd i
-
-  -- how an operation ends
-  ends_says : (own_then : Own) (op : Pending) (of : OpKind) (how : Ending)
-      → (how ≡ ending.Written → is_clients of ≡ true → IsOpen (this.w.clients op.client) op.seq → is_held k op.client ≡ true)
-      → PostsOk (ends here own_then op of how).posts
-  ends_says own_then op kind.Write ending.Written held = one_held op.client op.seq (held refl refl)
-  ends_says own_then op kind.Write ending.Full held = one_unwritten (actor.Client op.client) (ended op.seq ending.Full) refl
-  ends_says own_then op kind.Fill ending.Written held =
-      unwritten (post_to (old_lead here.state op.cell) (body.Filled op.key)) (λ post i. ap is_written (posted _ _ post i))
-  ends_says own_then op kind.Fill ending.Full held =
-      unwritten (post_to (old_lead here.state op.cell) (body.FillFull op.key)) (λ post i. ap is_written (posted _ _ post i))
-  ends_says own_then op kind.Copy how held = none_says
-
-  never_full : {B : Type 0} → ending.Full ≡ ending.Written → B
-  never_full e = cc
-
-  lead_says : (done : Done) → DidLead hears here own done → PostsOk done.posts
-  lead_says _ (Asks_for posts h) = unwritten posts (λ post i. unended_written post.body (asks_unended here own post (h post i)))
-  lead_says _ (Repeats want last h lead is e) = λ post i c seq to says still.
-      let p = one_post (actor.Client want.client) (ended want.seq last.ending) post i in
-      let same_client : want.client ≡ c = one_client (sym p.0 ∙ to) in
-      let what : ended want.seq last.ending ≡ body.Written seq = sym p.1 ∙ says in
-      let how = ended_written want.seq last.ending seq what in
-      let number : seq ≡ last.seq = sym (ended_seq want.seq last.ending seq what) ∙ e in
-      held_onward this.m k c onward
-      (this.follow.finished this.n c last runs (ap (at nat_cmp own.pairs.finished) (sym same_client) ∙ is) how (subst (IsOpen (this.w.clients c)) number still))
-  lead_says _ (Is_full want new no_room) = one_unwritten (actor.Client want.client) (ended want.seq ending.Full) refl
-  lead_says _ (Gives_up op h is reserved put) =
-      ends_says (gives_back (without_pending own op.cell)) op op.kind ending.Full (λ e clients still. never_full e)
-  lead_says _ (Opens want new both) =
-      unwritten (post_to (second here.state want.cell) (body.Reserve own.pairs.next want.cell)) (λ post i. ap is_written (posted _ _ post i))
-  lead_says _ (Closes op is both stage) =
-      ends_says (without_pending own op.cell) op op.kind ending.Written (λ e. closed_held this k runs onward never op is both stage)
-  lead_says _ (Closes_alone now op taken alone stale put free) =
-      ends_says (without_pending now op.cell) op op.kind ending.Written (λ e. closed_alone this k runs onward never now op taken alone put)
-  lead_says _ (Opens_fill moving new room both) =
-      unwritten (post_to (second here.state (cell_of moving.key)) (body.Reserve own.pairs.next (cell_of moving.key)))
-      (λ post i. ap is_written (posted _ _ post i))
-  lead_says _ (Has_fill moving filled) =
-      unwritten (post_to (old_lead here.state (cell_of moving.key)) (body.Filled moving.key)) (λ post i. ap is_written (posted _ _ post i))
-  lead_says _ (Has_no_room moving new no_room) =
-      unwritten (post_to (old_lead here.state (cell_of moving.key)) (body.FillFull moving.key)) (λ post i. ap is_written (posted _ _ post i))
-  lead_says _ (Goes_on_dead now op taken off) = absurd (never now op taken off)
-  lead_says _ _ = none_says
+  says_held : (new : Own) (post : Post) → Says hears here own new post → IsOk post
+  says_held new _ (says.Refuses to said is busy held) = unwritten _ (refused_written said is)
+  says_held new _ (says.Repeats want last same h lead is e) =
+      ended_ok want.client last (λ how still. held_onward this.m k want.client onward (this.follow.finished this.n want.client last runs is how still))
+      want.seq e
+  says_held new _ (says.Ends client last why is) =
+      ended_ok client last (finish_held this k runs onward never new.pairs.pending client last why) last.seq refl
+  says_held new _ (Ends_fill op ending.Full to ended is none so) = unwritten _ refl
+  says_held new _ (Ends_fill op ending.Written to ended is none so) = unwritten _ refl
+  says_held new post (Moves _ same next) = unwritten post (ap (λ (p : Post). is_written p.body) next.is)
+  says_held new post (Moves_on key row _ same h is next) = unwritten post (ap (λ (p : Post). is_written p.body) next.is)
+  says_held new post (says.Of_the_log _ logged) = unwritten post (unended_written post.body (logged_unended post.body logged))
+  says_held new _ _ = unwritten _ refl
 
   pub did_says : (done : Done) → Did hears here own done → PostsOk done.posts
-  did_says _ Ignores = none_says
-  did_says _ (Refuses to what is why back) = one_unwritten to what (refused_written what is)
-  did_says _ (By_read done d) = unwritten done.posts (λ post i. elim ((of_read hears here own done d).says post i) [
-    | inl h ↦ ap is_written h.is
-    | inr h ↦ ap is_written h.is
-  ])
-  did_says _ (By_lead done d) = lead_says done d
-  did_says _ (By_second done d) = unwritten done.posts (λ post i. unended_written post.body (second_unended hears here own never done d post i))
-  did_says _ (By_holder done d) =
-      unwritten done.posts (λ post i. unended_written post.body (ap is_reply ((of_holder hears here own done d).says post i)))
-  did_says _ (By_other done d) =
-      unwritten done.posts (λ post i. unended_written post.body (ap is_reply ((of_other hears here own done d).says post i)))
-  did_says _ (By_filler done d) =
-      unwritten done.posts (λ post i. unended_written post.body (ap is_reply ((of_filler hears here own done d).says post i)))
-  did_says _ (By_sweep done d) = unwritten done.posts (λ post i. absurd ((of_sweep hears here own done d).silent post i))
+  did_says done d post i = says_held done.own post (letters_of_job hears here own done d post i)

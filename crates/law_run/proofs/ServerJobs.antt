@@ -27,7 +27,8 @@ use Rattle.law_steps.specs.Happens.{IsSeated}
 use Rattle.law_steps.proofs.CopyFrames.{of_holder, of_other}
 use Rattle.law_steps.proofs.Histories.{own_steady}
 use Rattle.law_steps.proofs.Staged.{same_cell_or_apart}
-use Rattle.law_steps.proofs.Subjects.{of_read, of_second, of_filler, of_sweep}
+use Rattle.law_steps.proofs.Subjects.{of_read, of_second, of_filler}
+use Rattle.law_jobs.proofs.OperationsCome.{did_finish, finished_of}
 use Rattle.law_copies.specs.Waiting.{IsOwn}
 use Rattle.law_copies.specs.Pair.{owns_of}
 use Rattle.law_copies.specs.Visits.{AliveIn}
@@ -39,12 +40,12 @@ use Rattle.law_run.specs.Onward.{is_held, Onward}
 use Rattle.law_moves.proofs.Chains.{Drops, NeverDead, StoresSo, Nothing_new, An_own, An_asked, A_copy, Of_the_dead, OtherStores, PutsAsked, PutsCopy, PutsOwn}
 use Rattle.law_moves.proofs.Chains.{copied_apart, did_stores, holder_chains, other_changes, second_stores, swept}
 use Rattle.law_run.proofs.Copies.{copied_unfollowed}
-use Rattle.law_run.proofs.Frames.{OwnFollow, kept_finished}
+use Rattle.law_run.proofs.Frames.{OwnFollow}
 use Rattle.law_run.proofs.Grounds.{dropped_same, followed}
 use Rattle.law_run.proofs.Seats.{IsSharing, one_place_of, op_lead, op_leads, op_seat, place_of}
 use Rattle.law_run.proofs.Seats.{visit_here, alive_here}
 use Rattle.law_run.proofs.Steps.{ServerStep, ends_of, grounded, joined_now, joined_then, kept_here, later_world, new as own_left, own_after}
-use Rattle.law_run.proofs.LeadJobs.{Held, Counted, PutHeld, was_held, lead_pending, old_finished, lead_finished}
+use Rattle.law_run.proofs.LeadJobs.{Held, Counted, PutHeld, was_held, lead_pending, old_finished, finish_held}
 
 module _ (this : ServerStep) (k : Plain) where
   open ends_of this use {own, here, hears}
@@ -193,17 +194,11 @@ module _ (this : ServerStep) (k : Plain) where
 
     did_finished : (done : Done) → Did hears here own done → (c : ℕ) (last : Finished) → at nat_cmp done.own.pairs.finished c ≡ Some last
         → last.ending ≡ ending.Written → IsOpen (this.w.clients c) last.seq → is_held k c ≡ true
-    did_finished _ Ignores = old_finished this k runs onward never
-    did_finished _ (Refuses to said is why back) = old_finished this k runs onward never
-    did_finished _ (By_read done d) =
-        kept_finished this k onward runs done.own (ap (λ (o : Own). o.pairs.finished) (of_read hears here own done d).same)
-    did_finished _ (By_lead done d) = lead_finished this k runs onward never done d
-    did_finished _ (By_second done d) = kept_finished this k onward runs done.own (of_second hears here own done d).finished
-    did_finished _ (By_holder done d) = kept_finished this k onward runs done.own (of_holder hears here own done d).finished
-    did_finished _ (By_other done d) = kept_finished this k onward runs done.own (of_other hears here own done d).finished
-    did_finished _ (By_filler done d) =
-        kept_finished this k onward runs done.own (ap (λ (p : Pairs). p.finished) (of_filler hears here own done d).pairs)
-    did_finished _ (By_sweep done d) = kept_finished this k onward runs done.own (ap (λ (p : Pairs). p.finished) (of_sweep hears here own done d).pairs)
+    did_finished done d c last is written still =
+        elim (finished_of hears here own done.own.pairs.finished done.own.pairs.pending (did_finish hears here own done d) c last is) [
+          | inl was ↦ old_finished this k runs onward never c last was written still
+          | inr why ↦ finish_held this k runs onward never done.own.pairs.pending c last why written still
+        ]
 
     second_no_own : (done : Done) (seated : IsSeated here own done) (d : DidSecond hears here own done)
         → IsNoOwn (second_stores hears here own never done seated d)
