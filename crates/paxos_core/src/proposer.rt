@@ -6,20 +6,20 @@ ghost use Rattle.spec_paxos.specs.declared.phase.Phase.TheVariants.{Idle};
 ghost use Rattle.spec_paxos.specs.Proposer.{collecting, has_majority, higher, rank_of, to_propose, is_for, counts, collected, counted, hear};
 
 use petal_base::ServerId;
-use petal_command::{Ballot, Command, Pax};
+use petal_command::{Ballot, Command, Pax, ServerNumber};
 use spec_paxos::{Heard, Phase};
 
 /// A server's proposer, among so many servers. It is about the place and ballot that it started last.
 #[derive(Drop)]
 pub struct Proposer {
-    pub me: ServerId,
+    pub me: ServerNumber,
     pub servers: u8,
     pub phase: Phase,
 }
 
 impl Proposer {
     /// A proposer that started nothing.
-    pub fn new(me: ServerId, servers: u8) -> Proposer
+    pub fn new(me: ServerNumber, servers: u8) -> Proposer
         ensures { result ≡ record { me = me; servers = servers; phase = Idle } }
     {
         Proposer {
@@ -38,7 +38,7 @@ impl Proposer {
     {
         let ballot = Ballot {
             round,
-            server: self.me,
+            server: self.me.get(),
         };
         self.phase = Phase::Collecting {
             place,

@@ -36,7 +36,7 @@ fn next_log<E: Disk>(
         ≡ record (new_part (record { me = me; inc = before + 1; servers = servers })) { applied = known_run log 1 state.now.region.count }) }
     ensures letters { IfOk result (λ out. out.1 ≡ letters_of (sender_of out.0) 0 (down_posts me before servers)) }
 {
-    let log = LogSide::boot(alloc, me.get(), before + 1, servers, state)?;
+    let log = LogSide::boot(alloc, me, before + 1, servers, state)?;
     let letters = log.envelope().down_letters(alloc, me, before, servers)?;
     Ok((log, letters))
 }

@@ -58,7 +58,7 @@ impl ServerCore {
     {
         let number = ServerNumber::checked(me).ok_or(NoMemory)?;
         let farewell = farewell(alloc, number, 1, servers)?;
-        let log = LogSide::start(alloc, me, 1, servers)?;
+        let log = LogSide::start(alloc, number, 1, servers)?;
         Ok(ServerCore {
             parts: Parts::new(alloc, log),
             farewell,

@@ -71,7 +71,7 @@ pub fn make_room(jobs: &mut VecDeque<Job>, more: usize) -> Result<(), NoMemory>
     ensures same { jobs.new.items ≡ jobs.old.items }
     ensures room { OnOk result (deque_len jobs.new + more + 1 ≤ deque_capacity jobs.new) }
 {
-    jobs.reserve(more.checked_add(1).ok_or(NoMemory)?)?;
+    jobs.reserve(more.saturating_add(1))?;
     Ok(())
 }
 

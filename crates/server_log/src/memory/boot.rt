@@ -10,8 +10,8 @@ use crate::memory::entries::known_run;
 use crate::memory::side::LogSide;
 use global_state::GlobalState;
 use paxos_core::{Proposer, StateStore};
-use petal_base::{Inc, NoMemory, Rev, Sequence, ServerId};
-use petal_command::Command;
+use petal_base::{Inc, NoMemory, Rev, Sequence};
+use petal_command::{Command, ServerNumber};
 use petal_disk::Disk;
 use std::alloc::Global;
 
@@ -37,7 +37,7 @@ impl LogSide {
     /// Out of memory.
     pub fn boot<D: Disk>(
         alloc: Global,
-        me: ServerId,
+        me: ServerNumber,
         inc: Inc,
         servers: u8,
         state: &StateStore<D>,

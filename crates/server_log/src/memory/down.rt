@@ -1,6 +1,6 @@
 //! The letters that tell the other servers that an incarnation has stopped.
 
-ghost use Rattle.std.specs.Prelude.{◌≡◌, ◌==◌, ◌++◌, ◌∷◌, ℕ, List, not, map, filter, IfOk};
+ghost use Rattle.std.specs.Prelude.{◌≡◌, ◌≤◌, ◌+◌, ◌==◌, ◌++◌, ◌∷◌, ℕ, List, not, map, filter, IfOk};
 ghost use Rattle.petal_msg.specs.declared.body.Body.TheVariants as body;
 ghost use Rattle.petal_msg.specs.declared.letter.Actor.TheVariants as actor;
 ghost use Rattle.spec_rules.specs.Ballots.{post_of};
@@ -23,7 +23,9 @@ impl Envelope {
         me: ServerNumber,
         inc: Inc,
     ) -> Result<u32, NoMemory>
-        ensures { (rest : List ℕ) → IfOk result (λ next.
+        requires within { nth ≤ server }
+        ensures count { IfOk result (λ next. next ≤ server + 1) }
+        ensures letters { (rest : List ℕ) → IfOk result (λ next.
             letters.new ++ letters_of self.now next (map (post_of (body.Down me inc)) (filter (λ n. not (n == me)) rest))
             ≡ letters.old ++ letters_of self.now nth (map (post_of (body.Down me inc)) (filter (λ n. not (n == me)) (server ∷ rest)))) }
     {
@@ -32,7 +34,7 @@ impl Envelope {
         }
         let down = Body::Down { server: me, inc };
         letters.push(self.letter(Actor::Server(server), nth, down))?;
-        nth.checked_add(1).ok_or(NoMemory)
+        Ok(nth + 1)
     }
 
     /// To each of the other servers that an incarnation has stopped.

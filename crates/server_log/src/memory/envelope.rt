@@ -1,6 +1,6 @@
 //! Who sends, and letters from there.
 
-ghost use Rattle.std.specs.Prelude.{◌≡◌, ◌≤◌, ◌<◌, ◌++◌, ℕ, List, [], ◌∷◌, vec_len, vec_capacity, not, filter, map, IfOk};
+ghost use Rattle.std.specs.Prelude.{◌≡◌, ◌≤◌, ◌<◌, ◌+◌, ◌++◌, ℕ, List, [], ◌∷◌, vec_len, vec_capacity, not, filter, map, IfOk};
 ghost use Rattle.std.specs.List.{range_with_len};
 ghost use Rattle.petal_msg.specs.declared.body.Body.TheVariants as body;
 ghost use Rattle.petal_msg.specs.declared.letter.Actor.TheVariants as actor;
@@ -107,7 +107,9 @@ impl Envelope {
         heard: &[bool; 256],
         said: &Pax,
     ) -> Result<u32, NoMemory>
-        ensures { (rest : List ℕ) → IfOk result (λ next.
+        requires within { nth ≤ server }
+        ensures count { IfOk result (λ next. next ≤ server + 1) }
+        ensures letters { (rest : List ℕ) → IfOk result (λ next.
             letters.new ++ letters_of self.now next (map (post_of (body.Pax said.now)) (filter (λ n. not (is_in heard.now n)) rest))
             ≡ letters.old ++ letters_of self.now nth (map (post_of (body.Pax said.now)) (filter (λ n. not (is_in heard.now n)) (server ∷ rest)))) }
     {
@@ -115,7 +117,7 @@ impl Envelope {
             return Ok(nth);
         }
         letters.push(self.letter_to(server, nth, said))?;
-        nth.checked_add(1).ok_or(NoMemory)
+        Ok(nth + 1)
     }
 
     /// The same to each of so many servers that was not heard yet.

@@ -12,7 +12,7 @@ use crate::memory::side::LogSide;
 use crate::memory::wants::is_same_command;
 use global_state::GlobalState;
 use paxos_core::StateError;
-use petal_base::{Inc, NoMemory, Sequence, ServerId};
+use petal_base::{Inc, NoMemory, Sequence};
 use petal_command::{Command, ServerNumber};
 use std::alloc::{AllocError, Global};
 
@@ -31,23 +31,20 @@ fn is_due(state: &GlobalState, command: &Command) -> bool
 /// Its own Leave, where the incarnation of it that is In is an earlier one.
 fn own_leave(
     alloc: Global,
-    me: ServerId,
+    me: ServerNumber,
     inc: Inc,
     present: Option<Inc>,
 ) -> Result<Sequence<Command>, NoMemory>
     ensures { IfOk result (λ leaves. leaves ≡ rules.own_leave me inc present) }
 {
     match present {
-        Some(earlier) if earlier < inc => {
-            let server = ServerNumber::checked(me).ok_or(NoMemory)?;
-            Sequence::one(
-                alloc,
-                Command::Leave {
-                    server,
-                    inc: earlier,
-                },
-            )
-        }
+        Some(earlier) if earlier < inc => Sequence::one(
+            alloc,
+            Command::Leave {
+                server: me,
+                inc: earlier,
+            },
+        ),
         _ => Ok(Sequence::new(alloc)),
     }
 }
@@ -188,7 +185,7 @@ impl LogSide {
             (rules.own_leave self.now.voter.me self.now.voter.inc (inc_of (state_of self.now) self.now.voter.me))) }
     {
         let me = self.proposer.me;
-        let own = own_leave(alloc, me, self.inc, self.state.inc_in(me))?;
+        let own = own_leave(alloc, me, self.inc, self.state.inc_in(me.get()))?;
         let due = due(alloc, &self.state, self.leaves.as_slice())?;
         with_leaves(alloc, Sequence::of(due), own.as_slice())
     }

@@ -6,14 +6,14 @@ ghost use Rattle.server_log.specs.Part.{state_of};
 
 use crate::memory::side::LogSide;
 use petal_base::{NoMemory, Sequence};
-use petal_command::{Command, ServerNumber};
+use petal_command::Command;
 use std::alloc::Global;
 
 impl LogSide {
     /// Its own Join, while it is Out with an earlier incarnation; it says whether the server comes with an empty store.
     ///
     /// # Errors
-    /// Out of memory, or where the server has no number that a command can name.
+    /// Out of memory.
     pub fn own_join(&self, alloc: Global, fresh: bool) -> Result<Sequence<Command>, NoMemory>
         ensures { IfOk result (λ wants. wants ≡ own_join (state_of self.now) self.now.voter.me self.now.voter.inc fresh) }
     {
@@ -21,7 +21,7 @@ impl LogSide {
             return Ok(Sequence::new(alloc));
         }
         let join = Command::Join {
-            server: ServerNumber::checked(self.me()).ok_or(NoMemory)?,
+            server: self.number(),
             inc: self.inc,
             blank: fresh,
         };

@@ -8,7 +8,7 @@ use crate::memory::envelope::Envelope;
 use global_state::GlobalState;
 use paxos_core::Proposer;
 use petal_base::{Inc, NoMemory, Rev, Sequence, ServerId};
-use petal_command::Command;
+use petal_command::{Command, ServerNumber};
 use std::alloc::Global;
 use std::marker::Model;
 
@@ -52,7 +52,12 @@ impl LogSide {
     ///
     /// # Errors
     /// Out of memory.
-    pub fn start(alloc: Global, me: ServerId, inc: Inc, servers: u8) -> Result<LogSide, NoMemory>
+    pub fn start(
+        alloc: Global,
+        me: ServerNumber,
+        inc: Inc,
+        servers: u8,
+    ) -> Result<LogSide, NoMemory>
         ensures { IfOk result (λ side. side ≡ new_part (record { me = me; inc = inc; servers = servers })) }
     {
         Ok(LogSide {
@@ -69,6 +74,13 @@ impl LogSide {
 
     /// The server.
     pub fn me(&self) -> ServerId
+        ensures { result ≡ self.now.voter.me }
+    {
+        self.proposer.me.get()
+    }
+
+    /// The same, as commands name it.
+    pub fn number(&self) -> ServerNumber
         ensures { result ≡ self.now.voter.me }
     {
         self.proposer.me
@@ -107,7 +119,7 @@ impl LogSide {
     pub fn envelope(&self) -> Envelope
         ensures { result ≡ sender_of self.now }
     {
-        Envelope::new(self.proposer.me, self.inc, self.state.rev())
+        Envelope::new(self.proposer.me.get(), self.inc, self.state.rev())
     }
 
     /// Its incarnation is the next one.

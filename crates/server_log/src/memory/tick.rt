@@ -119,7 +119,7 @@ impl LogSide {
         if servers == 0 {
             return Err(NoMemory);
         }
-        let to = ((self.proposer.me as u16 + 1 + self.asks as u16) % servers) as u8;
+        let to = ((self.proposer.me.get() as u16 + 1 + self.asks as u16) % servers) as u8;
         let Ok(nth) = u32::try_from(letters.len()) else {
             return Err(NoMemory);
         };
