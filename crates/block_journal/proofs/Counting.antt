@@ -10,9 +10,6 @@ use Rattle.block_journal.specs.Records.{IsOpen, body_at, Counts, Stands, Stored}
 use Rattle.block_journal.specs.Pieces.{Took}
 use Rattle.block_journal.proofs.Slots.{apart}
 
-pub counts_none : (r base : ℕ) (file : List ℕ) → Counts r base 0 file []
-counts_none r base file = record { few = omega arith; counted = λ i lt. absurd (omega (arith, lt)); ends = λ lt. absurd (omega (arith, lt)) }
-
 pub counts_one : (r base : ℕ) (file body : List ℕ) → IsOpen r base file 0 → body_at r base file 0 ≡ body → Counts r base 1 file (body ∷ [])
 counts_one r base file body opened is = record {
   few = omega arith;
@@ -58,11 +55,6 @@ counts_next r n piece body bodies all opened is counts =
 pub counts_stopped : (r base n limit : ℕ) (file : List ℕ) (xs : List (List ℕ)) → length xs < n → n ≤ limit → Counts r base n file xs
     → Counts r base limit file xs
 counts_stopped r base n limit file xs lt le counts = record { few = omega arith; counted = counts.counted; ends = λ _. counts.ends lt }
-
-pub counts_shut : (r base n limit : ℕ) (file : List ℕ) (xs : List (List ℕ)) → length xs ≡ n → n < limit → ¬ IsOpen r base file n → Counts r base n file xs
-    → Counts r base limit file xs
-counts_shut r base n limit file xs all lt shut counts =
-    record { few = omega (arith, all, lt); counted = counts.counted; ends = λ _ opened. shut (ap (λ (k : ℕ). get_or file (base + r * k) 0) (sym all) ∙ opened) }
 
 -- a piece of the file
 pub counts_in_piece : (r at n : ℕ) (file piece : List ℕ) (xs : List (List ℕ)) → 0 < r → piece ≡ part file at (r * n)

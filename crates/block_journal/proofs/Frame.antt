@@ -27,16 +27,6 @@ stands_outside r base limit at n x y bodies wide away torn stands =
     elim away [ inl before ↦ inl (omega arith) | inr following ↦ inr (omega arith) ]))
     stands
 
--- so the journal stays stored through a write there
-pub stored_outside : (r : ℕ) (region : Region) (at n : ℕ) (seen seen' : List ℕ) (leave leave' : List ℕ → Type 0) (bodies : List (List ℕ)) → 0 < r
-    → Outside at n region.base (r * region.limit) → Torn at n seen seen' → Follows (Torn at n) leave leave'
-    → Stored r region seen leave bodies → Stored r region seen' leave' bodies
-stored_outside r region at n seen seen' leave leave' bodies wide away torn follows stored = record {
-  count = stored.count;
-  now = stands_outside r region.base region.limit at n seen seen' bodies wide away torn stored.now;
-  left = λ c here. let was = follows c here in stands_outside r region.base region.limit at n was.0 c bodies wide away was.2 (stored.left was.0 was.1);
-}
-
 -- the bodies that a region stands for count in it
 pub stands_counts : (r base limit : ℕ) (file : List ℕ) (bodies : List (List ℕ)) → Stands r base limit file bodies → Counts r base limit file bodies
 stands_counts r base limit file bodies stands =

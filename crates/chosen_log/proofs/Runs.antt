@@ -18,10 +18,6 @@ same_run f (x ∷ xs) (y ∷ ys) h g =
     let rest : xs ≡ ys = same_run (λ k. f (suc k)) xs ys (λ k lt. h (suc k) (omega arith)) (λ k lt. g (suc k) (omega arith)) in
     cc (first, rest)
 
-past_end : {X : Type 0} (xs : List X) → slice_get xs (length xs) ≡ None
-past_end [] = refl
-past_end (x ∷ xs) = past_end xs
-
 inside : {X : Type 0} (xs : List X) (k : ℕ) → slice_get xs k ≡ None → length xs ≤ k
 inside [] k e = omega arith
 inside (x ∷ xs) zero e = absurd (cc)

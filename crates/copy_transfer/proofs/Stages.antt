@@ -48,10 +48,6 @@ acts_still here own cell copy sorted is =
     (sym (put_same cell_cmp cell_cmp_total own.copies.pending cell copy sorted is))
     ∙ acts_there here own cell copy
 
-pub acts_none : (here : Here) (own : Own) (cell : Cell) → at cell_cmp own.copies.pending cell ≡ None → copies_on here own cell ≡ silent own
-unfolding copies_on
-acts_none here own cell is = ap (copies_with here own cell) is
-
 -- ### A copy that ends
 
 pub closed_own : (own : Own) (link : Option LinkRow) (cell : Cell) (copy : Copying)

@@ -112,9 +112,6 @@ one_key a b same = λ i. record { map = key_map a b same i; block = key_block a 
 below_differs : (a b : Key) → key_below a b ≡ true → same_key a b ≡ false
 below_differs a b below = grind (arith, nat_tests)
 
-same_turned : (a b : Key) → same_key a b ≡ same_key b a
-same_turned a b = grind (arith, nat_tests)
-
 module _ {A : Type 0} (key : A → Key) (stored : A → Stored) where
   pub well_by : (xs : List A) → IsWell (chains_by key stored xs)
   well_by [] = well_none

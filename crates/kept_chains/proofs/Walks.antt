@@ -354,7 +354,3 @@ read_is es cell place epoch version bytes is read =
     let chain = chain_in (chains_of es) cell in
     read_row chain (slice_get chain place) epoch version bytes
     (λ row found. entry_nth chain place row ((well_by key_held stored_of es).each cell) found) is read
-
-pub none_row : (o : Option (ℕ × Stored)) → None ≡ option_map place_of o → None ≡ o
-none_row None is = refl
-none_row (Some row) is = absurd (cc)

@@ -47,11 +47,6 @@ is_of_read (body.NotHere seq) = true
 is_of_read (body.Read client seq cell epoch) = true
 is_of_read _ = false
 
--- it asks for a read
-abbrev pub is_read_asked : Body → Bool
-is_read_asked (body.Read client seq cell epoch) = true
-is_read_asked _ = false
-
 -- ### What is not of a read
 
 logged_apart : (said : Body) → is_logged (subject_of said) ≡ true → is_of_read said ≡ false

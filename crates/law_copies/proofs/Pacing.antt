@@ -35,9 +35,6 @@ paced_table row own to e = record {
   flag = ap (λ (t : Table LinkId Progress). option_map_or (λ (p : Progress). p.caught) (at link_cmp t (id_of row)) false) e;
 }
 
-pub paced_on : (row : LinkRow) (a b c : Own) → IsPaced row a b → IsPaced row b c → IsPaced row a c
-paced_on row a b c p q = record { paged = q.paged ∙ p.paged; after = q.after ∙ p.after; flag = q.flag ∙ p.flag }
-
 -- by what stands of the link
 paced_by : (row : LinkRow) (own to : Own) → (progress_on to row).paged ≡ (progress_on own row).paged
     → (progress_on to row).after ≡ (progress_on own row).after

@@ -107,12 +107,6 @@ ended_answers : (seq : ℕ) (how : Ending) → subject_of (ended seq how) ≡ An
 ended_answers seq ending.Written = refl
 ended_answers seq ending.Full = refl
 
--- a post stands where there is somebody to send it to
-pub addressed : (to : Option ℕ) (what : Body) (post : Post) → In post (post_to to what) → (n : ℕ) × (to ≡ Some n)
-unfolding In
-addressed None what post i = absurd i
-addressed (Some n) what post i = (n, refl)
-
 -- about a cell that there is not
 abbrev pub IsAt : Cell → Option Cell → Type 0
 IsAt q None = ⊥

@@ -31,10 +31,6 @@ link_cmp_same a b e =
     let link = ranked a.link b.link Equal (sym ((Equal-is second).0 both.1)) in
     λ i. record { map = map i; link = link i }
 
--- a link's flag, where its row stands
-flag_of : Option Progress → Bool
-flag_of o = option_map_or (λ (p : Progress). p.caught) o false
-
 -- the same flag, where nothing stands as none has been started
 pub same_caught : (own : Own) (row : LinkRow) → is_flagged own (id_of row) ≡ (progress_on own row).caught
 same_caught own row = by (at link_cmp own.copies.progress (id_of row))

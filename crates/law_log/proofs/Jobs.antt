@@ -86,10 +86,6 @@ run_known log (suc most) place i command e =
 
 -- ### What follows a job up, and what is wanted afterwards
 
--- each letter that follows the job up is the job's own
-FollowsUp : Job → List Job → Type 0
-FollowsUp own jobs = (letter : Letter) → Among (job.Letter letter) jobs → own ≡ job.Letter letter
-
 no_follow : {A : Type 0} (letter : Letter) → Among (job.Letter letter) [] → A
 unfolding Among
 no_follow letter h = absurd h

@@ -41,13 +41,6 @@ use Rattle.law_copies.proofs.Places.{places_up}
 use Rattle.law_moves.proofs.Seen.{seen_after, were}
 use Rattle.law_epochs.proofs.Scenes.{Run, end_of}
 
--- who serves a link is told by its row
-pub serving_row : (state : State) (n : ℕ) (cell : Cell) (row : LinkRow) → cell_link state cell ≡ Some row → IsServing state n cell
-    → (has_server n row ≡ true) × (serves n row row.state ≡ true)
-serving_row state n cell row is s =
-    let same : s.row ≡ row = same_some (sym s.is ∙ is) in
-    (ap (has_server n) (sym same) ∙ s.one_of, ap (λ (r : LinkRow). serves n r r.state) (sym same) ∙ s.so)
-
 pub row_serving : (state : State) (n : ℕ) (cell : Cell) (row : LinkRow) → cell_link state cell ≡ Some row → has_server n row ≡ true
     → serves n row row.state ≡ true → IsServing state n cell
 row_serving state n cell row is has so = record { row = row; is = is; one_of = has; so = so }

@@ -305,10 +305,3 @@ module _ (g : Grounded) (steady : IsSteady g.state) (n : ℕ) where
         (sym (ap there f.second ∙ own_there g n f.shares.runs f.shares.seat))
         ∙ ap (λ (k : Key). at nat_cmp (chain_in (there q).chains cell) k.epoch) (sym f.putting.key_is)
         ∙ twins.lacks f.own f.putting.op f.visited f.putting.is fill (omega arith)
-
--- the store from before a blank is the one that counted
-pub before_after : (setting : Setting) (w : World) (So : ℕ → Store → Type 0) (n : ℕ)
-    → ((i : ℕ) (b : BeforeBlank) → w.before_blank i ≡ Some b → So i b.store) → So n (kept setting w n)
-    → (i : ℕ) (b : BeforeBlank) → before_blanks Blank setting w n i ≡ Some b → So i b.store
-before_after setting w So n each counted = all_put w.before_blank n _ (λ i o. (b : BeforeBlank) → o ≡ Some b → So i b.store) each
-    (λ b is. subst (λ (x : BeforeBlank). So n x.store) (same_some is) counted)

@@ -24,10 +24,6 @@ use Rattle.law_run.specs.Onward.{Onward}
 use Rattle.law_run.specs.Follow.{Stores}
 use Rattle.law_run.proofs.Machine.{after_mindful, make_same, make_others, make_onward, new_disk, onward_itself, onward_joined}
 
-pub drop_front : {A : Type 0} (xs ys : List A) → drop (length xs) (xs ++ ys) ≡ ys
-drop_front [] ys = refl
-drop_front (x ∷ xs) ys = drop_front xs ys
-
 pub drop_all : {A : Type 0} (xs : List A) → drop (length xs) xs ≡ []
 drop_all [] = refl
 drop_all (x ∷ xs) = drop_all xs

@@ -58,17 +58,7 @@ has_named s w row epoch block = by (home_of row block)
     by Fenced = refl
     by New = refl
 
--- a block that has a content has a copy that counts
-pub has_counts : (between counts : Bool) (top : Option Stored) (frozen : Bool) → has_over between counts top frozen ≡ true → counts ≡ true
-has_counts false counts top frozen e = e
-has_counts true true top frozen e = refl
-has_counts true false top frozen e = e
-
 -- ### How far the cells of a disk's block are
-
--- the stage of the cell of a map that the disk has
-abbrev stage_for : (map of : ℕ) → RegionState → ℕ
-stage_for map of r = if map == of then new_stage r else old_stage r
 
 new_named : (map : ℕ) (m : Option Move) (r : RegionState) → 1 ≤ new_stage r → named_map map m r ≡ map
 new_named map m Old le = absurd (omega arith)
@@ -245,15 +235,6 @@ module _ (s : State) (row : DiskRow) (at : disk_at s.disks.rows row.id ≡ Some 
       let here : region_at (disk_at s.disks.rows row.id) (region_of block) ≡ home_of row block = ap (λ o. region_at o (region_of block)) at in
       let map_is = ap (map_asked (view_of row) true) here ∙ map_read (view_of row) row.moving (home_of row block) refl in
       λ i. record { map = map_is i; block = block }
-
--- between two maps a read that was told so asks the old one
-pub read_old : (row : DiskRow) (block : ℕ) → is_between row block ≡ true → read_cell row block ≡ old_cell row block
-read_old row block between = λ i. record { map = by (home_of row block) between i; block = block }
-  where
-    by : (r : RegionState) → is_fenced r ≡ true → read_map row.map row.moving r ≡ old_map row.map row.moving
-    by Old e = true_false e refl
-    by Fenced e = refl
-    by New e = true_false e refl
 
 -- the map of a cell that a request names is one of the disk's
 pub read_has : (row : DiskRow) (block : ℕ) → ((move : Move) → row.moving ≡ Some move → (row.map == move.old_map) ≡ false)

@@ -185,13 +185,6 @@ by_length n false true halves count filled ramped halved p f r h some = r
 by_length n false false true count filled ramped halved p f r h some = h
 by_length n false false false count filled ramped halved p f r h some = rw some refl
 
-bare_write : (fill ramp halves : Bool)
-    → told {X = Request} (cond fill (Err BadLine) (cond ramp (Err BadLine) (cond halves (Err BadLine) (Err BadLine)))) ≡ Some BadLine
-bare_write true ramp halves = refl
-bare_write false true halves = refl
-bare_write false false true = refl
-bare_write false false false = refl
-
 write_told : (n : ℕ) (words : List Word) → told (write_of words) ≡ places_told n (write_positions words) None
 unfolding write_of one_word two_words
 write_told n [] = refl

@@ -198,51 +198,8 @@ module _ (earlier later : State) (below : IsBelow earlier later) where
 
 -- ### An entry that touches a link
 
--- a cell that an entry touches has a link
-pub touched_row : (s : State) (entry : Command) (cell : Cell) → touches_cell s entry cell ≡ true → (row : LinkRow) × (cell_link s cell ≡ Some row)
-touched_row s entry cell e = elim (some_or_none (cell_link s cell)) [
-  | inl there ↦ there
-  | inr none ↦ true_false e (ap (λ o. option_map_or (touches s entry) o false) none)
-]
-
 -- of a link in Both one server is Out after an entry that touches it
 pub record IsLeftOut (after_it : State) (row : LinkRow) : Type 0 where
   pub server : ℕ
   pub one_of : has_server server row ≡ true
   pub out : is_up after_it server ≡ false
-
-pub touched_out : (servers : ℕ) (s : State) → IsPlainState servers s → (entry : Command) → IsPlain servers entry → (cell : Cell) (row : LinkRow)
-    → cell_link s cell ≡ Some row → touches s entry row ≡ true → IsServed s row → row.state ≡ Both → IsLeftOut (after s entry) row
-touched_out servers s p entry plain cell row is e served both = elim (touched servers s p cell row is served entry plain e) [
-  | By_leave left at seats ↦ record { server = left.server; one_of = left.one_of; out = out_by (after s entry) left.server seats.here }
-  | By_join joined at apart seats ↦ absurd (apart both)
-  | By_caught caught stays ↦ alone_row_not_both row caught.holder caught.alone both
-]
-
--- a server of a cell in Both, which is In as the same incarnation after such an entry, holds the link alone then
-pub touched_alone : (servers : ℕ) (s : State) → IsPlainState servers s → (entry : Command) → IsPlain servers entry → IsSteady s → IsSteady (after s entry)
-    → IsBelow s (after s entry) → (cell : Cell) (n inc : ℕ) → touches_cell s entry cell ≡ true → (primary s cell ≡ Some n) ⊎ (secondary s cell ≡ Some n)
-    → in_both s cell ≡ true → is_up_as s n inc ≡ true → is_up_as (after s entry) n inc ≡ true
-    → (is_alone_on (after s entry) n cell ≡ true) ⊎ HasDied (after s entry) cell
-touched_alone servers s p entry plain was steady below cell n inc e one together before still =
-    let b = both_row s cell together in
-    let row = b.row in
-    let t = after s entry in
-    let gone = touched_out servers s p entry plain cell row b.is (sym (ap (λ o. option_map_or (touches s entry) o false) b.is) ∙ e)
-    (was.linked cell row b.is).served b.both in
-    let mine : has_server n row ≡ true = elim one [
-      | inl first ↦ primary_is_one row n (same_some (sym (ap (option_map (λ (r : LinkRow). r.primary)) b.is) ∙ first))
-      | inr second ↦ secondary_is_one row n (same_some (sym (ap (option_map (λ (r : LinkRow). r.secondary)) b.is) ∙ second))
-    ] in
-    elim (below.rows cell row b.is) [
-      | inr died ↦ inr died
-      | inl now ↦
-          let on = now.on n inc mine (ap (serves n row) b.both ∙ mine) before still in
-          elim (steady.linked cell now.now now.is).served [
-            | ByBoth so up up' ↦ true_false (both_up (is_up t) now.now gone.server up up' (one_before row now.now gone.server now.so ∙ gone.one_of)) gone.out
-            | ByOne holder other whole alone pair out ↦ (
-                let same = same_numbers holder n (sym (ap (serves n now.now) alone) ∙ on) in
-                inl (so_alone t n cell now.now whole now.is (alone ∙ ap (λ k. Only k whole) same)))
-            | ByNone one other lost pair out ↦ true_false on (ap (serves n now.now) lost)
-          ]
-    ]

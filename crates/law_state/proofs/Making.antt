@@ -47,9 +47,6 @@ map_last maps tuple other disk of e = by (slice_get (added maps other disk) of) 
       | inr h ↦ inr (h.0, sym (same_some f) ∙ ap (λ row. row.tuple) h.1)
     ]
 
-pub map_past : (maps : List MapRow) (of : ℕ) → length maps ≤ of → tuple_of maps of ≡ None
-map_past maps of le = ap (option_map (λ row. row.tuple)) (slice_get_past maps of le)
-
 pub map_within : (maps : List MapRow) (of : ℕ) (tuple : List ℕ) → tuple_of maps of ≡ Some tuple → of < length maps
 map_within maps of tuple e = elim (some_or_none (slice_get maps of)) [
   | inl h ↦ slice_get_within maps of h.0 h.1

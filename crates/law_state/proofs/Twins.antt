@@ -205,9 +205,3 @@ pub source_same : (servers : ℕ) (front whole : List Command) → IsPlainLog se
 source_same servers front whole plain prefix new old other was now =
     start_same servers front whole plain prefix new old other (log_comes servers front (front_plain servers front whole plain prefix) old new was)
     (log_comes servers whole plain other new now)
-
-pub target_same : (servers : ℕ) (front whole : List Command) → IsPlainLog servers whole → IsPrefix front whole → (old new goal : Cell)
-    → target (state_after servers front) old ≡ Some new → target (state_after servers whole) old ≡ Some goal → goal ≡ new
-target_same servers front whole plain prefix old new goal was now =
-    goal_same servers front whole plain prefix old new goal (log_goes servers front (front_plain servers front whole plain prefix) old new was)
-    (log_goes servers whole plain old goal now)

@@ -15,9 +15,6 @@ use Rattle.law_steps.specs.Ready.{IsRising}
 abbrev HasKey : {K X : Type 0} → Table K X → K → Type 0
 HasKey {K} {X} t k = (x : X) × In (k, x) t
 
-key_of_row : {K X : Type 0} (row : K × X) (t : Table K X) → In row t → HasKey t row.0
-key_of_row row t h = (row.1, h)
-
 key_later : {K X : Type 0} (e : K × X) (t : Table K X) (k : K) → HasKey t k → HasKey (e ∷ t) k
 unfolding In
 key_later e t k h = (h.0, inr h.1)

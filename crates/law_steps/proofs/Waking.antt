@@ -164,19 +164,3 @@ may_wake script records sound legal n =
           ]))
           (λ no. no);
     }
-
--- so it is in each world on the way
-pub wake_along : (script : Script) (records : List Record) → IsSound script → AreSteps script records
-    → WakeAlong (setting_of script) (start (setting_of script)) records
-wake_along script records sound legal = by [] records legal
-  where
-    by : (front later : List Record) → AreSteps script (front ++ later)
-        → WakeAlong (setting_of script) (world_after (setting_of script) (start (setting_of script)) front) later
-    by front [] legal = may_wake script front sound (front_legal (setting_of script) (start (setting_of script)) front [] legal).0
-    by front (own ∷ later) legal =
-        let setting = setting_of script in
-        let e = world_more setting (start setting) front own in
-        let whole : AreSteps script ((front ++ own ∷ []) ++ later) = subst (AreSteps script) (sym (append_assoc front (own ∷ []) later)) legal in (
-          may_wake script front sound (front_legal setting (start setting) front (own ∷ later) legal).0,
-          subst (λ v. WakeAlong setting v later) e (by (front ++ own ∷ []) later whole),
-        )

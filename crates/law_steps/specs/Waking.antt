@@ -16,8 +16,3 @@ pub record MayWake (setting : Setting) (w : World) (n : ℕ) : Type 0 where
 
 abbrev pub AllMayWake : Setting → World → Type 0
 AllMayWake setting w = (n : ℕ) → MayWake setting w n
-
--- so it is in each world on the way
-abbrev pub WakeAlong : Setting → World → List Record → Type 0
-WakeAlong setting w [] = AllMayWake setting w
-WakeAlong setting w (own ∷ later) = AllMayWake setting w × WakeAlong setting (stepped setting w own).world later

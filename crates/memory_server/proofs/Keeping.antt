@@ -12,11 +12,6 @@ pub none_there : {A : Type 0} (found : Option A) → is_some found ≡ false →
 none_there None is = refl
 none_there (Some x) is = absurd (cc)
 
--- a blank device has as many slots as the store before it
-pub slots_at : {D : Type 0} (blank : Option D) (store : Holdings D) → (store_at blank store).slots ≡ store.slots
-slots_at None store = refl
-slots_at (Some disk) store = refl
-
 module _ {D : Type 0} (device : Ghosts D) {over : Bool} {blank : Option D} {core : Core} {store : Holdings D} {state : Keeping D}
     (kept : IsKept device over blank (record { core = core; store = store; state = state })) where
   -- while the stores are what their devices show and the device isn't blank, all stands
@@ -50,16 +45,3 @@ module _ {D : Type 0} (device : Ghosts D) {over : Bool} {blank : Option D} {core
       → IsKept device over (Some disk) (record { core = core; store = store; state = state })
   kept_blank disk off room =
       record { stands = λ on no. absurd (cc); rests = λ _. off; room = room; state = kept.state }
-
--- of one whose devices show its stores
-pub kept_all : {D : Type 0} (device : Ghosts D) {over : Bool} {mounted : Mounted D} → Stands device mounted → IsKept device over None mounted
-kept_all device stands = record { stands = λ _ _. stands; rests = λ no. absurd (cc); room = tt; state = λ _. stands.state }
-
--- a letter that comes changes at most the queue
-pub delivered_as : (core new : Core) (queued : Core) → new ≡ (if core.running then queued else core) → queued.running ≡ core.running → queued.side ≡ core.side
-    → (new.running ≡ core.running) × (new.side ≡ core.side)
-delivered_as core new queued is running side = by core.running is
-  where
-    by : (b : Bool) → new ≡ (if b then queued else core) → (new.running ≡ core.running) × (new.side ≡ core.side)
-    by true same = (ap (λ (it : Core). it.running) same ∙ running, ap (λ (it : Core). it.side) same ∙ side)
-    by false same = (ap (λ (it : Core). it.running) same, ap (λ (it : Core). it.side) same)

@@ -34,11 +34,6 @@ plan_left : (old new : PlanState) → CameTo old new → IsLeftOf old.plan new.p
 plan_left old new (inl waited) = waits_left old.plan new.plan waited.plan
 plan_left old new (inr met) = gone_left old.plan new.plan met.gone
 
--- a count that rose tells that the plan was met
-met_once : (old new : PlanState) → CameTo old new → old.strikes < new.strikes → MetOnce old new
-met_once old new (inl waited) more = absurd (let same = waited.strikes in omega (arith, same, more))
-met_once old new (inr met) more = met
-
 or_false : (b : Bool) → (b || false) ≡ b
 or_false true = refl
 or_false false = refl
@@ -76,12 +71,6 @@ are_same armed = record { stored = left_same armed.stored; kept = left_same arme
 
 pub both_rest : {D : Type 0} (server : Mounted (Planned D)) → BothCameTo server server
 both_rest server = record { stored = CameTo-same (plan_state server.store.disk); kept = CameTo-same (plan_state server.state.disk) }
-
-pub both_later : {D : Type 0} (first mid last : Mounted (Planned D)) → BothCameTo first mid → BothCameTo mid last → BothCameTo first last
-both_later first mid last one two = record {
-  stored = CameTo-later (plan_state first.store.disk) (plan_state mid.store.disk) (plan_state last.store.disk) one.stored two.stored;
-  kept = CameTo-later (plan_state first.state.disk) (plan_state mid.state.disk) (plan_state last.state.disk) one.kept two.kept;
-}
 
 -- a step that uses up no plan
 pub uses_none : {what : Step} {before now : Armed} → ((armed left : Armed) → left ≡ armed → Uses what armed left) → AreLeftOf before now

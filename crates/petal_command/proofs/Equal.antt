@@ -117,10 +117,3 @@ command_self (Witness c s t) = grind (arith, nat_tests)
 
 pub command_same : (a b : Command) → a ≡ b → same_command a b ≡ true
 command_same a b e = subst (λ c. same_command a c ≡ true) e (command_self a)
-
-pub ballot_same : (a b : Ballot) → a ≡ b → same a b ≡ true
-ballot_same a b e = subst (λ c. same a c ≡ true) e (ballot_self a)
-
--- a command that is not the other
-pub command_other : (a b : Command) → same_command a b ≡ false → a ≡ b → ⊥
-command_other a b e is = let agree : same_command a b ≡ true = command_same a b is in absurd (cc)

@@ -3,10 +3,6 @@ use Rattle.std.proofs.Common.{◌≡◌, inl, ℕ, ◌+◌, ◌-◌, ◌≤◌, 
 use Rattle.std.proofs.lemmas.List.{drop-drop}
 use Rattle.petal_disk.specs.Disk.{Torn, Elapses, Follows}
 
--- no time passes where nothing is called
-pub no_time : (now : ℕ) (since : ℕ → List ℕ → Type 0) (may_leave : List ℕ → Type 0) → Elapses now now since since may_leave
-no_time now since may_leave = record { later = omega arith; nothing_else = λ t c le left. inl left }
-
 -- a tear of less is a tear of more
 pub torn_more : (at m n : ℕ) (old new : List ℕ) → m ≤ n → Torn at m old new → Torn at n old new
 torn_more at m n old new le torn =

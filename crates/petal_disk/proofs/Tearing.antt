@@ -27,15 +27,6 @@ torn_twice at n x y z first second = record {
   size = second.size ∙ first.size;
 }
 
--- after a front that stays
-pub torn_after : (a at n : ℕ) (x y : List ℕ) → Torn (a + at) n x y → Torn at n (drop a x) (drop a y)
-torn_after a at n x y torn = record {
-  before = sym (drop-take a at y) ∙ ap (λ (l : List ℕ). drop a l) torn.before ∙ drop-take a at x;
-  after = drop-drop (at + n) a y ∙ ap (λ (k : ℕ). drop k y) (let e : a + (at + n) ≡ a + at + n = omega arith in e) ∙ torn.after
-      ∙ ap (λ (k : ℕ). drop k x) (let e : a + at + n ≡ a + (at + n) = omega arith in e) ∙ sym (drop-drop (at + n) a x);
-  size = omega (arith, length-drop a x, length-drop a y, torn.size);
-}
-
 -- what stands before the range
 pub torn_front : (k at n : ℕ) (x y : List ℕ) → k ≤ at → Torn at n x y → take k y ≡ take k x
 torn_front k at n x y le torn = take_less k at x y le torn.before

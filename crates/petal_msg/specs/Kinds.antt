@@ -76,11 +76,6 @@ is_asked Read_asked = true
 is_asked Write_asked = true
 is_asked _ = false
 
--- a reply that ends its request, or refuses it for a while
-abbrev pub is_ending : Subject → Bool
-is_ending Answered = true
-is_ending _ = false
-
 abbrev pub is_refused : Subject → Bool
 is_refused Refused = true
 is_refused _ = false
@@ -108,7 +103,3 @@ is_of_write _ = false
 -- the number of the request of which a client's letter speaks
 abbrev pub asked_by : Body → Option ℕ
 asked_by said = if is_asked (subject_of said) then (about said).seq else None
-
--- the cell of which the servers of a pair speak
-abbrev pub pair_cell : Body → Option Cell
-pair_cell said = if is_paired (subject_of said) then (about said).cell else None

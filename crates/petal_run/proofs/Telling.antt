@@ -42,18 +42,6 @@ come_first phases lines records ordered exactly one other h k given none =
     let up : other.number ≤ one.number → other.phase ≤ one.phase = ordered other one k h in
     grind (arith, nat_tests, low, high, up)
 
--- the text of the phases that have ended grows by that of the phase that ends
-pub ended_text : (old new : Progress) (answers : Table ℕ Answer) → JoinsText old.script → AreRising old.script.lines → new.script ≡ old.script
-    → GoesByPhases old → GoesByPhases new → Ends old new answers → text_of new.ended ≡ text_of old.ended ++ text_of_answers answers
-ended_text old new answers joins rising same before after e =
-    let whole : new.ended ++ new.since ≡ old.ended ++ e.phase = ap (λ r. new.ended ++ r) e.since ∙ append_nil new.ended ∙ e.ended in
-    let legal : IsLegal old.script (old.ended ++ e.phase) =
-    subst (λ (s : Script). IsLegal s (old.ended ++ e.phase)) same (subst (IsLegal new.script) whole after.legal) in
-    ap text_of e.ended ∙ joins old.ended e.phase rising legal.steps before.first ∙ ap (λ rows. text_of old.ended ++ text_of_answers rows) (sym e.gave)
-
-pub written_on : (base front more whole old new : List ℕ) → whole ≡ front ++ more → old ≡ base ++ front → new ≡ old ++ more → new ≡ base ++ whole
-written_on base front more whole old new is stood added = added ∙ ap (λ t. t ++ more) stood ∙ append_assoc base front more ∙ ap (λ t. base ++ t) (sym is)
-
 pub added_on : (base front more whole old new : List ℕ) → whole ≡ front ++ more → old ≡ base ++ front → Adds old more new → Adds base whole new
 added_on base front more whole old new is stood a = record {
   count = length front + a.count;
@@ -114,12 +102,6 @@ adds_last script history old new joins rising ordered legal w =
     let is : text_of history ≡ text_of w.ended ++ text_of w.last = ap text_of w.history_is
     ∙ joins w.ended w.last rising (subst (IsLegal script) w.history_is legal).steps first in
     added_on old (text_of w.ended) (text_of w.last) (text_of history) (old ++ text_of w.ended) new is refl w.text
-
-pub adds_all : (old bytes new : List ℕ) → new ≡ old ++ bytes → Adds old bytes new
-adds_all old bytes new is = record {
-  count = length bytes;
-  new_is = is ∙ ap (λ t. old ++ t) (sym (take-length bytes));
-}
 
 -- ### Nothing is done
 

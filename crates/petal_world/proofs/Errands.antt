@@ -48,14 +48,6 @@ runs_by setting w (actor.Client c) rev b is within tells = tt
 
 -- ### The errand of the rules
 
-pub obeys_by : (w : World) (who : Actor) (what : Step) (errand : Errand) (running : Bool) → Runs w who running
-    → (ObeysBy who what errand running → Obeys who what w errand) × (Obeys who what w errand → ObeysBy who what errand running)
-obeys_by w (actor.Server n) what errand running runs = (
-  (λ o. subst (λ (b : Bool). ObeysBy (actor.Server n) what errand b) runs o),
-  (λ o. subst (λ (b : Bool). ObeysBy (actor.Server n) what errand b) (sym runs) o),
-)
-obeys_by w (actor.Client c) what errand running runs = ((λ o. tt), (λ o. tt))
-
 called_by_line : (setting : Setting) (w : World) (c : ℕ) (what : Step) (errand : Errand) (line : Option Line)
     → line ≡ next_line setting.lines operator (w.clients operator)
     → called_next c what line errand ≡ errand_after (actor.Client c) what setting w errand

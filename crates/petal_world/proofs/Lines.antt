@@ -61,31 +61,6 @@ record IsIn (asked : Asked) (own : Option (Order × ℕ)) (line : ℕ) (order : 
   pub own_is : own ≡ Some (order, n)
   pub line_is : asked.line ≡ line
 
-order_in_is : (asked : Asked) (own : Option (Order × ℕ)) (line : ℕ) (order : Order) (n : ℕ) → order_in asked own ≡ Some (line, order, n)
-    → IsIn asked own line order n
-order_in_is asked None line order n is = none_some refl is
-order_in_is asked (Some own) line order n is = record {
-  own_is = ap (λ (t : ℕ × Order × ℕ). Some (t.1, t.2)) (same_some is);
-  line_is = ap (λ (t : ℕ × Order × ℕ). t.0) (same_some is);
-}
-
-by_asked : (w : World) (asked : Option Asked) → (w.clients operator).asked ≡ asked → (line : ℕ) (order : Order) (n : ℕ)
-    → ordered asked ≡ Some (line, order, n) → w.control.glanced ≢ Some line → IsGivenBy w order n line
-by_asked w None at line order n so unseen = none_some refl so
-by_asked w (Some asked) at line order n so unseen =
-    let own = order_in_is asked (order_of asked.request) line order n so in
-    record {
-      asked = asked;
-      opened = record { is = at; first = subst (λ (k : ℕ). w.control.glanced ≢ Some k) (sym own.line_is) unseen };
-      line_is = own.line_is;
-      order_is = own.own_is;
-    }
-
--- a line that was not glanced at gives what it asks for
-pub given_by : (w : World) (given : Option (ℕ × Order × ℕ)) → given ≡ ordered (w.clients operator).asked → (line : ℕ) (order : Order) (n : ℕ)
-    → given ≡ Some (line, order, n) → w.control.glanced ≢ Some line → IsGivenBy w order n line
-given_by w given is line order n so unseen = by_asked w (w.clients operator).asked refl line order n (sym is ∙ so) unseen
-
 pub given_as : (w : World) (given : Option (ℕ × Order × ℕ)) → given ≡ ordered (w.clients operator).asked → (line : ℕ) (order : Order) (n : ℕ)
     → IsGivenBy w order n line → given ≡ Some (line, order, n)
 given_as w given is line order n by =

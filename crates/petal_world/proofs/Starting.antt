@@ -71,9 +71,3 @@ start_kept seen armed hosts script actors errand ordered sites quiet seats desks
     }
 
 -- ### A phase that begins
-
-pub greatest_so : (setting : Setting) (w : World) (actors : Actors) → Shows setting w actors
-    → fold max 0 (map (λ (seat : Seat). seat.clock) actors.seats) ≡ fold max 0 (map w.client_clocks (range_with_len 0 9))
-greatest_so setting w actors h =
-    ap (λ clocks. fold max 0 clocks) (ap (λ (seats : List Seat). map (λ (seat : Seat). seat.clock) seats) h.seats
-    ∙ map-map (λ (seat : Seat). seat.clock) (seat_of setting w) (range_with_len 0 9))

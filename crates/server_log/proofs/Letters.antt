@@ -26,9 +26,6 @@ next_letter who letters more all letter nth post left rest here is one invariant
     ∙ ap (λ (ls : List Letter). letters ++ (ls ++ letters_of who (nth + 1) rest)) is
     ∙ rw here at invariant)
 
-pub last_letter : (who : Sender) (letters all : List Letter) (nth : ℕ) (left : List Post) → left ≡ [] → letters ++ letters_of who nth left ≡ all → letters ≡ all
-last_letter who letters all nth left none invariant = sym (append-nil letters) ∙ rw none at invariant
-
 -- what is left of posts to each of n servers
 module _ (f : ℕ → Post) (a n : ℕ) where
   pub posts_next : a < n → map f (range_with_len a (n - a)) ≡ f a ∷ map f (range_with_len (a + 1) (n - (a + 1)))
@@ -36,19 +33,6 @@ module _ (f : ℕ → Post) (a n : ℕ) where
 
   pub posts_done : n ≤ a → map f (range_with_len a (n - a)) ≡ []
   posts_done h = ap (map f) (none_from a n h)
-
--- a letter more, where the test chose it
-pub chosen_letter : (who : Sender) (f : ℕ → Post) (p : ℕ → Bool) (letters more : List Letter) (letter : Letter) (nth next a : ℕ) (rest : List ℕ)
-    → p a ≡ true → letter ∷ [] ≡ letters_of who nth (f a ∷ []) → more ≡ letters ++ letter ∷ [] → next ≡ nth + 1
-    → more ++ letters_of who next (map f (filter p rest)) ≡ letters ++ letters_of who nth (map f (filter p (a ∷ rest)))
-chosen_letter who f p letters more letter nth next a rest is one made count =
-    rw (is, made, count) (append_assoc letters (letter ∷ []) (letters_of who (nth + 1) (map f (filter p rest)))
-    ∙ ap (λ (ls : List Letter). letters ++ (ls ++ letters_of who (nth + 1) (map f (filter p rest)))) one)
-
--- none, where it did not
-pub passed_letter : (who : Sender) (f : ℕ → Post) (p : ℕ → Bool) (letters : List Letter) (nth a : ℕ) (rest : List ℕ)
-    → p a ≡ false → letters ++ letters_of who nth (map f (filter p rest)) ≡ letters ++ letters_of who nth (map f (filter p (a ∷ rest)))
-passed_letter who f p letters nth a rest is = rw is refl
 
 -- one server after the other
 pub next_unheard : (who : Sender) (f : ℕ → Post) (p : ℕ → Bool) (letters more all : List Letter) (nth next a n : ℕ) → a < n

@@ -11,11 +11,3 @@ revs_from s (c ∷ log) = let later = revs_from (after s c) log in omega arith
 -- the revision is the number of entries
 pub rev_counts : (servers : ℕ) (log : List Command) → (state_after servers log).rev ≡ length log
 rev_counts servers log = let e = revs_from (start servers) log in omega arith
-
--- one entry more
-more_from : (s : State) (log : List Command) (c : Command) → fold after s (log ++ c ∷ []) ≡ after (fold after s log) c
-more_from s [] c = refl
-more_from s (x ∷ log) c = more_from (after s x) log c
-
-pub state_more : (servers : ℕ) (log : List Command) (c : Command) → state_after servers (log ++ c ∷ []) ≡ after (state_after servers log) c
-state_more servers log c = more_from (start servers) log c

@@ -24,15 +24,6 @@ idle_want part returning idle few found is =
     is [] ∙ first_is (length part.applied) (wants_of part returning) few
     ∙ ap (λ (phase : Phase). first_wanted phase (length part.applied) (wants_of part returning)) (sym idle)
 
--- none where the log is full
-pub late_want : (phase : Phase) (rev : ℕ) (wants : List Command) → ¬ (rev < greatest_place) → None ≡ first_wanted phase rev wants
-late_want Idle rev [] full = refl
-late_want Idle rev (want ∷ wants) full =
-    let above : nat_lt rev greatest_place ≡ false = grind (arith, nat_tests) in
-    rw above refl
-late_want (Collecting place ballot want heard best) rev wants full = refl
-late_want (Voting place ballot command heard) rev wants full = refl
-
 start_first : (wants : List Command) → (if is_some (slice_get wants 0) then job.Start ∷ [] else []) ≡ start_jobs Idle wants
 start_first [] = refl
 start_first (want ∷ wants) = refl

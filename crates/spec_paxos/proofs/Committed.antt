@@ -39,9 +39,6 @@ acceptance_is a b e =
 pub acceptance_self : (a : Ballot × Command) → same_acceptance a a ≡ true
 acceptance_self a = both (same a.0 a.0) (same_command a.1 a.1) (ballot_self a.0) (command_self a.1)
 
-pub acceptance_same : (a b : Ballot × Command) → a ≡ b → same_acceptance a b ≡ true
-acceptance_same a b e = subst (λ c. same_acceptance a c ≡ true) e (acceptance_self a)
-
 pub accepted_is : (a b : Option (Ballot × Command)) → same_accepted a b ≡ true → a ≡ b
 accepted_is None None e = refl
 accepted_is (Some a) (Some b) e = ap Some (acceptance_is a b e)
@@ -160,12 +157,6 @@ commits_is old new entry (inl nothing) = elim (committed_as old entry) [
 commits_is old new entry (inr more) = elim (committed_as old entry) [
   | Left h is ↦ absurd (more.0 h)
   | More h is ↦ more.1 ∙ sym is
-]
-
-pub is_commits : (old : List StateRecord) (entry : StateRecord) → Commits old (committed old entry) entry
-is_commits old entry = elim (committed_as old entry) [
-  | Left h is ↦ inl (h, is)
-  | More h is ↦ inr (h, is)
 ]
 
 -- ### Which records there are
@@ -297,11 +288,6 @@ same_part part changed row e true = e
 same_part part changed row e false = refl
 
 -- what is known to be chosen
-
-pub known_chosen : (records : List StateRecord) (place : ℕ) (c : Command) (q : ℕ)
-    → known_at (committed records (Chosen place c)) q ≡ put (known_at records) place (Some c) q
-known_chosen records place c q = ap (λ (r : Row). r.chosen) (row_committed records (Chosen place c) q)
-    ∙ changed_part (λ (r : Row). r.chosen) (λ r. choose_row r c) (row_of records) place q
 
 pub known_here : (records : List StateRecord) (place : ℕ) (c : Command) → known_at (committed records (Chosen place c)) place ≡ Some c
 known_here records place c = ap (λ (r : Row). r.chosen)

@@ -248,6 +248,3 @@ after_within s command h =
     let t : IsWithin (s.rev + 1) (settled (act command s)) =
     through (s.rev + 1) (length (act command s).view.queue) (act command s) (act_within s.rev command s h) in
     record { maps = t.maps; made = t.made; queued = t.queued; queue = t.queue; epochs = t.epochs }
-
-pub start_within : (servers : ℕ) → IsWithin 0 (start servers)
-start_within servers = record { maps = omega arith; made = omega arith; queued = omega arith; queue = omega arith; epochs = tt }

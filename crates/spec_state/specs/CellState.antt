@@ -213,11 +213,3 @@ map_asked disk told New = disk.map
 
 abbrev pub cell_asked : State → DiskView → ℕ → (told : Bool) → Cell
 cell_asked s disk block told = record { map = map_asked disk told (region_at (disk_at s.disks.rows disk.disk) (region_of block)); block = block }
-
--- some server may read the cell
-abbrev pub can_read : State → Cell → Bool
-can_read s cell = list_any (λ server. readable s server cell) (range_with_len 0 (length s.view.members))
-
--- a write of the cell has a usable server
-abbrev pub can_write : State → Cell → Bool
-can_write s cell = is_some (lead s cell)

@@ -66,17 +66,6 @@ pub on_ok : {T E : Type 0} (r : Result T E) (P Q : Type 0) → (P → Q) → OnO
 on_ok (Ok x) P Q f h = f h
 on_ok (Err e) P Q f h = h
 
--- an append where records are left fails or not at all
-pub append_errors : (e : StateError) → IsAppendError e → (e ≢ error.JournalFull) → (e ≡ error.Failed) ⊎ (e ≡ error.NoMemory)
-append_errors error.Failed h room = inl refl
-append_errors error.Blank h room = absurd h
-append_errors (error.BadRecord index) h room = absurd h
-append_errors error.JournalFull h room = absurd (room refl)
-append_errors error.NoMemory h room = absurd h
-
-pub err_of : {T E : Type 0} (r : Result T E) (e x : E) → r ≡ Err e → e ≡ x → IsErrOf r x
-err_of r e x is same = subst (λ y. r ≡ Err y) same is
-
 -- what a crash leaves of a commit, with its record or without it
 pub one_more : {D : Type 0} (device : Ghosts D) (old new : D) (records : List StateRecord) (entry : StateRecord)
     → LeavesOnly device.moment device.left_since old new (λ c. WithOrWithout c records entry)

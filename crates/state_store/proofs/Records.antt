@@ -29,15 +29,6 @@ read_same bodies records i read entry past sp is lt only got so_far =
     ap (λ n. n ++ entry ∷ []) so_far ∙ ap (λ (r : StateRecord). take i records ++ r ∷ []) same ∙ sym f.more
     ∙ ap (λ n. take n records) (let n : suc i ≡ i + 1 = omega arith in n)
 
--- so none is not read
-pub read_none : (bodies : List (List ℕ)) (records : List StateRecord) (i : ℕ) (read : Option StateRecord) → AreSpelled records
-    → bodies ≡ bodies_of records → i < length bodies
-    → ((r : StateRecord) → HasBody r → get_or bodies i [] ≡ body_of r → read ≡ Some r) → read ≡ None → ⊥
-read_none bodies records i read sp is lt only none =
-    let f = found records i (subst (λ (l : List (List ℕ)). i < length l) is lt) sp in
-    let e : read ≡ Some f.entry = only f.entry f.fits (ap (λ (l : List (List ℕ)). get_or l i []) is ∙ f.body) in
-    cc
-
 take_suc : {X : Type 0} (ys : List X) (k : ℕ) (d : X) → k < length ys → take (suc k) ys ≡ take k ys ++ get_or ys k d ∷ []
 take_suc [] k d h = absurd (omega arith)
 take_suc (y ∷ ys) zero d h = refl

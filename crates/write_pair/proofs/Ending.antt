@@ -21,11 +21,6 @@ ends_pending here own op kind.Write ending = refl
 ends_pending here own op kind.Fill ending = refl
 ends_pending here own op kind.Copy ending = refl
 
-pub ends_store : (here : Here) (own : Own) (op : Pending) (why : OpKind) (ending : Ending) → (ends here own op why ending).own.store ≡ own.store
-ends_store here own op kind.Write ending = refl
-ends_store here own op kind.Fill ending = refl
-ends_store here own op kind.Copy ending = refl
-
 -- and nothing of it matters
 pub ends_with : (here : Here) (own : Own) (op : Pending) (why : OpKind) (ending : Ending) (t : Table Cell Pending) (s : Store)
     → ends here (own_with t s own) op why ending ≡ record (ends here own op why ending) { own = own_with t s (ends here own op why ending).own }
