@@ -1,8 +1,7 @@
 -- Writes outside a journal's region leave what it stands for.
 use Rattle.std.proofs.Common.{◌≡◌, inl, inr, ℕ, ◌+◌, ◌-◌, ◌*◌, ◌<◌, ◌≤◌, List, length, get_or, sym, ◌∙◌, arith}
-use Rattle.petal_disk.specs.Disk.{Torn, Follows}
-use Rattle.block_journal.specs.Records.{body_at, Counts, Stands, Stored}
-use Rattle.block_journal.specs.Region.{Region}
+use Rattle.petal_disk.specs.Disk.{Torn}
+use Rattle.block_journal.specs.Records.{body_at, Counts, Stands}
 use Rattle.block_journal.proofs.Counting.{only_those}
 use Rattle.block_journal.proofs.Slots.{apart, Outside, same_byte, same_part}
 

@@ -1,8 +1,7 @@
 -- The chains of entries in the order of their keys, with one entry more before the others.
-use Rattle.std.proofs.Common.{◌≡◌, ◌≢◌, ℕ, Bool, true, false, cond, T, ◌&&◌, List, [], ◌∷◌, Option, Some, None, refl, sym, subst, ap, ◌∙◌, arith}
+use Rattle.std.proofs.Common.{◌≡◌, ◌≢◌, ℕ, true, cond, List, [], ◌∷◌, Some, refl, ap, ◌∙◌, arith}
 use Rattle.std.specs.Prelude.{unwrap_or}
 use Rattle.std.proofs.lemmas.Bool.Decides.{nat_tests}
-use Rattle.std.specs.declared.cmp.Ordering.{Ordering}
 use Rattle.std.specs.declared.cmp.Ordering.TheVariants.{Less, Equal, Greater}
 use Rattle.std.specs.Ordering.{is_eq, match_ordering}
 use Rattle.std.specs.BTreeMap.{insert_entry, is_at}
@@ -11,7 +10,7 @@ use Rattle.petal_base.specs.declared.cell.Cell.{Cell}
 use Rattle.petal_base.specs.declared.cell.Key.{Key}
 use Rattle.petal_base.specs.Cells.{cell_of}
 use Rattle.petal_table.specs.Table.{Table, at, put}
-use Rattle.spec_rules.specs.Store.{Chain, Stored, cell_cmp, chain_in, chains_with}
+use Rattle.spec_rules.specs.Store.{Chain, Stored, cell_cmp, chain_in}
 use Rattle.physical_map.specs.Keys.{key_below, IsAbove, IsInOrder}
 use Rattle.kept_chains.specs.Chains.{chains_by}
 use Rattle.kept_chains.proofs.InOrder.{looked, new_first, none_below, both_first}

@@ -1,5 +1,5 @@
 -- Each kind of job refuses for a reason.
-use Rattle.std.proofs.Common.{◌≡◌, ◌≢◌, ◌≤◌, ◌<◌, ◌+◌, ℕ, List, [], ◌∷◌, true, false, Some, None, refl, sym, ap, ◌∙◌, subst, ◌⊎◌, inl, inr, arith}
+use Rattle.std.proofs.Common.{◌≡◌, ◌≤◌, ◌<◌, ℕ, List, true, false, Some, None, refl, sym, ap, ◌∙◌, subst, ◌⊎◌, inl, inr, arith}
 use Rattle.petal_base.specs.declared.cell.Cell.{Cell}
 use Rattle.petal_table.specs.Table.{Table, at, put}
 use Rattle.petal_msg.specs.declared.body.Body.{Body}

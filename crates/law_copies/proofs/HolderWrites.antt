@@ -10,7 +10,6 @@ use Rattle.petal_table.specs.Table.{at}
 use Rattle.petal_msg.specs.Kinds.{about, subject_of}
 use Rattle.petal_msg.specs.declared.body.Body.{Body}
 use Rattle.petal_msg.specs.declared.body.Body.TheVariants as body
-use Rattle.petal_msg.specs.declared.operation.Action.{Action}
 use Rattle.petal_msg.specs.declared.operation.Action.TheVariants as action
 use Rattle.petal_msg.specs.declared.operation.Ending.TheVariants as ending
 use Rattle.petal_msg.specs.declared.operation.Pending.{Pending}
@@ -22,8 +21,8 @@ use Rattle.spec_rules.specs.Progress.{copying_on, has_proposed}
 use Rattle.spec_rules.specs.Server.{Own, Copies, Here, Post, Done}
 use Rattle.spec_rules.specs.State.{id_of, in_both, live}
 use Rattle.spec_rules.specs.Store.{Store, chain_in, epochs_of, is_marked, version_of, with_ticket}
-use Rattle.spec_rules.specs.Writes.{acts, ends, gives_back, marks, next_stage, operation, pending_on, puts, unmarks, with_opened, without_pending}
-use Rattle.spec_rules.proofs.Tests.{by_test, same_some, true_false}
+use Rattle.spec_rules.specs.Writes.{ends, gives_back, marks, operation, pending_on, puts, unmarks, with_opened, without_pending}
+use Rattle.spec_rules.proofs.Tests.{same_some, true_false}
 use Rattle.law_state.specs.Started.{is_flagged}
 use Rattle.law_steps.specs.Ready.{IsRising}
 use Rattle.law_steps.specs.DidLead.{DidLead, Asks, A_trim, A_copied_entry, An_entry_to_move, Of_the_log, Asks_for, Repeats, Is_full}

@@ -1,5 +1,5 @@
 -- What a job sends of copies: each letter is about the cell that the job works on, or tells of a page.
-use Rattle.std.proofs.Common.{◌≡◌, ◌⊎◌, ℕ, Bool, true, false, [], Option, Some, None, refl, sym, ap, ◌∙◌, inl, inr}
+use Rattle.std.proofs.Common.{◌≡◌, ◌⊎◌, ℕ, Bool, true, false, Option, Some, None, refl, sym, ap, ◌∙◌, inl, inr}
 use Rattle.std.specs.Prelude.{filter}
 use Rattle.busy_marks.specs.Marks.{above}
 use Rattle.global_tables.specs.declared.link.LinkRow.{LinkRow}
@@ -22,7 +22,7 @@ use Rattle.petal_msg.specs.declared.operation.Pending.{Pending}
 use Rattle.spec_state.specs.CellState.{cell_link}
 use Rattle.spec_rules.specs.Copies.{begins_copy, least, marked_blocks, page_wanted}
 use Rattle.spec_rules.specs.Lists.{In}
-use Rattle.spec_rules.specs.Server.{Own, Here, Post, Done, post_to}
+use Rattle.spec_rules.specs.Server.{Own, Here, Post, Done}
 use Rattle.spec_rules.specs.State.{holder_of, link_named, live}
 use Rattle.spec_rules.specs.Store.{chain_in, epochs_of}
 use Rattle.spec_rules.specs.Writes.{acts, ended, ends, gives_back, moved_as, next_stage, without_pending}

@@ -1,5 +1,5 @@
 -- What a job leaves of a cell without a link.
-use Rattle.std.proofs.Common.{◌≡◌, ◌≤◌, ℕ, true, false, Option, Some, None, refl, sym, ap, ◌∙◌, inl, inr, arith}
+use Rattle.std.proofs.Common.{◌≡◌, ℕ, false, Some, None, refl, sym, ap, ◌∙◌, inl, inr}
 use Rattle.std.specs.Ordering.{eq_by_cmp}
 use Rattle.global_tables.specs.Link.{link_at}
 use Rattle.global_tables.specs.declared.link.LinkRow.{LinkRow}
@@ -10,7 +10,7 @@ use Rattle.spec_state.specs.CellState.{cell_link, owner}
 use Rattle.spec_rules.specs.Progress.{progress_on}
 use Rattle.spec_rules.specs.Server.{Own, Here, Done}
 use Rattle.spec_rules.specs.State.{State, id_of, link_cmp, link_named}
-use Rattle.spec_rules.proofs.Tests.{by_bool, by_test, none_some, some_or_none}
+use Rattle.spec_rules.proofs.Tests.{by_bool, none_some, some_or_none}
 use Rattle.law_log.proofs.Flags.{progress_beside, same_id}
 use Rattle.law_state.specs.Tables.{IsPlainState}
 use Rattle.law_state.proofs.Steady.{linked}

@@ -16,7 +16,7 @@ use Rattle.spec_paxos.specs.Kept.{acceptor_of, committed}
 use Rattle.spec_paxos.specs.Member.{In}
 use Rattle.spec_paxos.specs.Proposer.{Step, nobody, is_in, has_majority, hear, collecting, collected, counted, is_for, counts, higher}
 use Rattle.spec_paxos.specs.Quorum.{count_below}
-use Rattle.spec_paxos.specs.Schedule.{Sent, sent, World, Starts, Goes, keep, send, turn, started, happens, IsWanted}
+use Rattle.spec_paxos.specs.Schedule.{sent, World, Starts, Goes, keep, send, turn, started, IsWanted}
 use Rattle.spec_paxos.specs.Schedule as schedule
 use Rattle.spec_paxos.specs.declared.phase.Phase.{Phase}
 use Rattle.spec_paxos.specs.declared.phase.Phase.TheVariants.{Idle, Collecting, Voting}

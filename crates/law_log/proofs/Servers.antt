@@ -9,7 +9,7 @@ use Rattle.petal_msg.specs.declared.letter.Actor.TheVariants as actor
 use Rattle.petal_msg.specs.declared.letter.Letter.{Letter}
 use Rattle.petal_msg.specs.declared.copying.LinkId.{LinkId}
 use Rattle.spec_paxos.specs.Member.{In}
-use Rattle.spec_paxos.specs.Schedule.{sent, run, begin}
+use Rattle.spec_paxos.specs.Schedule.{sent}
 use Rattle.spec_paxos.specs.Schedule as schedule
 use Rattle.spec_paxos.specs.declared.phase.Phase.{Phase}
 use Rattle.spec_rules.specs.Agreement.{IsAskedFor, IsProposer}

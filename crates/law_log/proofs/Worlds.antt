@@ -15,7 +15,7 @@ use Rattle.petal_msg.specs.declared.letter.Actor.TheVariants as actor
 use Rattle.petal_msg.specs.declared.letter.Letter.{Letter}
 use Rattle.spec_paxos.specs.Kept.{inc_of}
 use Rattle.spec_paxos.specs.Member.{In}
-use Rattle.spec_paxos.specs.Schedule.{Sent, sent, Event, run, begin, happens, IsWanted, Starts, Handed, Stops, Boots}
+use Rattle.spec_paxos.specs.Schedule.{Sent, sent, Event, run, begin, IsWanted}
 use Rattle.spec_paxos.specs.Schedule as schedule
 use Rattle.spec_paxos.specs.declared.record.StateRecord.TheVariants.{Accepted}
 use Rattle.spec_rules.specs.Lists.{In as Among, put_at}

@@ -1,6 +1,6 @@
 -- What is pending after a job was so before: with the same number, and put only if it was, or the job put it; or it is new, under the next number, and not
 -- put.
-use Rattle.std.proofs.Common.{◌≡◌, ◌⊎◌, ℕ, true, false, Some, refl, sym, ap, ◌∙◌, subst, inl, inr}
+use Rattle.std.proofs.Common.{◌≡◌, ◌⊎◌, true, false, Some, refl, sym, ap, ◌∙◌, subst, inl, inr}
 use Rattle.petal_base.specs.Cells.{cell_of}
 use Rattle.petal_base.specs.declared.cell.Cell.{Cell}
 use Rattle.petal_base.specs.declared.cell.Key.{Key}

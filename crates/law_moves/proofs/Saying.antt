@@ -1,5 +1,5 @@
 -- Who says that an entry is there, and who asks a second server to put: what a job sends of either.
-use Rattle.std.proofs.Common.{◌≡◌, ◌⊎◌, ℕ, Bool, true, false, Some, None, refl, ap, ◌∙◌}
+use Rattle.std.proofs.Common.{◌≡◌, ℕ, Bool, true, false, Some, None, refl, ap, ◌∙◌}
 use Rattle.petal_table.specs.Table.{at}
 use Rattle.petal_msg.specs.Kinds.{Filling, Logged, Paired, Subject, is_logged, subject_of}
 use Rattle.petal_msg.specs.declared.body.Body.{Body}

@@ -1,6 +1,6 @@
 -- What the laws below say of the world after a legal history: who serves a link at later fronts, whose store counts, and what the two servers of a
 -- link have.
-use Rattle.std.proofs.Common.{◌≡◌, ◌≢◌, ◌≤◌, ◌<◌, ◌==◌, ◌⊎◌, ℕ, Bool, true, false, List, Option, Some, None, refl, sym, ap, ◌∙◌, inl, inr, arith}
+use Rattle.std.proofs.Common.{◌≡◌, ◌≢◌, ◌≤◌, ◌<◌, ◌==◌, ◌⊎◌, ℕ, Bool, true, false, List, Option, Some, None, refl, sym, ◌∙◌, inl, inr, arith}
 use Rattle.global_tables.specs.Link.{has_server}
 use Rattle.global_tables.specs.declared.link.LinkRow.{LinkRow}
 use Rattle.global_tables.specs.declared.link.LinkState.TheVariants.{Both}
@@ -13,7 +13,7 @@ use Rattle.spec_rules.specs.Server.{Own, Pairs}
 use Rattle.spec_rules.specs.State.{State, is_in}
 use Rattle.spec_rules.specs.Store.{Store}
 use Rattle.spec_rules.specs.World.{blank_joins_in, chosen_state, counted, kept, start}
-use Rattle.spec_rules.proofs.Tests.{by_test, same_numbers, same_some, true_false}
+use Rattle.spec_rules.proofs.Tests.{by_test, same_numbers, true_false}
 use Rattle.spec_history.specs.Claims.{IsPrefix}
 use Rattle.law_state.specs.Below.{IsBelow, IsServing, KeepsRoles}
 use Rattle.law_state.specs.Firm.{Firm}

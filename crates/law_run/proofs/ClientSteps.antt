@@ -30,7 +30,7 @@ use Rattle.spec_rules.specs.Clients.{Client, Asked, Reaction, answers, Sight, is
 use Rattle.spec_rules.specs.World.{World, reacts, next_line}
 use Rattle.spec_rules.proofs.ListLemmas.{put_same}
 use Rattle.spec_history.specs.Events as events
-use Rattle.spec_history.specs.Events.{open_write, write_asked, write_by, begun, end_by, end_of, change_by, freezes, takes, makes, looks, told_with}
+use Rattle.spec_history.specs.Events.{open_write, write_asked, write_by, begun, end_by, end_of, change_by, freezes, takes, makes, told_with}
 use Rattle.law_steps.specs.Happens.{Heard}
 use Rattle.law_steps.specs.Turned.{StaysOpen, IsCalled, OnlySays, IsReason, By_verdict, By_witness, IsJudged, Goes_on, Begins, Reads, Ends, Shown, Judges}
 use Rattle.law_steps.specs.Turned.{IsSeenAs, Stops_it, Stops_at, Fails_it, Starts_it, Blanks_it, Has_no_space, Is_settled, answer_of, Is_told}

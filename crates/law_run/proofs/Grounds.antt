@@ -16,15 +16,13 @@ use Rattle.petal_msg.specs.declared.body.Body.{Body}
 use Rattle.petal_msg.specs.declared.body.Body.TheVariants as body
 use Rattle.petal_msg.specs.declared.operation.Far.TheVariants as far
 use Rattle.petal_msg.specs.declared.operation.Pending.{Pending}
-use Rattle.spec_rules.specs.Blanked.{BeforeBlank}
 use Rattle.spec_rules.specs.Returns.{holds_link, proposed}
 use Rattle.spec_rules.specs.State.{State, is_in, link_named, live}
 use Rattle.spec_rules.specs.Store.{Chain, Store, cell_cmp, chain_in}
 use Rattle.spec_rules.specs.Server.{Own, Here}
-use Rattle.spec_rules.specs.World.{Setting, World, before_blanks, chosen_log, chosen_state, kept, server_state}
+use Rattle.spec_rules.specs.World.{Setting, World, chosen_log, chosen_state, kept, server_state}
 use Rattle.spec_rules.specs.Writes.{is_clients}
-use Rattle.spec_rules.specs.declared.step.Step.TheVariants.{Blank}
-use Rattle.spec_rules.proofs.Tests.{all_put, none_some, same_some, true_false}
+use Rattle.spec_rules.proofs.Tests.{none_some, true_false}
 use Rattle.law_state.specs.Homes.{epoch_at, stage_at}
 use Rattle.law_state.specs.Steady.{IsSteady}
 use Rattle.law_steps.specs.Happens.{Handled, own_place}

@@ -7,29 +7,17 @@ use Rattle.global_tables.specs.declared.link.LinkRow.{LinkRow}
 use Rattle.global_tables.specs.Link.{has_server}
 use Rattle.global_tables.specs.declared.link.LinkState.{LinkState}
 use Rattle.global_tables.specs.declared.link.LinkState.TheVariants.{Both, Only, Lost}
-use Rattle.petal_command.specs.declared.command.Command.{Command}
-use Rattle.spec_state.specs.CellState.{cell_link, serves}
-use Rattle.spec_state.specs.Command.{after, is_alone}
-use Rattle.spec_state.specs.Place.{touches}
+use Rattle.spec_state.specs.CellState.{cell_link}
+use Rattle.spec_state.specs.Command.{is_alone}
 use Rattle.spec_state.specs.State.{is_up, is_up_as}
-use Rattle.spec_rules.specs.Crossing.{touches_cell}
 use Rattle.spec_rules.specs.State.{State, live, lead, is_lead, row_in_both, in_both, first, second, primary, secondary, is_alone_on}
-use Rattle.spec_rules.proofs.Tests.{by_bool, true_false, none_some, same_some, same_numbers, number_itself, some_or_none, is_the_one}
-use Rattle.law_state.specs.Places.{By_caught, By_join, By_leave}
-use Rattle.law_state.specs.Rows.{IsServed, IsServedBy, ByBoth, ByNone, ByOne, IsLater}
+use Rattle.spec_rules.proofs.Tests.{by_bool, true_false, none_some, same_some, number_itself, some_or_none, is_the_one}
+use Rattle.law_state.specs.Rows.{IsServedBy, ByBoth, ByNone, ByOne, IsLater}
 use Rattle.law_state.specs.Homes.{HasDied}
 use Rattle.law_state.specs.Steady.{IsSteady}
 use Rattle.law_state.specs.Below.{IsBelow}
-use Rattle.law_state.specs.Plain.{IsPlain}
-use Rattle.law_state.specs.Tables.{IsPlainState}
-use Rattle.law_state.proofs.Ages.{out_by}
 use Rattle.law_state.proofs.Caughts.{alone_by}
 use Rattle.law_state.proofs.Cells.{led_by, led_so, first_by, second_by, both_first, both_second}
-use Rattle.law_state.proofs.Leaves.{both_up}
-use Rattle.law_state.proofs.Grown.{one_before}
-use Rattle.law_state.proofs.Grown.{alone_not_both as alone_row_not_both}
-use Rattle.law_state.proofs.Roles.{primary_is_one, secondary_is_one}
-use Rattle.law_state.proofs.Touching.{touched}
 
 -- ### One state, by its definitions alone
 

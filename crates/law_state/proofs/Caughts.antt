@@ -4,7 +4,7 @@ use Rattle.std.specs.Prelude.{option_map}
 use Rattle.global_tables.specs.declared.link.LinkRow.{LinkRow}
 use Rattle.global_tables.specs.declared.link.LinkState.{LinkState}
 use Rattle.global_tables.specs.declared.link.LinkState.TheVariants.{Both, Only, Lost}
-use Rattle.global_tables.specs.Link.{is_link, has_server, link_at, other_of, row_caught}
+use Rattle.global_tables.specs.Link.{is_link, link_at, other_of, row_caught}
 use Rattle.global_tables.specs.Link as links
 use Rattle.spec_state.specs.CellState.{serves}
 use Rattle.petal_command.specs.declared.command.Command.TheVariants.{Caught}

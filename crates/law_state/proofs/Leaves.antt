@@ -9,7 +9,7 @@ use Rattle.global_tables.specs.declared.fence.Member.TheVariants as member
 use Rattle.global_tables.specs.declared.link.LinkRow.{LinkRow}
 use Rattle.global_tables.specs.declared.link.LinkState.{LinkState}
 use Rattle.global_tables.specs.declared.link.LinkState.TheVariants.{Both, Only, Lost}
-use Rattle.global_tables.specs.Link.{is_link, has_server, other_of, left_state, row_left}
+use Rattle.global_tables.specs.Link.{has_server, other_of, left_state, row_left}
 use Rattle.global_tables.specs.Link as links
 use Rattle.global_tables.specs.View.{is_in, inc_in, last_inc, out_of, servers_in}
 use Rattle.global_tables.specs.View as view

@@ -15,7 +15,7 @@ use Rattle.global_tables.specs.declared.fence.FenceKind.{FenceKind}
 use Rattle.global_tables.specs.declared.fence.FenceKind.TheVariants.{Region, Whole}
 use Rattle.global_tables.specs.Disk.{all_noted, named, row_fenced, row_frozen, row_moving, row_noted, with_link}
 use Rattle.global_tables.specs.Region.{region_of}
-use Rattle.global_tables.specs.View.{View, awaiting, head, passed, queued, ready, servers_in}
+use Rattle.global_tables.specs.View.{View, head, passed, queued, ready, servers_in}
 use Rattle.global_tables.specs.View as view
 use Rattle.petal_command.specs.declared.command.Command.{Command}
 use Rattle.petal_command.specs.declared.command.Command.TheVariants.{Join, Leave, Caught, MakeDisk, Snap, StartMove, Drained, Moved, Witness}

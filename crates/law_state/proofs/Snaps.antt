@@ -9,7 +9,7 @@ use Rattle.global_tables.specs.declared.disk.Verdict.{Verdict}
 use Rattle.global_tables.specs.declared.fence.Fence.{Fence}
 use Rattle.global_tables.specs.declared.fence.FenceKind.TheVariants.{Region, Whole}
 use Rattle.global_tables.specs.Disk.{disk_at, is_disk, named, same_name, snapshot_named}
-use Rattle.global_tables.specs.View.{first_waiting, head}
+use Rattle.global_tables.specs.View.{first_waiting}
 use Rattle.global_tables.specs.View as view
 use Rattle.petal_command.specs.declared.command.Command.TheVariants.{Drained, Snap}
 use Rattle.spec_state.specs.State.{is_up_as, latest, told}

@@ -27,7 +27,7 @@ use Rattle.spec_state.specs.CellState.{move_region, owner, region_at, view_of}
 use Rattle.spec_state.specs.Command.{after, state_after}
 use Rattle.spec_rules.specs.Lists.{In}
 use Rattle.spec_rules.proofs.ListLemmas.{in_former, in_later}
-use Rattle.spec_rules.specs.State.{State, live, servers_of, snapshot, is_in}
+use Rattle.spec_rules.specs.State.{State, live, snapshot, is_in}
 use Rattle.spec_rules.specs.State as rules
 use Rattle.spec_rules.proofs.Tests.{by_bool, none_some, same_some, some_or_none, same_numbers, number_itself, nat_lists_same, true_false}
 use Rattle.spec_history.specs.Claims.{IsPrefix}

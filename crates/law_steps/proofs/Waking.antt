@@ -1,7 +1,7 @@
 -- A server that boots goes on from what it had applied: its device knew that, and no device knows more places than it has
 -- records. And it is not yet In as its next incarnation, of which no Join can be chosen before.
-use Rattle.std.proofs.Common.{◌≡◌, ◌≢◌, ◌⊎◌, inl, inr, ◌+◌, ◌==◌, ◌<◌, ◌≤◌, ◌++◌, ℕ, zero, suc, Bool, true, false, List, [], ◌∷◌, length}
-use Rattle.std.proofs.Common.{fold, Some, refl, sym, ap, ◌∙◌, subst, arith, append_assoc}
+use Rattle.std.proofs.Common.{◌≡◌, ◌≢◌, ◌⊎◌, inl, inr, ◌+◌, ◌==◌, ◌<◌, ◌≤◌, ℕ, zero, suc, Bool, true, false, List, [], ◌∷◌, length}
+use Rattle.std.proofs.Common.{fold, Some, refl, sym, ap, ◌∙◌, arith}
 use Rattle.std.specs.Prelude.{slice_get}
 use Rattle.script_lines.specs.declared.script.Script.{Script}
 use Rattle.petal_command.specs.declared.command.Command.{Command}
@@ -23,8 +23,7 @@ use Rattle.spec_rules.specs.World.{start, setting_of, chosen_log, chosen_state}
 use Rattle.spec_rules.proofs.Tests.{by_bool, by_test, none_some, same_numbers, same_some, true_false}
 use Rattle.law_log.proofs.Histories.{history_agrees, logged, out_has_stopped, who_is_in_has_begun}
 use Rattle.law_log.proofs.Jobs.{run_known}
-use Rattle.law_steps.proofs.Histories.{front_legal, world_more}
-use Rattle.law_steps.specs.Waking.{MayWake, WakeAlong}
+use Rattle.law_steps.specs.Waking.{MayWake}
 
 -- ### Places that records tell of
 

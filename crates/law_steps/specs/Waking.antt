@@ -1,9 +1,7 @@
 -- What is so of a server that boots.
-use Rattle.std.specs.Prelude.{◌≡◌, ◌+◌, ℕ, false, List, [], ◌∷◌}
+use Rattle.std.specs.Prelude.{◌≡◌, ◌+◌, ℕ, false}
 use Rattle.spec_state.specs.Command.{state_after}
 use Rattle.spec_history.specs.Claims.{IsPrefix}
-use Rattle.spec_history.specs.Steps.{stepped}
-use Rattle.spec_history.specs.declared.record.Record.{Record}
 use Rattle.spec_rules.specs.Boots.{known_front, raised}
 use Rattle.spec_rules.specs.State.{is_in}
 use Rattle.spec_rules.specs.World.{Setting, World, chosen_log}

@@ -1,12 +1,12 @@
 -- What stays known of a server whose data device may be a blank one.
-use Rattle.std.proofs.Common.{◌≡◌, ◌≤◌, Bool, true, false, Option, None, Some, refl, sym, ap, ◌∙◌}
-use Rattle.std.specs.Prelude.{is_some, if◌then◌else◌}
+use Rattle.std.proofs.Common.{◌≡◌, ◌≤◌, Bool, false, Option, None, Some, refl, sym, ap, ◌∙◌}
+use Rattle.std.specs.Prelude.{is_some}
 use Rattle.petal_disk.specs.declared.disk.Disk.{Ghosts}
 use Rattle.server_core.specs.Core.{Core}
 use Rattle.server_store.specs.Holdings.{Holdings}
 use Rattle.server_store.specs.Slots.{slot_start}
 use Rattle.state_store.specs.Device.{Keeping}
-use Rattle.memory_server.specs.Server.{IsKept, Mounted, Stands, store_at}
+use Rattle.memory_server.specs.Server.{IsKept, Stands}
 
 pub none_there : {A : Type 0} (found : Option A) → is_some found ≡ false → found ≡ None
 none_there None is = refl

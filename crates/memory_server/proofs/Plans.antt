@@ -3,7 +3,7 @@ use Rattle.std.proofs.Common.{◌≡◌, ◌≢◌, ◌⊎◌, ◌<◌, ◌+◌,
 use Rattle.std.specs.Prelude.{◌||◌, not}
 use Rattle.device_faults.specs.declared.plan.Plan.{Plan}
 use Rattle.device_faults.specs.declared.which.Which.TheVariants.{Data, State}
-use Rattle.petal_disk.specs.PlanRuns.{CameTo-later, CameTo-same}
+use Rattle.petal_disk.specs.PlanRuns.{CameTo-same}
 use Rattle.petal_disk.specs.Plans.{CameTo, MetOnce, PlanState, WaitsOn, plan_state}
 use Rattle.petal_disk.specs.declared.planned.Planned.{Planned}
 use Rattle.spec_rules.specs.declared.step.CommitEnd.{CommitEnd}

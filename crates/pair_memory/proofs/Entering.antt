@@ -1,5 +1,5 @@
 -- An entry of the log, with the commit of a store that waits no more.
-use Rattle.std.proofs.Common.{rules, ◌≡◌, ℕ, ◌+◌, ◌&&◌, Bool, true, false, Option, None, Some, List, Result, Ok, Err, length, refl, sym, subst, ap, ◌∙◌, arith}
+use Rattle.std.proofs.Common.{rules, ◌≡◌, ℕ, ◌+◌, Bool, true, false, Option, None, Some, List, Result, Ok, Err, length, refl, sym, subst, ap, ◌∙◌, arith}
 use Rattle.std.specs.Prelude.{◌==◌, if◌then◌else◌, IsErrOf}
 use Rattle.kept_chains.specs.StoreError.{StoreError}
 use Rattle.kept_chains.specs.StoreError.TheVariants as store

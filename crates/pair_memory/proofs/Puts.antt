@@ -1,13 +1,13 @@
 -- A put into a slot that is set apart and used at once.
-use Rattle.std.proofs.Common.{◌≡◌, ℕ, ◌+◌, ◌≤◌, ◌++◌, ◌∷◌, [], List, true, false, Bool, Result, Ok, Err, refl, sym, subst, ap, ◌∙◌, length}
-use Rattle.std.specs.Prelude.{IfErr, IsErrOf, OnOk, OnErr, ⊤, Contains}
+use Rattle.std.proofs.Common.{◌≡◌, ℕ, ◌+◌, ◌++◌, ◌∷◌, [], List, true, Bool, Result, Ok, Err, refl, subst, ap, ◌∙◌, length}
+use Rattle.std.specs.Prelude.{IfErr, IsErrOf, OnOk, OnErr, Contains}
 use Rattle.petal_base.specs.declared.cell.Key.{Key}
 use Rattle.petal_disk.specs.Disk.{LeavesOnly}
 use Rattle.petal_disk.specs.declared.disk.Disk.{Ghosts}
 use Rattle.physical_map.specs.Keys.{placed}
-use Rattle.spec_rules.specs.Store.{Store, Stored, with_ticket, with_entry}
+use Rattle.spec_rules.specs.Store.{Store, with_entry}
 use Rattle.kept_chains.specs.Errors.{IsCommitError, IsMarkError, HasFault}
-use Rattle.kept_chains.specs.Holdings.{Held, Holdings, key_held}
+use Rattle.kept_chains.specs.Holdings.{Holdings, key_held}
 use Rattle.kept_chains.specs.Shown.{Holds}
 use Rattle.kept_chains.specs.Tickets as lists
 use Rattle.kept_chains.proofs.ServerStoreCommits.{on_ok}

@@ -1,5 +1,5 @@
 -- What an entry of the log leaves of a side and its store.
-use Rattle.std.specs.Prelude.{◌≡◌, ℕ, ◌+◌, ◌&&◌, ◌==◌, Bool, false, not, filter, length, Option, None, Some, Result, Err, IfErr, OnOk}
+use Rattle.std.specs.Prelude.{◌≡◌, ℕ, ◌+◌, ◌&&◌, ◌==◌, Bool, false, not, filter, length, Option, None, Some, Result, IfErr, OnOk}
 use Rattle.std.specs.Map.{values_of}
 use Rattle.petal_base.specs.declared.cell.Cell.{Cell}
 use Rattle.petal_command.specs.declared.command.Command.{Command}

@@ -1,7 +1,7 @@
 -- What a call that a plan strikes may leave.
-use Rattle.std.proofs.Common.{◌≡◌, inl, ℕ, ◌+◌, ◌-◌, ◌≤◌, List, drop, sym, ◌∙◌, ap, arith}
+use Rattle.std.proofs.Common.{◌≡◌, ℕ, ◌+◌, ◌-◌, ◌≤◌, List, drop, sym, ◌∙◌, ap, arith}
 use Rattle.std.proofs.lemmas.List.{drop-drop}
-use Rattle.petal_disk.specs.Disk.{Torn, Elapses, Follows}
+use Rattle.petal_disk.specs.Disk.{Torn, Follows}
 
 -- a tear of less is a tear of more
 pub torn_more : (at m n : ℕ) (old new : List ℕ) → m ≤ n → Torn at m old new → Torn at n old new

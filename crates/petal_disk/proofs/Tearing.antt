@@ -1,6 +1,6 @@
 -- Ranges that may have any bytes.
 use Rattle.std.proofs.Common.{◌≡◌, ℕ, ◌+◌, ◌-◌, ◌≤◌, List, ◌++◌, length, take, drop, sym, ◌∙◌, ap, arith, append_assoc, length-append, length-drop}
-use Rattle.std.proofs.lemmas.List.{drop-drop, take-take, take_at, drop_at, length-take-le, drop-take}
+use Rattle.std.proofs.lemmas.List.{drop-drop, take-take, take_at, drop_at, length-take-le}
 use Rattle.petal_disk.specs.Disk.{Torn, written, part}
 
 pub drop_further : (a b : ℕ) (x y : List ℕ) → a ≤ b → drop a y ≡ drop a x → drop b y ≡ drop b x

@@ -3,7 +3,7 @@ use Rattle.std.proofs.Common.{◌≡◌, ◌≤◌, ℕ, ◌+◌, true, false, L
 use Rattle.std.proofs.Common.{append_assoc, arith, Result, Ok, Err}
 use Rattle.std.proofs.lemmas.Bool.Decides.{nat_tests}
 use Rattle.std.specs.Prelude.{nat_lt}
-use Rattle.std.proofs.Math.Seq.{take-append_seam, take-append-add, take-length}
+use Rattle.std.proofs.Math.Seq.{take-append_seam, take-append-add}
 use Rattle.std.specs.Ordering.{nat_cmp}
 use Rattle.spec_history.specs.Order.{AreRising, AnsweredComeFirst, AnswersPhases, all_answered}
 use Rattle.server_host.specs.Playable.{AreOrdered}

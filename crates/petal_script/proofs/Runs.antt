@@ -1,9 +1,9 @@
 -- The first of the runs of some bytes.
 use Rattle.std.proofs.Common.{◌≡◌, ◌≢◌, ℕ, zero, suc, ◌+◌, ◌<◌, ◌==◌, false, List, [], ◌∷◌, length, drop, get_or, refl, ap}
-use Rattle.std.proofs.Common.{sym, subst, ◌∙◌, arith, inl, inr, replicate, ◌++◌}
+use Rattle.std.proofs.Common.{sym, subst, ◌∙◌, arith, inl, inr}
 use Rattle.std.proofs.lemmas.Bool.{cases_eq, eq-eqb, ne_eqb}
-use Rattle.std.specs.List.{prefix_len, flat_map}
-use Rattle.script_lines.specs.Contents.{runs, onto_run, run_bytes, AreLongest}
+use Rattle.std.specs.List.{prefix_len}
+use Rattle.script_lines.specs.Contents.{runs, onto_run}
 use Rattle.script_lines.specs.declared.run.Run.{Run}
 
 runs-cons : (b : ℕ) (bs : List ℕ) → runs (b ∷ bs) ≡ onto_run b (runs bs)

@@ -1,5 +1,5 @@
 -- The script that a text is, or the first of its lines that is refused.
-use Rattle.std.specs.Prelude.{ℕ, ◌+◌, ◌-◌, ◌/◌, Bool, true, false, not, ◌||◌, ◌&&◌, ◌==◌, nat_lt, nat_le, List, [], ◌∷◌, ◌++◌, length, slice_index}
+use Rattle.std.specs.Prelude.{ℕ, ◌+◌, ◌-◌, ◌/◌, Bool, false, not, ◌||◌, ◌&&◌, ◌==◌, nat_lt, nat_le, List, [], ◌∷◌, ◌++◌, length, slice_index}
 use Rattle.std.specs.Prelude.{if◌then◌else◌, codes, Option, Some, None, is_some, Result, Ok, Err}
 use Rattle.std.specs.List.{list_all, count_by, fold, range_with_len}
 use Rattle.std.specs.Char.{is_ascii}

@@ -1,5 +1,5 @@
 -- What an errand allows, and what a step leaves of it.
-use Rattle.std.proofs.Common.{◌≡◌, ℕ, Bool, true, false, List, [], ◌∷◌, Option, Some, None, refl, sym, ap, ◌∙◌, subst}
+use Rattle.std.proofs.Common.{◌≡◌, ℕ, Bool, true, false, List, [], ◌∷◌, Option, Some, None, refl, sym, ap, ◌∙◌}
 use Rattle.std.specs.Prelude.{◌&&◌, ◌<◌, ◌==◌, nat_lt, is_some, if◌then◌else◌}
 use Rattle.std.proofs.lemmas.Bool.Decides.{nat_tests}
 use Rattle.std.proofs.Common.{arith}
@@ -16,7 +16,7 @@ use Rattle.petal_world.specs.Steps.{rev_of}
 use Rattle.server_host.specs.Desks.{ended, job_ended}
 use Rattle.server_host.specs.declared.step_end.StepEnd.{StepEnd}
 use Rattle.server_host.specs.declared.step_end.StepEnd.TheVariants as step_end
-use Rattle.petal_world.specs.Errands.{ObeysBy, Runs, called_next, errand_next, first_step}
+use Rattle.petal_world.specs.Errands.{Runs, called_next, errand_next, first_step}
 
 -- ### The next step
 

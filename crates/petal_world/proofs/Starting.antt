@@ -1,22 +1,21 @@
 -- The world of a run that begins, and a phase that begins.
-use Rattle.std.proofs.Common.{◌≡◌, ◌≤◌, max, false, ℕ, zero, suc, List, [], ◌∷◌, map, Some, None, refl, sym, ap, ◌∙◌, subst}
+use Rattle.std.proofs.Common.{◌≡◌, ◌≤◌, false, ℕ, zero, suc, List, [], ◌∷◌, map, Some, None, refl, sym, ap, ◌∙◌, subst}
 use Rattle.std.specs.Prelude.{All, slice_get}
 use Rattle.std.proofs.lemmas.List.Elements.{All-head, All-tail}
 use Rattle.std.proofs.lemmas.Simd.{map-map}
-use Rattle.std.specs.List.{range_with_len, fold}
+use Rattle.std.specs.List.{range_with_len}
 use Rattle.petal_msg.specs.declared.letter.Letter.{Letter}
 use Rattle.script_lines.specs.declared.script.Script.{Script}
 use Rattle.spec_rules.specs.Lists.{In}
-use Rattle.spec_rules.specs.World.{Setting, World, start, setting_of, clock_of}
-use Rattle.petal_world.specs.declared.seat.Seat.{Seat}
+use Rattle.spec_rules.specs.World.{start, setting_of, clock_of}
 use Rattle.spec_rules.specs.Plans.{Armed, AreLeftOf, unarmed}
 use Rattle.spec_history.specs.Controls.{Errand, no_errand}
 use Rattle.server_host.specs.Desks.{Equipped, Site, bare, desk_of, desks_of, first_desk, first_sites}
 use Rattle.petal_world.specs.Play.{IsKept}
 use Rattle.server_host.specs.Playable.{AreOrdered}
-use Rattle.petal_world.specs.Seats.{seat_of, seats_of}
+use Rattle.petal_world.specs.Seats.{seats_of}
 use Rattle.server_host.specs.Sent.{Lists}
-use Rattle.petal_world.specs.Actors.{Actors, Shows}
+use Rattle.petal_world.specs.Actors.{Actors}
 use Rattle.server_host.specs.Waiting.{Await}
 use Rattle.server_host.proofs.Letters.{none_sent}
 

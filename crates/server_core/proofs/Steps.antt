@@ -1,5 +1,5 @@
 -- What a step of a server leaves.
-use Rattle.std.proofs.Common.{◌≡◌, ◌≢◌, ◌<◌, ◌+◌, arith, ℕ, List, [], ◌∷◌, Some, None, Result, Ok, Err, IsErr, IsErrAnd, IfOk, refl, sym, subst}
+use Rattle.std.proofs.Common.{◌≡◌, ◌≢◌, ◌<◌, ◌+◌, arith, ℕ, List, [], ◌∷◌, Some, Result, Ok, Err, IsErr, IsErrAnd, IfOk, sym, subst}
 use Rattle.std.specs.Prelude.{slice_get}
 
 -- what holds of each value holds of the one that came

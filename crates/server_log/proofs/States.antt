@@ -1,5 +1,5 @@
 -- What entries leave as it was: how many servers there are; and that each of them counts.
-use Rattle.std.proofs.Common.{◌≡◌, ℕ, ◌+◌, List, [], ◌∷◌, ◌++◌, length, fold, refl, arith}
+use Rattle.std.proofs.Common.{◌≡◌, ℕ, ◌+◌, List, [], ◌∷◌, length, fold, arith}
 use Rattle.petal_command.specs.declared.command.Command.{Command}
 use Rattle.spec_state.specs.State.{State, start}
 use Rattle.spec_state.specs.Command.{after, state_after}

@@ -1,10 +1,10 @@
 -- What is wanted, and what an idle proposer does about it.
-use Rattle.std.proofs.Common.{◌≡◌, ℕ, ◌<◌, nat_lt, Bool, true, false, List, [], ◌∷◌, length, Option, None, is_some, if◌then◌else◌, refl, sym, ap, ◌∙◌, arith}
+use Rattle.std.proofs.Common.{◌≡◌, ℕ, ◌<◌, nat_lt, Bool, true, List, [], ◌∷◌, length, Option, is_some, if◌then◌else◌, refl, sym, ap, ◌∙◌, arith}
 use Rattle.std.proofs.lemmas.Bool.Decides.{nat_tests}
 use Rattle.std.specs.Prelude.{slice_get}
 use Rattle.petal_command.specs.declared.command.Command.{Command}
 use Rattle.spec_paxos.specs.declared.phase.Phase.{Phase}
-use Rattle.spec_paxos.specs.declared.phase.Phase.TheVariants.{Idle, Collecting, Voting}
+use Rattle.spec_paxos.specs.declared.phase.Phase.TheVariants.{Idle}
 use Rattle.spec_paxos.specs.declared.record.StateRecord.{StateRecord}
 use Rattle.spec_rules.specs.Ballots.{first_wanted, greatest_place, start_jobs, wanted}
 use Rattle.spec_rules.specs.declared.job.Job.TheVariants as job

@@ -1,5 +1,5 @@
 -- What one commit makes of what a device shows.
-use Rattle.std.proofs.Common.{◌≡◌, ◌≢◌, inl, inr, ℕ, Bool, List, [], ◌∷◌, ◌++◌, map, fold, Result, Ok, Err, refl, ◌∙◌, ap, arith}
+use Rattle.std.proofs.Common.{◌≡◌, ◌≢◌, inl, inr, ℕ, Bool, List, [], ◌∷◌, ◌++◌, map, Result, Ok, Err, refl, ◌∙◌, ap, arith}
 use Rattle.std.specs.List.{All}
 use Rattle.std.specs.Result.{OnOk}
 use Rattle.petal_disk.specs.Disk.{Torn, Follows}
@@ -10,7 +10,7 @@ use Rattle.data_device.specs.declared.record.StoreRecord.{StoreRecord}
 use Rattle.data_device.specs.declared.record.StoreRecord.TheVariants as kind
 use Rattle.data_device.specs.Device.{StandsFor, Log, Logs, WithOrWithout, record_bytes, journal_base, header_bytes, journal_bytes}
 use Rattle.server_store.specs.Holdings.{Held, held_in}
-use Rattle.data_device.specs.Kept.{Kept, Fits, kept_of, kept_after, formatted}
+use Rattle.data_device.specs.Kept.{Kept, Fits, kept_of, kept_after}
 use Rattle.server_store.specs.Shown.{Picture, picture_in, picture_after, PutsNothing, Shows, Keeps, ShowsEither}
 use Rattle.data_device.specs.Slots.{slot_start, slot_bytes}
 use Rattle.data_device.proofs.Readings.{kept_more}

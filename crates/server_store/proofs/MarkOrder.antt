@@ -1,6 +1,5 @@
 -- The marks of a store are in their order, so that a mark that is set already is not set twice.
-use Rattle.std.proofs.Common.{◌≡◌, ◌||◌, true, false, List, [], ◌∷◌, ◌++◌, fold, refl, sym, ap, ◌∙◌}
-use Rattle.std.proofs.lemmas.Bool.{cases_Bool}
+use Rattle.std.proofs.Common.{◌≡◌, ◌||◌, true, false, List, [], ◌∷◌, fold, refl, sym, ap, ◌∙◌}
 use Rattle.std.proofs.lemmas.Cmp.{nat_cmp_total, on_total, then_total}
 use Rattle.std.proofs.lemmas.List.Kept.{IsStrictlySortedBy-filter}
 use Rattle.std.specs.Prelude.{not}
@@ -11,8 +10,8 @@ use Rattle.std.specs.List.Sorted.{IsStrictlySortedBy}
 use Rattle.std.specs.Ordering.{is_eq, match_ordering, ordering_reverse}
 use Rattle.std.specs.declared.cmp.Ordering.TheVariants.{Less, Equal, Greater}
 use Rattle.busy_marks.specs.declared.marks.Mark.{Mark}
-use Rattle.busy_marks.specs.Marks.{has_mark, kind_rank, mark_cmp, same_mark, with_mark, without_mark}
-use Rattle.busy_marks.proofs.Orders.{is_mark, same_itself, ties}
+use Rattle.busy_marks.specs.Marks.{has_mark, kind_rank, mark_cmp, same_mark, with_mark}
+use Rattle.busy_marks.proofs.Orders.{ties}
 use Rattle.data_device.specs.Kept.{Kept, formatted, kept_after, kept_of}
 use Rattle.data_device.specs.declared.record.StoreRecord.{StoreRecord}
 use Rattle.data_device.specs.declared.record.StoreRecord.TheVariants.{Mark as Marks, Unmark}

@@ -16,7 +16,7 @@ use Rattle.global_tables.specs.Link as links
 use Rattle.global_tables.specs.View as view
 use Rattle.petal_command.specs.declared.command.Command.{Command}
 use Rattle.petal_command.specs.declared.command.Command.TheVariants.{Join, Leave, Caught, MakeDisk, Snap, StartMove, Drained, Moved, Witness}
-use Rattle.spec_state.specs.State.{State, start, latest, told, links_of}
+use Rattle.spec_state.specs.State.{State, latest, told, links_of}
 use Rattle.spec_state.specs.Fence.{confirmed, effect, let_through, settled}
 use Rattle.spec_state.specs.Command.{act, after, caught, snap_target, snapped, move_target, move_begun, drained, note, moved_by, mover_in}
 use Rattle.spec_state.specs.Command.{after_region, with_map, with_disk, with_fence, with_move, move_of}

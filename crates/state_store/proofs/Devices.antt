@@ -6,7 +6,7 @@ use Rattle.petal_disk.specs.Disk.{Torn, Only, LeavesOnly, written}
 use Rattle.petal_disk.proofs.Moments.{joined, weaker}
 use Rattle.petal_disk.proofs.Tearing.{torn_front, torn_written}
 use Rattle.block_journal.specs.Gate.{IsShut}
-use Rattle.block_journal.specs.Records.{contents, Stands, Stored, LeftByAppend}
+use Rattle.block_journal.specs.Records.{Stands, Stored, LeftByAppend}
 use Rattle.block_journal.specs.Records as journal
 use Rattle.block_journal.specs.Region.{Region}
 use Rattle.block_journal.proofs.Frame.{stands_outside}

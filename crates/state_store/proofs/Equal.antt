@@ -1,7 +1,7 @@
 -- Two rows are found equal by `==` exactly where they are one.
 use Rattle.std.proofs.Common.{◌≡◌, true, Option, ap}
 use Rattle.std.specs.Option.{option_eq}
-use Rattle.petal_command.proofs.Alike.{ballot_by, command_by, command_tells, vote_by}
+use Rattle.petal_command.proofs.Alike.{ballot_by, command_tells, vote_by}
 use Rattle.petal_command.proofs.Telling.{Tells, TellsAll, tells_option, telling}
 use Rattle.petal_command.specs.contracts.ballot.BallotPartialEq.TheImpl as ballots
 use Rattle.petal_command.specs.contracts.command.CommandPartialEq.TheImpl as commands

@@ -1,5 +1,4 @@
-use Rattle.std.proofs.Common.{◌≡◌, replicate, ℕ, List, subst, ap, [], ◌-◌, ◌∙◌, arith, rules}
-use Rattle.petal_disk.specs.Mixes.{LeftOf}
+use Rattle.std.proofs.Common.{◌≡◌, replicate, ℕ, List, ap, [], ◌-◌, ◌∙◌, arith, rules}
 use Rattle.petal_disk.specs.Padded.{padded}
 use Rattle.petal_disk.proofs.Synced.{only_now}
 use Rattle.petal_disk.proofs.memory_disk.MemDisk.new.Goals as goal

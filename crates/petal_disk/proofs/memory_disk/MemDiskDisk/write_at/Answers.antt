@@ -1,4 +1,4 @@
-use Rattle.std.proofs.Common.{◌≡◌, ◌+◌, ℕ, List, length, refl, sym, ◌∙◌, ap}
+use Rattle.std.proofs.Common.{◌≡◌, ℕ, List, length, refl, ◌∙◌, ap}
 use Rattle.petal_disk.specs.Disk.{written}
 use Rattle.petal_disk.specs.Padded.{padded}
 use Rattle.petal_disk.proofs.Padding.{within_padded, padded_put}

@@ -1,4 +1,4 @@
-use Rattle.std.proofs.Common.{◌≡◌, List, ℕ, ◌∙◌, sym, subst}
+use Rattle.std.proofs.Common.{◌≡◌, List, ℕ, subst}
 use Rattle.server_store.specs.Shown.{Shows}
 use Rattle.server_store.proofs.Opening.{reopened}
 use Rattle.server_store.proofs.store.Store.reopen.Goals as goal
